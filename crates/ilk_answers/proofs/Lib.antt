@@ -3,5 +3,8 @@ pub mod Written
 pub mod Tables
 pub mod Drives
 pub mod Besides
+pub mod FirstLines
+pub mod Harmless
+pub mod Deviations
 pub mod Strict
 pub mod Readers

@@ -1,5 +1,6 @@
 -- Under strict columns a configuration that breaks no rule is safe for ever, so check is good only for such ones, verify says
--- `safe k=1` of them, or that all conflicts are spent, and no drive tells a hazard.
+-- `safe k=1` of them, or that all conflicts are spent, and no drive tells a hazard. A configuration that
+-- check refuses by C4, C5, C6 and C8 only is safe for runs of any length too.
 use Rattle.std.proofs.Common.{◌≡◌, inl, inr, ℕ, ◌<◌, Bool, true, false, ◌&&◌, if◌then◌else◌, Option, Some, None, IfOk, IfSome, Result, Ok, Err, List, [], ◌++◌, append-nil, length, nat_le, nat_lt, refl, sym, ap, ◌∙◌, subst}
 use Rattle.std.specs.Prelude.{◌≢◌}
 use Rattle.std.proofs.lemmas.Bool.{leb-true}
@@ -32,14 +33,15 @@ use Rattle.ilk_words.specs.declared.limits.TheConstants.{MAX_DEPTH, MAX_SEARCH_C
 use Rattle.ilk_words.specs.declared.plan.Stages.{Stages}
 use Rattle.ilk_words.specs.declared.plan.Stages.TheVariants.{All, Network}
 use Rattle.ilk_answers.specs.Answer.{AnswersFound, IsAnswerTo, form_refused, plant_of, plant_of_drafts, refusals_of}
-use Rattle.ilk_answers.specs.Besides.{AnswersSome}
+use Rattle.ilk_answers.specs.Besides.{AnswersSome, IsSoundIfPlant}
 use Rattle.ilk_answers.specs.Stages.{columns_broken, or_later, rules_broken}
-use Rattle.ilk_answers.specs.Strict.{HasTableOf, IsCleanAndSafe, IsCleanFor, IsStrictlyRight, SaysSafeAtOneOrSpent, TellsNoHazard}
+use Rattle.ilk_answers.specs.Strict.{HasSafePlant, HasTableOf, IsCleanAndSafe, IsCleanFor, IsStrictlyRight, SaysSafeAtOneOrSpent, TellsNoHazard, each_line_begins_in, harmless_beginnings}
 use Rattle.ilk_answers.specs.Verdicts.{TellsVerdict, verdict_line, verdict_run, verdict_status}
 use Rattle.ilk_answers.specs.declared.refusals.Refusals.{Refusals}
 use Rattle.ilk_answers.specs.declared.reply.Reply.{Reply}
 use Rattle.ilk_answers.specs.declared.status.Status.TheVariants.{Good, Refused as IsRefused, Unsafe}
 use Rattle.ilk_answers.proofs.Checked.{later-none, none-broken, not-refused}
+use Rattle.ilk_answers.proofs.Deviations.{deviations-safe}
 use Rattle.ilk_answers.proofs.Drives.{drive-right}
 use Rattle.ilk_answers.proofs.Tables.{table-right}
 
@@ -134,6 +136,13 @@ module _ (command : Command) (stages : Stages) (planned : (plan_of command).stag
   check-right (Some c) known is good =
       check-safe c found (Some some.text) made (asked-by c (Check Strict) (All Strict) is refl known) sound (told-as (Check Strict) is) good
 
+  deviations-right : (conf : Option (List ℕ)) → IfSome conf (λ c. found ≡ plant_of stages c) →
+      IfSome conf IsSoundIfPlant → command ≡ Check Strict → made.status ≡ IsRefused →
+      each_line_begins_in harmless_beginnings made.report ≡ true → IfSome conf HasSafePlant
+  deviations-right None known plant is refused lines = tt
+  deviations-right (Some c) known plant is refused lines =
+      deviations-safe c found (Some some.text) made (asked-by c (Check Strict) (All Strict) is refl known) plant (told-as (Check Strict) is) refused lines
+
   verify-right : (conf : Option (List ℕ)) → has_option_limits command ≡ true →
       IfSome conf (λ c. found ≡ plant_of stages c) → (depth conflicts : ℕ) (cert : List ℕ) →
       command ≡ Verify Strict depth conflicts cert → (bytes : List ℕ) (p : PlantLists) → conf ≡ Some bytes →
@@ -164,11 +173,12 @@ pub strictly-right :
     {E : Type 0} (command : Command) (stages : Stages) (conf extra : Option (List ℕ))
     (found : Result PlantLists Refusals) (made : Result Reply E) →
     (plan_of command).stages ≡ Some stages → has_option_limits command ≡ true →
-    IfSome conf (λ c. found ≡ plant_of stages c) → IfOk found IsSound →
+    IfSome conf (λ c. found ≡ plant_of stages c) → IfSome conf IsSoundIfPlant → IfOk found IsSound →
     IfOk made (AnswersSome command found extra) → IfOk made (IsStrictlyRight (Some command) conf extra)
-strictly-right command stages conf extra found (Err e) planned limits known sound some = tt
-strictly-right command stages conf extra found (Ok made) planned limits known sound some = record {
+strictly-right command stages conf extra found (Err e) planned limits known plant sound some = tt
+strictly-right command stages conf extra found (Ok made) planned limits known plant sound some = record {
   check = λ asked good. check-right command stages planned found sound extra made some conf known (same_Some command (Check Strict) asked) good;
+  deviations = λ asked refused lines. deviations-right command stages planned found sound extra made some conf known plant (same_Some command (Check Strict) asked) refused lines.each;
   verify = λ depth conflicts cert asked. verify-right command stages planned found sound extra made some conf limits known depth conflicts cert (same_Some command (Verify Strict depth conflicts cert) asked);
   table = λ columns asked good. routes-right command stages planned found sound extra made some conf known columns (same_Some command (Table columns) asked) good;
   drive = λ run bytes asked. scene-right command stages planned found sound extra made some conf known run bytes (same_Some command (Drive Strict run) asked);

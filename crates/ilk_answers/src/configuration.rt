@@ -1,5 +1,6 @@
-ghost use Rattle.std.specs.Prelude.{◌≡◌, ◌≤◌, IfOk, length};
+ghost use Rattle.std.specs.Prelude.{◌≡◌, ◌≤◌, IfOk, OnOk, length};
 ghost use Rattle.ilk_answers.specs.Answer.{plant_of};
+ghost use Rattle.ilk_answers.specs.Besides.{IsSoundIfPlant};
 ghost use Rattle.ilk_words.specs.declared.lengths.TheConstants.{MAX_CONFIGURATION};
 
 use crate::Refusals;
@@ -18,7 +19,8 @@ pub fn plant_of(
     conf: &[u8],
 ) -> Result<Result<Plant, Refusals>, AllocError>
     requires { length conf.now ≤ MAX_CONFIGURATION }
-    ensures { IfOk result (λ found. found ≡ plant_of stages conf.now) }
+    ensures found { IfOk result (λ found. found ≡ plant_of stages conf.now) }
+    ensures sound { OnOk result (IsSoundIfPlant conf.now) }
 {
     match read_drafts(alloc, conf) {
         Ok((net, table)) => check_drafts(alloc, stages, &net, &table),

@@ -7,19 +7,19 @@ use crate::retry::write_once;
 use crate::{Failed, Sink};
 use std::fs::{File, Files};
 
-/// A sink over a file that is made, or emptied if it is there, through the runtime at the first call.
-/// It doesn't tell what was written. Where it is never called, the file is as it was.
+/// A sink over a file that is made, or emptied if it exists, through the runtime at the first call.
+/// It doesn't tell what was written. If it is never called, the file is as it was.
 ///
 /// A refused opening is a failure, and the next call tries it again. Once open, the file stays open,
 /// also after a failure, and each write goes on where the one before it ended. A write that was
 /// interrupted is tried again at most 1000 times. Each failure is counted, up to the greatest `u64`;
 /// that the file takes no byte of a piece that isn't empty is one.
 ///
-/// Of the call that opens the file a clause says that it is one write on some file that was opened:
-/// one that writes nothing, or answers another number, is refused. No clause can say which file that
-/// was, or what came before that write. That it is the file of this name, emptied first, with these
-/// bytes once and no others, and that one whose sink is never called is as it was, is tried by the test
-/// `writes_the_named_file`.
+/// If the call that opens the file succeeds, it is one write on some file that was opened: the
+/// clause `first` says so. No clause says that any call succeeds, which file was opened, that it
+/// was emptied, or what was written to it before. The test `writes_the_named_file` shows this: the
+/// file of this name has these bytes once and no others, also if it had more before, and a file
+/// whose sink is never called is as it was.
 #[derive(Drop)]
 pub struct FileSink<'a, R: Files> {
     rt: &'a R,
@@ -43,7 +43,7 @@ impl<'a, R: Files> FileSink<'a, R> {
         }
     }
 
-    // Writes once, and makes or empties the file where it isn't open yet.
+    // Writes once, and first makes or empties the file if it isn't open yet.
     fn write_open(&mut self, piece: &[u8]) -> Result<usize, Failed>
         ensures within { IfOk result (λ n. n ≤ length piece.now) }
         ensures some { IfOk result (λ n. 0 < length piece.now → 0 < n) }
@@ -54,7 +54,7 @@ impl<'a, R: Files> FileSink<'a, R> {
         ensures stays { IsSome self.old.file → IsSome self.new.file }
         ensures bytes { IfSome self.old.file (λ old. IfSome self.new.file (λ new.
             WriteAppends (R.File.contents old) (R.File.contents new) result piece.now)) }
-        // What the call that opens the file writes is one write on a file that was opened.
+        // If this call opens the file, it is one write on a file that was opened.
         ensures first { IfNone self.old.file (IfSome self.new.file (λ new.
             (opened : R.File) ×
             WriteAppends (R.File.contents opened) (R.File.contents new) result piece.now)) }
@@ -85,7 +85,7 @@ impl<R: Files> Sink for FileSink<'_, R> {
         ensures stays { IsSome self.old.file → IsSome self.new.file }
         ensures bytes { IfSome self.old.file (λ old. IfSome self.new.file (λ new.
             WriteAppends (R.File.contents old) (R.File.contents new) result piece.now)) }
-        // What the call that opens the file writes is one write on a file that was opened.
+        // If this call opens the file, it is one write on a file that was opened.
         ensures first { IfNone self.old.file (IfSome self.new.file (λ new.
             (opened : R.File) ×
             WriteAppends (R.File.contents opened) (R.File.contents new) result piece.now)) }

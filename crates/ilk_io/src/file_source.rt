@@ -14,10 +14,10 @@ use std::fs::{File, Files};
 /// also after a failure, and each read goes on where the one before it ended. A read that was
 /// interrupted is tried again at most 1000 times. Each failure is counted, up to the greatest `u64`.
 ///
-/// Of the call that opens the file a clause says that it is one read of some file that was opened: one
-/// that reads nothing and tells an end is refused. No clause can say which file that was, or what was
-/// read and thrown away before. That it is the file of this name, read from its front and whole, is tried
-/// by the test `reads_the_named_file`.
+/// If the call that opens the file succeeds, it is one read of some file that was opened: the
+/// clause `first` says so. No clause says that any call succeeds, which file was opened, or what was
+/// read of it and thrown away before. The test `reads_the_named_file` shows this: the file of this
+/// name is read from its front and whole.
 #[derive(Drop)]
 pub struct FileSource<'a, R: Files> {
     rt: &'a R,
@@ -41,7 +41,7 @@ impl<'a, R: Files> FileSource<'a, R> {
         }
     }
 
-    // Reads once, and opens the file where it isn't open yet.
+    // Reads once, and first opens the file if it isn't open yet.
     fn read_open(&mut self, into: &mut [u8]) -> Result<usize, Failed>
         ensures within { IfOk result (λ n. n ≤ length into.new) }
         ensures faults { self.new.faults ≡ self.old.faults }
@@ -51,7 +51,7 @@ impl<'a, R: Files> FileSource<'a, R> {
         ensures stays { IsSome self.old.file → IsSome self.new.file }
         ensures bytes { IfSome self.old.file (λ old. IfSome self.new.file (λ new.
             ReadConsumes (R.File.remaining old) (R.File.remaining new) result into.new)) }
-        // What the call that opens the file gives is one read of a file that was opened.
+        // If this call opens the file, it is one read of a file that was opened.
         ensures first { IfNone self.old.file (IfSome self.new.file (λ new.
             (opened : R.File) ×
             ReadConsumes (R.File.remaining opened) (R.File.remaining new) result into.new)) }
@@ -81,7 +81,7 @@ impl<R: Files> Source for FileSource<'_, R> {
         ensures stays { IsSome self.old.file → IsSome self.new.file }
         ensures bytes { IfSome self.old.file (λ old. IfSome self.new.file (λ new.
             ReadConsumes (R.File.remaining old) (R.File.remaining new) result into.new)) }
-        // What the call that opens the file gives is one read of a file that was opened.
+        // If this call opens the file, it is one read of a file that was opened.
         ensures first { IfNone self.old.file (IfSome self.new.file (λ new.
             (opened : R.File) ×
             ReadConsumes (R.File.remaining opened) (R.File.remaining new) result into.new)) }

@@ -44,13 +44,24 @@ fn read_stream(alloc: Global) -> Result<Vec<u8>, ReadError> {
     read_all(alloc, &mut StdSource::new(BYTES.as_slice()), 5)
 }
 
+fn read_bytes<R: Files>(
+    alloc: Global,
+    rt: &R,
+    name: &str,
+    limit: u64,
+) -> Result<Result<Vec<u8>, ReadError>, AllocError>
+    requires { limit < 2 ^ 40 }
+{
+    let mut source = FileSource::new(rt, String::from_str(alloc, name)?);
+    Ok(read_all(alloc, &mut source, limit))
+}
+
 fn read_file<R: Files>(
     alloc: Global,
     rt: &R,
     name: &str,
 ) -> Result<Result<Vec<u8>, ReadError>, AllocError> {
-    let mut source = FileSource::new(rt, String::from_str(alloc, name)?);
-    Ok(read_all(alloc, &mut source, 5))
+    read_bytes(alloc, rt, name, 5)
 }
 
 fn write_memory(alloc: Global) -> Result<Vec<u8>, Fail> {
@@ -173,15 +184,16 @@ fn write_file<R: Files>(
 fn writes_the_named_file(rt: HostRuntime) -> Result<(), Fail> {
     let alloc = rt.alloc();
     let name = "ilk_io_test_3";
-    make_file(&rt, name, "train")?;
+    // more bytes than are written over them
+    make_file(&rt, name, "train and track")?;
     let unwritten = FileSink::new(&rt, String::from_str(alloc, name)?);
     drop(unwritten);
-    let as_it_was = read_file(alloc, &rt, name)??;
+    let as_it_was = read_bytes(alloc, &rt, name, 15)??;
     let answer = write_file(alloc, &rt, name, &BYTES)?;
-    let written = read_file(alloc, &rt, name)??;
+    let written = read_bytes(alloc, &rt, name, 15)??;
     fs::remove_file(&rt, name)?;
     let folder = write_file(alloc, &rt, "/", &BYTES)?;
-    assert_eq!(rt; as_it_was.as_slice(), b"train".as_slice());
+    assert_eq!(rt; as_it_was.as_slice(), b"train and track".as_slice());
     assert_eq!(rt; answer, Ok(()));
     assert_eq!(rt; written.as_slice(), BYTES.as_slice());
     assert_eq!(rt; folder, Err(Failed));

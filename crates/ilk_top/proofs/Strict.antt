@@ -1,11 +1,15 @@
 -- What a call that tells answers under strict columns says of the configuration, and what it tells.
-use Rattle.std.proofs.Common.{◌≡◌, ℕ, true, Option, Some, IfSome, List, refl, sym, ◌∙◌, subst}
+use Rattle.std.proofs.Common.{◌≡◌, ℕ, true, Option, Some, IfSome, List, ◌++◌, option_map, refl, sym, ap, ◌∙◌, subst}
+use Rattle.std.specs.List.{list_all}
+use Rattle.std.proofs.lemmas.List.{append_cancel_left}
+use Rattle.std.proofs.lemmas.Option.{same_Some}
 use Rattle.ilk_plant.specs.Plant.{PlantLists}
 use Rattle.ilk_answers.specs.Status.{is_answer}
-use Rattle.ilk_answers.specs.Strict.{HasTableOf, IsCleanAndSafe, IsCleanFor, IsStrictlyRight, SaysSafeAtOneOrSpent, TellsNoHazard}
+use Rattle.ilk_answers.specs.Strict.{HasOnlyLines, HasSafePlant, HasTableOf, IsCleanAndSafe, IsCleanFor, IsStrictlyRight, SaysSafeAtOneOrSpent, TellsNoHazard, begins_in, harmless_beginnings}
+use Rattle.ilk_answers.proofs.FirstLines.{lines-narrower}
 use Rattle.ilk_answers.specs.declared.reply.Reply.{Reply}
 use Rattle.ilk_answers.specs.declared.status.Status.{Status}
-use Rattle.ilk_answers.specs.declared.status.Status.TheVariants.{Good}
+use Rattle.ilk_answers.specs.declared.status.Status.TheVariants.{Good, Refused}
 use Rattle.ilk_words.specs.declared.command.Columns.{Columns}
 use Rattle.ilk_words.specs.declared.command.Columns.TheVariants.{Strict}
 use Rattle.ilk_words.specs.declared.command.Command.{Command}
@@ -29,6 +33,23 @@ module _ {L O : Type 0} (cert_written : L → Option (List ℕ)) (cert_faults : 
       asked ≡ Some (Check Strict) → status ≡ Good → IfSome conf IsCleanAndSafe
   check-told asked conf extra told is good =
       let t = told.whole (subst (λ s. is_answer s ≡ true) (sym good) refl) in t.1.check is (sym t.2 ∙ good)
+
+  -- check is refused with lines that all have harmless beginnings only where the configuration has a safe plant, whatever
+  -- beginnings are allowed, if each of them has a harmless one
+  pub deviations-told : (asked : Option Command) (conf extra : Option (List ℕ)) →
+      Tells (IsStrictlyRight asked conf extra) cert_written cert_faults out_written out_faults status cert_old
+      cert_new out_old out_new →
+      (allowed : List (List ℕ)) → list_all (begins_in harmless_beginnings) allowed ≡ true →
+      (before report : List ℕ) → asked ≡ Some (Check Strict) → status ≡ Refused →
+      out_written out_old ≡ Some before → out_written out_new ≡ Some (before ++ report) →
+      HasOnlyLines allowed report → IfSome conf HasSafePlant
+  deviations-told asked conf extra told allowed harmless before report is refused old new lines =
+      let t = told.whole (subst (λ s. is_answer s ≡ true) (sym refused) refl) in
+      let added : Some (before ++ report) ≡ Some (before ++ t.0.report) =
+      sym new ∙ t.3.report ∙ ap (option_map (λ all. all ++ t.0.report)) old in
+      let same : report ≡ t.0.report = append_cancel_left before report t.0.report (same_Some (before ++ report) (before ++ t.0.report) added) in
+      t.1.deviations is (sym t.2 ∙ refused)
+      (subst (HasOnlyLines harmless_beginnings) same (lines-narrower harmless_beginnings allowed report harmless lines))
 
   -- verify tells of what breaks no rule that it is safe, or that all conflicts are spent
   pub verify-told : (asked : Option Command) (conf extra : Option (List ℕ)) →

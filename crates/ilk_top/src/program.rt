@@ -1,7 +1,7 @@
-ghost use Rattle.std.specs.Prelude.{ℕ, ◌≡◌, ◌≢◌, ◌⊎◌, ◌↔◌, Some, None, IfSome, List, true, false, map, string_bytes};
+ghost use Rattle.std.specs.Prelude.{ℕ, ◌≡◌, ◌≢◌, ◌⊎◌, ◌↔◌, ◌++◌, Some, None, IfSome, List, true, false, map, string_bytes};
 ghost use Rattle.ilk_answers.specs.Answer.{IsAnswerTo, comes_to_extra, conf_limit, plan_asked};
 ghost use Rattle.ilk_answers.specs.Status.{came_to_writing};
-ghost use Rattle.ilk_answers.specs.Strict.{HasTableOf, IsCleanAndSafe, IsCleanFor, SaysSafeAtOneOrSpent, TellsNoHazard};
+ghost use Rattle.ilk_answers.specs.Strict.{HasOnlyLines, HasSafePlant, HasTableOf, IsCleanAndSafe, IsCleanFor, SaysSafeAtOneOrSpent, TellsNoHazard, harmless_beginnings};
 ghost use Rattle.ilk_io.specs.Faults.{RoseByOne};
 ghost use Rattle.ilk_plant.specs.Plant.{PlantLists};
 ghost use Rattle.ilk_top.specs.Outside.{ReadByPlan, RisesOnlyAt, Tells};
@@ -37,6 +37,14 @@ pub fn run<C: Source, D: Source, O: Sink, L: Sink>(
     ensures strict_check { let asked = command_of (map string_bytes words.now.items) in
         asked ≡ Some (Command.Check Columns.Strict) → result ≡ Status.Good →
         IfSome (C.left conf.old) IsCleanAndSafe }
+
+    // if check under strict columns is Refused, and each line that it wrote refuses by C4, C5, C6 or C8, then the configuration has a plant, and each run of that from the start, of whatever length, ends in a state that meets the invariant; after a write fault this says nothing, since a cut report may have lost a line
+    ensures strict_deviations { let asked = command_of (map string_bytes words.now.items) in
+        (before report : List ℕ) → asked ≡ Some (Command.Check Columns.Strict) →
+        result ≡ Status.Refused → O.written out.old ≡ Some before →
+        O.written out.new ≡ Some (before ++ report) →
+        HasOnlyLines harmless_beginnings report →
+        IfSome (C.left conf.old) HasSafePlant }
 
     // verify under strict columns of a configuration that breaks no rule answers Good, with `safe k=1` and the certificate for that, or Spent, unless a source or sink failed or memory was wanting; after a write fault what was written is of such an answer
     ensures strict_verify { let asked = command_of (map string_bytes words.now.items) in

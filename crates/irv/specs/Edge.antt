@@ -1,7 +1,13 @@
--- What the program adds to the answer of `run`: how it ends where its words can't be read, and what standard error has.
-use Rattle.std.specs.Prelude.{ℕ, Option, Some, None, List, codes}
+-- What the program adds to the answer of `run`: how it ends if its words can't be read, and what standard error has; and what
+-- it keeps of that answer.
+use Rattle.std.specs.Prelude.{ℕ, ◌≡◌, IsTrue, Option, Some, None, List, codes}
 use Rattle.std.specs.declared.io.ErrorKind.{ErrorKind}
 use Rattle.std.specs.declared.io.ErrorKind.TheVariants.{OutOfMemory as NoMemory}
+use Rattle.ilk_io.specs.Sink.{Adds}
+use Rattle.ilk_words.specs.declared.command.Command.{Command}
+use Rattle.ilk_answers.specs.Answer.{IsAnswerTo}
+use Rattle.ilk_answers.specs.Status.{is_answer}
+use Rattle.ilk_answers.specs.declared.reply.Reply.{Reply}
 use Rattle.ilk_answers.specs.declared.status.Status.{Status}
 use Rattle.ilk_answers.specs.declared.status.Status.TheVariants.{Usage, ReadFault, WriteFault, OutOfMemory}
 
@@ -17,3 +23,9 @@ complaint ReadFault = Some (codes "irv: read fault")
 complaint WriteFault = Some (codes "irv: write fault")
 complaint OutOfMemory = Some (codes "irv: out of memory")
 complaint _ = None
+
+-- a status that tells no fault is that of an answer to words that give this command, or none, as far as that is told without
+-- what standard input and files have; the sink of the certificate, where it tells what was written, gained the answer's
+abbrev pub IsAnswered : Option Command → Option (List ℕ) → Option (List ℕ) → Status → Type 0
+IsAnswered asked cert_old cert_new status =
+    IsTrue (is_answer status) → (made : Reply) × IsAnswerTo asked None None made × (status ≡ made.status) × Adds cert_old cert_new made.certificate

@@ -3,12 +3,16 @@
 //! and checks their refutations, and makes configurations for trials.
 #![tactic(auto)]
 
-ghost use Rattle.std.specs.Prelude.{◌≡◌};
+ghost use Rattle.std.specs.Prelude.{◌≡◌, ◌≢◌, ◌↔◌, IsTrue, None, false, map, string_bytes};
 ghost use Rattle.std.specs.IoError.{error_kind};
 ghost use Rattle.std.specs.Option.{option_copied};
-ghost use Rattle.irv.specs.Edge.{complaint, unread_words};
+ghost use Rattle.ilk_answers.specs.Answer.{plan_asked};
+ghost use Rattle.ilk_answers.specs.Status.{came_to_writing};
+ghost use Rattle.ilk_top.specs.Outside.{RisesOnlyAt};
+ghost use Rattle.ilk_words.specs.Words.{command_of};
+ghost use Rattle.irv.specs.Edge.{IsAnswered, complaint, unread_words};
 
-use ilk_io::{FileSink, FileSource, Sink, StdSink, StdSource, SteadySink, SteadySource};
+use ilk_io::{FileSink, FileSource, MemSink, Sink, StdSink, StdSource, SteadySink, SteadySource};
 use ilk_plant::Text;
 use ilk_top::{FileNames, Status, names_of, run};
 use std::alloc::{AllocError, Global};
@@ -17,7 +21,9 @@ use std::os::fd::AsRawFd;
 use std::process::ExitCode;
 use std::{env, io};
 
-// The descriptors of the standard streams are those from 0 to this one.
+// The descriptors of the standard streams are those from 0 to LAST_STREAM: input, output and error.
+const OUTPUT: i32 = 1;
+
 const LAST_STREAM: i32 = 2;
 
 // The words of the command line, the program's name first.
@@ -42,13 +48,23 @@ fn status_of(error: &io::Error) -> Status
 }
 
 // Runs over standard input and output, the sink of the certificate, and the file of this name, if
-// there is one.
+// there is one. What `run` ensures of its status and of the sink is ensured here too.
 fn run_over<L: Sink>(
     rt: &HostRuntime,
     words: &Vec<String>,
     extra: Option<Text>,
     cert: &mut L,
-) -> Status {
+) -> Status
+    ensures usage { let asked = command_of (map string_bytes words.now.items) in
+        result ≢ Status.OutOfMemory → (result ≡ Status.Usage) ↔ (asked ≡ None) }
+    ensures answer { let asked = command_of (map string_bytes words.now.items) in
+        IsAnswered asked (L.written cert.old) (L.written cert.new) result }
+    ensures cert_faults { RisesOnlyAt (result ≡ Status.WriteFault) (L.faults cert.old)
+        (L.faults cert.new) }
+    ensures unwritten { came_to_writing result ≡ false → cert.new ≡ cert.old }
+    ensures uncertified { let plan = plan_asked (command_of (map string_bytes words.now.items)) in
+        plan.certifies ≡ false → cert.new ≡ cert.old }
+{
     let alloc: Global = rt.alloc();
     let mut conf = StdSource::new(rt.reader());
     let mut out = StdSink::new(io::writer(rt));
@@ -64,11 +80,36 @@ fn run_over<L: Sink>(
     }
 }
 
-// Runs over the files of these names. That of the certificate is made or emptied where there is
+// Runs over a sink of the certificate that takes no byte: each write to it is a write fault.
+fn run_without_certificate(rt: &HostRuntime, words: &Vec<String>, extra: Option<Text>) -> Status
+    ensures usage { let asked = command_of (map string_bytes words.now.items) in
+        result ≢ Status.OutOfMemory → (result ≡ Status.Usage) ↔ (asked ≡ None) }
+    ensures answer { let asked = command_of (map string_bytes words.now.items) in
+        IsAnswered asked None None result }
+{
+    let alloc: Global = rt.alloc();
+    match MemSink::new(alloc, 0, Vec::new(alloc)) {
+        Ok(mut full) => run_over(rt, words, extra, &mut full),
+        Err(_) => Status::OutOfMemory,
+    }
+}
+
+// Runs over the files of these names. That of the certificate is made or emptied if there is
 // something to write to it, and not before.
-fn run_with(rt: &HostRuntime, words: &Vec<String>, names: FileNames) -> Status {
+//
+// A file takes the least descriptor that is free. So the standard streams that are closed are held
+// until the end. If standard output or standard error is closed and can't be held, no certificate
+// is written: its file would take the stream's place.
+fn run_with(rt: &HostRuntime, words: &Vec<String>, names: FileNames) -> Status
+    ensures usage { let asked = command_of (map string_bytes words.now.items) in
+        result ≢ Status.OutOfMemory → (result ≡ Status.Usage) ↔ (asked ≡ None) }
+    ensures answer { let asked = command_of (map string_bytes words.now.items) in
+        IsAnswered asked None None result }
+{
     let FileNames { extra, cert } = names;
+    let _held = [held_stream(rt), held_stream(rt), held_stream(rt)];
     match cert {
+        Some(_) if is_output_free(rt) => run_without_certificate(rt, words, extra),
         Some(name) => {
             let mut file = FileSink::new(rt, name.into_string());
             run_over(rt, words, extra, &mut file)
@@ -77,13 +118,15 @@ fn run_with(rt: &HostRuntime, words: &Vec<String>, names: FileNames) -> Status {
     }
 }
 
-fn status(rt: &HostRuntime) -> Status {
-    let words = match words(rt) {
-        Ok(words) => words,
-        Err(status) => return status,
-    };
-    match names_of(rt.alloc(), &words) {
-        Ok(Some(names)) => run_with(rt, &words, names),
+// How the program ends for these words.
+fn status_for(rt: &HostRuntime, words: &Vec<String>) -> Status
+    ensures usage { let asked = command_of (map string_bytes words.now.items) in
+        result ≢ Status.OutOfMemory → (result ≡ Status.Usage) ↔ (asked ≡ None) }
+    ensures answer { let asked = command_of (map string_bytes words.now.items) in
+        IsAnswered asked None None result }
+{
+    match names_of(rt.alloc(), words) {
+        Ok(Some(names)) => run_with(rt, words, names),
         Ok(None) => Status::Usage,
         Err(_) => Status::OutOfMemory,
     }
@@ -102,22 +145,48 @@ fn complaint(status: Status) -> Option<&'static str>
     }
 }
 
-// A folder that is opened for reading, where that took the descriptor of a standard stream that is
-// closed.
+// Opens a directory for reading: the root, or else the working directory.
+fn directory(rt: &HostRuntime) -> Option<File> {
+    match File::open(rt, "/") {
+        Ok(root) => Some(root),
+        Err(_) => File::open(rt, ".").ok(),
+    }
+}
+
+// Holds the least standard stream that is closed, if there is one and a directory can be opened. A
+// directory can be neither read nor written as a file in its place could be.
 fn held_stream(rt: &HostRuntime) -> Option<File> {
-    let folder = File::open(rt, "/").ok()?;
-    if folder.as_raw_fd() <= LAST_STREAM {
-        Some(folder)
+    let held = directory(rt)?;
+    if held.as_raw_fd() <= LAST_STREAM {
+        Some(held)
     } else {
         None
     }
 }
 
+// Returns whether a descriptor is that of standard output or standard error.
+fn is_output(descriptor: i32) -> bool {
+    (OUTPUT..=LAST_STREAM).contains(&descriptor)
+}
+
+// Returns whether a file that is opened next may take the place of standard output or standard
+// error. If no directory can be opened, the two ends of a pipe tell it: they take the two least
+// descriptors that are free.
+fn is_output_free(rt: &HostRuntime) -> bool {
+    if let Some(least) = directory(rt) {
+        return is_output(least.as_raw_fd());
+    }
+    match io::pipe(rt) {
+        Ok((reader, writer)) => is_output(reader.as_raw_fd()) || is_output(writer.as_raw_fd()),
+        Err(_) => true,
+    }
+}
+
 fn main(rt: HostRuntime) -> ExitCode {
-    // A file takes the least descriptor that is free. So the streams that are closed are held until
-    // the end, each by a folder, which can be neither read nor written as a file in its place could be.
-    let _held = [held_stream(&rt), held_stream(&rt), held_stream(&rt)];
-    let status = status(&rt);
+    let status = match words(&rt) {
+        Ok(words) => status_for(&rt, &words),
+        Err(status) => status,
+    };
     if let Some(line) = complaint(status) {
         let _ = rt.eprintln(line);
     }

@@ -1,4 +1,4 @@
-use Rattle.std.proofs.Common.{◌≡◌, Option, Some, map, subst, sym, ◌∙◌}
+use Rattle.std.proofs.Common.{◌≡◌, Option, Some, map, refl, subst, sym, ◌∙◌}
 use Rattle.std.specs.Prelude.{string_bytes}
 use Rattle.ilk_answers.specs.Answer.{IsAnswerTo}
 use Rattle.ilk_answers.specs.Strict.{IsStrictlyRight}
@@ -7,7 +7,7 @@ use Rattle.ilk_words.specs.Words.{command_of}
 use Rattle.ilk_words.specs.declared.command.Command.{Command}
 use Rattle.ilk_top.proofs.Ends.{Tells-usage}
 use Rattle.ilk_top.proofs.Joined.{untouched}
-use Rattle.ilk_top.proofs.Strict.{check-told, drive-told, table-told, verify-told}
+use Rattle.ilk_top.proofs.Strict.{check-told, deviations-told, drive-told, table-told, verify-told}
 use Rattle.ilk_top.specs.Outside.{Tells}
 use Rattle.ilk_top.proofs.program.run.Goals as goal
 
@@ -36,6 +36,19 @@ returns-in-Ok-Some-clause-strict_check g c =
     c.args.cert.now c.perform.new.cert c.args.out.now c.perform.new.out _
     (g.C.Source.left c.args.conf.now) (g.D.Source.left c.args.extra.now)
     (subst Told same c.perform.ensures.strict)
+
+pub returns-in-Ok-Some-clause-strict_deviations : goal.returns-in-Ok-Some-clause-strict_deviations
+returns-in-Ok-Some-clause-strict_deviations g c =
+    let same : Some c.in-Ok-Some.command ≡ command_of (map string_bytes c.args.words.now.items) = sym c.in-Ok-Some.field-0-is ∙ c.in-Ok-Some.ensures.command in
+    let Told : Option Command → Type 0 =
+    λ asked. Tells
+    (IsStrictlyRight asked (g.C.Source.left c.args.conf.now) (g.D.Source.left c.args.extra.now))
+    g.L.Sink.written g.L.Sink.faults g.O.Sink.written g.O.Sink.faults c.perform.result c.args.cert.now
+    c.perform.new.cert c.args.out.now c.perform.new.out in
+    deviations-told g.L.Sink.written g.L.Sink.faults g.O.Sink.written g.O.Sink.faults c.perform.result
+    c.args.cert.now c.perform.new.cert c.args.out.now c.perform.new.out _
+    (g.C.Source.left c.args.conf.now) (g.D.Source.left c.args.extra.now)
+    (subst Told same c.perform.ensures.strict) _ refl
 
 pub returns-in-Ok-Some-clause-strict_verify : goal.returns-in-Ok-Some-clause-strict_verify
 returns-in-Ok-Some-clause-strict_verify g c =

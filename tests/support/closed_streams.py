@@ -1,0 +1,147 @@
+"""Calls of the program whose standard streams are closed, where no directory can be opened.
+
+A file takes the least descriptor that is free, so a certificate's file could take the place of a
+closed standard stream, and the report would be written into it. The program holds a closed stream
+by a directory. In these calls it can't: nobody may read the root directory.
+"""
+
+import ctypes
+import os
+import re
+import shutil
+import subprocess
+import tempfile
+from dataclasses import dataclass
+from pathlib import Path
+from typing import Iterator, List, Optional, Sequence
+
+TOP = Path(__file__).resolve().parents[2]
+PLANT = TOP / "examples" / "line-with-boards.json"
+TIMEOUT_SECONDS = 60
+NOBODY = 65534
+CLONE_NEWUSER = 0x10000000
+CERTIFICATE = Path("w") / "c"
+
+
+class NotTried(Exception):
+    """This system doesn't let the caller change the root directory, as root or in a namespace."""
+
+
+@dataclass(frozen=True)
+class Case:
+    """A call in the jail: its arguments, the streams that are closed, the directory it runs in, and
+    what has to come of it. The certificate is that of a call with open streams, or there is no
+    file."""
+
+    name: str
+    words: str
+    closed: Sequence[int]
+    at: str
+    status: int
+    report: bytes
+    complaint: bytes
+    has_certificate: bool
+
+
+VERIFY = "verify --cert /w/c"
+WRITE_FAULT = b"irv: write fault\n"
+CASES = (
+    Case("all streams open", VERIFY, (), "/", 0, b"safe k=1\n", b"", True),
+    Case("output closed", VERIFY, (1,), "/", 9, b"", WRITE_FAULT, False),
+    Case("error closed", VERIFY, (2,), "/", 9, b"", b"", False),
+    Case("output and error closed", VERIFY, (1, 2), "/", 9, b"", b"", False),
+    Case("input closed", VERIFY, (0,), "/", 8, b"", b"irv: read fault\n", False),
+    Case("input and output closed", VERIFY, (0, 1), "/", 8, b"", b"irv: read fault\n", False),
+    Case("output closed, held by /w", VERIFY, (1,), "/w", 9, b"", WRITE_FAULT, True),
+    Case("output closed, no certificate to write", "check", (1,), "/", 9, b"", WRITE_FAULT, False),
+    Case("error closed, no certificate to write", "check", (2,), "/", 0, b"clean\n", b"", False),
+    Case("wrong arguments, output closed", "verify", (1,), "/", 7, b"", b"irv: usage\n", False),
+)
+
+
+def libraries_of(program: Path) -> List[Path]:
+    """Returns the shared libraries that a program is loaded with, its loader among them."""
+    told = subprocess.run(["ldd", str(program)], stdout=subprocess.PIPE,
+                          stderr=subprocess.DEVNULL, check=False).stdout.decode()
+    return [Path(it) for it in re.findall(r"(/\S+) \(0x", told)]
+
+
+def make_jail(jail: Path, program: Path) -> None:
+    """Makes a root directory that can be searched and not read, with the program, what it is loaded
+    with, and an empty directory `w`."""
+    for file in libraries_of(program):
+        at = jail / file.relative_to("/")
+        at.parent.mkdir(parents=True, exist_ok=True)
+        shutil.copy(file, at)
+    shutil.copy(program, jail / "irv")
+    (jail / "irv").chmod(0o755)
+    (jail / "w").mkdir()
+    (jail / "w").chmod(0o777)
+    jail.chmod(0o711 if os.geteuid() == 0 else 0o311)
+
+
+def enter(jail: Path, at: str, closed: Sequence[int]) -> None:
+    """Makes the jail the root directory of this process, as a user who may not read it, and closes
+    the streams. A user other than root does it in a user namespace."""
+    if os.geteuid() == 0:
+        os.chroot(jail)
+        os.chdir(at)
+        os.setgroups([])
+        os.setgid(NOBODY)
+        os.setuid(NOBODY)
+    else:
+        if ctypes.CDLL(None, use_errno=True).unshare(CLONE_NEWUSER):
+            raise OSError(ctypes.get_errno(), "no user namespace")
+        os.chroot(jail)
+        os.chdir(at)
+    for stream in closed:
+        os.close(stream)
+
+
+def call(jail: Path, case: Case) -> subprocess.CompletedProcess:
+    """Returns what comes of a case's call in the jail, which reads the plant."""
+    with open(PLANT, "rb") as plant:
+        try:
+            return subprocess.run(
+                ["/irv", *case.words.split()], stdin=plant, stdout=subprocess.PIPE,
+                stderr=subprocess.PIPE, timeout=TIMEOUT_SECONDS, check=False, env={},
+                preexec_fn=lambda: enter(jail, case.at, case.closed))
+        except subprocess.SubprocessError as fault:
+            raise NotTried(f"no call in another root directory: {fault}") from fault
+
+
+def faults_of(case: Case, done: subprocess.CompletedProcess, written: Optional[bytes],
+              certificate: bytes) -> Iterator[str]:
+    """Yields what is wrong with a call that is done: `written` is what its certificate's file has,
+    or None if there is no file."""
+    pairs = (
+        ("status", done.returncode, case.status),
+        ("report", done.stdout, case.report),
+        ("standard error", done.stderr, case.complaint),
+        ("certificate", written, certificate if case.has_certificate else None),
+    )
+    for what, came, wanted in pairs:
+        if came != wanted:
+            yield f"{case.name}: {what} is {came!r:.300}, not {wanted!r:.300}"
+
+
+def faults(program: Path) -> Iterator[str]:
+    """Yields what is wrong with the calls of the built program. Raises NotTried if no call can be
+    made here."""
+    certificate = b""
+    for case in CASES:
+        with tempfile.TemporaryDirectory() as folder:
+            jail = Path(folder) / "root"
+            jail.mkdir()
+            make_jail(jail, Path(program).resolve())
+            try:
+                done = call(jail, case)
+                file = jail / CERTIFICATE
+                written = file.read_bytes() if file.exists() else None
+            finally:
+                jail.chmod(0o755)
+        if case is CASES[0]:
+            certificate = written or b""
+            if not re.fullmatch(rb"irv certificate .*\nend\n", certificate, re.DOTALL):
+                yield f"{case.name}: the certificate isn't one: {certificate[-60:]!r}"
+        yield from faults_of(case, done, written, certificate)
