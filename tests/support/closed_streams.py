@@ -15,7 +15,8 @@ from dataclasses import dataclass
 from pathlib import Path
 from typing import Iterator, List, Optional, Sequence
 
-TOP = Path(__file__).resolve().parents[2]
+from irvtools.paths import TOP
+
 PLANT = TOP / "examples" / "line-with-boards.json"
 TIMEOUT_SECONDS = 60
 NOBODY = 65534
