@@ -94,10 +94,19 @@ explain_rejection() {
     esac
 }
 
+# Says on a terminal which option says in sentences what is wrong.
+hint_at_sentences() {
+    [ ! -t 2 ] || echo "irv: ./irv $command --explain says in sentences what is wrong and where" >&2
+}
+
 # Adds a line after an answer with this status, if one helps.
 explain() {
     case $1 in
-        6) explain_rejection ;;
+        5) hint_at_sentences ;;
+        6)
+            explain_rejection
+            hint_at_sentences
+            ;;
         "$usage_status") explain_usage ;;
         8) explain_read_fault ;;
         9) explain_write_fault ;;

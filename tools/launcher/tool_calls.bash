@@ -73,6 +73,58 @@ call_tool() {
     exec "$top/$tool" --program "$called" "${@:2}"
 }
 
+# Returns whether a command's arguments ask for sentences: by --explain or --advise before `--` that is
+# not the value of an option.
+asks_for_sentences() {
+    local word is_value=''
+    for word in "$@"; do
+        if [ -n "$is_value" ] && [[ $word != -?* ]]; then
+            is_value=
+            continue
+        fi
+        is_value=
+        case $word in
+            --) return 1 ;;
+            --explain | --advise) return 0 ;;
+            -?*) ! is_listed option "$word" || is_value=1 ;;
+        esac
+    done
+    return 1
+}
+
+# Prepares a call that explains: its own options are those of the tool.
+prepare_sentences() {
+    local word option='' rest=()
+    need python3
+    need_tool tools/explain --explain
+    guard_program --explain "$@"
+    for word in "$@"; do
+        [ "$option" != --in ] || { option= && continue; }
+        case $word in
+            --explain | --advise | --in=*) ;;
+            --in) option=$word ;;
+            *) rest+=("$word") ;;
+        esac
+    done
+    read_arguments ${rest[@]+"${rest[@]}"}
+    guard_certificate
+}
+
+# Answers a command by the proved program, in sentences on standard error.
+explain_answer() {
+    prepare_sentences "$@"
+    ensure_built
+    exec "$top/tools/explain" --program "$program" "$@"
+}
+
+# Answers a command by the unproved build, in sentences on standard error.
+explain_unproved() {
+    prepare_sentences "$@"
+    ensure_unproved
+    say_unproved
+    exec "$top/tools/explain" --program "$unproved" "$@"
+}
+
 # Runs the tests over the program if it is built of these sources, otherwise over the unproved
 # build.
 run_tests() {
