@@ -31,7 +31,7 @@ class Answers:
         job_directory = self.room / key
         job_directory.mkdir()
         (job_directory / OUTPUT).write_text(f"{line}\n{more}", encoding="utf-8")
-        role = "page" if kind == "html" else "report"
+        role = "html" if kind == "html" else "report"
         self.answers[key] = {
             "line": line, "status": status, "is_good": is_good, "machine": "m", "seconds": 1.0,
             "processor_seconds": 1.0, "memory_kib": 20480, "anchor": "hazard",

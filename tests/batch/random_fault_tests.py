@@ -35,7 +35,7 @@ def first_words(room):
     report, found = room.report(), {}
     for each in report["configurations"]:
         key = next(one["job"] for one in each["questions"] if one["question"].startswith("html"))
-        file = report["jobs"][key]["answer"]["files"]["page"]["name"]
+        file = report["jobs"][key]["answer"]["files"]["html"]["name"]
         shown = (room.out / "results/html" / key / file).read_text(encoding="utf-8")
         found[each["name"]] = html.unescape(FIRST_LINE.search(shown)[1]), shown
     return found

@@ -117,7 +117,7 @@ def do_html(store, job, room):
     if done.status != 0 or not page.is_file():
         raise NoAnswer(f"no HTML report, with status {done.status}: {done.complaint}")
     word, line, anchor = html_verdicts.read(page)
-    answer = answered(done, word == SAFE, page=page)
+    answer = answered(done, word == SAFE, html=page)
     del answer["files"]["report"]
     return {**answer, "line": line, "anchor": anchor}
 

@@ -11,7 +11,7 @@ from irvtools.checkers.verify_with import queries_for
 from irvtools.html.options import MOST_CHARACTERS
 from irvtools.batch.store import checksum_of, checksum_of_file, text_of
 
-FORM = 2                        # another number if a kind of job comes to do something else
+FORM = 3                        # another number if a kind of job comes to do something else
 
 
 def html_tool_checksum():

@@ -32,7 +32,7 @@ def files_shown(row):
     """Returns the links to the files of a row's answers: what each shows, and where it is."""
     for result in row.results:
         paths = {role: path for role, path, _ in result.files()}
-        names = {"page": "HTML report", "certificate": "certificate", "report": report_name(result)}
+        names = {"html": "HTML report", "certificate": "certificate", "report": report_name(result)}
         for role in (role for role in names if role in paths):
             yield f"{names[role]} ({short_question(row, result)})", paths[role]
 
@@ -56,7 +56,7 @@ def hazard_link(row):
         return ""
     found = [each for each in row.results if each.word == HAZARD_FOUND]
     pages = [(path, each.answer["anchor"]) for each in found for role, path, _ in each.files()
-             if role == "page"]
+             if role == "html"]
     for path, anchor in pages:
         return tag("a", "Show the hazard in the HTML report",
                    href=f"{path}#{anchor}" if anchor else path)

@@ -207,7 +207,7 @@ class Verifier:
 
     def check_html(self, job, answer):
         """Sees that the report's first line is the answer."""
-        page = self.file(job, job["key"], answer["files"]["page"])
+        page = self.file(job, job["key"], answer["files"]["html"])
         if html_verdicts.read(page)[1:] != (answer["line"], answer["anchor"]):
             raise Fault("the HTML report has another first line than its answer")
         self.unchecked += 1
