@@ -12,11 +12,11 @@ JUDGES = ("edits", "functions", "prover_output", "rounds")     # the modules by 
 
 class Tried:
     """What is kept of earlier runs: a file for each edit that was refused, named by the sum of all that
-    its check read. If it cannot be cached, it is checked again."""
+    its trial read. What can't be kept is tried again."""
 
     def __init__(self, toolchain):
         home = os.environ.get("XDG_CACHE_HOME") or os.path.expanduser("~/.cache")
-        self.directory = Path(home) / "irv-mutants"
+        self.folder = Path(home) / "irv-mutants"
         own = hashlib.sha256(toolchain.version.encode())
         own.update(repr([os.stat(toolchain.prover)[6:9:2], str(toolchain.prover)]).encode())
         for name in JUDGES:
@@ -31,17 +31,17 @@ class Tried:
     def has(self, key):
         """Whether this was refused before."""
         try:
-            told = json.loads((self.directory / key).read_text())
-            return told["key"] == key and self.directory.stat().st_uid == os.geteuid()
+            told = json.loads((self.folder / key).read_text())
+            return told["key"] == key and self.folder.stat().st_uid == os.geteuid()
         except (OSError, ValueError, KeyError, TypeError):
             return False
 
     def keep(self, key, edit, reason):
         """Keeps that an edit was refused."""
         try:
-            self.directory.mkdir(mode=0o700, parents=True, exist_ok=True)
-            with tempfile.NamedTemporaryFile("w", dir=self.directory, delete=False) as file:
+            self.folder.mkdir(mode=0o700, parents=True, exist_ok=True)
+            with tempfile.NamedTemporaryFile("w", dir=self.folder, delete=False) as file:
                 json.dump({"key": key, "edit": edit.name, "reason": reason}, file)
-            os.replace(file.name, self.directory / key)
+            os.replace(file.name, self.folder / key)
         except OSError:
             pass

@@ -15,22 +15,22 @@ from pathlib import Path
 from irvtools.arguments import Parser
 from irvtools.mutants.edits import BadEdit, read_edit
 from irvtools.mutants.crates import Crates, Toolchain, Unproved, processors
-from irvtools.mutants.rounds import REFUSED, CrateCheck
+from irvtools.mutants.rounds import REFUSED, Trial
 from irvtools.mutants.cache import Tried
 
-DIRECTORIES = ("mutants", "must-fail")
+FOLDERS = ("mutants", "must-fail")
 
 
 def files_of(crates, words):
     """The files of the edits that the words name, by crate; all that `rt ci` doesn't try where they name
     none."""
     found = {}
-    for word in words or [it for it in crates.rows if (crates.directory(it) / DIRECTORIES[0]).is_dir()]:
+    for word in words or [it for it in crates.rows if (crates.folder(it) / FOLDERS[0]).is_dir()]:
         crate, _, edit = word.partition("/")
         if crate not in crates.rows:
             raise SystemExit(f"tools/mutants: crates.txt has no crate {crate}")
-        files = [file for it in (DIRECTORIES if edit else DIRECTORIES[:1])
-                 for file in sorted((crates.directory(crate) / it).glob("*"))
+        files = [file for it in (FOLDERS if edit else FOLDERS[:1])
+                 for file in sorted((crates.folder(crate) / it).glob("*"))
                  if not edit or file.stem == edit.removesuffix(".edit")]
         if edit and not files:
             raise SystemExit(f"tools/mutants: {crate} has no edit {edit}")
@@ -53,7 +53,7 @@ def read_all(crates, files):
     return edits, bad
 
 
-def report(crate_check, done, says):
+def report(trial, done, says):
     """Prints what came of a crate's edits; those that weren't refused."""
     failed = []
     for edit, told in done.items():
@@ -63,8 +63,8 @@ def report(crate_check, done, says):
         else:
             failed.append(edit)
             print(f"{edit.name}: {told}")
-    print(f"{crate_check.name}: {len(done) - len(failed)} of {len(done)} refused, in {crate_check.rounds} checks "
-          f"and {crate_check.seconds:.0f} s", flush=True)
+    print(f"{trial.name}: {len(done) - len(failed)} of {len(done)} refused, in {trial.rounds} checks "
+          f"and {trial.seconds:.0f} s", flush=True)
     return failed
 
 
@@ -72,17 +72,17 @@ def try_left(crates, left, toolchain, is_alone, says, keep):
     """Tries the edits of each crate, some crates at once; what came of them. What was refused is kept as
     soon as its crate is done."""
     done = {}
-    with tempfile.TemporaryDirectory(prefix="irv-mutants-") as directory:
-        room = Path(directory)
+    with tempfile.TemporaryDirectory(prefix="irv-mutants-") as folder:
+        room = Path(folder)
         crates.build_below(left, room)
 
         def try_crate(name):
-            crate_check = CrateCheck(crates, name, toolchain, room)
-            found = crate_check.try_all(left[name], is_alone)
+            trial = Trial(crates, name, toolchain, room)
+            found = trial.try_all(left[name], is_alone)
             for edit, told in found.items():
                 if told[0] == REFUSED:
                     keep(edit, name, told[1])
-            report(crate_check, found, says)
+            report(trial, found, says)
             return found
 
         weight = {it: len(left[it]) * sum(map(len, crates.sources(it).values())) for it in left}

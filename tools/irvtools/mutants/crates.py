@@ -1,4 +1,4 @@
-"""The toolchain, the crates, and the libraries that a crate's check depends on."""
+"""The toolchain, the crates, and the libraries that a crate's check stands on."""
 
 import hashlib
 import os
@@ -31,8 +31,8 @@ class Toolchain:
 
     def __init__(self):
         page = said_by("rt", "doc").strip()
-        self.directory = Path(page).parent if page else Path("/nonexistent")
-        self.prover = self.directory / "bin/rattle"
+        self.folder = Path(page).parent if page else Path("/nonexistent")
+        self.prover = self.folder / "bin/rattle"
         self.version = said_by("rt", "version").strip()
 
     def lacks(self):
@@ -55,12 +55,12 @@ class Crates:
                      (line.partition(":") for line in text.splitlines()) if uses or name.strip()
                      if not name.startswith("#")}
 
-    def directory(self, name):
-        """Returns a crate's directory."""
+    def folder(self, name):
+        """A crate's folder."""
         return self.top / "crates" / name
 
     def below(self, name):
-        """The crates of the repository below a crate, each after its dependencies."""
+        """The crates of the repository below a crate, each after those that it stands on."""
         if name not in self.lower:
             found = {}
             for low in self.rows[name]:
@@ -71,18 +71,18 @@ class Crates:
 
     def sources(self, name):
         """The texts of a crate's files of code, by path."""
-        directory = self.directory(name)
-        return {str(file.relative_to(directory)): file.read_text()
-                for file in sorted((directory / "src").rglob("*.rt"))}
+        folder = self.folder(name)
+        return {str(file.relative_to(folder)): file.read_text()
+                for file in sorted((folder / "src").rglob("*.rt"))}
 
     def sum(self, name):
         """A sum of all that a check of the crate reads of the repository."""
         found = hashlib.sha256(repr((name, self.rows[name])).encode())
         for crate in [*self.below(name), name]:
             for part in PARTS:
-                for file in sorted((self.directory(crate) / part).rglob("*")):
+                for file in sorted((self.folder(crate) / part).rglob("*")):
                     if file.is_file():
-                        path = str(file.relative_to(self.directory(crate)))
+                        path = str(file.relative_to(self.folder(crate)))
                         found.update(repr((crate, path, file.read_bytes())).encode())
         return found.hexdigest()
 
@@ -90,7 +90,7 @@ class Crates:
         """Copies crates to a room, in which `rt ci` proves these alone: without their mutants, and
         without what was made of them."""
         for crate in names:
-            shutil.copytree(self.directory(crate), room / "crates" / crate,
+            shutil.copytree(self.folder(crate), room / "crates" / crate,
                             ignore=shutil.ignore_patterns("out", "must-fail", "mutants"))
         shutil.copy(self.top / "HANDLES", room / "HANDLES")
         (room / "crates.txt").write_text(
@@ -109,9 +109,9 @@ class Crates:
 
     def words(self, name, toolchain, room):
         """The words of a check of a crate over the libraries in the room."""
-        kit, library = toolchain.directory, lambda it: room / "crates" / it / "out/rlib"
+        kit, library = toolchain.folder, lambda it: room / "crates" / it / "out/rlib"
         found = [str(toolchain.prover), "check", "--crate-name", name]
-        found += ["src/main.rt" if (self.directory(name) / "src/main.rt").exists() else "src/lib.rt"]
+        found += ["src/main.rt" if (self.folder(name) / "src/main.rt").exists() else "src/lib.rt"]
         for low in ["std", *self.rows[name]]:
             at = library(low) if low in self.rows else kit / "rlibs"
             found += ["--extern", f"{low}={at / low}.rlib"]

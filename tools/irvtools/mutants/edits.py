@@ -49,7 +49,7 @@ def changes_of(text):
             old = rest
         elif word == "new":
             if not path or not old:
-                raise BadEdit("a 'new:' line is before any 'file:' or 'old:' line")
+                raise BadEdit("a 'new:' line stands before any 'file:' or 'old:' line")
             found.append((path, old, rest))
             old = None
         elif line.strip():
@@ -75,7 +75,7 @@ def edited(sources, changes):
 
 
 def place_of(path, text, old):
-    """Returns the function that contains a text, if any, and whether its body does."""
+    """The function in which a text stands, if any, and whether it stands in its body."""
     line = text[: text.index(old)].count("\n")
     for function in functions_of(path, text):
         if function.first <= line <= function.last:

@@ -40,7 +40,7 @@ def module_of(path):
 
 
 def before_brackets(text):
-    """Returns the text before the first angle bracket."""
+    """What stands before the first angle bracket."""
     return text.split("<")[0].strip()
 
 

@@ -78,10 +78,10 @@ class Said:
         """The verdict where answers of a proof file are refused: by what is said of those that the line
         names, or of all of the file where it names none."""
         *modules, function = name.split("::")[1:]
-        # the directory of a function that calls itself has a + before its name
-        directories = tuple("/".join(["proofs", *modules, sign + function, ""]) for sign in ("", "+"))
+        # the folder of a function that calls itself has a + before its name
+        folders = tuple("/".join(["proofs", *modules, sign + function, ""]) for sign in ("", "+"))
         named = [answer for _, answer in STANDS_ON.findall(said)]
-        own = [what for path, answer, what in self.errors if path.startswith(directories)
+        own = [what for path, answer, what in self.errors if path.startswith(folders)
                and (not named or not answer or answer.split(".")[0] in named)]
         if any(not GONE.search(what) for what in own):
             return Verdict.REFUSED, said

@@ -1,4 +1,4 @@
-"""Checks of a crate's edits, in rounds."""
+"""The trial of a crate's edits, in rounds."""
 
 import shutil
 import subprocess
@@ -11,26 +11,26 @@ from irvtools.mutants.prover_output import Said, Verdict
 REFUSED = "refused"
 
 
-class CrateCheck:
+class Trial:
     """A room in which the edits of one crate are tried."""
 
     def __init__(self, crates, name, toolchain, room):
         self.crates, self.name, self.sources = crates, name, crates.sources(name)
         self.words = crates.words(name, toolchain, room)
-        self.directory = room / "tried" / name
+        self.folder = room / "tried" / name
         self.seconds = 0
         self.rounds = 0
         for part in PARTS:
-            if (crates.directory(name) / part).is_dir():
-                shutil.copytree(crates.directory(name) / part, self.directory / part)
-        (self.directory / "kept").mkdir()
+            if (crates.folder(name) / part).is_dir():
+                shutil.copytree(crates.folder(name) / part, self.folder / part)
+        (self.folder / "kept").mkdir()
 
     def check(self, edits):
         """Checks the crate with these edits: of the functions that they change, and of all where one
         changes none."""
         changes = [it for edit in edits for it in edit.changes]
         for path, text in {**self.sources, **edited(self.sources, changes)}.items():
-            (self.directory / path).write_text(text)
+            (self.folder / path).write_text(text)
         paths = sorted({it.path for edit in edits for it in edit.functions})
         is_whole = any(not edit.functions for edit in edits)
         only = [] if is_whole else [word for path in paths for word in ("--only", path)]
@@ -46,9 +46,9 @@ class CrateCheck:
         return said
 
     def run(self, flags):
-        """Returns what the prover says about the crate as it is in the room; it is called again if it was killed."""
+        """What the prover says of the crate as it stands in the room; once more where it was killed."""
         for _ in range(2):
-            done = subprocess.run([*self.words, *flags], cwd=self.directory, stdin=subprocess.DEVNULL,
+            done = subprocess.run([*self.words, *flags], cwd=self.folder, stdin=subprocess.DEVNULL,
                                   stdout=subprocess.PIPE, stderr=subprocess.STDOUT,
                                   errors="replace")
             if done.returncode >= 0:
@@ -72,7 +72,7 @@ class CrateCheck:
         return f"NOT SHOWN: {worst[0].value}: {worst[1][:160]}"
 
     def try_round(self, edits):
-        """What comes of each edit of a round, and those that need a check of their own."""
+        """What comes of each edit of a round, and those that want a trial by themselves."""
         if len(edits) == 1:
             return {edits[0]: self.try_alone(edits[0])}, []
         said = self.check(edits)
@@ -96,5 +96,5 @@ class CrateCheck:
             done.update(found)
             for edit in left:
                 done[edit] = self.try_alone(edit)
-        shutil.rmtree(self.directory)
+        shutil.rmtree(self.folder)
         return done
