@@ -22,7 +22,7 @@ def refusals(room):
             ("",): "the directory's name is empty", (): "arguments are required: DIRECTORY",
             ("new", "two"): "unrecognized arguments: two",
             ("new", "--run"): "--run: expected one argument",
-            ("new", "--run", "nowhere"): "nowhere can",
+            ("new", "--run", "nowhere"): "cannot read --run nowhere",
             ("new", "--run", "other.txt"): "other.txt",
             ("new", "--depth", "17"): "--depth: '17' is not a whole number from 1 to 16",
             ("new", "--depth", "0"): "--depth: '0' is not a whole number",

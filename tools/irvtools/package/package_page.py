@@ -179,7 +179,7 @@ class PackagePage:
         data = (self.room / CONFIGURATION).read_bytes()
         filed = f"sha256 {provenance.sum_of(data)}, {len(data)} bytes, filed as {CONFIGURATION}"
         rows = [("configuration", f"{self.facts['configuration']}: {filed}")]
-        rows += [("program", line) for line in self.version]
+        rows += [*(line.split(" ", 1) for line in self.version[:-1]), ("proof", self.version[-1])]
         options = shlex.join(self.facts["options"])
         rows.append(("options", options or "none: the defaults of irv verify"))
         self.add(table([], [[name, ("", code(value))] for name, value in rows]))
