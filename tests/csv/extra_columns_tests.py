@@ -212,7 +212,7 @@ def check_labels(program, _):
         rows = Rows(Path(room, "out.html").read_text(encoding="utf-8")).rows
         if [row[0] for row in rows[1:]] != ["r1", "r2 2/1"]:
             yield f"{rows}"
-        if reading.read_folder(Path(room, "two"))["routes"][1]["name"] != "r2":
+        if reading.read_directory(Path(room, "two"))["routes"][1]["name"] != "r2":
             yield "the name is another"
 
 

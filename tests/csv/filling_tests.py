@@ -100,7 +100,7 @@ def refused_pairs(lines):
 def check_bay_station(program, _):
     """The typed station is refused; filled, it is the one of tests/plants, and clean; without any one pair
     of its conflicts it is refused."""
-    value = reading.read_folder(TYPED)
+    value = reading.read_directory(TYPED)
     kept = json.loads(BAY.read_text(encoding="utf-8"))
     found = filling.filled(value, BOTH)
     if len(check(program, value)) < 100 or any(route["conflicts"] for route in value["routes"]):
@@ -231,15 +231,15 @@ def check_calls(program, _):
         if json.loads(out.stdout) != json.loads(given) or not out.stderr.endswith(b"irv check: clean\n"):
             yield f"to standard output: {out.stderr[-300:]}"
         new = call(program, ["--fill", "conflicts,points", "bare.json", "--out", "new"], b"", room)
-        if reading.read_folder(Path(room, "new")) != json.loads(given) or new.stdout != out.stderr:
+        if reading.read_directory(Path(room, "new")) != json.loads(given) or new.stdout != out.stderr:
             yield f"to a directory: {new.stderr[-300:]}"
         over = call(program, ["--fill", "conflicts,points", "--write", "bare.json"], b"", room)
         if json.loads(Path(room, "bare.json").read_text(encoding="utf-8")) != json.loads(given) \
                 or over.stdout != out.stderr or over.returncode:
             yield f"over a file: {over.stderr[-300:]}"
-        writing.write_folder(json.loads(bare), Path(room, "old"))
+        writing.write_directory(json.loads(bare), Path(room, "old"))
         both = call(program, ["--fill", "conflicts,points", "--in", "old", "--write"], b"", room)
-        if reading.read_folder(Path(room, "old")) != json.loads(given) or both.stdout != out.stderr:
+        if reading.read_directory(Path(room, "old")) != json.loads(given) or both.stdout != out.stderr:
             yield f"over CSV files: {both.stderr[-300:]}"
         one = call(program, ["--fill", "points"], bare, room)
         if any(route["conflicts"] for route in json.loads(one.stdout)["routes"]) \

@@ -49,7 +49,7 @@ SHEET_FAULTS = [
     (S, b"\xff\xfen\0a\0", [", line 1: the encoding isn't UTF-8, which was expected"]),
     (S, SECTIONS.encode() + b"caf\xe9,linear,,,,,,,,\n",
      [", line 4: the encoding isn't UTF-8, which was expected"]),
-    (R, ROUTES + "," * 4194304, [": there are more than 4194304 bytes, which a sheet may have"]),
+    (R, ROUTES + "," * 4194304, [": there are more than 4194304 bytes, which a CSV file may have"]),
     # the form of the values apart by commas
     (S, other("b,linear,a", 'b,"linear,a', SECTIONS),
      [", line 3, column B: a cell in quotation marks has no end; the mark that closes it was expected"]),

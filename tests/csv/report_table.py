@@ -51,7 +51,7 @@ def page_faults(given):
     """What the sheet on the page says otherwise than routes.csv."""
     value = json.loads(given)
     found = on_page(value)
-    head, *rows = csv.reader(io.StringIO(writing.sheets(value)[ROUTES]))
+    head, *rows = csv.reader(io.StringIO(writing.csv_texts(value)[ROUTES]))
     wanted = [["no.", *head], *([str(number), *map(seen, row)] for number, row in enumerate(rows))]
     if found != (wanted if rows else []):
         yield f"{len(found)} rows stand for {len(wanted)}"

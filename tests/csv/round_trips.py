@@ -33,14 +33,14 @@ def randoms():
 
 def trip_faults(value):
     """What differs after a way to sheets and back, and from there to sheets again."""
-    texts = writing.sheets(value)
+    texts = writing.csv_texts(value)
     sections, told = reading.read_sections(texts["sections.csv"])
     version, routes, more = reading.read_routes(texts["routes.csv"])
     back = {"version": version, "sections": sections, "routes": routes}
     yield from told + more
     if back != value:
         yield "another configuration"
-    elif writing.sheets(back) != texts:
+    elif writing.csv_texts(back) != texts:
         yield "other sheets"
     if json.loads(configurations.written(value)) != value:
         yield "another configuration as JSON"
@@ -72,7 +72,7 @@ def joined(values, version):
 def office_faults(program, values, way):
     """Which of these configurations come back otherwise."""
     texts = {f"{name}-{file.removesuffix('.csv')}": text.encode()
-             for name, value in values.items() for file, text in writing.sheets(value).items()}
+             for name, value in values.items() for file, text in writing.csv_texts(value).items()}
     came = libreoffice.saved(program, texts, way)
     for name, value in values.items():
         missing = [one for one in (f"{name}-sections", f"{name}-routes") if one not in came]

@@ -180,7 +180,7 @@ def check_csv_places(program, _):
     """For CSV files the file, the line and the column are told, also behind empty rows and other columns."""
     value = json.loads((TOP / "examples/platforms-wrong-position.json").read_bytes())
     with tempfile.TemporaryDirectory(prefix="irv-explain-") as room:
-        writing.write_folder(value, Path(room, "two"))
+        writing.write_directory(value, Path(room, "two"))
         path = Path(room, "two/routes.csv")
         head, *rows = path.read_text(encoding="utf-8").splitlines()
         path.write_text("\n".join(["#km," + head, ",,", *(f"1.5,{row}" for row in rows)]) + "\n", encoding="utf-8")

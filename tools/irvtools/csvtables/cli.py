@@ -113,7 +113,7 @@ def standard_input():
 def compared(name):
     """Returns the configuration of a directory with both CSV files, or of a file."""
     if Path(name).is_dir():
-        value = reading.read_folder(name)
+        value = reading.read_directory(name)
     else:
         value = configurations.read(configurations.read_bytes(name), name)
     configurations.see_counts(value, name)
@@ -130,7 +130,7 @@ def read_source(options):
     source = source_of(options)
     if source is None:
         return standard_input()
-    return reading.read_folder(source) if options.in_ is not None or Path(source).is_dir() \
+    return reading.read_directory(source) if options.in_ is not None or Path(source).is_dir() \
         else configurations.read(configurations.read_bytes(source), source)
 
 
@@ -156,7 +156,7 @@ def convert(options):
     elif options.control_table:
         control_table.write(value, options.control_table)
     elif options.out is not None:
-        writing.write_folder(value, options.out)
+        writing.write_directory(value, options.out)
     else:
         print_out(configurations.written(value))
     return DONE

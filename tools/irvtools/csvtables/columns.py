@@ -1,4 +1,4 @@
-"""The columns of both sheets: their headings, the members of a configuration that they are, and how a
+"""The columns of both CSV files: their headings, the members of a configuration that they are, and how a
 cell of each is written and read.
 """
 

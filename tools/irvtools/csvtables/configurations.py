@@ -1,4 +1,4 @@
-"""A configuration as it is read and written by the tools of sheets: the value of its JSON, of the form
+"""A configuration as it is read and written by the CSV tools: the value of its JSON, of the form
 that F2 to F5 ask. The counts of F6 are asked only where something is
 compared; all other rules are for `irv check`.
 """

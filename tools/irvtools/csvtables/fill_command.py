@@ -63,7 +63,7 @@ def report(program: Path, old: dict, found: filling.Filling) -> str:
 def write_over(value: dict, path: str) -> None:
     """Writes a filled configuration over the one at `path`: routes.csv of a directory, or a file."""
     if Path(path).is_dir():
-        writing.write_over(Path(path, columns.ROUTES), writing.sheets(value)[columns.ROUTES])
+        writing.write_over(Path(path, columns.ROUTES), writing.csv_texts(value)[columns.ROUTES])
     elif os.path.isfile(path):
         writing.write_over(Path(path), configurations.written(value))
     else:
@@ -78,7 +78,7 @@ def fill(options: argparse.Namespace, value: dict, source: str | None) -> str:
     if options.write:
         write_over(found.value, source)
     elif options.out is not None:
-        writing.write_folder(found.value, options.out)
+        writing.write_directory(found.value, options.out)
     else:
         sys.stderr.write(text)
         return configurations.written(found.value)

@@ -40,7 +40,7 @@ def add(labels: dict[str, str], name: str | None, entry: dict, heading: str) -> 
 
 def read(directory: str) -> Labels:
     """Returns the labels in the CSV files of a directory."""
-    return of_value(reading.read_folder(directory))
+    return of_value(reading.read_directory(directory))
 
 
 def labelled(plant: Plant, labels: Labels) -> Plant:

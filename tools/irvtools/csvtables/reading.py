@@ -1,5 +1,5 @@
-"""From two sheets to a configuration. What is wrong with a cell is told with file, line and column; each
-fault of both sheets, in order.
+"""From two CSV files to a configuration. What is wrong with a cell is told with file, line and column; each
+fault of both files, in order.
 """
 
 from pathlib import Path
@@ -12,7 +12,7 @@ from irvtools.csvtables.configurations import read_text
 from irvtools.calls.refusal import Refused, shown
 
 
-class Sheet:
+class CsvFile:
     """The rows of a CSV file, with the place of each column. Empty rows and columns are passed over.
     `extra` has the places of comments and of the optional columns `labels`, by their headings."""
 
@@ -97,72 +97,72 @@ def separator_of(text, known):
     return max((csv_text.COMMA, csv_text.SEMICOLON), key=count)
 
 
-def read_section(sheet, row):
+def read_section(table, row):
     """A section, of its row."""
     by_member = {one.member: one for one in columns.OF_SECTIONS}
-    kind = sheet.read_cell(row, by_member["kind"])
+    kind = table.read_cell(row, by_member["kind"])
     if kind is None:
         return {}
     own = columns.of_section(kind)
     for column in columns.OF_SECTIONS:
-        if column not in own and cells.words(sheet.cell(row, column)):
-            sheet.faults.append(sheet.at(
-                row, sheet.places[column.heading],
+        if column not in own and cells.words(table.cell(row, column)):
+            table.faults.append(table.at(
+                row, table.places[column.heading],
                 f"a {kind if kind == 'point' else 'linear section'} has no {column.heading}; an empty "
                 "cell was expected"))
-    return {member: sheet.read_cell(row, by_member[member]) for member in columns.MEMBERS[kind]}
+    return {member: table.read_cell(row, by_member[member]) for member in columns.MEMBERS[kind]}
 
 
 def sections_of(text, file):
     """Returns the CSV file of sections, read, and its sections."""
-    sheet = Sheet(file, text, columns.OF_SECTIONS, columns.LABELS[columns.SECTIONS])
-    sheet.require([one.heading for one in columns.OF_SECTIONS])
-    if sheet.faults:
-        return sheet, []
-    return sheet, [sheet.with_extra(row, read_section(sheet, row)) for row in sheet.rows]
+    table = CsvFile(file, text, columns.OF_SECTIONS, columns.LABELS[columns.SECTIONS])
+    table.require([one.heading for one in columns.OF_SECTIONS])
+    if table.faults:
+        return table, []
+    return table, [table.with_extra(row, read_section(table, row)) for row in table.rows]
 
 
 def routes_of(text, file):
     """Returns the CSV file of routes, read, the version and the routes. The version is 2 if there is a
     column of protection."""
-    sheet = Sheet(file, text, columns.of_routes(2), columns.LABELS[columns.ROUTES])
-    version = 2 if any(one.heading in sheet.places for one in columns.PROTECTING) else 1
+    table = CsvFile(file, text, columns.of_routes(2), columns.LABELS[columns.ROUTES])
+    version = 2 if any(one.heading in table.places for one in columns.PROTECTING) else 1
     known = columns.of_routes(version)
-    sheet.require([one.heading for one in known])
-    if sheet.faults:
-        return sheet, version, []
-    return sheet, version, [
-        sheet.with_extra(row, {one.member: sheet.read_cell(row, one) for one in known})
-        for row in sheet.rows]
+    table.require([one.heading for one in known])
+    if table.faults:
+        return table, version, []
+    return table, version, [
+        table.with_extra(row, {one.member: table.read_cell(row, one) for one in known})
+        for row in table.rows]
 
 
 def read_sections(text, file=columns.SECTIONS):
     """Returns the sections of a CSV file, and its faults."""
-    sheet, sections = sections_of(text, file)
-    return sections, sheet.faults
+    table, sections = sections_of(text, file)
+    return sections, table.faults
 
 
 def read_routes(text, file=columns.ROUTES):
     """Returns the version, the routes of a CSV file, and its faults."""
-    sheet, version, routes = routes_of(text, file)
-    return version, routes, sheet.faults
+    table, version, routes = routes_of(text, file)
+    return version, routes, table.faults
 
 
-def read_folder(folder):
+def read_directory(directory):
     """Returns the configuration of both CSV files of a directory."""
-    return read_with_sheets(folder)[0]
+    return read_with_files(directory)[0]
 
 
-def read_with_sheets(folder):
+def read_with_files(directory):
     """Returns the configuration of both CSV files of a directory, and these files, read."""
-    spreadsheets.refuse_directory(folder)
+    spreadsheets.refuse_directory(directory)
     faults, found = [], []
     for file, read in ((columns.SECTIONS, sections_of), (columns.ROUTES, routes_of)):
         try:
-            path = str(Path(folder, file))
-            sheet, *values = read(read_text(path, "a sheet"), path)
-            found.append((sheet, values))
-            faults += sheet.faults
+            path = str(Path(directory, file))
+            table, *values = read(read_text(path, "a CSV file"), path)
+            found.append((table, values))
+            faults += table.faults
         except Refused as refused:
             faults += refused.faults
     if faults:

@@ -10,7 +10,7 @@ from irvtools.csvtables import csv_text
 from irvtools.calls.refusal import Refused, reason
 
 
-def sheet_rows(known, entries, extra=(), labels=()):
+def csv_rows(known, entries, extra=(), labels=()):
     """Returns the rows of a CSV file: its headings, and a row for each entry, with an empty cell if that
     lacks the member. Behind them come the columns `extra`; of these, `labels` are protected from
     spreadsheets, and comments are not."""
@@ -22,42 +22,42 @@ def sheet_rows(known, entries, extra=(), labels=()):
                      for heading in extra]
 
 
-def sheets(value):
+def csv_texts(value):
     """Returns the text of each CSV file of a configuration, by the name of the file."""
     extra = value.get(columns.EXTRA, {})
     known = {columns.SECTIONS: ("sections", columns.OF_SECTIONS),
              columns.ROUTES: ("routes", columns.of_routes(value["version"]))}
-    return {file: csv_text.written(sheet_rows(of_file, value[list_], extra.get(list_, ()),
-                                              columns.LABELS[file]))
+    return {file: csv_text.written(csv_rows(of_file, value[list_], extra.get(list_, ()),
+                                           columns.LABELS[file]))
             for file, (list_, of_file) in known.items()}
 
 
-def write_folder(value, folder):
-    """Writes both sheets into a folder, which is made where it isn't there. A file that is there isn't
+def write_directory(value, directory):
+    """Writes both CSV files into a directory, which is made if it does not exist. A file that exists is not
     written over; where one can't be written none is left."""
-    texts, folder, made = sheets(value), Path(folder), []
-    there = [folder / name for name in texts if os.path.lexists(folder / name)]
+    texts, directory, made = csv_texts(value), Path(directory), []
+    there = [directory / name for name in texts if os.path.lexists(directory / name)]
     if there:
         raise Refused(*map(is_there, there))
     try:
-        if not folder.is_dir():
-            make_folder(folder)
-            made.append(folder)
+        if not directory.is_dir():
+            make_directory(directory)
+            made.append(directory)
         for name, text in texts.items():
-            write_new(folder / name, text)
-            made.append(folder / name)
+            write_new(directory / name, text)
+            made.append(directory / name)
     except Refused:
         for path in reversed(made):
-            path.rmdir() if path == folder else path.unlink()
+            path.rmdir() if path == directory else path.unlink()
         raise
 
 
-def make_folder(folder):
-    """Makes a folder."""
+def make_directory(directory):
+    """Makes a directory."""
     try:
-        folder.mkdir()
+        directory.mkdir()
     except OSError as fault:
-        raise Refused(f"{folder}: it can't be made: {reason(fault)}") from None
+        raise Refused(f"{directory}: it can't be made: {reason(fault)}") from None
 
 
 def write_new(path, text):

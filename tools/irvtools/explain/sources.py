@@ -32,16 +32,16 @@ class CsvSource:
 
     def __init__(self, directory: str) -> None:
         self.name = directory
-        value, self.sheets = reading.read_with_sheets(directory)
+        value, self.files = reading.read_with_files(directory)
         self.given = configurations.written(value).encode()
 
     def place(self, entries: list[Entry]) -> str:
         """Returns where the entries are, in words: of several entries of one list and member the lines."""
         if not entries:
             return self.name
-        sheet, member = self.sheets[entries[0].list], entries[0].member
-        lines = [str(sheet.rows[one.number].line) for one in entries]
-        words = f"{sheet.file}, line{'s' if len(lines) > 1 else ''} {' and '.join(lines)}"
+        table, member = self.files[entries[0].list], entries[0].member
+        lines = [str(table.rows[one.number].line) for one in entries]
+        words = f"{table.file}, line{'s' if len(lines) > 1 else ''} {' and '.join(lines)}"
         if member is None:
             return words
-        return f"{words}, column {csv_text.letters(sheet.places[heading(member)])} ({heading(member)})"
+        return f"{words}, column {csv_text.letters(table.places[heading(member)])} ({heading(member)})"
