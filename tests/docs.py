@@ -625,7 +625,7 @@ CHANGES = {
     "a file that a list leaves out": (
         see_lists, "CONTRIBUTING.md", r"`pairs\.rt`, ", "", "pairs.rt is left out, which names the rule C8"),
     "a document that a list leaves out": (
-        see_lists, "CONTRIBUTING.md", r"`docs/guides/html-report\.md`, ", "", "html-report.md is left out, which names the rule C8"),
+        see_lists, "CONTRIBUTING.md", r"`docs/how-it-works\.md`, ", "", "how-it-works.md is left out, which names the rule C8"),
     "a folder that a list leaves out": (
         see_lists, "CONTRIBUTING.md", r", such as `ilk_drive/`", "",
         "ilk_drive/src/automatic.rt is left out, which names the command drive"),

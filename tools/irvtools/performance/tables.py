@@ -66,26 +66,36 @@ def checks(plants):
                          megabytes(plant.text), *check(plant.rup)] for plant in plants])
 
 
-def origin(run, whose):
-    """Returns where and how a run of tools/benchmark was measured; `whose` begins the first sentence."""
+def conditions(run):
+    """Returns on which machine, with which program and beside which solvers a run was measured."""
     name, _, rest = run.head["program"].partition(", ")
     program = (f"The program was the proved one, `{PROVED}` ({rest})." if name == PROVED else
                f"**The program was not proved**: it was built from the sources of that day without "
                f"their proofs ({name}, {rest}).")
-    loads, budget = sorted(run.loads, key=float), run.head.get("conflicts")
+    budget = run.head.get("conflicts")
     if budget:
         program += f" `verify` was called with `--conflicts {budget}`."
-    return (f"{whose} on {run.head['day']}: {run.head['machine']}. {program} Other solvers: "
-            f"{run.head['solvers']} of CPU time. Load average over one minute, at the beginning and "
+    return f"{run.head['machine']}. {program} Other solvers: {run.head['solvers']} of CPU time."
+
+
+def origin(run, whose, first=None):
+    """Returns where and how a run of tools/benchmark was measured; `whose` begins the first sentence.
+    What was so in the run `first` too is not said again."""
+    loads = sorted(run.loads, key=float)
+    same = first is not None and conditions(first) == conditions(run)
+    how = " in the same way." if same else f": {conditions(run)}"
+    return (f"{whose} on {run.head['day']}{how} Load average over one minute, at the beginning and "
             f"the end: {' to '.join(dict.fromkeys((loads[0], loads[-1])))}.\n")
 
 
 def origins(measured):
     """The same for each call, with its plants where there are several."""
-    if len(measured.runs) == 1:
-        return origin(measured.runs[0], "Measured")
-    ends = [list(dict.fromkeys(shown(run.plants[place].name) for place in (0, -1))) for run in measured.runs]
-    return "\n".join(origin(run, f"{' to '.join(names)}, measured") for run, names in zip(measured.runs, ends))
+    runs = measured.runs
+    if len(runs) == 1:
+        return origin(runs[0], "Measured")
+    ends = [list(dict.fromkeys(shown(run.plants[place].name) for place in (0, -1))) for run in runs]
+    return "\n".join(origin(run, f"{' to '.join(names)}, measured", runs[0] if number else None)
+                     for number, (run, names) in enumerate(zip(runs, ends)))
 
 
 def part(measured):
