@@ -32,6 +32,8 @@ from irvtools.docs.links import REFERENCE, TARGET, with_targets
 from irvtools.paths import TOP
 from tests.support.harness import Test
 
+TAKES_LONG = True       # the runner starts it first
+
 DOCUMENTS = ("README.md", "CONTRIBUTING.md", "docs/**/*.md", "tests/README.md", "tests/cases/README.md",
              "tools/README.md", "examples/README.md")
 FENCE = re.compile(r"^```.*?^```", re.S | re.M)

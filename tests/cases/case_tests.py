@@ -13,6 +13,8 @@ from tests.support import program as programs
 from tests.cases import well_formed
 from tests.support.harness import ProgramTest, Test
 
+TAKES_LONG = True       # the runner starts it first
+
 THREADS = 2
 SHOWN_BYTES = 2000
 

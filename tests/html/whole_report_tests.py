@@ -22,6 +22,8 @@ from tests.support.report_plants import plants
 from irvtools.html.run_frames import MOST_PICTURED
 from tests.support.harness import LongTest, test_case
 
+TAKES_LONG = True       # the runner starts it first
+
 MOST_SHEETS = 6         # of paper for a station
 SHEET = '<div class="wide"><h2 id="table">'
 # words of the page, and those of verify that they give; the last is the file of the certificate

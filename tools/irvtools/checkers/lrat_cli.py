@@ -43,7 +43,7 @@ def parser():
               metavar="FILE")
     line.add_argument("conf", metavar="CONFIGURATION", type=Path, help="the configuration's file")
     line.add_argument("cert", metavar="CERTIFICATE", type=Path, help="the certificate's file")
-    line.add_argument("folder", metavar="DIRECTORY", type=Path, help="where the files are written")
+    line.add_argument("directory", metavar="DIRECTORY", type=Path, help="where the files are written")
     return line
 
 
