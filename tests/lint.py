@@ -77,7 +77,8 @@ def imported_by(text: str) -> set[str]:
 
 
 def unused_faults(top: Path, modules: Iterable[str]) -> Iterable[str]:
-    """Yields the files of `tests/` that no runner runs and no test imports, and those whose tests do not run.
+    """Yields the files of `tests/` that no runner runs and no other file imports or names, and those whose tests do
+    not run.
 
     `modules` are the names of the modules that the runner reads."""
     modules = set(modules)
@@ -90,7 +91,8 @@ def unused_faults(top: Path, modules: Iterable[str]) -> Iterable[str]:
             continue
         if TEST_CLASS.search(text) and not name.startswith("tests/support/"):
             yield f"{name} has a test case, and the runner does not read it"
-        if module not in imported:
+        is_called = any(Path(name).name in other for path, other in texts.items() if path != name)
+        if module not in imported and not is_called:
             yield f"{name} is neither a test module nor imported by one"
 
 

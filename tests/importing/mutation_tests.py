@@ -11,6 +11,7 @@ import sys
 import tempfile
 from pathlib import Path
 
+from irvtools.paths import TOOLS
 from tests.importing.layout_tests import LAYOUT, net
 from tests.importing.small_maps import LOOP_NODES, LOOP_WAYS, osm
 from tests.support.harness import test_case
@@ -134,7 +135,7 @@ def watched(program, room, name):
     done = subprocess.run([sys.executable, str(WATCHED), str(result), str(Path(room, name)),
                            "--out", str(Path(room, "out.json")), "--program", str(program)],
                           capture_output=True, text=True, errors="replace", timeout=120,
-                          env={**os.environ, "TMPDIR": str(room)}, check=False)
+                          env={**os.environ, "TMPDIR": str(room), "PYTHONPATH": str(TOOLS)}, check=False)
     seen = json.loads(result.read_text(encoding="utf-8")) if result.exists() else None
     return seen, done.stderr
 

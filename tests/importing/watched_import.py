@@ -1,6 +1,6 @@
 """Imports a file in a process that records what it opens, its CPU seconds and its peak memory.
 
-    python3 watched_import.py RESULT ARGUMENTS..
+    PYTHONPATH=tools python3 watched_import.py RESULT ARGUMENTS..
 """
 
 import json
@@ -8,9 +8,6 @@ import re
 import sys
 import time
 from pathlib import Path
-
-TOP = Path(__file__).resolve().parents[2]
-sys.path.insert(0, str(TOP / "tools"))
 
 OPENED, OTHER = set(), set()
 
