@@ -49,7 +49,7 @@ def seconds_of(names: Iterable[str]) -> Dict[str, float]:
     """Returns the listed or estimated seconds of these crates."""
     listed, crates = listed_seconds(), Crates()
     return {name: listed.get(name)
-            or LEAST_SECONDS + size(crates.directory(name)) / BYTES_PER_SECOND for name in names}
+            or LEAST_SECONDS + size(crates.folder(name)) / BYTES_PER_SECOND for name in names}
 
 
 def size(directory: Path) -> int:

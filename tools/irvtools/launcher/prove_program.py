@@ -81,7 +81,7 @@ def build(options: List[str]) -> int:
     """Proves and builds the program. Returns the exit status."""
     crates = Crates()
     names = [*crates.below(PROGRAM), PROGRAM]
-    absent = sorted(name for name in names if not crates.directory(name).is_dir())
+    absent = sorted(name for name in names if not crates.folder(name).is_dir())
     if absent:
         print(f"prove_program: cannot read crates/{absent[0]}, which crates.txt names: no such "
               "directory", file=sys.stderr)
@@ -91,7 +91,7 @@ def build(options: List[str]) -> int:
         crates.lay_out(names, room)
         if not prove(room, {name: {*crates.below(name)} for name in names}, options):
             return 1
-        put(room / "crates" / PROGRAM / "out" / PROGRAM, crates.directory(PROGRAM) / "out" / PROGRAM)
+        put(room / "crates" / PROGRAM / "out" / PROGRAM, crates.folder(PROGRAM) / "out" / PROGRAM)
     return 0
 
 
