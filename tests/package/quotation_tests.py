@@ -83,7 +83,7 @@ def check_version_file(_, __):
 def check_checksum_of_judge(_, __):
     """The qualification page has the checksum of verify_package.py, the judge in a release."""
     total = sha256(script().encode())
-    if f"`{total}`" not in provenance.QUALIFICATION.read_text(encoding="utf-8"):
+    if total not in provenance.QUALIFICATION.read_text(encoding="utf-8"):
         yield f"write into docs/assurance/qualification.md that verify_package.py has the checksum {total}"
 
 

@@ -10,7 +10,7 @@ from pathlib import Path
 from irvtools.batch.file_names import shown
 from irvtools.calls import provenance
 from irvtools.package import redraw
-from irvtools.package.documents import document_names
+from irvtools.package.documents import checker_names, document_names
 from irvtools.package.findings import Findings
 from irvtools.package.options import Options, Refused
 from irvtools.package.program_version import version_lines, version_of
@@ -21,10 +21,6 @@ from irvtools.paths import TOP
 
 CERTIFICATE, FOUND_RUN, SEARCH_RUN = "verify.cert", "verify.run", "search.run"
 VERSION = "version.txt"
-# what checks an answer besides the program, as the repository has it
-CHECKERS = ("audit", "lrat", *(f"irvtools/{name}.py" for name in (
-    "__init__", "paths", "arguments", "checkers/__init__", "checkers/certificate",
-    "checkers/dimacs", "checkers/exported", "checkers/audit_cli", "checkers/lrat_cli")))
 # solvers that write refutations, with the arguments that tools/verify_with needs for them
 SOLVERS = {"cadical": [], "picosat.trace": ["--solver", "picosat.trace -n -R {proof} {cnf}"]}
 # how long the report may wait for verify, which has answered the same before
@@ -78,7 +74,7 @@ class Package:
         files = files_here()
         archive = self.room / ARCHIVE
         archive.write_bytes(archive_of(files, provenance.version() or "unknown"))
-        copies = [(f"tools/{name}", f"checkers/{name}") for name in CHECKERS]
+        copies = [(name, name.replace("tools/", "checkers/", 1)) for name in checker_names(files)]
         copies += [(name, f"documents/{name}") for name in document_names(files)]
         for name, place in copies:
             mode, data = files[name] if name in files else (0o755, (TOP / name).read_bytes())

@@ -1,5 +1,5 @@
-"""The documents of a package: the pages of this version, the definitions on which its answers
-depend, and each file to which these link."""
+"""The sources that a package has as files: the pages of this version, the definitions on which its
+answers depend, each file to which these link, and the checkers."""
 
 from __future__ import annotations
 
@@ -11,6 +11,9 @@ from irvtools.docs import definitions
 from irvtools.package.page_links import links_of
 from irvtools.package.source_archive import Files
 
+# what checks an answer besides the program
+CHECKERS = ("tools/audit", "tools/lrat")
+IMPORT = re.compile(r"^\s*from (irvtools(?:\.\w+)*) import (.+)$", re.M)
 PAGES = ("README.md", "CHANGELOG.md", "VERSION", "CONTRIBUTING.md")
 
 
@@ -34,6 +37,23 @@ def document_names(files: Files) -> list[str]:
         if not any(name.startswith(directory) for name in found):
             found |= {name for name in files
                       if name.startswith(directory) and not name.endswith(".md")}
+    return sorted(found)
+
+
+def checker_names(files: Files) -> list[str]:
+    """Returns the names of the checkers among the sources, with all modules that they import."""
+    found, left = set(), list(CHECKERS)
+    while left:
+        name = left.pop()
+        if name not in files or name in found:
+            continue
+        found.add(name)
+        for package, names in IMPORT.findall(files[name][1].decode()):
+            place = "tools/" + package.replace(".", "/")
+            modules = re.findall(r"\w+", names)
+            left += [f"{place}.py", *(f"{place}/{module}.py" for module in modules)]
+            parts = place.split("/")
+            left += ["/".join(parts[:count]) + "/__init__.py" for count in range(2, len(parts) + 1)]
     return sorted(found)
 
 

@@ -104,6 +104,8 @@ class Findings:
             found += [f"{safe}, and {name}: {self.call(name).told}"
                       for name, line in accepted.items()
                       if not self.call(name).line.startswith(line)]
+            if self.call("lrat").status:
+                found.append(f"{safe}, and lrat: {self.call('lrat').last}")
             found += [f"{call.name} was refuted before, and now: {call.told}" for call in self.calls
                       if call.name.startswith("rup-") and not call.line.startswith("refuted ")]
         return found

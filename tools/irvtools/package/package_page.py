@@ -127,9 +127,9 @@ class PackagePage:
                      "from the initial state, of any length, ends in a hazard: a clause of the "
                      "program's contract.")
         elif self.findings.is_safe_with_deviations:
-            self.say("Only the rules C4, C5, C6 and C8 are broken. That alone is a proof that no "
-                     "run from the initial state, of any length, ends in a hazard: a clause of the "
-                     "program's contract.")
+            self.say("Only rules are broken on which safety does not depend. That alone is a proof "
+                     "that no run from the initial state, of any length, ends in a hazard: a clause "
+                     "of the program's contract.")
         if self.findings.is_safe:
             self.say("irv verify answered that no run of any length ends in a hazard, and wrote a "
                      "certificate, which irv audit and tools/audit accepted.")
@@ -165,7 +165,7 @@ class PackagePage:
         if found.hazard:
             return f"It is not safe: {found.hazard}."
         if found.is_safe_with_deviations:
-            return "By a clause of the program's contract: only C4, C5, C6 and C8 are broken."
+            return "By a clause of the program's contract: safety does not depend on this rule."
         if not deviation.is_resting:
             return ("Not shown. A table with only this deviation, and with no other on which "
                     "safety depends, would be safe.")

@@ -61,7 +61,7 @@ class Release:
             checks = ci_log.read((self.top / ".ci/run").read_text(encoding="utf-8"), log, tree)
             names = axioms(self.top, log)
             licences = self.licences.read_text(encoding="utf-8", errors="replace")
-            linked = libraries(licences, Toolchain().folder)
+            linked = libraries(licences, Toolchain().prover.parents[1])
             version = self.copy(tree)
             record = Record(self.top, version, checks, ci_log.tests_in(log), names, linked)
             for file in self.given.extra_log:
