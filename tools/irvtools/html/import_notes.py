@@ -9,7 +9,8 @@ from irvtools.importing import notes
 
 
 def boards_by_rule(name: str) -> set[str]:
-    """Returns the names of the boards that no imported data had, by a file of notes; refuses another file."""
+    """Returns the names of the boards that no imported data had, by a file of notes; refuses
+    another file."""
     try:
         return notes.boards_by_rule(notes.read_notes(Path(name)))
     except OSError as fault:
