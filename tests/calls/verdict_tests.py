@@ -1,4 +1,5 @@
-"""Tests of the verdict's word: each row of its table, what beats what, and what counts as no answer."""
+"""Tests of the verdict's word: each row of its table, what beats what, and what counts as no
+answer."""
 
 import hashlib
 import subprocess
@@ -51,8 +52,10 @@ ROWS = [
     (rules.NOT_SHOWN, [FREE_CLEAN]), (rules.NOT_SHOWN, []), (rules.NOT_SHOWN, [LATE]),
     (rules.NOT_SHOWN, [FREE_CLEAN, NO_HAZARD]),
     (rules.NOT_SHOWN, [Answered("verify", "free", 4, "spent conflicts=100000\n")]),
-    (rules.NOT_SHOWN, [Answered("verify", "free", 3, "breach steps=1 family=V7\nrun 1\nstart\nend\n")]),
-    (rules.NOT_SHOWN, [Answered("verify", "free", 2, "not inductive steps=1\nrun 1\nstate\nend\n")]),
+    (rules.NOT_SHOWN, [Answered("verify", "free", 3, "breach steps=1 family=V7\nrun "
+                                                     "1\nstart\nend\n")]),
+    (rules.NOT_SHOWN, [Answered("verify", "free", 2, "not inductive steps=1\nrun "
+                                                     "1\nstate\nend\n")]),
     (rules.NOT_SHOWN, [Answered("replay", "free", 0, "hazard two a\n", run=FROM_STATE)]),
     (rules.NOT_SHOWN, [Answered("replay", "free", 0, "hazard two a\n")]),
     (rules.NOT_SHOWN, [Answered("replay", "free", 6, "hazard two a\n", run=RUN)]),
@@ -96,7 +99,8 @@ def check_tones(_, __):
 
 
 def check_without_the_clause(_, __):
-    """Without the clause on deviations a table that deviates is refused, or safe if verify says so."""
+    """Without the clause on deviations a table that deviates is refused, or safe if verify says
+    so."""
     kept = rules.DEVIATIONS_ARE_PROVED
     rules.DEVIATIONS_ARE_PROVED = False
     try:
@@ -108,7 +112,8 @@ def check_without_the_clause(_, __):
 
 
 def check_ranking(_, __):
-    """A hazard ranks first, and what isn't shown before what is safe; each word has a rank and a tone."""
+    """A hazard ranks first, and what isn't shown before what is safe; each word has a rank and a
+    tone."""
     ranks = [rules.RANKING.index(word) for word in (rules.HAZARD_FOUND, rules.NOT_SHOWN, rules.SAFE)]
     if ranks != sorted(ranks) or ranks[0] != 0:
         yield f"the order is {rules.RANKING}"
@@ -140,7 +145,8 @@ class ExampleTests(ProgramTest):
                     ("station.json", "check", "free", rules.NOT_SHOWN),
                     ("two-sections.json", "check", "strict", rules.REFUSED),
                     ("line-with-boards.json", "verify", "free", rules.SAFE)]
-        self.see(f"{name}, {command}, {columns}: {found.line}" for name, command, columns, word in expected
+        self.see(f"{name}, {command}, {columns}: "
+                 f"{found.line}" for name, command, columns, word in expected
                  for found in [verdict([asked(self.program, name, command, columns)], True)]
                  if found.word != word)
 

@@ -1,5 +1,5 @@
-"""Tests of the page's advice: each sentence over the smallest plant of which it is true, and over one of
-which it isn't. They are derived by hand."""
+"""Tests of the page's advice: each sentence over the smallest plant of which it is true, and over
+one of which it isn't. They are derived by hand."""
 
 from irvtools.html.advice_section import advice_part
 from irvtools.rules.flank_protection import guards
@@ -37,7 +37,8 @@ BARE_FORK = FORK.replace("u p . m3", "u p . .")
 ADVICE = [
     # ways into a path over a point
     (BARE_FORK + R1, ["In one place a vehicle could run into a route's path over points.",
-                      "nothing 1.", "A vehicle from the border u can come into the path of route r1 over p-: "
+                      "nothing 1.", "A vehicle from the border u can come into the path of route "
+                                    "r1 over p-: "
                       "neither a protecting point nor a board is in its way."], ["Mistake"]),
     (FORK + R1, ["a closed board 1; nothing 0.", "r1 the minus leg of p u a closed board: m3"],
      ["can come into the path", "without an overlap"]),
@@ -46,15 +47,19 @@ ADVICE = [
     (TRAP + R1 + " protecting_points q=minus", ["a protecting point 1;", "a protecting point: q"],
      ["can come into the path"]),
     (TRAP + R1 + " protecting_points q=plus", ["a protecting point 0;", "a closed board: m3",
-     "Mistake: Route r1 has the protecting points q+, which lead a vehicle into its path or overlap."], []),
-    (TRAP.replace("u q . m3", "u q . .") + R1, ["A vehicle from the border u can come into the path"],
+     "Mistake: Route r1 has the protecting points q+, which lead a vehicle into its path or "
+     "overlap."], []),
+    (TRAP.replace("u q . m3", "u q . .") + R1, ["A vehicle from the border u can come into the "
+                                                "path"],
      ["border x"]),
     (CROSSING + "route r1 from m1 to . path p q c points p=plus q=plus",
      ["In 2 places", "r1 the minus leg of p (lines cross at p and q) b a closed board: m2",
-      "r1 the minus leg of q (lines cross at q and p) d a closed board: m4"], ["can come into the path"]),
+      "r1 the minus leg of q (lines cross at q and p) d a closed board: "
+      "m4"], ["can come into the path"]),
     (LINE + "route r1 from m1 to m3 path b", ["No route leads over points"], ["Flank protection"]),
     # overlaps
-    (LINE + "route r1 from m1 to m3 path b", ["1 route without an overlap beyond the exit board: r1."], []),
+    (LINE + "route r1 from m1 to m3 path "
+            "b", ["1 route without an overlap beyond the exit board: r1."], []),
     (LINE + "route r1 from m1 to m3 path b overlap c",
      ["Overlaps that do not end at a board, although the line continues: r1 (c)."],
      ["without an overlap"]),
@@ -65,22 +70,29 @@ ADVICE = [
      ["do not end at a board", "without an overlap", "The overlap of"]),
     # ways of the network
     (LINE + "route r1 from m1 to m3 path b\nroute r2 from m3 to . path c d\n"
-     "route r3 from m2 to . path c b a", ["The network has 3 candidate routes", "The table has 3 routes."],
+     "route r3 from m2 to . path c b "
+     "a", ["The network has 3 candidate routes", "The table has 3 routes."],
      ["not in the table", "not a candidate"]),
     (LINE + "route r2 from m3 to . path c d\nroute r3 from m2 to . path c b a",
      ["1 candidate route from board to board is not in the table: m1 to m3 over b."],
      ["not a candidate", "trap road"]),
     (LINE + "route r1 from m1 to m3 path b\nroute r3 from m2 to . path c b a",
-     ["1 candidate route out of the area over a border that the table uses is not in the table: m3 to out "
+     ["1 candidate route out of the area over a border that the table uses is not in the table: m3 "
+      "to out "
       "over c d."], ["trap road", "not a candidate"]),
-    (FORK + "route r1 from m1 to . path p t points p=plus\nroute r2 from m2 to . path p a points p=plus",
-     ["2 candidate routes to or from a border that the table does not use, such as a dead end or a trap "
-      "road are not in the table: m1 to out over p u; m3 to out over p a."], ["out of the area over a border"]),
-    (LINE + "route r1 from m1 to . path b c", ["1 route of the table is not a candidate route of the network: r1."], []),
+    (FORK + "route r1 from m1 to . path p t points p=plus\nroute r2 from m2 to . path p a points "
+            "p=plus",
+     ["2 candidate routes to or from a border that the table does not use, such as a dead end or a "
+      "trap "
+      "road are not in the table: m1 to out over p u; m3 to out over p "
+      "a."], ["out of the area over a border"]),
+    (LINE + "route r1 from m1 to . path b "
+            "c", ["1 route of the table is not a candidate route of the network: r1."], []),
     # use
     (LINE + "route r1 from m1 to m3 path b", ["1 board at which no route begins or ends: m2."], []),
     (FORK + R1, ["The only route that locks points p needs them in position plus.",
-                 "2 boards at which no route begins or ends: m2 and m3."], ["Points that no route"]),
+                 "2 boards at which no route begins or ends: m2 and "
+                 "m3."], ["Points that no route"]),
     (FORK + R1 + "\nroute r2 from m2 to . path p a points p=plus",
      ["All 2 routes that lock points p need them in position plus."], []),
     (FORK + R1 + "\nroute r2 from m1 to . path p u points p=minus", [], ["in position"]),
@@ -88,8 +100,10 @@ ADVICE = [
     # one cause
     (FORK + "route r1 from m1 to . path p t points p=minus\n"
      "route r2 from m3 to . path p a points p=plus",
-     ["All 2 routes that lead over points p and list them, list them in the position that does not lead "
-      "along their path (r1 and r2). This may be one mistake instead of 2: the legs plus and minus of p may "
+     ["All 2 routes that lead over points p and list them, list them in the position that does not "
+      "lead "
+      "along their path (r1 and r2). This may be one mistake instead of 2: the legs plus and minus "
+      "of p may "
       "be exchanged in the network."], []),
     (FORK + "route r1 from m1 to . path p t points p=minus\n"
      "route r2 from m3 to . path p a points p=minus", [], ["exchanged"]),
@@ -113,7 +127,8 @@ def check_advice(program, _):
 
 
 def check_advice_asks(program, _):
-    """If table gives no routes the page says so; a flank is walked back through each section once."""
+    """If table gives no routes the page says so; a flank is walked back through each section
+    once."""
     endless = "\n".join(["linear s0 . s1 . m1"] + [f"linear s{i} s{i - 1} s{i + 1} . ." for i in
                                                   range(1, 34)] + ["linear s34 s33 . m2 ."])
     said = part_of(program, endless, advice_part, [])

@@ -1,5 +1,5 @@
-"""Tests of the unmet demands of events, and of what trains and routes wait for. The sentences are derived by
-hand from the table of docs/reference/model.md."""
+"""Tests of the unmet demands of events, and of what trains and routes wait for. The sentences are
+derived by hand from the table of docs/reference/model.md."""
 
 import json
 import random
@@ -23,20 +23,25 @@ PLATFORMS = [
     ("mark in1", "mark in1", "route in1 is marked, not free"),
     ("", "allocate in1", "route in1 is free, not marked"),
     ("mark in1, allocate in1, mark in2", "allocate in2",
-     "its conflict in1 is allocating; the lock of section w1 is locked, not free: route in1 has it locked"),
+     "its conflict in1 is allocating; the lock of section w1 is locked, not free: route in1 has it "
+     "locked"),
     ("enter pl1, mark in1", "allocate in1",
      "section pl1 is occupied: a train that runs down is in pl1"),
     ("", "lock in1", "route in1 is free, not allocating"),
-    ("mark in2, allocate in2", "lock in2", "points w1 are in position plus, but route in2 needs minus"),
-    ("mark in2, allocate in2, throw w1", "lock in2", "points w1 are moving, but route in2 needs minus"),
+    ("mark in2, allocate "
+     "in2", "lock in2", "points w1 are in position plus, but route in2 needs minus"),
+    ("mark in2, allocate in2, throw "
+     "w1", "lock in2", "points w1 are moving, but route in2 needs minus"),
     (SET_IN1, "sense in1", "no train is in section w1, the next section of its path"),
     (SET_IN1 + ", enter line, head line, sense in1, head w1, sense in1", "sense in1",
      "all sections of the path of route in1 are detected already"),
     (SET_IN1 + ", enter line, head line, sense in1", "release in1",
-     "section pl1 of its path is not detected yet; section w1 is occupied: a train that runs up is in line "
+     "section pl1 of its path is not detected yet; section w1 is occupied: a train that runs up is "
+     "in line "
      "and w1"),
     (SET_IN1 + ", enter line, head line, sense in1", "finish in1",
-     "1 of 2 sections of the path of route in1 are detected; 0 sections of the path of route in1 are "
+     "1 of 2 sections of the path of route in1 are detected; 0 sections of the path of route in1 "
+     "are "
      "released, not 1"),
     (SET_IN1, "cancel in1", "route in1 is locked, not marked or allocating"),
     ("", "throw w1", "points w1 are in position plus, as commanded"),
@@ -58,14 +63,16 @@ PLATFORMS = [
 WAITING = [
     ("", []),
     ("enter pl1, mark in1", [
-        "The train in pl1, which runs down, waits at start1, which is closed: no route from there is "
+        "The train in pl1, which runs down, waits at start1, which is closed: no route from there "
+        "is "
         "requested (out1).",
         "in1 waits for pl1, which a train occupies."]),
     ("mark in1, allocate in1, lock in1, mark in2, enter line", [
         "The train in line, which runs up, can move on.",
         "in1 is locked, with board home open. It waits for a train there.",
         "in2 waits for its conflict in1, which is locked and for w1, which in1 has locked."]),
-    ("mark in2, allocate in2", ["in2 waits for points w1, which are in position plus, to be in position minus."]),
+    ("mark in2, allocate "
+     "in2", ["in2 waits for points w1, which are in position plus, to be in position minus."]),
     (SET_IN1 + ", enter line, head line, sense in1", [
         "The train in line and w1, which runs up, can move on.",
         "in1 is used by a train and waits for a train in pl1."])]
@@ -94,7 +101,8 @@ def check_demands(_, is_long):
                     if is_enabled == bool(unmet(plant, one, event)):
                         yield f"{name}: {event} is {'' if is_enabled else 'not '}enabled; unmet: " \
                               f"{unmet_words(plant, one, event)!r}"
-    yield from (f"{word} was never {'enabled' if is_enabled else 'refused'}" for word in events.EVENTS
+    yield from (f"{word} was never "
+                f"{'enabled' if is_enabled else 'refused'}" for word in events.EVENTS
                 for is_enabled in (True, False) if (word, is_enabled) not in refused)
 
 

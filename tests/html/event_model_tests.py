@@ -58,8 +58,8 @@ def model_faults(program, name, given, count, seed, met):
 
 
 def locking(plant, state, chance, met):
-    """The lock of a route that has protection, or whose source protects another, from a state in which
-    at most one cause keeps it from being locked: as a pair of a run's text and the answer."""
+    """The lock of a route that has protection, or whose source protects another, from a state in
+    which at most one cause keeps it from being locked: as a pair of a run's text and the answer."""
     protecting = {b for route in plant.routes for b in route.protecting_boards}
     routes = [r for r, route in enumerate(plant.routes) if route.protecting_boards
               or route.protecting_points or route.source in protecting]
@@ -134,7 +134,8 @@ def check_model(program, is_long):
 
 
 def check_simulation(_, is_long):
-    """The model by which the hunt runs agrees with the one by which the page draws, event by event."""
+    """The model by which the hunt runs agrees with the one by which the page draws, event by
+    event."""
     chance, met, count = random.Random(7), set(), 12 * (MANY if is_long else 1)
     for name, given in plants().items():
         plant = Plant(json.loads(given))
@@ -167,7 +168,8 @@ def sides(plant, runs, chance, met, others=6):
 
 
 def side_by_side(plant, simulation, run, known, chance, met, others):
-    """Where the two models differ over a run, and in some of the events that are enabled at its end."""
+    """Where the two models differ over a run, and in some of the events that are enabled at its
+    end."""
     state = State(plant)
     for wanted in run:
         for event in [*chance.sample(known, others), wanted]:
@@ -190,13 +192,15 @@ def difference(plant, state, simulation, event, met):
     at = events.hazard(plant, state) if enabled else None
     if (bool(done), done == HAZARD) != (enabled, at is not None) \
             or at is not None and simulation.hazard_at != at:
-        return (f"{event} is {done}, {simulation.hazard_at} for the hunt, and {enabled}, {at} for the "
+        return (f"{event} is {done}, {simulation.hazard_at} for the hunt, and {enabled}, {at} for "
+                f"the "
                 "page"), True
     return None, at is not None
 
 
 def check_is_use(_, __):
-    """A route isn't used by a train that passes its source where another train is sensed on its path."""
+    """A route isn't used by a train that passes its source where another train is sensed on its
+    path."""
     plant = crossed()
     words = ANOTHER_SENSED.replace("sense", "head a,sense") + ",finish r3"
     run = run_of(plant, words)

@@ -1,5 +1,5 @@
-"""What the page must say of each rule, over small configurations that break it: those of the cases of
-tests/cases, by file and name. The words are derived by hand from the configuration."""
+"""What the page must say of each rule, over small configurations that break it: those of the cases
+of tests/cases, by file and name. The words are derived by hand from the configuration."""
 
 SENTENCES = [
     # file, case, line of check, words that must be in the sentences; how many, if not one
@@ -25,17 +25,22 @@ SENTENCES = [
     ("network", "a neighbour left out", "refused N5 sections[1]",
      ["Section b names a", "a does not name b", "up side"]),
     ("network", "a neighbour left out", "refused N6 sections[0]", ["Section a has no neighbour"]),
-    ("network", "N4 broken by stem and plus", "refused N7 sections[0]", ["section s", "s, p and then s"]),
-    ("network", "N8 broken", "refused N8 sections[1]", ["Section b", "m2", "run up", "no neighbour"]),
+    ("network", "N4 broken by stem and "
+                "plus", "refused N7 sections[0]", ["section s", "s, p and then s"]),
+    ("network", "N8 broken", "refused N8 "
+                             "sections[1]", ["Section b", "m2", "run up", "no neighbour"]),
     ("routes", "R1 broken", "refused R1 routes[1]", ["number 1 is called r1", "number 0"]),
-    ("routes", "R2 broken", "refused R2 routes[0]", ["Route r1 begins at z", "no board has that name"]),
+    ("routes", "R2 broken", "refused R2 "
+                            "routes[0]", ["Route r1 begins at z", "no board has that name"]),
     ("routes", "R3 broken by a section that stands twice in the path", "refused R3 routes[0]",
      ["section b 2 times", "route r1"]),
     ("routes", "R4 broken by a linear section", "refused R4 routes[0]",
      ["r1 lists b", "linear section"]),
     ("routes", "R5 broken", "refused R5 routes[0]", ["r1 ends at z", "null"]),
-    ("routes", "R6 broken by a route that lists itself", "refused R6 routes[0]", ["r1 lists itself"]),
-    ("routes", "R7 broken by a point of the path", "refused R7 routes[0]", ["r1 lists p", "its path"]),
+    ("routes", "R6 broken by a route that lists "
+               "itself", "refused R6 routes[0]", ["r1 lists itself"]),
+    ("routes", "R7 broken by a point of the "
+               "path", "refused R7 routes[0]", ["r1 lists p", "its path"]),
     ("routes", "R8 broken by the source", "refused R8 routes[0]", ["r1", "its own entry board m1"]),
     ("columns", "C1 broken at a later section", "refused C1 routes[0]",
      ["Route r1", "d after b", "after b comes c"]),
@@ -61,32 +66,40 @@ SENTENCES = [
 # of faults in the line of `fifteen_section_line.py`: a line of check, and all that the page says of it
 LINE_SENTENCES = [
     ("facing-point-wrong", "refused C3 routes[2]",
-     "Route S3_S7 lists points PA in position plus, which leads to U3, but its path leads over L1: the "
+     "Route S3_S7 lists points PA in position plus, which leads to U3, but its path leads over L1: "
+     "the "
      "position should be minus."),
     ("point-not-listed", "refused C3 routes[3]",
      "Route S5_U leads over points PC, but does not list them; it should, in position plus."),
     ("path-skips-section", "refused C1 routes[12]",
      "Route S8_X, which runs down, lists U1 after PA in its path; after PA comes U2."),
     ("path-begins-late", "refused C1 routes[1]",
-     "Route S3_S5, which runs up, begins at S3 on section U2, but its path starts with U3; after U2 comes "
+     "Route S3_S5, which runs up, begins at S3 on section U2, but its path starts with U3; after "
+     "U2 comes "
      "PA."),
     ("path-ends-early", "refused C2 routes[3]",
-     "The path of route S5_U ends in section U4, where no board stops a train that runs up: the train "
-     "continues to U5, which the route does not lock. The path must continue to a board or out of the "
+     "The path of route S5_U ends in section U4, where no board stops a train that runs up: the "
+     "train "
+     "continues to U5, which the route does not lock. The path must continue to a board or out of "
+     "the "
      "network."),
     ("board-passed", "refused C2 routes[0]",
-     "The path of route S1_S5 continues past board S3 on section U2, where a train stops. A route must end "
+     "The path of route S1_S5 continues past board S3 on section U2, where a train stops. A route "
+     "must end "
      "at the first board for its direction."),
     ("overlap-does-not-follow", "refused C4 routes[0]",
      "The overlap of route S1_S3, which runs up, lists U3 after U2; after U2 comes PA."),
     ("conflict-missing", "refused C6 routes[1] routes[11]",
-     "Routes S3_S5 and S4_S10 both lock U3, but S3_S5 does not list S4_S10 as a conflict; each should list "
+     "Routes S3_S5 and S4_S10 both lock U3, but S3_S5 does not list S4_S10 as a conflict; each "
+     "should list "
      "the other."),
     ("border-without-board", "refused C7 sections[8]",
-     "The network ends at section U5, but no board stops trains that enter there and run down. The section "
+     "The network ends at section U5, but no board stops trains that enter there and run down. The "
+     "section "
      "needs a board for direction down."),
     ("protection-not-listed", "refused C8 routes[0] routes[8]",
-     "Route S4_S6 begins at S4, a protecting board of route S1_S3, but S1_S3 does not list S4_S6 as a "
+     "Route S4_S6 begins at S4, a protecting board of route S1_S3, but S1_S3 does not list S4_S6 "
+     "as a "
      "conflict; it should.")]
 
 # refusals for which the report finds no words

@@ -1,5 +1,5 @@
-"""Tests of runs and scenarios that the caller gives: what the page says of them. The sentences are derived
-by hand over examples/platforms.json, examples/station.json and two-sections.json."""
+"""Tests of runs and scenarios that the caller gives: what the page says of them. The sentences are
+derived by hand over examples/platforms.json, examples/station.json and two-sections.json."""
 
 import json
 import tempfile
@@ -20,10 +20,12 @@ RUNS = [
      ["Run ", "hazard two b", "3. head a", "Two trains are in section b: a collision."],
      ".run: hazard two b"),
     ("platforms", "mark in1, allocate in1, mark in2, allocate in2, lock in2",
-     ["Event 4, allocate in2, is not enabled: its conflict in1 is allocating; the lock of section w1 is "
+     ["Event 4, allocate in2, is not enabled: its conflict in1 is allocating; the lock of section "
+      "w1 is "
       "locked, not free: route in1 has it locked.", "3. mark in2"], ".run: not a run at 4"),
     ("two-sections", "enter a, enter b, head a, tail a",
-     ["Event 4, tail a, is not enabled: the run has already ended in a hazard. Two trains are in section b: "
+     ["Event 4, tail a, is not enabled: the run has already ended in a hazard. Two trains are in "
+      "section b: "
       "a collision."], ".run: not a run at 4"),
     ("platforms", "mark in1, cancel in1",
      ["2. cancel in1", "Route in1 is cancelled."], ".run: no hazard")]
@@ -33,11 +35,13 @@ SCENES = [
      ["3 of 3 commands acted", "Command 2 of 3: mark r1", "driven steps="], ".run: driven"),
     ("station", "enter b1, enter b2, mark r1, mark r5",
      ["All commands acted, but the scenario does not end",
-      "The train in t1, which runs up, waits at m3, which is closed: no route from there is requested (r3).",
+      "The train in t1, which runs up, waits at m3, which is closed: no route from there is "
+      "requested (r3).",
       "The train in b2, which runs down, waits at m2, which is closed: r5 is marked.",
       "r5 waits for t1, which a train occupies."], ".run: stuck at 5 steps=14"),
     ("station", "mark r1, mark r1, enter b1",
-     ["1 of 3 commands acted", "The scenario is stuck at command 2, mark r1, which is not enabled: route "
+     ["1 of 3 commands "
+      "acted", "The scenario is stuck at command 2, mark r1, which is not enabled: route "
       "r1 is locked, not free.", "r1 is locked, with board m1 open. It waits for a train there."],
      ".run: stuck at 2 steps=3"),
     ("three-sections", "enter c, enter a, mark r1",
@@ -58,7 +62,8 @@ BAD = [
     ("run 1\nstart\nend\nmark in1\n", 4, "Line 4 is “mark in1”, but nothing may follow “end”."),
     ("run 1\nbegin\nend\n", 2, "Line 2 is “begin”, but must be “start” or “state”."),
     ("run 1\nstate\nroute in2 free 0 0\nevents\nend\n", 3,
-     "Line 3 is “route in2 free 0 0”; this must be the line of route in1, for example “route in1 free 0 0”."),
+     "Line 3 is “route in2 free 0 0”; this must be the line of route in1, for example “route in1 "
+     "free 0 0”."),
     ("drive 1\nlock in1\nend\n", 2,
      "Line 2 is “lock in1”: “lock” is not one of mark, enter, cancel and “end”."),
     ("drive 1\nmark <b>\nend\n", 2, "Line 2 is “mark <b>”: route “<b>” does not exist.")]
@@ -88,7 +93,8 @@ def check_given_scenes(program, _):
 
 
 def check_bad_lines(program, _):
-    """Of a text with a bad line the page says which and why; replay and drive name the same line."""
+    """Of a text with a bad line the page says which and why; replay and drive name the same
+    line."""
     given = plants()["platforms"]
     plant = Plant(json.loads(given))
     with tempfile.TemporaryDirectory(prefix="irv-page-bad-") as room:

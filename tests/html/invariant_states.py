@@ -1,5 +1,6 @@
-"""States of the line of `line.py`, each with the families that it breaks, worked out by hand from the
-table of docs/reference/model.md. A state is the start with changes: words as in the lines of a run's state."""
+"""States of the line of `line.py`, each with the families that it breaks, worked out by hand from
+the table of docs/reference/model.md. A state is the start with changes: words as in the lines of a
+run's state."""
 
 from irvtools.model.state import State, read_state_line
 
@@ -15,7 +16,8 @@ STATES = [
     ("", ["route S3_S5 occupied 1 0", "section PA used", "section U3 locked"]),
     ("", ["route S3_S5 occupied 2 1", "section U3 used"]),
     # V2: two routes hold one section; a marked one holds none, nor does one what it gave back
-    ("V2", ["route S1_S3 allocating 0 0", "route S3_S5 allocating 0 0", "section U2 locked", *HELD]),
+    ("V2", ["route S1_S3 allocating 0 "
+            "0", "route S3_S5 allocating 0 0", "section U2 locked", *HELD]),
     ("V2 V6", ["route S3_S5 allocating 0 0", "route S3_S7 allocating 0 0", *HELD,
                "section L1 locked"]),
     ("", ["route S3_S5 marked 0 0", "route S3_S7 marked 0 0"]),
@@ -47,7 +49,8 @@ STATES = [
             "point PA moving plus"]),
     ("", ["route S3_S5 occupied 2 1", "section U3 used", "point PA minus minus"]),
     ("", ["route S7_U locked 0 0", "section PB locked", "section PC locked", "section U4 locked",
-          "section U5 locked", "section PD locked", "point PB minus minus", "point PD minus minus"]),
+          "section U5 "
+          "locked", "section PD locked", "point PB minus minus", "point PD minus minus"]),
     # V7 and V8: a train on PA, where no board stops it
     ("V7 V8", ["train up PA"]),
     ("", ["route S3_S5 locked 0 0", *HELD, "train up PA"]),
@@ -60,8 +63,10 @@ STATES = [
     ("", ["route S3_S5 occupied 2 0", "section PA used", "section U3 used", "train up PA U3"]),
     ("V8", ["route S3_S5 occupied 2 1", "section U3 used", "train up PA U3"]),
     # V9: a protecting board, of a locked route alone
-    ("V5 V9", ["route S1_S3 locked 0 0", "section U2 locked", "section PA locked", "board S8 open"]),
-    ("V5", ["route S1_S3 allocating 0 0", "section U2 locked", "section PA locked", "board S8 open"]),
+    ("V5 V9", ["route S1_S3 locked 0 "
+               "0", "section U2 locked", "section PA locked", "board S8 open"]),
+    ("V5", ["route S1_S3 allocating 0 "
+            "0", "section U2 locked", "section PA locked", "board S8 open"]),
 ]
 
 

@@ -1,4 +1,5 @@
-"""Trials of the invariant by the page's reading of its families, which is another than the program's."""
+"""Trials of the invariant by the page's reading of its families, which is another than the
+program's."""
 
 import json
 import random
@@ -104,9 +105,9 @@ def leaving_faults(program, name):
 # -- what verify shows behind `not inductive`
 
 def configurations(is_long):
-    """The configurations of examples/ and of the cases, those with a planted fault, and tables by chance in
-    which something was changed: by name, as bytes. Large ones are left out but where what takes long is
-    wanted."""
+    """The configurations of examples/ and of the cases, those with a planted fault, and tables by
+    chance in which something was changed: by name, as bytes. Large ones are left out but where what
+    takes long is wanted."""
     found = plants()
     for file in sorted(case_files.CASES.glob("*.cases")):
         for case in case_files.read_case_file(file):
@@ -117,8 +118,8 @@ def configurations(is_long):
 
 
 def changed_tables(seed):
-    """The table of a network by chance, with protection, in which something was changed; none where it has
-    no routes."""
+    """The table of a network by chance, with protection, in which something was changed; none where
+    it has no routes."""
     network, _ = random_networks.network(seed)
     if isinstance(route_tables.routes(network), str):
         return
@@ -130,8 +131,8 @@ def changed_tables(seed):
 
 
 def shown_faults(plant, answer, left):
-    """What is wrong with the run that verify shows behind `not inductive`. `left` counts what its last state
-    breaks first."""
+    """What is wrong with the run that verify shows behind `not inductive`. `left` counts what its
+    last state breaks first."""
     state, run = run_of(plant, answer)
     reached = events.replayed(plant, run, state)
     if reached is None or [invariant.meets(plant, one) for one in reached] != [True] * len(run) + [False]:

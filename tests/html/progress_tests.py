@@ -1,5 +1,5 @@
-"""Tests of what a report says while it is made, of the certificate beside it, of its subject, and of what is
-left if it is interrupted."""
+"""Tests of what a report says while it is made, of the certificate beside it, of its subject, and
+of what is left if it is interrupted."""
 
 import json
 import os
@@ -59,7 +59,8 @@ def check_progress(program, _):
 
 
 def check_certificate(program, _):
-    """A certificate that is left is named with its size, printed and on the report; --no-cert leaves none."""
+    """A certificate that is left is named with its size, printed and on the report; --no-cert
+    leaves none."""
     given = plants()["line-with-boards"]
     with tempfile.TemporaryDirectory(prefix="irv-test-") as directory:
         done = made(program, given, directory)
@@ -104,7 +105,8 @@ def is_begun(file):
 
 
 def check_interrupted(_, __):
-    """A report that a signal ends leaves no file: no report, no part of a certificate, nothing temporary."""
+    """A report that a signal ends leaves no file: no report, no part of a certificate, nothing
+    temporary."""
     given = json.dumps(fifteen_section_line.right()).encode()
     for number in (signal.SIGINT, signal.SIGTERM, signal.SIGHUP):
         with tempfile.TemporaryDirectory(prefix="irv-test-") as directory:

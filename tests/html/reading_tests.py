@@ -1,5 +1,6 @@
-"""Tests of whether a report can be read: the verdict first, a run in few screens, signs without colours, a
-phone, the dark and paper. What depends on the layout is measured in a browser without a screen."""
+"""Tests of whether a report can be read: the verdict first, a run in few screens, signs without
+colours, a phone, the dark and paper. What depends on the layout is measured in a browser without a
+screen."""
 
 import hashlib
 import json
@@ -45,8 +46,8 @@ SUMMARY = """(() => {
 
 
 def check_contrast(_, __):
-    """The colours of states differ by 3 to 1 from one another and from the ground, and texts stand out by
-    4.5 to 1, in the light and in the dark."""
+    """The colours of states differ by 3 to 1 from one another and from the ground, and texts stand
+    out by 4.5 to 1, in the light and in the dark."""
     for name, colours in (("light", signs.LIGHT), ("dark", signs.DARK)):
         for states in signs.STATES:
             for place, one in enumerate(states):
@@ -62,7 +63,8 @@ def check_contrast(_, __):
     if set(signs.LIGHT) != set(signs.DARK):
         yield "a colour is missing in the light or in the dark"
     used = set(re.findall(r"var\(--([a-z-]+)\)", CSS))
-    yield from (f"the style has the unknown colour {one}" for one in sorted(used - set(signs.LIGHT)))
+    yield from (f"the style has the unknown colour "
+                f"{one}" for one in sorted(used - set(signs.LIGHT)))
 
 
 def long_run():
@@ -112,8 +114,9 @@ def in_browser(check):
 
 @in_browser
 def check_long_run(program, running):
-    """A run of 53 events: the hazard is one click away and near the top, each frame has an id, every link
-    leads somewhere, what moves no train is folded, and frames lie side by side on a desk."""
+    """A run of 53 events: the hazard is one click away and near the top, each frame has an id,
+    every link leads somewhere, what moves no train is folded, and frames lie side by side on a
+    desk."""
     text, count = with_run(program)
     found = shown_at(running, text, SUMMARY, *DESK)
     if found["hazard"] is None or found["hazard"] > 2 * DESK[1] or found["height"] > MOST_HEIGHT:
@@ -150,14 +153,15 @@ def proved(program, directory):
     copy = Path(directory, "irv")
     shutil.copy(program, copy)
     total = hashlib.sha256(copy.read_bytes()).hexdigest()
-    copy.with_name("irv.built").write_text(f"sources 0\nprogram {total}\ntoolchain rt\n", encoding="utf-8")
+    copy.with_name("irv.built").write_text(f"sources 0\nprogram {total}\ntoolchain "
+                                           f"rt\n", encoding="utf-8")
     return copy
 
 
 @in_browser
 def check_verdict_first(program, running):
-    """A good and a bad report differ at first sight: the verdict is the first line, large and coloured. Only
-    the proved program has a green one."""
+    """A good and a bad report differ at first sight: the verdict is the first line, large and
+    coloured. Only the proved program has a green one."""
     colours, given = {}, plants()
     with tempfile.TemporaryDirectory(prefix="irv-test-") as directory:
         for name, asked, data in (("good", proved(program, directory), given["station"]),
@@ -178,8 +182,8 @@ def check_verdict_first(program, running):
 
 @in_browser
 def check_signs(program, running):
-    """In the pictures of a run locked and used sections have letters, closed and open boards other shapes,
-    and trains arrows and numbers."""
+    """In the pictures of a run locked and used sections have letters, closed and open boards other
+    shapes, and trains arrows and numbers."""
     given = plants()["station"]
     run = "run 1\nstart\n" + "".join(f"{line}\n" for line in (
         "enter b1", "mark r1", "allocate r1", "lock r1", "head b1", "sense r1", "enter b2", "end"))

@@ -38,7 +38,8 @@ searchers.wait(600)
 
 def left_out(plant, run):
     """The places of a run at which an event can be left out, with those that aren't enabled without
-    it: by the model that draws. Rears of trains, which are added for credible lengths, don't count."""
+    it: by the model that draws. Rears of trains, which are added for credible lengths, don't
+    count."""
     for place in range(len(run)):
         if run[place][0] == "tail":
             continue
@@ -53,12 +54,13 @@ def run_faults(plant, run):
     states = events.replayed(plant, run)
     if states is None or events.hazard(plant, states[-1]) is None:
         yield "what was found is no run to a hazard"
-    yield from (f"event {place + 1} of {len(run)} can be left out" for place in left_out(plant, run))
+    yield from (f"event {place + 1} of {len(run)} can be left "
+                f"out" for place in left_out(plant, run))
 
 
 def check_search(_, is_long):
-    """The search finds a hazard on a table with a fault that makes one possible, and no event of what it
-    found can be left out, except that the rear of a train follows."""
+    """The search finds a hazard on a table with a fault that makes one possible, and no event of
+    what it found can be left out, except that the rear of a train follows."""
     for name, (_, is_possible, _) in fifteen_section_line.FAULTS.items():
         if not is_possible:
             continue
@@ -89,8 +91,8 @@ def check_search_cancel(_, __):
 
 
 def check_search_far(_, __):
-    """A hazard ten routes away from where trains come in is found within some runs: in the middle of
-    nine stations in a row, a route lists a point wrongly."""
+    """A hazard ten routes away from where trains come in is found within some runs: in the middle
+    of nine stations in a row, a route lists a point wrongly."""
     document = json.loads(configurations.made("stations", "9"))
     fifteen_section_line.lists(document, "s5r2", "p5", "plus")
     plant = Plant(document)
@@ -103,7 +105,8 @@ def check_search_far(_, __):
 
 
 def check_search_right(_, is_long):
-    """The search finds nothing on tables that break no rule, or one on which safety doesn't depend."""
+    """The search finds nothing on tables that break no rule, or one on which safety doesn't
+    depend."""
     found = {"line": fifteen_section_line.right(), "stations": json.loads(configurations.made("stations", "3")),
              "throat": json.loads((TOP / "examples/terminus-throat.json").read_text())}
     found.update({name: fifteen_section_line.with_fault(name) for name, fault in fifteen_section_line.FAULTS.items() if not fault[1]})
@@ -141,8 +144,8 @@ def longest_train(plant, run):
 
 
 def check_credible_trains(_, __):
-    """In a run that was found the rear of each train follows its front: no train has more than three
-    sections, though trains pass more."""
+    """In a run that was found the rear of each train follows its front: no train has more than
+    three sections, though trains pass more."""
     moves = 0
     for name in ("facing-point-wrong", "border-without-board", "path-ends-early"):
         plant = Plant(fifteen_section_line.with_fault(name))
@@ -156,8 +159,8 @@ def check_credible_trains(_, __):
 
 
 def check_parallel_search(_, __):
-    """Parallel searches find what one finds, and end with the first run, with their time, and if they are
-    stopped."""
+    """Parallel searches find what one finds, and end with the first run, with their time, and if
+    they are stopped."""
     plant = Plant(fifteen_section_line.with_fault("facing-point-wrong"))
     with Searchers(plant, count=3) as searchers:
         searchers.start(600)

@@ -1,5 +1,5 @@
-"""Tests of what the report says first, of what it says that safety depends on, and of the arguments and files
-that it refuses."""
+"""Tests of what the report says first, of what it says that safety depends on, and of the arguments
+and files that it refuses."""
 
 import json
 import os
@@ -51,23 +51,29 @@ RESTING = [
     # C1: the source is a board of the other direction; the path the other way round; both
     ("linear a . b . m1\nlinear b a c m4 m3\nlinear c b . m2 .\nroute r1 from m4 to . path c",
      "refused C1 routes[0]",
-     "Route r1 is in the wrong direction: its entry board m4 is for trains that run down, but its path leads "
-     "up from section b. It needs an entry board for trains that run up, for example m3 on the same section.", broken_rules.RESTS),
+     "Route r1 is in the wrong direction: its entry board m4 is for trains that run down, but its "
+     "path leads "
+     "up from section b. It needs an entry board for trains that run up, for example m3 on the "
+     "same section.", broken_rules.RESTS),
     ("linear a . b . m1\nlinear b a c . .\nlinear c b . m2 .\nroute r1 from m1 to . path c b",
      "refused C1 routes[0]",
-     "Route r1 lists its path in the wrong direction, from its end to its beginning. Its entry board m1 is for "
+     "Route r1 lists its path in the wrong direction, from its end to its beginning. Its entry "
+     "board m1 is for "
      "trains that run up, so it should list b and c.", broken_rules.RESTS),
     ("linear a . b . m1\nlinear b a c . .\nlinear c b d . .\nlinear d c . m2 .\n"
      "route r1 from m1 to . path d c", "refused C1 routes[0]",
-     "Route r1 is in the wrong direction: its entry board m1 is for trains that run up, but its path leads "
+     "Route r1 is in the wrong direction: its entry board m1 is for trains that run up, but its "
+     "path leads "
      "down, from section d to section c.", broken_rules.RESTS),
     ("linear a . b . m1\nlinear b a c m4 m3\nlinear c b . m2 .\nroute r1 from m4 to m3 path c",
      "refused C2 routes[0]",
-     "Route r1 is in the wrong direction (see C1), which may be the cause of this.", broken_rules.IDLE_END),
+     "Route r1 is in the wrong direction (see C1), which may be the cause of "
+     "this.", broken_rules.IDLE_END),
     # C1 without a wrong direction
     ("linear a . b . m1\nlinear b a c . .\nlinear c b . m2 .\nroute r1 from m1 to . path c",
      "refused C1 routes[0]",
-     "Route r1, which runs up, begins at m1 on section a, but its path starts with c; after a comes b.",
+     "Route r1, which runs up, begins at m1 on section a, but its path starts with c; after a "
+     "comes b.",
      broken_rules.RESTS)]
 
 
@@ -94,7 +100,8 @@ def first_lines(text):
 
 
 def expected_lines(given):
-    """Configurations by name with arguments, the begin of each of the first lines, and of what is printed."""
+    """Configurations by name with arguments, the begin of each of the first lines, and of what is
+    printed."""
     bare = json.dumps({**json.loads(given["line-with-boards"]), "routes": []}).encode()
     idle = json.dumps(fifteen_section_line.with_fault("conflict-missing")).encode()
     return (
@@ -103,32 +110,40 @@ def expected_lines(given):
          "x: SAFE. No run"),
         ("late", given["station"], ("--verify-seconds", "0"),
          ["SAFE No run of any length ends in a hazard (irv check", "Rules: clean",
-          "verify: strict columns: no answer within 0 seconds (--verify-seconds). This does not change the "
+          "verify: strict columns: no answer within 0 seconds (--verify-seconds). This does not "
+          "change the "
           "verdict."], "x: SAFE. No run"),
         ("unsafe", given["two-sections"], ("--search-seconds", "0"),
          ["HAZARD FOUND A run from the initial state ends in a collision in section ",
-          "Rules: 2 rules broken: C7", "Movements: The table has no routes, so no board opens. Only trains "
+          "Rules: 2 rules broken: "
+          "C7", "Movements: The table has no routes, so no board opens. Only trains "
           "that enter at a border without a board can move: a and b.",
           "verify: free columns: unsafe steps=3"], "x: HAZARD FOUND. A run"),
         ("found", given["platforms-wrong-position"], ("--depth", "1"),
-         ["HAZARD FOUND A run from the initial state ends in a collision in section pl1 (irv replay: hazard "
+         ["HAZARD FOUND A run from the initial state ends in a collision in section pl1 (irv "
+          "replay: hazard "
           "two pl1).", "Rules: 1 rule broken: C3",
-          "Search: a run of 8 events from the initial state to a hazard. Two trains are in section pl1",
+          "Search: a run of 8 events from the initial state to a hazard. Two trains are in section "
+          "pl1",
           "verify: free columns: "], "x: HAZARD FOUND. A run"),
         ("no search", given["platforms-wrong-position"], ("--depth", "1", "--search-seconds", "0"),
          ["REFUSED Broken rules: C3 (irv check with strict columns). No statement about safety.",
-          "Rules: 1 rule broken: C3", "verify: free columns: not inductive"], "x: REFUSED. Broken rules: C3"),
-        ("deviation", idle, (), ["SAFE WITH DEVIATIONS: proved No run of any length ends in a hazard. The table "
+          "Rules: 1 rule broken: "
+          "C3", "verify: free columns: not inductive"], "x: REFUSED. Broken rules: C3"),
+        ("deviation", idle, (), ["SAFE WITH DEVIATIONS: proved No run of any length ends in a "
+                                 "hazard. The table "
                                  "deviates from C6", "Rules: 1 rule broken: C6",
-                                 "verify: free columns: safe k=1"], "x: SAFE WITH DEVIATIONS: proved. No run"),
-        ("bare", bare, (), ["SAFE ", "Rules: clean", "Movements: The table has no routes, so no board opens. A "
+                                 "verify: free columns: safe "
+                                 "k=1"], "x: SAFE WITH DEVIATIONS: proved. No run"),
+        ("bare", bare, (), ["SAFE ", "Rules: clean", "Movements: The table has no routes, so no "
+                                                     "board opens. A "
                             "train can enter, but it stops at the board of its border.",
                             "verify: strict columns: safe k=1"], "x: SAFE. "))
 
 
 def check_first_lines(program, _):
-    """The verdict is the report's first line and the first that is printed. The lines below it say what was
-    answered. A timeout is said below the verdict and doesn't change it."""
+    """The verdict is the report's first line and the first that is printed. The lines below it say
+    what was answered. A timeout is said below the verdict and doesn't change it."""
     for name, data, words, firsts, printed in expected_lines(plants()):
         text, said = page(program, data, "--verify-seconds", "600", *words) \
             if "--verify-seconds" not in words else page(program, data, *words)
@@ -142,8 +157,8 @@ def check_first_lines(program, _):
 
 
 def check_side_by_side(_, __):
-    """A hazard that is hunted ends a verify that takes long; one that verify finds first comes first; a
-    hunt isn't begun where check says clean."""
+    """A hazard that is hunted ends a verify that takes long; one that verify finds first comes
+    first; a hunt isn't begun where check says clean."""
     wrong = json.dumps(fifteen_section_line.with_fault("border-without-board")).encode()
     refused = {"says": "refused C7 sections[8]\n", "status": 5}
     with tempfile.TemporaryDirectory(prefix="irv-fake-") as room:
@@ -175,11 +190,12 @@ TIME = re.compile(r"[0-9] s\b|after [0-9]+ seconds")
 
 
 def check_times(program, _):
-    """A report says how long the answers and the search took. With --without-times neither it nor what is
-    printed does, and it says the rest."""
+    """A report says how long the answers and the search took. With --without-times neither it nor
+    what is printed does, and it says the rest."""
     wrong = json.dumps(fifteen_section_line.with_fault("border-without-board")).encode()
     with tempfile.TemporaryDirectory(prefix="irv-fake-") as room:
-        slow = fake_program.program(room, {"check": {"says": "refused C7 sections[8]\n", "status": 5},
+        slow = fake_program.program(room, {"check": {"says": "refused C7 "
+                                                             "sections[8]\n", "status": 5},
                                     "verify": {"sleeps": 900}, "table": {"status": 5},
                                     "replay": {"says": "hazard wrong PC\n"}})
         for asked, given, words, parts in (
@@ -192,14 +208,21 @@ def check_times(program, _):
                 found = TIME.findall(plain(text) + said)
                 if not (len(found) > 2 if is_told else not found):
                     yield f"{parts} {option}: {found}"
-                yield from (f"{option}: {part!r} isn't there" for part in parts if part not in plain(text))
+                yield from (f"{option}: {part!r} isn't "
+                            f"there" for part in parts if part not in plain(text))
 
 
 # lines of check with rules without a sentence, because no rule has the number 0: whether a search begins
 # there, what is said of safety
-UNHEARD = [("refused C0 routes[0]", True, broken_rules.UNKNOWN), ("refused C0 routes[0] routes[1]", True, broken_rules.UNKNOWN),
-           ("refused C0 sections[0]", True, broken_rules.UNKNOWN), ("refused N0 boards[0]", False, broken_rules.NEEDED),
-           ("refused R0 routes[1]", False, broken_rules.NEEDED), ("refused D0 document", False, broken_rules.UNKNOWN)]
+UNHEARD = [("refused C0 "
+            "routes[0]", True, broken_rules.UNKNOWN), ("refused C0 routes[0] "
+                                                       "routes[1]", True, broken_rules.UNKNOWN),
+           ("refused C0 "
+            "sections[0]", True, broken_rules.UNKNOWN), ("refused N0 "
+                                                         "boards[0]", False, broken_rules.NEEDED),
+           ("refused R0 "
+            "routes[1]", False, broken_rules.NEEDED), ("refused D0 "
+                                                       "document", False, broken_rules.UNKNOWN)]
 
 
 def check_unheard_rules(_, __):
@@ -211,7 +234,8 @@ def check_unheard_rules(_, __):
         broken_rules.where(plant, rule, places)
         found = [" ".join(broken_rules.sentences(plant, rule, places)), broken_rules.rests(plant, rule, places),
                  broken_rules.safety(plant, rule, places)]
-        if found != [f"This version has no sentence for the rule {rule}; docs/reference/model.md has the rule.",
+        if found != [f"This version has no sentence for the rule {rule}; docs/reference/model.md "
+                     f"has the rule.",
                      is_suspect, safety]:
             yield f"{refusal}: {found}"
     with tempfile.TemporaryDirectory(prefix="irv-fake-") as room:
@@ -241,8 +265,8 @@ def files_in(room):
 
 
 def check_refused_words(program, _):
-    """Arguments that neither the report nor verify knows, and files that would be written over one another,
-    end with status 125 and change nothing."""
+    """Arguments that neither the report nor verify knows, and files that would be written over one
+    another, end with status 125 and change nothing."""
     with tempfile.TemporaryDirectory(prefix="irv-page-words-") as room:
         conf = Path(room, "conf.json")
         conf.write_bytes(plants()["line-with-boards"])

@@ -18,7 +18,8 @@ from tests.support.harness import test_case
 LEAST_GAP = 3           # between names of one line
 # points side by side whose names are as wide as they are, in each direction
 LONG_NAMES = [
-    "linear a . W101abcd . m1", "point W101abcd up a W102abcd x", "point W102abcd down b W101abcd y",
+    "linear a . W101abcd . "
+    "m1", "point W101abcd up a W102abcd x", "point W102abcd down b W101abcd y",
     "linear b W102abcd . m2 .", "linear x W101abcd . m3 .", "linear y . W102abcd . m4",
     "linear c . W103abcd . m5", "point W103abcd down W104abcd c d", "linear d . W103abcd . m6",
     "point W104abcd up W103abcd e f", "linear e W104abcd . m7 .", "linear f W104abcd . m8 ."]
@@ -48,7 +49,8 @@ def letter_faults(name, drawing):
 
 
 def plan_faults(name, drawing):
-    """Names that touch each other or leave their strip; names that are nowhere; letters on names."""
+    """Names that touch each other or leave their strip; names that are nowhere; letters on
+    names."""
     everywhere = set()
     yield from letter_faults(name, drawing)
     for (left, _, width, _), shown in texts_of(drawing):
@@ -88,8 +90,8 @@ def check_broken_plans(_, __):
 
 
 def check_hollow_boards(program, _):
-    """Boards that an import placed by a rule are drawn hollow in the plan, and the report says so. A file that
-    has no notes of an import is refused."""
+    """Boards that an import placed by a rule are drawn hollow in the plan, and the report says so.
+    A file that has no notes of an import is refused."""
     given = plants()["line-with-boards"]
     entries = [{"kind": "board", "name": "m1", "by": "rule"}, {"kind": "board", "name": "m2", "by": "data"},
                {"kind": "cut", "name": "m2"}]
@@ -99,7 +101,8 @@ def check_hollow_boards(program, _):
         text, said = page(program, given, "--import-notes", file)
         if (text.count('href="#buh"'), text.count('href="#bdh"')) != (1, 0) or "1 board, drawn hollow" not in text:
             yield f"hollow boards: {text.count('#buh')} up, {text.count('#bdh')} down; {said}"
-        for bad in ("{", "[]", '{"notes": 2, "entries": []}', '{"notes": 1}', '{"notes": 1, "entries": [1]}'):
+        for bad in ("{", "[]", '{"notes": 2, "entries": '
+                               '[]}', '{"notes": 1}', '{"notes": 1, "entries": [1]}'):
             file.write_text(bad, encoding="utf-8")
             text, said = page(program, given, "--import-notes", file)
             if text or "is not a file of notes of an import" not in said:

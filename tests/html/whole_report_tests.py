@@ -1,5 +1,5 @@
-"""Tests of whole reports: their form, their options and files, what they say if the program answers nothing or
-what isn't so, and how they look in a browser and on paper."""
+"""Tests of whole reports: their form, their options and files, what they say if the program answers
+nothing or what isn't so, and how they look in a browser and on paper."""
 
 import json
 import re
@@ -30,14 +30,17 @@ SHEET = '<div class="wide"><h2 id="table">'
 WORDS = (
     (("a.html",), "--columns strict --cert a.cert"),
     (("b.html", "--cert", "c.cert"), "--columns strict --cert c.cert"),
-    (("d.html", "--cert=e.cert", "--columns=free", "--depth", "2"), "--columns free --depth 2 --cert e.cert"),
+    (("d.html", "--cert=e.cert", "--columns=free", "--depth", "2"), "--columns free --depth 2 "
+                                                                    "--cert e.cert"),
     (("--columns", "free", "f.html"), "--columns free --cert f.cert"))
 
 
 def check_premises(_, __):
     """The assumptions are found by their identifiers."""
-    document = ("# A page\n\n### AS-01: It\n\n- Statement: It `is` **so**.\n- Ensured by: me\n\n## What else\n\n"
-                "### AS-02: This\n\n[This](there.md) too,\nand that.\n\nMore.\n\n### SRAC-01: That\n\nNothing.\n")
+    document = ("# A page\n\n### AS-01: It\n\n- Statement: It `is` **so**.\n- Ensured by: me\n\n## "
+                "What else\n\n"
+                "### AS-02: This\n\n[This](there.md) too,\nand that.\n\nMore.\n\n### SRAC-01: "
+                "That\n\nNothing.\n")
     found = provenance.premises_in(document)
     if found != [("AS-01", "It is so."), ("AS-02", "This too, and that.")]:
         yield f"{found}"
@@ -61,14 +64,17 @@ def check_pages(program, is_long):
 
 
 def check_unreadable(program, _):
-    """A configuration that isn't JSON, or has another form, makes a page too, and names are text."""
+    """A configuration that isn't JSON, or has another form, makes a page too, and names are
+    text."""
     name = '<img src=x onerror=alert(1)>&"'
     wrong = fifteen_section_line.right()
     wrong["sections"][0]["name"] = name
-    for given, words in ((b'{"version": 1,\n "sections": [}', "Line 2, column 15"), (b"", "refused F2"),
+    for given, words in ((b'{"version": 1,\n "sections": '
+                          b'[}', "Line 2, column 15"), (b"", "refused F2"),
                          (b"\xff", "UTF-8"), (b"<script>alert(1)</script>", "Line 1, column 1"),
                          (json.dumps(wrong).encode(), "&lt;img src=x"), (b"[]", "an array"),
-                         (b'{"version": 1, "sections": [{"\\ud800": 1}], "routes": []}', "refused F2"),
+                         (b'{"version": 1, "sections": [{"\\ud800": 1}], "routes": '
+                          b'[]}', "refused F2"),
                          (b'{"version": 3, "sections": [], "routes": []}', "must be 1 or 2")):
         text, said = page(program, given)
         yield from (f"{given[:40]}: {fault}" for fault in markup_check.faults(text))
@@ -106,8 +112,10 @@ def check_fakes(_, __):
     quiet = {"says": "no hazard\n", "status": 6}
     with tempfile.TemporaryDirectory(prefix="irv-fake-") as room:
         for answers, wanted in (
-                ({"check": clean, "verify": {"sleeps": 5}, "replay": quiet}, "verify was ended before it answered"),
-                ({"check": clean, "verify": {"status": 10}, "replay": quiet}, "verify could not answer"),
+                ({"check": clean, "verify": {"sleeps": 5}, "replay": quiet}, "verify was ended "
+                                                                             "before it answered"),
+                ({"check": clean, "verify": {"status": 10}, "replay": quiet}, "verify could not "
+                                                                              "answer"),
                 ({"check": {"status": 139}}, "the page ends here"),
                 ({"check": clean, "verify": unsafe, "replay": {"says": "hazard two U1\n"}},
                  "The page stops here")):
@@ -136,9 +144,9 @@ def check_browser(program, is_long):
 
 
 def paper_faults(found, program):
-    """What is wrong with a station's page on paper: its plan, rules, verdict, run to a hazard and safety
-    case take more than six pages, the table of routes isn't on pages of its own in their width, or a run
-    that uses a route is printed."""
+    """What is wrong with a station's page on paper: its plan, rules, verdict, run to a hazard and
+    safety case take more than six pages, the table of routes isn't on pages of its own in their
+    width, or a run that uses a route is printed."""
     text, _ = page(program, plants()["facing-point-wrong"], "--verify-seconds", "5")
     begin, _, rest = text.partition('<h2 id="routes">')
     sheet, _, end = rest.partition(SHEET)[2].partition('<h2 id="safety-case">')

@@ -1,5 +1,5 @@
-"""Tests of the simulator in a browser without a screen: without a mouse, without colours, at other sizes, and
-of the largest plants."""
+"""Tests of the simulator in a browser without a screen: without a mouse, without colours, at other
+sizes, and of the largest plants."""
 
 import json
 import time
@@ -51,10 +51,12 @@ def check_browser_keys(program, running, _):
         one.key("ArrowLeft")
         one.key("Enter")
         yield from faults("keys", [
-            (entered, ("Train enters at b1", "1 of 1")), (any("Board m1" in words for words in while_), True),
+            (entered, ("Train enters at "
+                       "b1", "1 of 1")), (any("Board m1" in words for words in while_), True),
             (chosen, "Board m1 on b1 for trains that run up, closed"), (after, "12 of 12"),
             (unmoved, 12), (places, [11, 0, 1, 12, 12, 1, 2, 1, 0]), (one.ask("game.play.events.length"), 1),
-            (one.ask("eventLine(game.plant, game.play.events[0])"), "enter b2"), (list(one.faults()), [])])
+            (one.ask("eventLine(game.plant, "
+                     "game.play.events[0])"), "enter b2"), (list(one.faults()), [])])
 
 
 def names_of(one):
@@ -75,9 +77,11 @@ def check_browser_reader(program, running, _):
         shown.press("entry", "b1")
         shown.page.ask("game.askLine('mark r2')")
         told = names_of(shown.page)
-        yield from (f"a {role} without a name" for role, name in told if role in CONTROLS and not name)
+        yield from (f"a {role} without a "
+                    f"name" for role, name in told if role in CONTROLS and not name)
         for words in ("Board m1 on b1 for trains that run up, closed", "Train enters at b2",
-                      "Points p1, in position minus, free, vacant", "Train 1, up, in t2, waiting at board m5",
+                      "Points p1, in position minus, free, "
+                      "vacant", "Train 1, up, in t2, waiting at board m5",
                       "Section t2, free, occupied by train 1"):
             if ("button", words) not in told:
                 yield f"{words!r} isn't told"
@@ -94,18 +98,20 @@ SIZES = {"a desk": (1400, 1000, False), "400 percent": (350, 250, False), "a tab
 
 @in_browser
 def check_browser_sizes(program, running, _):
-    """At 400 percent and on a tablet nothing is cut, signs are large enough for a finger, and a touch is a
-    click."""
+    """At 400 percent and on a tablet nothing is cut, signs are large enough for a finger, and a
+    touch is a click."""
     for name in ("station", "terminus-throat"):
         with Shown(program, running, model_checks.plants()[name]) as shown:
             one = shown.page
             for size, (width, height, touch) in SIZES.items():
                 one.resize(width, height, touch)
                 one.call("Emulation.setTouchEmulationEnabled", enabled=touch)
-                wide = one.ask("document.documentElement.scrollWidth - document.documentElement.clientWidth")
+                wide = one.ask("document.documentElement.scrollWidth - "
+                               "document.documentElement.clientWidth")
                 small = one.ask(
                     "[...document.querySelectorAll('circle.hit, button')].filter((one) => "
-                    "one.getClientRects().length).map((one) => { const box = one.getBoundingClientRect();"
+                    "one.getClientRects().length).map((one) => { const box = "
+                    "one.getBoundingClientRect();"
                     "return Math.min(box.width, box.height); }).reduce((a, b) => Math.min(a, b))")
                 if wide > 0 or touch and small < FINGER:
                     yield f"{name}, {size}: {wide} too wide, the least sign has {small}"
@@ -146,14 +152,15 @@ CONTRAST = """(() => {
 SHAPES = """["open", "closed"].map((kind) => [...document.querySelector(`.board.${kind}`).children]
   .filter((one) => getComputedStyle(one).display !== "none" && !one.matches(".hit, .target"))
   .map((one) => one.tagName).join("+"))"""
-IN_USE = ("enter b1", "mark r1", "allocate r1", "lock r1", "head b1", "sense r1", "mark r3", "allocate r3",
+IN_USE = ("enter b1", "mark r1", "allocate "
+                                 "r1", "lock r1", "head b1", "sense r1", "mark r3", "allocate r3",
           "lock r3", "mark r2")
 
 
 @in_browser
 def check_browser_dark(program, running, _):
-    """In the dark as in the light each text stands out from its ground, and what differs by colour differs
-    by shape too."""
+    """In the dark as in the light each text stands out from its ground, and what differs by colour
+    differs by shape too."""
     for scheme in ("light", "dark"):
         with Shown(program, running, model_checks.plants()["station"], prefers_color_scheme=scheme) as shown:
             shown.click("input[value=none]")
@@ -169,8 +176,8 @@ def check_browser_dark(program, running, _):
 
 @in_browser
 def check_browser_largest(program, running, is_long):
-    """Of 256 sections and 256 routes an event is shown after no more than 50 ms of work of the page, and a
-    route is found by a search; with --long the times are printed."""
+    """Of 256 sections and 256 routes an event is shown after no more than 50 ms of work of the
+    page, and a route is found by a search; with --long the times are printed."""
     for name, given in largest().items():
         with Shown(program, running, given) as shown:
             one = shown.page
@@ -205,7 +212,8 @@ SHOW = """(async () => {
 
 
 def times(one):
-    """Some events, each with the milliseconds until it is shown: on the clock, and of the page's thread."""
+    """Some events, each with the milliseconds until it is shown: on the clock, and of the page's
+    thread."""
     one.measure()
     for words in one.ask(FIRST):
         before = one.busy()

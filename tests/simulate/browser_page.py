@@ -55,8 +55,10 @@ class Shown:
     def button(self, words):
         """Clicks on a button that can be seen, by its words."""
         is_there = self.page.ask(
-            f"(() => {{ const one = [...document.querySelectorAll('button')].find((one) => one.textContent === "
-            f"{json.dumps(words)} && one.getClientRects().length); one?.setAttribute('data-wanted', '1');"
+            f"(() => {{ const one = [...document.querySelectorAll('button')].find((one) => "
+            f"one.textContent === "
+            f"{json.dumps(words)} && one.getClientRects().length); "
+            f"one?.setAttribute('data-wanted', '1');"
             "return one !== undefined; })()")
         if not is_there:
             raise devtools.Trouble(f"there is no button {words}; chosen is {self.text('chosen')!r}")

@@ -36,7 +36,8 @@ def check_browser_model(program, running, is_long):
 
 @in_browser
 def check_browser_crossing(program, running, _):
-    """Two trains cross in a passing loop, by clicks; what is saved is answered by replay and drive."""
+    """Two trains cross in a passing loop, by clicks; what is saved is answered by replay and
+    drive."""
     with Shown(program, running, model_checks.plants()["station"]) as shown:
         shown.press("entry", "b1")
         shown.press("entry", "b2")
@@ -55,8 +56,8 @@ def check_browser_crossing(program, running, _):
 
 @in_browser
 def check_browser_refused(program, running, _):
-    """A route that waits and an event that isn't enabled: both with their reasons; trains that block each
-    other."""
+    """A route that waits and an event that isn't enabled: both with their reasons; trains that
+    block each other."""
     with Shown(program, running, model_checks.plants()["station"]) as shown:
         shown.press("entry", "b1")
         shown.press("board", "m1")
@@ -85,14 +86,15 @@ def check_browser_refused(program, running, _):
             (again, "r1 cannot be requested: r1 is marked, not free."),
             (closed, "No train can enter at b1: b1 is occupied by train 2."), (place, "15 of 15"),
             (shown.text("blocked").partition(":")[0], "Train 1, Train 2, Train 3 block each other"),
-            (checked.returncode, 0), (checked.stdout.decode().count("the simulator says the same"), 4),
+            (checked.returncode, 0), (checked.stdout.decode().count("the simulator says the "
+                                                                    "same"), 4),
             (list(shown.page.faults()), [])])
 
 
 @in_browser
 def check_browser_collision(program, running, _):
-    """A collision on a wrong table, by hand in under twenty clicks; saved, answered by replay, loaded, and
-    continued from an earlier event."""
+    """A collision on a wrong table, by hand in under twenty clicks; saved, answered by replay,
+    loaded, and continued from an earlier event."""
     with Shown(program, running, model_checks.plants()["platforms-wrong-position"]) as shown:
         shown.press("entry", "pl1")
         shown.press("entry", "line")
@@ -110,7 +112,8 @@ def check_browser_collision(program, running, _):
         shown.press("entry", "pl2")
         yield from faults("the collision", [
             (clicks < 20, True), (shown.answer("replay", run), "hazard two pl1\n"), (loaded, text),
-            (alert, "Two trains are in section pl1: a collision. The run ends here. Go back to try something else."),
+            (alert, "Two trains are in section pl1: a collision. The run ends here. Go back to try "
+                    "something else."),
             (after, "No train can enter at pl2: the run has ended in a hazard (hazard two pl1)."),
             (shown.page.ask("game.play.runText()"), "run 1\nstart\nenter pl1\nenter pl2\nend\n"),
             (shown.page.ask("document.body.className"), ""), (list(shown.page.faults()), [])])
@@ -120,8 +123,8 @@ def check_browser_collision(program, running, _):
 
 @in_browser
 def check_browser_queue(program, running, _):
-    """A request that can't lock yet is announced as one that stays, and it is said when it locks; the signs of
-    a route's path, overlap and protecting points differ."""
+    """A request that can't lock yet is announced as one that stays, and it is said when it locks;
+    the signs of a route's path, overlap and protecting points differ."""
     with Shown(program, running, model_checks.plants()["station"]) as shown:
         for line in ("enter b1", "mark r1", "mark r3", "mark r2"):
             shown.page.ask(f"game.askLine({line!r})")
@@ -145,7 +148,8 @@ def check_browser_queue(program, running, _):
     with Shown(program, running, model_checks.plants()["station-protected"]) as shown:
         shown.page.ask("game.choose('route', 0)")
         dashes = shown.page.ask(
-            "['on', 'ov', 'pp'].map((kind) => { const one = document.querySelector(`.live .${kind}`);"
+            "['on', 'ov', 'pp'].map((kind) => { const one = document.querySelector(`.live "
+            ".${kind}`);"
             "return one ? getComputedStyle(one).strokeDasharray : null; })")
         if dashes[0] != "none" or dashes[2] in (None, "none"):
             yield f"protecting points are drawn as the path: {dashes}"
@@ -153,7 +157,8 @@ def check_browser_queue(program, running, _):
 
 @in_browser
 def check_browser_reload(program, running, _):
-    """A reload keeps the run and the place; a run that the address can't keep makes the browser ask."""
+    """A reload keeps the run and the place; a run that the address can't keep makes the browser
+    ask."""
     with Shown(program, running, model_checks.plants()["station"]) as shown:
         for line in ("enter b1", "mark r1", "mark r3"):
             shown.page.ask(f"game.askLine({line!r})")
@@ -165,8 +170,10 @@ def check_browser_reload(program, running, _):
         asks = ("(() => { const leaving = new Event('beforeunload', { cancelable: true });"
                 "window.dispatchEvent(leaving); return leaving.defaultPrevented; })()")
         short = shown.page.ask(asks)
-        shown.page.ask("game.go(0); game.begin(null, [], ''); game.mode = 'none'; for (let n = 0; n < 1600; n += 1) "
-                       "{ game.play.add({ word: 'mark', number: 0 }); game.play.add({ word: 'cancel', number: 0 }); }"
+        shown.page.ask("game.go(0); game.begin(null, [], ''); game.mode = 'none'; for (let n = 0; "
+                       "n < 1600; n += 1) "
+                       "{ game.play.add({ word: 'mark', number: 0 }); game.play.add({ word: "
+                       "'cancel', number: 0 }); }"
                        "game.show()")
         yield from faults("a reload", [(after, before), (before[1], 4), (short, False),
                                        (shown.page.ask(asks), True), (list(shown.page.faults()), [])])
@@ -174,8 +181,10 @@ def check_browser_reload(program, running, _):
 
 
 BAD_TEXTS = [
-    ("run 1\nstart\nhead b1\nend\n", "Not a run at 1: No train can move on from b1: no train has its front in b1."),
-    ("run 1\nstart\nenter b1\nenter zz\nend\n", "Line 4 is bad: “enter zz” does not name a section."),
+    ("run 1\nstart\nhead "
+     "b1\nend\n", "Not a run at 1: No train can move on from b1: no train has its front in b1."),
+    ("run 1\nstart\nenter b1\nenter "
+     "zz\nend\n", "Line 4 is bad: “enter zz” does not name a section."),
     ("run 1\nstart\nenter b1\n", "Line 4 is bad: it is missing"), ("", "Line 1 is bad"),
     ("drive 1\nlock r1\nend\n", "Line 2 is bad"), ("<img src=x onerror=alert(1)>", "Line 1 is bad"),
     ("run 1\nstart\nenter <b>x</b>\nend\n", "Line 3 is bad: “enter <b>x</b>” does not name")]
@@ -183,8 +192,8 @@ BAD_TEXTS = [
 
 @in_browser
 def check_browser_texts(program, running, _):
-    """Runs of verify and of a state, scenarios and links are loaded; other texts are refused, and change
-    nothing."""
+    """Runs of verify and of a state, scenarios and links are loaded; other texts are refused, and
+    change nothing."""
     given = model_checks.plants()["station"]
     state = (TOP / "examples/point-thrown-under-train.run").read_text()
     with Shown(program, running, given, "#run.1~start~enter.b1~end~") as shown:
@@ -204,7 +213,8 @@ def check_browser_texts(program, running, _):
         scene = (TOP / "examples/station-crossing.scene").read_text()
         yield from faults("texts", [
             (first, "run 1\nstart\nenter b1\nend\n"), (offered, "Load the events before it (1)"),
-            (load(f"unsafe steps=1 hazard=two x\n{state}"), state), (shown.text("own"), "hazard wrong p1"),
+            (load(f"unsafe steps=1 hazard=two "
+                  f"x\n{state}"), state), (shown.text("own"), "hazard wrong p1"),
             (load(scene).count("\n"), 57), (shown.page.ask("linkOf(game.play.runText()).split('#')[1].slice(0, 18)"),
                                             "run.1~start~enter."),
             (list(shown.page.faults()), [])])
@@ -218,8 +228,8 @@ def check_browser_texts(program, running, _):
 
 @in_browser
 def check_browser_events(program, running, _):
-    """Without automatic events each event is asked for by its button; a train moves on step by step, or runs as
-    far as its boards allow."""
+    """Without automatic events each event is asked for by its button; a train moves on step by
+    step, or runs as far as its boards allow."""
     with Shown(program, running, model_checks.plants()["station"]) as shown:
         shown.click("input[value=none]")
         shown.press("entry", "b1")
@@ -237,10 +247,13 @@ def check_browser_events(program, running, _):
         shown.page.ask("game.choose('route', 1)")
         shown.button("Sense")
         shown.button("Run on")
-        run = shown.page.ask("game.play.done.map((event) => eventLine(game.plant, event)).join(',')")
+        run = shown.page.ask("game.play.done.map((event) => eventLine(game.plant, "
+                             "event)).join(',')")
         yield from faults("events", [
-            (refused, "r2 cannot be locked: points p1 are in position plus and do not move to minus yet."),
-            (run, "enter b1,mark r2,allocate r2,throw p1,settle p1,lock r2,head b1,sense r2,tail b1,head p1,"
+            (refused, "r2 cannot be locked: points p1 are in position plus and do not move to "
+                      "minus yet."),
+            (run, "enter b1,mark r2,allocate r2,throw p1,settle p1,lock r2,head b1,sense r2,tail "
+                  "b1,head p1,"
                   "tail p1")])
         shown.click("input[value=plant]")
         yield from faults("routes go on by themselves", [

@@ -1,5 +1,5 @@
-"""What the page's model says of random runs, beside `irv replay`, `irv drive` and the other model of
-events, that of irvtools/model/events.py."""
+"""What the page's model says of random runs, beside `irv replay`, `irv drive` and the other model
+of events, that of irvtools/model/events.py."""
 
 import json
 import subprocess
@@ -48,8 +48,8 @@ def enabled_lines(plant, state):
 
 
 def other_model_faults(plant, run):
-    """Where the other model differs: in an event of a run, in the state at its end, or in what is enabled
-    there."""
+    """Where the other model differs: in an event of a run, in the state at its end, or in what is
+    enabled there."""
     state = State(plant)
     for words in run["first"] or []:
         read_state_line(plant, state, words.split(" "))
@@ -109,8 +109,10 @@ class Count:
     def left_out(self):
         """What should have come up, and didn't."""
         yield from (f"{word} was never done" for word in events.EVENTS if word not in self.enabled)
-        yield from (f"{word} was never refused" for word in events.EVENTS if word not in self.not_enabled)
-        yield from (f"{rest} never came" for rest in ("driven", "stuck", "hazard") if rest not in self.rests)
+        yield from (f"{word} was never "
+                    f"refused" for word in events.EVENTS if word not in self.not_enabled)
+        yield from (f"{rest} never "
+                    f"came" for rest in ("driven", "stuck", "hazard") if rest not in self.rests)
         yield from (f"{words} never came" for words in ("hazard two", "hazard wrong", "no hazard")
                     if words not in self.hazards)
 
@@ -120,9 +122,9 @@ class Count:
 
 
 def faults(program, ask, size, count, names=None):
-    """Where the page's model differs from the program and from the other model, over each plant, or those
-    of some names: `size` has the events and the drives of each; `ask` takes a plant's name, the plant and
-    an expression."""
+    """Where the page's model differs from the program and from the other model, over each plant, or
+    those of some names: `size` has the events and the drives of each; `ask` takes a plant's name,
+    the plant and an expression."""
     most_events, most_drives = size
     for seed, (name, given) in enumerate(plants().items(), 1):
         if names and name not in names:

@@ -16,7 +16,8 @@ from tests.support.harness import test_case
 SCRIPT = Path(__file__).resolve().parent / "model_checks.js"
 EVENTS, DRIVES = 60, 2          # of each plant, in the gate
 CASES = ("events", "states", "runtext", "drive")
-BLOCKADES = {"station": 40, "line-with-boards": 10, "line": 15, "stations 2": 10, "path-ends-early": 15}
+BLOCKADES = {"station": 40, "line-with-boards": 10, "line": 15, "stations "
+                                                                "2": 10, "path-ends-early": 15}
 MOST_OF_BLOCKADE = 150          # events of a run
 LONG = 45                       # events, more than lie between the states that a play keeps
 
@@ -43,7 +44,8 @@ def check_model(program, _):
 
 
 def replay_cases():
-    """The cases of replay and drive that have an answer: name, plant's bytes, command, text and line."""
+    """The cases of replay and drive that have an answer: name, plant's bytes, command, text and
+    line."""
     for file in CASES:
         for case in case_files.read_case_file(case_files.CASES / f"{file}.cases"):
             line = (case.stdout or b"").decode().partition("\n")[0]
@@ -90,12 +92,13 @@ SCENE = "drive 1\nmark r\nenter x1\nenter y1\nmark a\nmark b\nenter c1\nend\n"
 
 
 def check_order(program, _):
-    """What the plant does by itself comes in the order of drive, also where trains and points could move at
-    once."""
+    """What the plant does by itself comes in the order of drive, also where trains and points could
+    move at once."""
     if not is_there():
         return
     given = configurations.plant_text(ORDER.splitlines())
-    says = asks("", Plant(json.loads(given)), f"answerToScene(plant, {script_engine.as_text(SCENE)})")
+    says = asks("", Plant(json.loads(given)), f"answerToScene(plant, "
+                                              f"{script_engine.as_text(SCENE)})")
     yield from model_checks.drive_faults(program, given, [{"scene": SCENE, "says": says}])
     if not 0 < says.find("throw p\n") < says.find("head x1\n"):
         yield f"the point isn't thrown before the train goes on: {says!r}"
@@ -107,10 +110,12 @@ def examples():
 
 
 def check_reasons(_, __):
-    """What isn't possible, waits or is blocked is said with its reason, as it was worked out by hand."""
+    """What isn't possible, waits or is blocked is said with its reason, as it was worked out by
+    hand."""
     if not is_there():
         return
-    asked = [(name, f"refusalOf(plant, {script_engine.as_text(before)}, {script_engine.as_text(event)})", wanted)
+    asked = [(name, f"refusalOf(plant, {script_engine.as_text(before)}, "
+                    f"{script_engine.as_text(event)})", wanted)
              for name, before, event, wanted in expected_reasons.REFUSED]
     for function, entries in (("waitingOf", expected_reasons.WAITING), ("blockedOf", expected_reasons.BLOCKED)):
         asked += [(name, f"{function}(plant, {script_engine.as_text(before)})", wanted)
@@ -126,11 +131,13 @@ def check_reasons(_, __):
 
 
 def check_back_and_forth(_, __):
-    """A play that goes back and forth, and on from there, is in the state to which its events lead."""
+    """A play that goes back and forth, and on from there, is in the state to which its events
+    lead."""
     if not is_there():
         return
     for name in ("station", "stations 2"):
-        said = asks(name, examples()[name], "[1, 2, 3].map((seed) => isTrueToEvents(plant, seed, 260))")
+        said = asks(name, examples()[name], "[1, 2, 3].map((seed) => isTrueToEvents(plant, seed, "
+                                            "260))")
         if not all(is_true for is_true, _ in said) or max(most for _, most in said) < LONG:
             yield f"{name}: {said}"
 
@@ -152,7 +159,8 @@ end
 
 
 def check_begun(_, __):
-    """Where a route that is allocated already may let a train go on, nothing is said of blocking."""
+    """Where a route that is allocated already may let a train go on, nothing is said of
+    blocking."""
     if not is_there():
         return
     plant = examples()["line-with-boards"]

@@ -39,7 +39,8 @@ def page(program, given):
 
 
 def largest():
-    """Configurations of 256 sections and 256 routes, by name: one line, and stations with a siding."""
+    """Configurations of 256 sections and 256 routes, by name: one line, and stations with a
+    siding."""
     return {"one line": configurations.made("largest"), "stations": configurations.document(*largest_configuration.stations())}
 
 
@@ -60,7 +61,8 @@ def check_no_plants(program, _):
     wrong["sections"][0]["name"] = NAME
     unknown["routes"][0]["path"] = ["nowhere"]
     two["sections"][1]["name"] = "U1"
-    for given, words in ((b"", "refused F2"), (b'{"version": 1,\n "sections": [}', "Line 2, column 15"),
+    for given, words in ((b"", "refused F2"), (b'{"version": 1,\n "sections": '
+                                               b'[}', "Line 2, column 15"),
                          (b"</script><script>alert(1)</script>", "Line 1, column 1"),
                          (json.dumps(wrong).encode(), "&lt;img src=x"),
                          (json.dumps(unknown).encode(), "refused R3 routes[0]"),
@@ -96,7 +98,8 @@ def check_names(program, _):
 
 
 def check_words(program, _):
-    """Wrong words, a page over its own configuration, and no program: status 125, and nothing is written."""
+    """Wrong words, a page over its own configuration, and no program: status 125, and nothing is
+    written."""
     given = model_checks.plants()["station"]
     with tempfile.TemporaryDirectory(prefix="irv-play-") as room:
         conf_ = Path(room, "conf.json")
@@ -136,10 +139,15 @@ def check_check(program, _):
     answers = [(two, played(two, "hazard two b", ["1 enter a", "0 leave b"], RUN), 0,
                 "hazard two b; the simulator says the same"),
                (two, played(two, "hazard two a", [], RUN), 1, "the simulator says hazard two a"),
-               (two, played(two, "hazard two b", ["1 enter b"], RUN), 1, "with enter b as event 2: no hazard"),
+               (two, played(two, "hazard two "
+                                 "b", ["1 enter b"], RUN), 1, "with enter b as event 2: no hazard"),
                (two, played(station, "hazard two b", [], RUN), 125, "another configuration"),
-               (two, played(two, "hazard two b", ["7 enter b"], RUN), 125, "a place that the run does not have"),
-               (two, played(two, "hazard two b", [], RUN).replace("says", "say"), 125, "as the simulator saves it"),
+               (two, played(two, "hazard two "
+                                 "b", ["7 enter b"], RUN), 125, "a place that the run does not "
+                                                                "have"),
+               (two, played(two, "hazard two "
+                                 "b", [], RUN).replace("says", "say"), 125, "as the simulator "
+                                                                            "saves it"),
                (two, "run 1\nstärt\n", 125, "bytes that no name has"),
                (b"{}", RUN, 125, "is not a plant"),
                (two, RUN, 0, "irv replay: hazard two b; the simulator"),
@@ -159,7 +167,8 @@ def check_check(program, _):
 
 
 def check_no_engine(program, _):
-    """Without a script engine --compare answers too, and says that the simulator is not compared."""
+    """Without a script engine --compare answers too, and says that the simulator is not
+    compared."""
     with tempfile.TemporaryDirectory(prefix="irv-play-") as room:
         Path(room, "file").write_text(RUN, encoding="utf-8")
         python = Path(room, "python3")

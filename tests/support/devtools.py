@@ -128,7 +128,8 @@ class Page:
         self.call("Performance.enable", timeDomain="threadTicks")
 
     def busy(self):
-        """The milliseconds for which the page's thread was at work, other programs beside it left out."""
+        """The milliseconds for which the page's thread was at work, other programs beside it left
+        out."""
         found = {one["name"]: one["value"] for one in self.call("Performance.getMetrics")["metrics"]}
         return 1000 * found["TaskDuration"]
 
@@ -151,8 +152,10 @@ class Page:
             ".find((each) => each.getClientRects().length); if (!one) return null;"
             "one.scrollIntoView({block: 'center', inline: 'center'});"
             # what is shown has to be what was laid out, or the click meets what was there before
-            "for (let n = 0; n < 2; n += 1) await new Promise((done) => requestAnimationFrame(done));"
-            "const box = (one.querySelector('circle.hit, circle.g') ?? one).getBoundingClientRect();"
+            "for (let n = 0; n < 2; n += 1) await new Promise((done) => "
+            "requestAnimationFrame(done));"
+            "const box = (one.querySelector('circle.hit, circle.g') ?? "
+            "one).getBoundingClientRect();"
             "return [box.x + box.width / 2, box.y + box.height / 2]; })()")
         if place is None:
             raise Trouble(f"nothing is {selector}")

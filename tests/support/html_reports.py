@@ -26,7 +26,8 @@ def page(program, given, *words):
 
 
 def shown_by(program, given, text, *words):
-    """A page with the run or the scenario of a text; its words without markup, and what was printed."""
+    """A page with the run or the scenario of a text; its words without markup, and what was
+    printed."""
     with tempfile.TemporaryDirectory(prefix="irv-page-run-") as room:
         file = Path(room, "given.run")
         file.write_text(text)

@@ -1,4 +1,5 @@
-"""Whether a page is well-formed, has no markup but the page's own, and opens nothing from elsewhere."""
+"""Whether a page is well-formed, has no markup but the page's own, and opens nothing from
+elsewhere."""
 
 from html.parser import HTMLParser
 

@@ -1,5 +1,5 @@
-"""What a browser prints of a page: where the texts of each sheet are, and which headings are the last line of
-a sheet. It reads the PDF that Chromium writes."""
+"""What a browser prints of a page: where the texts of each sheet are, and which headings are the
+last line of a sheet. It reads the PDF that Chromium writes."""
 
 from __future__ import annotations
 
@@ -26,7 +26,8 @@ def times(one: tuple, other: tuple) -> tuple:
 
 
 def texts(stream: bytes) -> Iterator[tuple]:
-    """Yields the texts of a sheet: how far down they are, and the size of their letters, in pixels."""
+    """Yields the texts of a sheet: how far down they are, and the size of their letters, in
+    pixels."""
     now, kept, size = (1, 0, 0, 1, 0, 0), [], 0.0
     for match in TOKEN.finditer(stream):
         kind, numbers = match.lastgroup, [float(one) for one in re.findall(rb"(?<![\w/])-?[0-9]*\.?[0-9]+",
@@ -74,7 +75,8 @@ def is_heading(size: float) -> bool:
 
 
 def orphans(running, text: str) -> Iterator[str]:
-    """Yields a sentence for each sheet on which a heading is the last line, and if there is no heading."""
+    """Yields a sentence for each sheet on which a heading is the last line, and if there is no
+    heading."""
     headings = 0
     for number, sheet in enumerate(sheets(printed(running, text)), 1):
         found = [down for down, size in sheet if is_heading(size)]

@@ -1,4 +1,5 @@
-"""The pages of tables on which there is a hazard: how long each takes, and whether it shows the hazard."""
+"""The pages of tables on which there is a hazard: how long each takes, and whether it shows the
+hazard."""
 
 import statistics
 import time
@@ -10,7 +11,8 @@ MOST_SECONDS = 20
 
 
 class TimedPages:
-    """The seconds of each page that was made, and what is wrong with them; at most so many are made."""
+    """The seconds of each page that was made, and what is wrong with them; at most so many are
+    made."""
 
     def __init__(self, program, most):
         self.program, self.most = program, most
@@ -24,14 +26,16 @@ class TimedPages:
         text, said = page(self.program, given)
         seconds = time.monotonic() - begin
         self.seconds.append(seconds)
-        print(f"    its page: {seconds:.1f} s, {len(text) / 1e6:.1f} MB, {said.strip()}", flush=True)
+        print(f"    its page: {seconds:.1f} s, {len(text) / 1e6:.1f} MB, "
+              f"{said.strip()}", flush=True)
         self.wrong += [f"{name}: its page: {fault}" for fault in faults(text, said)]
         if seconds > MOST_SECONDS:
             self.wrong.append(f"{name}: its page took {seconds:.1f} s")
 
     def told(self):
         """The figures in a line."""
-        return (f"pages: {len(self.seconds)}; seconds: median {statistics.median(self.seconds):.1f}, "
+        return (f"pages: {len(self.seconds)}; seconds: median "
+                f"{statistics.median(self.seconds):.1f}, "
                 f"most {max(self.seconds):.1f}")
 
 

@@ -10,8 +10,8 @@ REPLAY_SECONDS = 60
 
 
 class Answer:
-    """What a call answered. `status` is None if it was ended or nothing could be called; `trouble` then says
-    which."""
+    """What a call answered. `status` is None if it was ended or nothing could be called; `trouble`
+    then says which."""
 
     def __init__(self, words, status, output, seconds, trouble=""):
         self.words, self.status, self.output = words, status, output

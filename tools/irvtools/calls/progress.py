@@ -36,8 +36,8 @@ class Interrupted(BaseException):
 
 @contextmanager
 def interruptible():
-    """Makes a signal that would end the tool raise `Interrupted`, so that what was begun is taken down. A
-    signal that is ignored stays ignored."""
+    """Makes a signal that would end the tool raise `Interrupted`, so that what was begun is taken
+    down. A signal that is ignored stays ignored."""
     def end(number, _):
         raise Interrupted(number)
     before = {number: signal.getsignal(number) for number in SIGNALS}

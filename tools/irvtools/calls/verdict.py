@@ -1,12 +1,12 @@
 """The verdict's word: what all answers about one configuration come to, in a word and a sentence.
 
-The HTML report, the evidence package, a batch, the simulator and `--explain` take it from here. The words
-and what they need:
+The HTML report, the evidence package, a batch, the simulator and `--explain` take it from here. The
+words and what they need:
 
-- HAZARD FOUND: a run from the initial state to a hazard was answered by `replay`, `verify` or `drive`. It
-  beats everything.
-- SAFE WITH DEVIATIONS: proved: `check` with strict columns was read to its end, with status 5, and each
-  line of it names C4, C5, C6 or C8.
+- HAZARD FOUND: a run from the initial state to a hazard was answered by `replay`, `verify` or
+  `drive`. It beats everything.
+- SAFE WITH DEVIATIONS: proved: `check` with strict columns was read to its end, with status 5, and
+  each line of it names C4, C5, C6 or C8.
 - SAFE: `check` with strict columns answered `clean`, or `verify` answered `safe k=K`.
 - REFUSED: another rule is broken.
 - NOT SHOWN: everything else."""
@@ -41,9 +41,9 @@ PROVED_SAFE = re.compile(r"safe k=(?:[1-9]|1[0-6])")
 
 @dataclass(frozen=True)
 class Answered:
-    """What one call of the program answered: its command and columns, the exit status, which is None if it
-    did not end by itself, and its output. `is_whole` tells whether the output was read to its end; `run` is
-    the text of the run that `replay` was given."""
+    """What one call of the program answered: its command and columns, the exit status, which is
+    None if it did not end by itself, and its output. `is_whole` tells whether the output was read
+    to its end; `run` is the text of the run that `replay` was given."""
 
     command: str
     columns: str
@@ -65,7 +65,8 @@ class Answered:
 
 @dataclass(frozen=True)
 class Verdict:
-    """A verdict: its word, its sentence, and whether the program that answered is known to be proved."""
+    """A verdict: its word, its sentence, and whether the program that answered is known to be
+    proved."""
 
     word: str
     sentence: str
@@ -84,8 +85,8 @@ class Verdict:
 
 
 def verdict(answers: Iterable[Answered], is_proved: bool) -> Verdict:
-    """Returns the verdict of all answers about one configuration; `is_proved` tells whether the program
-    that gave them is known to be the proved one."""
+    """Returns the verdict of all answers about one configuration; `is_proved` tells whether the
+    program that gave them is known to be the proved one."""
     known = list(answers)
     for word, rule in ((HAZARD_FOUND, hazard_sentence), (SAFE_WITH_DEVIATIONS, deviations_sentence),
                        (SAFE, safe_sentence), (REFUSED, refused_sentence)):
@@ -102,19 +103,21 @@ def hazard_words(kind: str, name: str) -> str:
 
 
 def hazard_sentence(answer: Answered) -> str | None:
-    """Returns the sentence of a hazard, or None if the answer tells none. A run of `replay` that begins in
-    another state than the initial one tells none."""
+    """Returns the sentence of a hazard, or None if the answer tells none. A run of `replay` that
+    begins in another state than the initial one tells none."""
     pattern, status = {"replay": (HAZARD, 0), "verify": (UNSAFE, 1), "drive": (DRIVEN, 1)}.get(
         answer.command, (None, None))
     match = pattern.fullmatch(answer.line) if pattern and answer.status == status else None
     if match is None or answer.command == "replay" and answer.run.split("\n")[:2] != ["run 1", "start"]:
         return None
-    return (f"A run from the initial state ends in {hazard_words(*match.groups())} (irv {answer.command}: "
+    return (f"A run from the initial state ends in {hazard_words(*match.groups())} (irv "
+            f"{answer.command}: "
             f"{answer.line}).")
 
 
 def broken_rules(answer: Answered) -> Counter | None:
-    """Returns how often each rule is broken by the lines of a refusal, or None if it is no refusal."""
+    """Returns how often each rule is broken by the lines of a refusal, or None if it is no
+    refusal."""
     matches = [REFUSAL.fullmatch(line) for line in answer.output.splitlines()]
     if answer.status != BROKEN or not matches or None in matches:
         return None
@@ -127,7 +130,8 @@ def counted(rules: Counter) -> str:
 
 
 def deviations_sentence(answer: Answered) -> str | None:
-    """Returns the sentence of a table that is safe though it breaks rules, or None if that isn't proved."""
+    """Returns the sentence of a table that is safe though it breaks rules, or None if that isn't
+    proved."""
     rules = broken_rules(answer)
     is_read = (answer.command, answer.columns) == ("check", "strict") and answer.is_whole \
         and answer.output.endswith("\n")

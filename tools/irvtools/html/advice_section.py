@@ -15,8 +15,10 @@ KIND_WORDS = {"a board that it would pass closed": "a closed board", "nothing": 
 def advice_part(page, unused):
     """All advice. `unused` are the routes that no run was found to use."""
     page.head("Advice", "advice")
-    page.add(tag("p", text("This is advice, not an answer of irv. An engineer looks for it in such a table, "
-                           "but no rule asks for it. Safety in the model does not depend on it: trains of "
+    page.add(tag("p", text("This is advice, not an answer of irv. An engineer looks for it in such "
+                           "a table, "
+                           "but no rule asks for it. Safety in the model does not depend on it: "
+                           "trains of "
                            "the model stop at closed boards. The engineer decides what applies."),
                  class_="small"))
     route_advice(page)
@@ -44,7 +46,8 @@ def names(things):
 def route_advice(page):
     """Mistakes that no rule checks, and notes, grouped by route."""
     for _, group in table_advice.by_route(page.plant):
-        say(page, group[0].words() if group[0].kind == table_advice.NOTE else f"Mistake: {group[0].words()}",
+        say(page, group[0].words() if group[0].kind == table_advice.NOTE else f"Mistake: "
+                                                                              f"{group[0].words()}",
             *(tag("p", text(f"{one.kind.capitalize()}: {one.words()}")) for one in group[1:]))
 
 
@@ -58,8 +61,10 @@ def flank_advice(page):
         return
     kinds = {kind: sum(flank.guard.kind == kind for _, flank in found) for kind in KINDS}
     count = "In one place" if len(found) == 1 else f"In {len(found)} places"
-    say(page, f"Flank protection. {count} a vehicle could run into a route's path over points. It is kept "
-              "out by: " + "; ".join(f"{kind_words(kind)} {number}" for kind, number in kinds.items()) + ".",
+    say(page, f"Flank protection. {count} a vehicle could run into a route's path over points. It "
+              f"is kept "
+              "out by: " + "; ".join(f"{kind_words(kind)} "
+                                     f"{number}" for kind, number in kinds.items()) + ".",
         flank_table(page.plant, found))
 
 
@@ -104,10 +109,12 @@ def overlap_advice(page):
     plant = page.plant
     bare = advice.without_overlap(plant)
     if bare:
-        say(page, f"{counted(len(bare), 'route')} without an overlap beyond the exit board: {names(bare)}.")
+        say(page, f"{counted(len(bare), 'route')} without an overlap beyond the exit board: "
+                  f"{names(bare)}.")
     _, outside = advice.overlap_ends(plant)
     if outside:
-        say(page, f"The overlap of {names(outside)} ends where the network ends. The configuration does not "
+        say(page, f"The overlap of {names(outside)} ends where the network ends. The configuration "
+                  f"does not "
                   "say what comes after.")
 
 
@@ -118,24 +125,29 @@ def way_advice(page):
     answer = page.ask(["table", "--columns", "free"], ASK_SECONDS)
     page.show_shortly(answer)
     if answer.status != 0:
-        say(page, "The page does not know the candidate routes of the network, so it compares no routes with "
+        say(page, "The page does not know the candidate routes of the network, so it compares no "
+                  "routes with "
                   "them.")
         return
     plant = page.plant
     ways = advice.Ways(plant, answer.output)
-    say(page, f"The network has {counted(ways.count, 'candidate route')} from a board to the next board or to "
+    say(page, f"The network has {counted(ways.count, 'candidate route')} from a board to the next "
+              f"board or to "
               f"the end of the network, as irv table prints them. The table has "
               f"{counted(len(plant.routes), 'route')}.")
     for found, words in ((ways.to_boards(), "from board to board"),
                          (ways.over_borders(), "out of the area over a border that the table uses"),
-                         (ways.at_dead_ends(), "to or from a border that the table does not use, such as a "
+                         (ways.at_dead_ends(), "to or from a border that the table does not use, "
+                                               "such as a "
                                                "dead end or a trap road")):
         if found:
             say(page, f"{counted(len(found), 'candidate route')} {words} "
-                      f"{'is' if len(found) == 1 else 'are'} not in the table: {way_names(plant, found)}.")
+                      f"{'is' if len(found) == 1 else 'are'} not in the table: "
+                      f"{way_names(plant, found)}.")
     if ways.other:
         one = len(ways.other) == 1
-        say(page, f"{counted(len(ways.other), 'route')} of the table {'is' if one else 'are'} not a candidate "
+        say(page, f"{counted(len(ways.other), 'route')} of the table {'is' if one else 'are'} not "
+                  f"a candidate "
                   f"route of the network: {names(ways.other)}.")
 
 
@@ -144,7 +156,8 @@ def way_names(plant, ways):
     found = []
     for way in ways[:MOST_NAMES]:
         path = " ".join(plant.name(x) for x in way[1])
-        found.append(f"{plant.boards[way[0]].name} to {advice.end_of(plant, way) or 'out'} over {path}")
+        found.append(f"{plant.boards[way[0]].name} to {advice.end_of(plant, way) or 'out'} over "
+                     f"{path}")
     left = len(ways) - len(found)
     return "; ".join(found) + (f"; and {left} more" if left > 0 else "")
 
@@ -159,7 +172,8 @@ def use_advice(page, unused):
                   f"{names([plant.routes[r] for r in unused])}.")
     boards = advice.unused_boards(plant)
     if boards:
-        say(page, f"{counted(len(boards), 'board')} at which no route begins or ends: {names(boards)}.")
+        say(page, f"{counted(len(boards), 'board')} at which no route begins or ends: "
+                  f"{names(boards)}.")
     one_way, never = advice.points_one_way(plant)
     for x, position, count in one_way[:MOST_NAMES]:
         every = "The only route that locks" if count == 1 else f"All {count} routes that lock"
@@ -175,7 +189,10 @@ def cause_advice(page):
     """Faults that may be one."""
     for x, routes in advice.exchanged_legs(page.plant):
         name = page.plant.name(x)
-        say(page, f"All {len(routes)} routes that lead over points {name} and list them, list them in the "
-                  f"position that does not lead along their path ({names(routes)}). This may be one mistake "
-                  f"instead of {len(routes)}: the legs plus and minus of {name} may be exchanged in the "
+        say(page, f"All {len(routes)} routes that lead over points {name} and list them, list them "
+                  f"in the "
+                  f"position that does not lead along their path ({names(routes)}). This may be "
+                  f"one mistake "
+                  f"instead of {len(routes)}: the legs plus and minus of {name} may be exchanged "
+                  f"in the "
                   "network.")

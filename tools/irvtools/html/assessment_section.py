@@ -20,29 +20,34 @@ def safety_part(page):
             ("toolchain (rt version)", provenance.toolchain())]
     if page.given_run:
         rows.insert(1, (f"{page.given_run.what} text", f"{page.given_run.name}: sha256 "
-                        f"{provenance.sum_of(page.given_run.data)} ({len(page.given_run.data)} bytes)"))
+                        f"{provenance.sum_of(page.given_run.data)} ({len(page.given_run.data)} "
+                        f"bytes)"))
     page.add(table([], [[name, ("", code(value))] for name, value in rows if value], "sums"))
     page.add(table(["call", "status", "first line"], [
         [("", code("irv " + " ".join(call.words))),
          "none" if call.status is None else str(call.status), ("", code(cut(call.said)))]
         for call in page.calls], "calls"))
-    page.add(tag("p", text(f"irv replay was called {page.program.replays} times more, for the runs on this "
+    page.add(tag("p", text(f"irv replay was called {page.program.replays} times more, for the runs "
+                           f"on this "
                            "page.")))
     premises_part(page)
     calls = "\n".join(f"./irv {' '.join(call.words)} < {options.name}" for call in page.calls)
     page.add(tag("p", text("To repeat this, run at the top of the sources, at the commit above:"),
                  class_="lead"),
-             tag("pre", text(f"{calls}\n./irv --html {' '.join(options.given_words)} < {options.name}")))
+             tag("pre", text(f"{calls}\n./irv --html {' '.join(options.given_words)} < "
+                             f"{options.name}")))
 
 
 def premises_part(page):
     """The assumptions on which an answer depends."""
     premises = provenance.premises()
     if not premises:
-        page.add(tag("p", text("docs/assurance/qualification.md does not exist here, so the assumptions "
+        page.add(tag("p", text("docs/assurance/qualification.md does not exist here, so the "
+                               "assumptions "
                                "cannot be listed.")))
         return
-    page.add(tag("p", text("The answers depend on these assumptions of docs/assurance/qualification.md:"),
+    page.add(tag("p", text("The answers depend on these assumptions of "
+                           "docs/assurance/qualification.md:"),
                  class_="lead"))
     page.add(table(["no.", "assumption"], premises))
 

@@ -1,5 +1,5 @@
-"""The interlocking table as a sheet that prints: a row for each route and a column for each of its entries,
-in the words of the CSV files."""
+"""The interlocking table as a sheet that prints: a row for each route and a column for each of its
+entries, in the words of the CSV files."""
 
 from irvtools.rules.schema_rules import route_members
 from irvtools.html.markup import tag, text
@@ -17,7 +17,8 @@ def sheet_part(page):
     rows = [row(f"{route.number} {page.labels.routes.get(route.name, '')}".strip(), route.member, known)
             for route in page.plant.routes]
     # the heading is on the sheet's own paper, which is wide
-    page.add(tag("div", page.titled("Interlocking table", "table") + sheet("no.", known, rows), class_="wide"))
+    page.add(tag("div", page.titled("Interlocking "
+                                    "table", "table") + sheet("no.", known, rows), class_="wide"))
 
 
 def heading(member):
@@ -44,10 +45,11 @@ def cell(said):
     words = list_words(said) if isinstance(said, list) else [said or ""]
     line = " ".join(words)
     if len(line) > LONGEST_CELL:
-        return text(line[:LONGEST_CELL] + " … (left out)")
+        return text(line[:LONGEST_CELL] + " … (cut)")
     return " ".join(map(whole, words))
 
 
 def whole(word):
     """A short name, which isn't broken at its hyphens."""
-    return tag("span", text(word), class_="whole") if "-" in word[:-1] and len(word) <= SHORT else text(word)
+    is_whole = "-" in word[:-1] and len(word) <= SHORT
+    return tag("span", text(word), class_="whole") if is_whole else text(word)

@@ -2,22 +2,17 @@
 
 from __future__ import annotations
 
-import json
+from pathlib import Path
 
 from irvtools.html.options import Refused
-
-MOST_BYTES = 16777216
+from irvtools.importing import notes
 
 
 def boards_by_rule(name: str) -> set[str]:
-    """Returns the names of the boards that no imported file had, by a file of notes; refuses another file."""
+    """Returns the names of the boards that no imported data had, by a file of notes; refuses
+    another file."""
     try:
-        with open(name, "rb") as file:
-            found = json.loads(file.read(MOST_BYTES))
-        if found["notes"] != 1:
-            raise ValueError(f"version {found['notes']}")
-        return {entry["name"] for entry in found["entries"]
-                if entry.get("kind") == "board" and entry.get("by") == "rule"}
+        return notes.boards_by_rule(notes.read_notes(Path(name)))
     except OSError as fault:
         raise Refused(f"cannot read --import-notes {name}: {fault.strerror}") from fault
     except (ValueError, KeyError, TypeError, AttributeError) as fault:

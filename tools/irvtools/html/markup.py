@@ -22,8 +22,8 @@ def code(word):
 
 
 def table(head, rows, class_=None):
-    """A table of texts; a cell that is a pair of a class and markup is taken as it is. On a narrow screen it
-    can be scrolled by itself."""
+    """A table of texts; a cell that is a pair of a class and markup is taken as it is. On a narrow
+    screen it can be scrolled by itself."""
     def cell(name, what):
         if isinstance(what, tuple):
             return tag(name, what[1], class_=what[0] or None)

@@ -38,7 +38,8 @@ def parser(status):
     line.once("--search-seconds", "how long a run to a hazard is searched for if the table is not "
               "known to be safe; 0: no search (15)", default=15, metavar="N",
               type=whole_number(0, MOST_SECONDS))
-    line.once("--import-notes", "the notes of the import that made the configuration: boards placed by a rule "
+    line.once("--import-notes", "the notes of the import that made the configuration: boards "
+                                "placed by a rule "
               "are drawn hollow", metavar="FILE")
     line.flag("--without-times", "leave out how long things took")
     line.once("--columns", "option of verify: strict or free (strict)", metavar="KIND")
@@ -86,8 +87,8 @@ class Options:
     def files(self):
         """The files that are read or written, each with what it is; written ones come first."""
         certs = [(self.cert, "the certificate")] if self.is_cert_kept else []
-        named = [(str(self.out), "the report"), *certs, (STANDARD_INPUT, "standard input"), (STANDARD_OUTPUT, "standard output"),
-                 (self.program, "the program")]
+        named = [(str(self.out), "the report"), *certs, (STANDARD_INPUT, "standard input"),
+                 (STANDARD_OUTPUT, "standard output"), (self.program, "the program")]
         given = ((self.run, "the file of --run"), (self.import_notes, "the file of --import-notes"))
         return named + [(file, what) for file, what in given if file is not None]
 
@@ -101,7 +102,8 @@ def read_labels(directory):
 
 
 def subject_text(name, said):
-    """Returns a text of the report's subject; refuses one that is empty, too long or not printable."""
+    """Returns a text of the report's subject; refuses one that is empty, too long or not
+    printable."""
     if not said.strip() or len(said) > MOST_CHARACTERS or not said.isprintable():
         raise Refused(f"--{name} needs 1 to {MOST_CHARACTERS} printable characters")
     return said
@@ -117,7 +119,8 @@ def name_of_input():
 
 
 def is_same(one, other):
-    """Returns whether two names are of one file, which may not exist yet. Devices and pipes are none."""
+    """Returns whether two names are of one file, which may not exist yet. Devices and pipes are
+    none."""
     try:
         if not (os.path.exists(one) and os.path.exists(other)):
             return Path(one).resolve() == Path(other).resolve()
@@ -139,7 +142,8 @@ def guard_files(options):
 
 
 def guard_words(options, program):
-    """Refuses options that verify refuses: asks `program` over an empty input, which has no verdict."""
+    """Refuses options that verify refuses: asks `program` over an empty input, which has no
+    verdict."""
     for name, value in options.of_verify.items():
         words = ["verify", f"--{name}={value}"]
         words += [] if name == "cert" else ["--cert=" + options.cert]

@@ -1,5 +1,5 @@
-"""The report: the verdict first, then its parts in order. Each answer is the program's; the rest is marked
-as the report's own."""
+"""The report: the verdict first, then its parts in order. Each answer is the program's; the rest is
+marked as the report's own."""
 
 from pathlib import Path
 
@@ -84,20 +84,23 @@ class Report:
 
     def count(self, answer, columns, run=""):
         """Counts an answer for the verdict."""
-        self.answered.append(Answered(answer.words[0], columns, answer.status, answer.output, True, run))
+        self.answered.append(Answered(answer.words[0], columns, answer.status, answer.output, True,
+                                      run))
 
     def show(self, answer):
         """A call with its answer."""
         status = "no status" if answer.status is None else f"status {answer.status}"
         self.add(tag("p", f"{code('irv ' + ' '.join(answer.words))} "
-                     f"<b>{code(answer.said)}</b> ({status}{self.time(f', {answer.seconds:.1f} s')})",
+                     f"<b>{code(answer.said)}</b> "
+                     f"({status}{self.time(f', {answer.seconds:.1f} s')})",
                      class_="answer"))
 
     def show_shortly(self, answer):
         """A call whose answer is long: that it was asked, and its status."""
         status = "no status" if answer.status is None else f"status {answer.status}"
         said = "" if answer.status == 0 else f" {code(answer.said)}"
-        self.add(tag("p", f"{code('irv ' + ' '.join(answer.words))}{said} ({status})", class_="small"))
+        self.add(tag("p", f"{code('irv ' + ' '.join(answer.words))}{said} "
+                          f"({status})", class_="small"))
 
     # -- the parts
 
@@ -117,7 +120,8 @@ class Report:
         if self.plant and is_plant:
             self.of_plant("free" if lines else self.options.columns)
         elif self.given_run:
-            self.own(f"{self.given_run.name} is not shown: a configuration that is not a plant has no runs "
+            self.own(f"{self.given_run.name} is not shown: a configuration that is not a plant has "
+                     f"no runs "
                      "and no scenarios.")
         self.has_cert = self.is_cert_left()
         safety_part(self)
@@ -162,21 +166,27 @@ class Report:
         self.add(tag("p", text(counts_words(plant)), class_="small"))
         self.add(self.drawing.plan())
         if self.drawing.is_torn():
-            self.own("Some sections do not fit into the plan. A joint that fits no row is a dotted red line, "
+            self.own("Some sections do not fit into the plan. A joint that fits no row is a dotted "
+                     "red line, "
                      "and a joint that would close a circle is left out.")
         self.add(legend())
         if self.drawing.hollow:
-            self.own(f"{counted(len(self.drawing.hollow), 'board')}, drawn hollow, were placed by a rule of the "
+            self.own(f"{counted(len(self.drawing.hollow), 'board')}, drawn hollow, were placed by "
+                     f"a rule of the "
                      "import and are not in the imported data. Check each of them.")
-        self.add(tag("p", text("Boards above a line are for trains that run up, from left to right; boards "
-                               "below it are for trains that run down. Names of points are slanted. The plan "
-                               "is drawn from the neighbours in the configuration. It is not to scale."),
+        self.add(tag("p", text("Boards above a line are for trains that run up, from left to "
+                               "right; boards "
+                               "below it are for trains that run down. Names of points are "
+                               "slanted. The plan "
+                               "is drawn from the neighbours in the configuration. It is not to "
+                               "scale."),
                      class_="small"))
 
     # -- the whole
 
     def heading(self):
-        """The title, the subject, the verdict with the answers below it, and the table of contents."""
+        """The title, the subject, the verdict with the answers below it, and the table of
+        contents."""
         subject = self.options.subject
         facts = [f"{name.capitalize()}: {subject[name]}" for name in ("project", "issue", "author")
                  if name in subject]
@@ -187,15 +197,17 @@ class Report:
                 tag("p", text(" · ".join(facts)), class_="subject") if facts else "",
                 self.verdict_line(),
                 tag("ul", "".join(tag("li", line) for line in self.summary), class_="sum"),
-                tag("nav", "".join(tag("a", text(title), href=f"#{id_}") for title, id_ in self.heads),
-                    class_="toc", aria_label="Contents")]
+                tag("nav", "".join(tag("a", text(title), href=f"#{id_}")
+                                   for title, id_ in self.heads), class_="toc", aria_label="Contents")]
 
     def verdict_line(self):
         """The verdict in one coloured line, with a link to the hazard."""
         _, _, rest = self.verdict.line.partition(". ")
-        link = tag("a", text("Show the hazard"), href=f"#{HAZARD_ID}") if HAZARD_ID in self.ids else ""
-        return tag("p", tag("b", text(self.verdict.word)) + text(rest) + (f" {link}" if link else ""),
-                   class_=f"verdict {self.verdict.tone}", id=VERDICT_ID, data_word=self.verdict.word)
+        link = tag("a", text("Show the "
+                             "hazard"), href=f"#{HAZARD_ID}") if HAZARD_ID in self.ids else ""
+        words = tag("b", text(self.verdict.word)) + text(rest) + (f" {link}" if link else "")
+        return tag("p", words, class_=f"verdict {self.verdict.tone}", id=VERDICT_ID,
+                   data_word=self.verdict.word)
 
     @property
     def title(self):
@@ -204,14 +216,19 @@ class Report:
 
     def whole(self):
         """The report as a document."""
-        foot = ("The answers of <code>irv</code> are proved if the program is the proved build: the lines of "
-                "check, verify, replay and drive, in blue or in a machine's letters beside its name. The "
-                "pictures, the sentences, the search, the runs through the routes and what is marked in "
-                "yellow are made by tools/html, which is not proved. <code>irv replay</code> answered each "
+        foot = ("The answers of <code>irv</code> are proved if the program is the proved build: "
+                "the lines of "
+                "check, verify, replay and drive, in blue or in a machine's letters beside its "
+                "name. The "
+                "pictures, the sentences, the search, the runs through the routes and what is "
+                "marked in "
+                "yellow are made by tools/html, which is not proved. <code>irv replay</code> "
+                "answered each "
                 "run that is drawn.")
         head = self.heading()
         return document(f"{self.title}: {self.verdict.word}, irv",
-                        "\n".join(filter(None, [*head, *self.parts])) + tag("p", foot, class_="foot small"))
+                        "\n".join(filter(None, [*head, *self.parts]))
+                        + tag("p", foot, class_="foot small"))
 
 
 def counts_words(plant):
@@ -222,9 +239,12 @@ def counts_words(plant):
 
 def no_train_moves(plant):
     """What holds of a table without routes."""
-    bare = [plant.name(x) for x, inward in plant.inward.items() if (x, inward) not in plant.board_on]
+    bare = [plant.name(x) for x, inward in plant.inward.items()
+            if (x, inward) not in plant.board_on]
     if not bare:
-        return ("The table has no routes, so no board opens. A train can enter, but it stops at the board of "
+        return ("The table has no routes, so no board opens. A train can enter, but it stops at "
+                "the board of "
                 "its border.")
-    return ("The table has no routes, so no board opens. Only trains that enter at a border without a board "
+    return ("The table has no routes, so no board opens. Only trains that enter at a border "
+            "without a board "
             f"can move: {join(bare)}.")

@@ -16,8 +16,8 @@ ANSWER_SECONDS = 5      # for the answers about them
 
 
 def routes_part(page, columns):
-    """Which routes a train can use. Returns the routes for which no such run was found, if there was time
-    to look for all."""
+    """Which routes a train can use. Returns the routes for which no such run was found, if there
+    was time to look for all."""
     page.head("Routes that a train can use", "routes")
     if not page.plant.routes:
         page.add(tag("p", text("The table has no routes.")))
@@ -34,7 +34,8 @@ def routes_part(page, columns):
     is_whole = is_all and len(answers) == len(found)
     introduce(page, good, len(rows), is_whole)
     if not is_whole:
-        page.own(f"Left out, because there was no time: {'' if is_all else 'runs through further routes, and '}"
+        page.own(f"Left out, because there was no time: "
+                 f"{'' if is_all else 'runs through further routes, and '}"
                  f"answers of irv replay to {counted(len(found) - len(answers), 'run')}.")
     page.add(table(["route", "a train uses it"], rows, "routes"))
     return [r for r in range(len(rows)) if r not in found] if is_all else []
@@ -55,9 +56,12 @@ def introduce(page, good, count, is_whole):
     more = "" if is_whole else "; for others there was no time"
     page.sum_up("Routes that a train can use", f"{good} of {count}{more}")
     page.add(tag("p", text(
-        f"For {good} of {count} routes the page found a run from the initial state in which one train uses "
-        "the whole route, from its request to its finish. irv replay answered “no hazard” to each of these "
-        "runs. A route without such a run may be unusable. Usability is not part of safety: if each border "
+        f"For {good} of {count} routes the page found a run from the initial state in which one "
+        f"train uses "
+        "the whole route, from its request to its finish. irv replay answered “no hazard” to each "
+        "of these "
+        "runs. A route without such a run may be unusable. Usability is not part of safety: if "
+        "each border "
         "has its board (C7) and no board ever opens, no train moves on, so no two trains meet.")))
 
 

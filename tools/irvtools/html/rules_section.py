@@ -21,8 +21,10 @@ def rules_part(page, answer, lines):
     page.sum_up("Rules", f"{counted(len(lines), 'rule')} broken: {join(names)}{first}" if lines
                 else answer.said)
     if answer.status == 0:
-        page.add(tag("p", text("No rule of the schema, the network, the table and its columns is broken. This "
-                               "alone proves that no run from the initial state ends in a hazard.")))
+        page.add(tag("p", text("No rule of the schema, the network, the table and its columns is "
+                               "broken. This "
+                               "alone proves that no run from the initial state ends in a "
+                               "hazard.")))
     elif not lines:
         page.add(trouble("This is no answer about the configuration, so the page ends here."))
     elif lines[0].startswith("refused F"):
@@ -39,16 +41,19 @@ def form_part(page, line):
         page.own("The page has no sentence for this fault; docs/reference/formats.md has the rule.")
     for sentence in sentences[:PICTURED]:
         page.add(tag("p", tag("b", text(sentence))))
-    page.add(tag("p", text("These sentences are the page's own. A configuration that breaks the schema is "
+    page.add(tag("p", text("These sentences are the page's own. A configuration that breaks the "
+                           "schema is "
                            "not read, and nothing else is asked about it."), class_="small"))
 
 
 def broken_part(page, lines):
     """The broken rules of the network, of the table or of its columns."""
-    page.add(tag("p", text(f"{len(lines)} rules are broken. irv answered which and where. The sentences and "
+    page.add(tag("p", text(f"{len(lines)} rules are broken. irv answered which and where. The "
+                           f"sentences and "
                            "pictures are the page's own."
                            if len(lines) > 1 else
-                           "One rule is broken. irv answered which and where. The sentence and the picture "
+                           "One rule is broken. irv answered which and where. The sentence and the "
+                           "picture "
                            "are the page's own.")))
     read = [broken_rules.read_line(line) for line in lines]
     resting = [one for one in read if broken_rules.rests(page.plant, *one)]
@@ -63,4 +68,5 @@ def broken_part(page, lines):
         page.add(tag("div", words, class_="broken", id=f"rule-{number + 1}"))
     if len(lines) > PICTURED:
         page.own(f"Left out: the pictures of all but the first {PICTURED} broken rules"
-                 + (f", and the sentences of all but the first {WORDED}." if len(lines) > WORDED else "."))
+                 + (f", and the sentences of all but the first "
+                    f"{WORDED}." if len(lines) > WORDED else "."))

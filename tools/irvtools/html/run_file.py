@@ -1,4 +1,5 @@
-"""A run or a scenario that the caller gives, as a file. Its first line says which of the two it is."""
+"""A run or a scenario that the caller gives, as a file. Its first line says which of the two it
+is."""
 
 from pathlib import Path
 
@@ -35,8 +36,8 @@ class Given:
         self.what = "run" if self.kind == "run" else "scenario"
 
     def ask(self, program, columns, seconds):
-        """What `irv replay` or `irv drive` answers. The call is shown with the file's name, but made with a
-        copy, because the name may be that of a pipe."""
+        """What `irv replay` or `irv drive` answers. The call is shown with the file's name, but
+        made with a copy, because the name may be that of a pipe."""
         copy = Path(program.room.name, "given")
         copy.write_bytes(self.data)
         command = "replay" if self.kind == "run" else "drive"
@@ -54,8 +55,9 @@ class Given:
         return None
 
     def read(self, plant, end=None):
-        """The state in which a run begins, None for the start, and its events, up to its last line or
-        to a line by its number from 1; None if its first lines aren't whole. The lines before are right."""
+        """The state in which a run begins, None for the start, and its events, up to its last line
+        or to a line by its number from 1; None if its first lines aren't whole. The lines before
+        are right."""
         begin = self.first_event()
         if begin is None or end is not None and end <= begin:
             return None

@@ -1,10 +1,9 @@
 """A run, step by step in the plan: a frame for each event.
 
 Each prefix that is drawn is answered by `irv replay`, and so is the rest of the run from each state
-that is drawn. If the page's own states don't agree with these answers, the run ends there, and the page
-says so. The last frame comes first. An event that moves no train and opens no board has a frame that is
-folded.
-"""
+that is drawn. If the page's own states don't agree with these answers, the run ends there, and the
+page says so. The last frame comes first. An event that moves no train and opens no board has a
+frame that is folded. """
 
 import time
 from concurrent.futures import ThreadPoolExecutor
@@ -21,18 +20,21 @@ from irvtools.model.train_numbers import numbered
 MOST_SECONDS = 12       # for the answers about one run
 AT_ONCE = 4             # calls
 MOVING = ("enter", "head", "tail", "leave", "lock")     # events whose frames are not folded
-ON_PAPER = ("enter", "head", "lock")    # events that have a picture on paper too, and the last of a run
+ON_PAPER = ("enter", "head", "lock")    # events with a picture on paper too, like the last of a run
 MOST_PICTURED = 10
 HAZARD_ID = "hazard"    # of the page's first hazard
-NOTE = ("The signs are explained below the track plan. Marked in yellow is what an event is about. Events "
-        "that move no train and open no board are folded: a click opens their plan. On paper only the last "
-        f"{MOST_PICTURED} events by which a train enters or moves on or a board opens have a picture, and the "
+NOTE = ("The signs are explained below the track plan. Marked in yellow is what an event is about. "
+        "Events "
+        "that move no train and open no board are folded: a click opens their plan. On paper only "
+        "the last "
+        f"{MOST_PICTURED} events by which a train enters or moves on or a board opens have a "
+        f"picture, and the "
         "last event.")
 
 
 class RunView:
-    """Draws runs over a plant, with the answers of a program under some columns. The ids of the frames
-    begin with `name`; `page_ids` has the ids that the page has already."""
+    """Draws runs over a plant, with the answers of a program under some columns. The ids of the
+    frames begin with `name`; `page_ids` has the ids that the page has already."""
 
     def __init__(self, page, columns, name):
         self.program, self.columns, self.name = page.program, columns, name
@@ -50,11 +52,13 @@ class RunView:
         """Replay's answer on a prefix of a run, and what doesn't agree with it, if anything."""
         said, own = self.answer(events[:place], first), self.own(states[place])
         if said != own:
-            return said, (f"irv replay answers “{said}” for the run up to here, but the page's own model "
+            return said, (f"irv replay answers “{said}” for the run up to here, but the page's own "
+                          f"model "
                           f"says “{own}”.")
         rest, last = self.answer(events[place:], states[place]), self.own(states[-1])
         if rest != last:
-            return said, (f"irv replay answers “{rest}” for the rest of the run from the drawn state, but "
+            return said, (f"irv replay answers “{rest}” for the rest of the run from the drawn "
+                          f"state, but "
                           f"the page's own model says “{last}”.")
         return said, None
 
@@ -70,11 +74,12 @@ class RunView:
         return answers
 
     def frames(self, events, first=None, marks_at_end=None, after_end=""):
-        """The frames of a run, from a state or from the initial one: the last frame, then the steps that
-        lead to it. The last frame may have marks of its own and markup after it."""
+        """The frames of a run, from a state or from the initial one: the last frame, then the steps
+        that lead to it. The last frame may have marks of its own and markup after it."""
         states = states_of(self.plant, events, first)
         if states is None:
-            return trouble("The page's own model does not accept these events as a run, so they are not "
+            return trouble("The page's own model does not accept these events as a run, so they "
+                           "are not "
                            "drawn.")
         answers, shown = self.all_asked(events, states, first), {}
         numbers, fault = numbered(states, events), None
@@ -93,8 +98,8 @@ class RunView:
         return self.arranged(shown, events, tail)
 
     def arranged(self, shown, events, tail):
-        """The frames in their order on the page: the last one first, then the others. Folded frames stand
-        with the picture that follows them."""
+        """The frames in their order on the page: the last one first, then the others. Folded frames
+        stand with the picture that follows them."""
         last = shown.pop(len(events), None)
         parts = [tag("div", last, class_="last")] if last else []
         if shown:
@@ -145,8 +150,8 @@ class RunView:
         return tag("span", id=HAZARD_ID)
 
     def frame(self, events, place, states, marks, answered):
-        """A frame: the event, what it does, what is in use, replay's answer, and the plan. `answered` is
-        replay's answer with the numbers of the trains."""
+        """A frame: the event, what it does, what is in use, replay's answer, and the plan.
+        `answered` is replay's answer with the numbers of the trains."""
         plant, state = self.plant, states[place]
         said, numbers = answered
         if place:
@@ -163,7 +168,8 @@ class RunView:
                                          f"irv replay: <code>{text(said)}</code>"]))
         body = tag("p", small, class_="small") + self.drawing.frame(state, marks, title, numbers)
         if is_folded(events, place):
-            return tag("details", tag("summary", head) + body, class_="frame minor", id=self.frame_id(place))
+            return tag("details", tag("summary", head) + body, class_="frame minor",
+                       id=self.frame_id(place))
         is_printed = place == len(events) or place in pictured(events)
         return tag("div", tag("p", head) + body, id=self.frame_id(place),
                    class_="frame" if is_printed else "frame paperless")
@@ -178,7 +184,8 @@ def is_folded(events, place):
 
 def pictured(events):
     """The places of the events of a run that have a picture on paper too, but for its last."""
-    return [place for place, (word, _) in enumerate(events[:-1], 1) if word in ON_PAPER][-MOST_PICTURED:]
+    found = [place for place, (word, _) in enumerate(events[:-1], 1) if word in ON_PAPER]
+    return found[-MOST_PICTURED:]
 
 
 def trouble(words):

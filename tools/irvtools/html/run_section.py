@@ -1,5 +1,5 @@
-"""A run or a scenario of the caller, on the page: step by step, up to its end or to the event that isn't
-enabled, and why it isn't."""
+"""A run or a scenario of the caller, on the page: step by step, up to its end or to the event that
+isn't enabled, and why it isn't."""
 
 from irvtools.model.disabled_events import unmet_words
 from irvtools.model.events import apply, hazard
@@ -41,7 +41,8 @@ def given_part(page, columns):
     page.sum_up(f"{given.what.capitalize()} {given.name}", answer.said)
     word = answer.line.partition(" ")[0]
     if answer.line == "refused F1 extra":
-        page.add(trouble(f"The {given.what} is longer than irv reads; docs/reference/commands.md has the "
+        page.add(trouble(f"The {given.what} is longer than irv reads; docs/reference/commands.md "
+                         f"has the "
                          "greatest lengths."))
     elif answer.status not in ANSWERED:
         page.add(trouble(f"This is no answer about the {given.what}, so it is not drawn."))
@@ -78,7 +79,8 @@ def run_part(page, view, answer):
     place, reached = first_refused(plant, first, events)
     own = view.own(reached) if place is None else f"not a run at {place}"
     if answer.line != own:
-        page.add(trouble(f"The page stops here. irv replay answers “{answer.line}”, but the page's own "
+        page.add(trouble(f"The page stops here. irv replay answers “{answer.line}”, but the page's "
+                         f"own "
                          f"model says “{own}”."))
         return
     if place is not None:
@@ -87,8 +89,8 @@ def run_part(page, view, answer):
 
 
 def first_refused(plant, first, events):
-    """The number of the first event, from 1, that isn't enabled or comes after a hazard, or None; and the
-    state before it, or the last one."""
+    """The number of the first event, from 1, that isn't enabled or comes after a hazard, or None;
+    and the state before it, or the last one."""
     state = State(plant) if first is None else first.copy()
     for place, event in enumerate(events, 1):
         if hazard(plant, state) or not apply(plant, state, event):
@@ -114,11 +116,12 @@ def drive_part(page, view, answer):
     plant = page.plant
     events = driven(plant, answer.output)
     commands = [place for place, (word, _) in enumerate(events, 1) if word in COMMANDS]
-    count = len(page.given_run.lines) - 3       # without the first line, the end and what follows it
+    count = len(page.given_run.lines) - 3       # without the first line, the end and what follows
     view.notes = {place: f"Command {number} of {count}: {event_line(plant, events[place - 1])}"
                   for number, place in enumerate(commands, 1)}
     page.add(tag("p", text(f"{len(commands)} of {counted(count, 'command')} acted; "
-                           f"{counted(len(events) - len(commands), 'event')} came from the interlocking and "
+                           f"{counted(len(events) - len(commands), 'event')} came from the "
+                           f"interlocking and "
                            "the trains. Each command is shown at the event at which it acts.")))
     _, state = first_refused(plant, None, events)
     if answer.line.startswith("stuck "):
@@ -134,9 +137,11 @@ def stuck_part(page, state, number, count):
         word, name = line.split(" ")
         event = word, (plant.section_named if word == "enter" else plant.route_named)[name]
         demands = unmet_words(plant, state, event)
-        sentence = f"The scenario is stuck at command {number}, {line}, which is not enabled: {demands}."
+        sentence = (f"The scenario is stuck at command {number}, {line}, which is not enabled: "
+                    f"{demands}.")
     else:
-        sentence = ("All commands acted, but the scenario does not end: no event is left that the interlocking "
+        sentence = ("All commands acted, but the scenario does not end: no event is left that the "
+                    "interlocking "
                     "or a train does by itself.")
     page.add(tag("p", tag("b", text(sentence), class_="bad"), class_="own"))
     sentences = waiting(plant, state)
@@ -155,6 +160,7 @@ def draw(page, view, first, events):
         events = events[left_out:]
         view.notes = {place - left_out: note for place, note in view.notes.items()
                       if place > left_out}
-        page.own(f"Left out: the frames of the first {left_out} events. The first state drawn is the one "
+        page.own(f"Left out: the frames of the first {left_out} events. The first state drawn is "
+                 f"the one "
                  "after them, and the events are counted from there.")
     page.add(tag("p", text(NOTE), class_="small lead"), view.frames(events, first))

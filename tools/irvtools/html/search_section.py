@@ -10,21 +10,23 @@ from irvtools.model.descriptions import hazard_words
 
 
 def add_finding(page, view, found):
-    """Counts the run that the search found for the verdict, if replay answers the same hazard; returns
-    whether there is such a run."""
+    """Counts the run that the search found for the verdict, if replay answers the same hazard;
+    returns whether there is such a run."""
     if found.run is None:
         return False
     states = states_of(page.plant, found.run)
     own = view.own(states[-1]) if states else "no run"
     found.said = view.answer(found.run)
     if found.said != own or not found.said.startswith("hazard "):
-        found.fault = (f"irv replay answers “{found.said}” for the run that the search found, but the page's "
+        found.fault = (f"irv replay answers “{found.said}” for the run that the search found, but "
+                       f"the page's "
                        f"own model says “{own}”.")
         return False
     page.answered.append(Answered("replay", view.columns, 0, f"{found.said}\n",
                                   run=run_text(page.plant, found.run)))
     sentence = hazard_words(page.plant, hazard(page.plant, states[-1]))
-    page.sum_up("Search", f"a run of {len(found.run)} events from the initial state to a hazard. {sentence} "
+    page.sum_up("Search", f"a run of {len(found.run)} events from the initial state to a hazard. "
+                          f"{sentence} "
                           f"irv replay answers: {found.said}")
     return True
 
@@ -33,13 +35,14 @@ def search_part(page, view, found):
     """The search, and the run that it found."""
     searchers = found.searchers
     if not page.options.search_seconds or not searchers.seconds and found.run is None:
-        why = "No search was asked for." if not page.options.search_seconds else why_none(page, found)
+        why = why_none(page, found) if page.options.search_seconds else "No search was asked for."
         if why:
             page.add(title(), tag("p", text(why), class_="own"))
         return
     page.add(title())
     took = page.time(f"{searchers.seconds:.1f} s, ")
-    tried = (f"{searchers.runs} random runs of up to {searchers.longest} events, {searchers.events} events "
+    tried = (f"{searchers.runs} random runs of up to {searchers.longest} events, "
+             f"{searchers.events} events "
              f"in all, {took}{searchers.count} searches in parallel")
     if found.run is None:
         page.own("It ended when verify answered." if found.answer.status == 1 else
@@ -48,11 +51,13 @@ def search_part(page, view, found):
     if found.fault:
         page.add(trouble(f"The page stops here. {found.fault}"))
         return
-    is_drawn = found.answer.status != 1     # otherwise verify's own run is, which has no more events
+    is_drawn = found.answer.status != 1     # otherwise verify's own run, which is no longer
     drawn = "The answer of irv replay is beside each step. For the whole run it is" if is_drawn else \
         "verify's own run is drawn above. For this one irv replay answers"
-    page.own(f"The search found a run, in {tried}. The run was shortened, then tails were added, so that "
-             f"trains have a credible length: it has {len(found.run)} events, and it need not be the "
+    page.own(f"The search found a run, in {tried}. The run was shortened, then tails were added, "
+             f"so that "
+             f"trains have a credible length: it has {len(found.run)} events, and it need not be "
+             f"the "
              f"shortest. It is the page's own. {drawn}: {found.said}.")
     if is_drawn:
         page.add(tag("p", text(NOTE), class_="small lead"), view.frames(found.run))
@@ -71,5 +76,6 @@ def why_none(page, found):
         return ""
     if page.is_refused:
         return "No search: no rule is broken on which safety depends."
-    return ("No search: check with strict columns answered “clean”, which proves that no run from the "
+    return ("No search: check with strict columns answered “clean”, which proves that no run from "
+            "the "
             "initial state ends in a hazard.")

@@ -1,4 +1,5 @@
-"""How pages look: on a wide screen, on a phone, in the dark and on paper. Nothing is fetched from elsewhere."""
+"""How pages look: on a wide screen, on a phone, in the dark and on paper. Nothing is fetched from
+elsewhere."""
 
 from irvtools.html.markup import text
 from irvtools.trackplan.signs import PLAN_CSS

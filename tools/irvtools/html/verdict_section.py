@@ -22,8 +22,10 @@ def verdict_part(page, columns, is_forced):
     """What verify answers, and the run that shows it or one that was found by the search."""
     page.head("Verification", "verify")
     if is_forced and page.options.columns == "strict":
-        page.add(tag("p", text("With strict columns verify refuses this table, because of the rules above. "
-                               "It is asked with free columns, so that you see what the table does.")))
+        page.add(tag("p", text("With strict columns verify refuses this table, because of the "
+                               "rules above. "
+                               "It is asked with free columns, so that you see what the table "
+                               "does.")))
     found = ask_verify(page, columns)
     answer = found.answer
     page.show(answer)
@@ -64,8 +66,8 @@ def cert_words(page):
 
 
 def ask_verify(page, columns):
-    """Asks verify, with the options that were given and a file for its certificate. A search goes on beside
-    it if the table isn't known to be safe."""
+    """Asks verify, with the options that were given and a file for its certificate. A search goes
+    on beside it if the table isn't known to be safe."""
     with tempfile.TemporaryDirectory(prefix="irv-cert-") as directory:
         is_kept = page.options.is_cert_kept
         cert = Path(page.options.cert) if is_kept else Path(directory, "cert")
@@ -97,12 +99,13 @@ def run_part(page, view, events, answer):
 
 
 def broken_marks(page, state, family=None):
-    """What of the invariant a state violates: marks, and words. If `irv` named the least family, the
-    page's own reading has to give the same."""
+    """What of the invariant a state violates: marks, and words. If `irv` named the least family,
+    the page's own reading has to give the same."""
     what = broken(page.plant, state)
     least = what[0][0] if what else "none"
     if not what or family not in (None, least):
-        return None, trouble(f"The page's own reading does not agree: the least family that is violated "
+        return None, trouble(f"The page's own reading does not agree: the least family that is "
+                             f"violated "
                              f"here is {least}.")
     marks = Marks(what[0][2], what[0][3])
     words = "".join(tag("p", tag("b", f"{family} is violated: {text(sentence)}.")
@@ -112,21 +115,27 @@ def broken_marks(page, state, family=None):
 
 
 def not_inductive_part(page, view, first, events):
-    """The event that leads out of the invariant, from a state that has only what the event needs."""
+    """The event that leads out of the invariant, from a state that has only what the event
+    needs."""
     page.add(tag("h3", text("The event that leads out of the invariant"), id="verify-run"))
     states = states_of(page.plant, events, first)
     state = shrunk(page.plant, states[-2], events[-1]) if states else None
     if state is None:
-        page.add(trouble("The page's own reading of the invariant does not agree with this answer, so no "
+        page.add(trouble("The page's own reading of the invariant does not agree with this answer, "
+                         "so no "
                          "state is shown."))
         return
     used = sum(mode != "free" for mode in states[-2].mode)
     left = sum(mode != "free" for mode in state.mode)
-    page.own(f"It is not known whether a run from the initial state reaches this state. The page shows the "
-             f"last event of verify's run, from a state without everything that the event does not need: "
+    page.own(f"It is not known whether a run from the initial state reaches this state. The page "
+             f"shows the "
+             f"last event of verify's run, from a state without everything that the event does not "
+             f"need: "
              f"{counted(len(state.trains), 'train')} of {len(states[-2].trains)} and "
-             f"{counted(left, 'route')} in use of {used} are left. irv replay answered that the event leads "
-             "from the first state to the second. The page itself found that the first state meets the "
+             f"{counted(left, 'route')} in use of {used} are left. irv replay answered that the "
+             f"event leads "
+             "from the first state to the second. The page itself found that the first state meets "
+             "the "
              "invariant, and which family the second one violates.")
     after = state.copy()
     apply(page.plant, after, events[-1])

@@ -1,8 +1,8 @@
 """The thirteen events over sets of bits: each costs what it touches, and not what the plant has.
 
-The search makes its runs with it. It has the same events as `events.py`, which the page draws by; the
-tests compare the two event by event, and what is found is replayed by the other one and by `irv`.
-"""
+The search makes its runs with it. It has the same events as `events.py`, which the page draws by;
+the tests compare the two event by event, and what is found is replayed by the other one and by
+`irv`. """
 
 FREE, MARKED, ALLOCATING, LOCKED, OCCUPIED = range(5)
 REFUSED, DONE, HAZARD = range(3)        # what comes of an event
@@ -20,8 +20,8 @@ def bits(numbers):
 
 
 class Facts:
-    """What the events ask of a plant: of each route, board and section. Directions are numbers, 1 for
-    up; sets of sections, routes and boards are bits."""
+    """What the events ask of a plant: of each route, board and section. Directions are numbers, 1
+    for up; sets of sections, routes and boards are bits."""
 
     def __init__(self, plant):
         routes, boards = plant.routes, plant.boards
@@ -59,8 +59,8 @@ class Facts:
 
 
 class Simulation:
-    """A state that changes by events. Each event answers REFUSED, and then nothing changed, or DONE,
-    or HAZARD, after which nothing more may be asked of it."""
+    """A state that changes by events. Each event answers REFUSED, and then nothing changed, or
+    DONE, or HAZARD, after which nothing more may be asked of it."""
 
     __slots__ = ("facts", "mode", "seen", "rel", "claimed", "locked_routes", "held", "used",
                  "occupied", "minus", "moving", "to_minus", "open", "trains", "train_on", "hazard_at")
@@ -282,7 +282,8 @@ class Simulation:
 
 
 def to_hazard(simulation, events):
-    """Those of some events that are enabled in turn, up to a hazard; None where they come to none."""
+    """Those of some events that are enabled in turn, up to a hazard; None where they come to
+    none."""
     run, do = [], simulation.by_word()
     for event in events:
         done = do[event[0]](event[1])

@@ -3,7 +3,8 @@
 from irvtools.model.phrases import join
 
 HAZARDS = {"two": "Two trains are in section {}: a collision.",
-           "wrong": "A train is on points {}, which are moving or not set for it: a derailment risk."}
+           "wrong": "A train is on points {}, which are moving or not set for it: a derailment "
+                    "risk."}
 
 FAMILIES = {
     "V1": "the counts of a route's detected and released sections fit its mode",
@@ -11,10 +12,12 @@ FAMILIES = {
     "V3": "each section that a route has locked has the lock state that the route gave it",
     "V4": "the path of a route that is allocating is vacant",
     "V5": "an open board belongs to a locked route with a vacant path",
-    "V6": "the points of a route's path are commanded as the route lists them, and are in that position "
+    "V6": "the points of a route's path are commanded as the route lists them, and are in that "
+          "position "
           "once the route is locked",
     "V7": "a train whose front no board stops is on a route with a vacant path ahead",
-    "V8": "a section that a train occupies where no board stops it is locked for the train by a route",
+    "V8": "a section that a train occupies where no board stops it is locked for the train by a "
+          "route",
     "V9": "the protecting boards of a locked route are closed"}
 
 
@@ -135,26 +138,34 @@ def state_words(plant, state):
 
 
 def verdict_words(answer, is_found=False):
-    """What an answer of verify means, in a sentence or two. `is_found` tells that the search found a run to a
-    hazard beside it."""
+    """What an answer of verify means, in a sentence or two. `is_found` tells that the search found
+    a run to a hazard beside it."""
     kind = answer.line.partition(" ")[0]
     if is_found and kind in ("breach", "not", "spent"):
-        return ("This answer alone leaves open whether a run from the initial state ends in a hazard. One "
+        return ("This answer alone leaves open whether a run from the initial state ends in a "
+                "hazard. One "
                 "does: it is below.")
     if answer.status is None:
-        return ("verify was ended before it answered. This says nothing about the interlocking and does not "
+        return ("verify was ended before it answered. This says nothing about the interlocking and "
+                "does not "
                 "change the verdict. --verify-seconds gives it more time.")
     words = {
-        "safe": "No run from the initial state, of any length, ends in a hazard: no two trains are ever in "
+        "safe": "No run from the initial state, of any length, ends in a hazard: no two trains are "
+                "ever in "
                 "one section, and no train is on points that are moving or not set for it.",
-        "unsafe": "A run from the initial state ends in this hazard, and no run has fewer events. The cause "
+        "unsafe": "A run from the initial state ends in this hazard, and no run has fewer events. "
+                  "The cause "
                   "is a fault of the table or of the network.",
-        "breach": "No hazard yet: a run from the initial state reaches a state that violates the invariant, so "
+        "breach": "No hazard yet: a run from the initial state reaches a state that violates the "
+                  "invariant, so "
                   "the invariant cannot show safety. A greater --depth may find a hazard.",
-        "not": "Neither safe nor unsafe is shown: no run of up to that many events from the initial state ends "
-               "in a hazard, but an event leads out of the invariant. The first state of verify's run may be "
+        "not": "Neither safe nor unsafe is shown: no run of up to that many events from the "
+               "initial state ends "
+               "in a hazard, but an event leads out of the invariant. The first state of verify's "
+               "run may be "
                "unreachable.",
-        "spent": "Neither safe nor unsafe is shown: the conflict budget is exhausted. A greater --conflicts "
+        "spent": "Neither safe nor unsafe is shown: the conflict budget is exhausted. A greater "
+                 "--conflicts "
                  "may give the answer.",
         "refused": "The configuration breaks a rule, so verify asked nothing else about it."}
     return words.get(kind, "This is no verdict: verify could not answer.")

@@ -1,10 +1,9 @@
-"""The demands of an event that a state doesn't meet, by names: why the event isn't enabled. It is the
-page's own, by the table of docs/reference/model.md, and the counterpart of `events.py`: an event is enabled
-exactly if it has no unmet demand.
+"""The demands of an event that a state doesn't meet, by names: why the event isn't enabled. It is
+the page's own, by the table of docs/reference/model.md, and the counterpart of `events.py`: an
+event is enabled exactly if it has no unmet demand.
 
-Each function of DEMANDS takes a plant, a state and a number, and yields the unmet demands: each as what the
-state has, and as what is waited for, or None if waiting is of no use.
-"""
+Each function of DEMANDS takes a plant, a state and a number, and yields the unmet demands: each as
+what the state has, and as what is waited for, or None if waiting is of no use. """
 
 from collections import namedtuple
 
@@ -44,7 +43,8 @@ def unlocked(plant, state, x):
     """A section's lock is to be free."""
     if state.lock[x] != "free":
         holders = [plant.routes[r].name for r, _ in held_places(plant, state).get(x, [])]
-        yield Demand(f"the lock of section {plant.name(x)} is {state.lock[x]}, not free: {kept_by(holders)}",
+        yield Demand(f"the lock of section {plant.name(x)} is {state.lock[x]}, not free: "
+                     f"{kept_by(holders)}",
                      f"{plant.name(x)}, which {join(holders) or 'no route'} has locked")
 
 
@@ -79,7 +79,8 @@ def of_lock(plant, state, r):
     for x, position in route.wanted:
         if state.at[x] != position:
             now = "moving" if state.at[x] == "moving" else f"in position {state.at[x]}"
-            yield Demand(f"points {plant.name(x)} are {now}, but route {route.name} needs {position}",
+            yield Demand(f"points {plant.name(x)} are {now}, but route {route.name} needs "
+                         f"{position}",
                          f"points {plant.name(x)}, which are {now}, to be in position {position}")
     for b in route.protecting_boards:
         if state.aspect[b] != "closed":
@@ -89,7 +90,8 @@ def of_lock(plant, state, r):
     for other, mode in zip(plant.routes, state.mode):
         if mode == "locked" and route.source in other.protecting_boards:
             name = plant.boards[route.source].name
-            yield Demand(f"route {other.name} is locked, and {name} is one of its protecting boards",
+            yield Demand(f"route {other.name} is locked, and {name} is one of its protecting "
+                         f"boards",
                          f"route {other.name}, which keeps {name} closed")
 
 
@@ -113,7 +115,8 @@ def of_release(plant, state, r):
     yield from in_mode(plant, state, r, "occupied")
     if rel + 2 > state.seen[r]:
         if rel + 1 >= len(route.path):
-            yield Demand(f"only the last section of the path of route {route.name} is left, which finish releases",
+            yield Demand(f"only the last section of the path of route {route.name} is left, which "
+                         f"finish releases",
                          None)
         else:
             x = route.path[rel + 1]
@@ -129,9 +132,12 @@ def of_finish(plant, state, r):
     route, length = plant.routes[r], len(plant.routes[r].path)
     yield from in_mode(plant, state, r, "occupied")
     if state.seen[r] != length:
-        yield Demand(f"{state.seen[r]} of {length} sections of the path of route {route.name} are detected", f"a train in {plant.name(route.path[min(state.seen[r], length - 1)])}")
+        yield Demand(f"{state.seen[r]} of {length} sections of the path of route {route.name} are "
+                     f"detected", f"a train in "
+                                  f"{plant.name(route.path[min(state.seen[r], length - 1)])}")
     if state.rel[r] + 1 != length:
-        yield Demand(f"{state.rel[r]} sections of the path of route {route.name} are released, not {length - 1}",
+        yield Demand(f"{state.rel[r]} sections of the path of route {route.name} are released, not "
+                     f"{length - 1}",
                      None)
 
 
@@ -155,13 +161,15 @@ def of_settle(plant, state, x):
     if not plant.sections[x].is_point:
         yield Demand(f"section {plant.name(x)} has no points", None)
     elif state.at[x] != "moving":
-        yield Demand(f"points {plant.name(x)} are not moving: they are in position {state.at[x]}", None)
+        yield Demand(f"points {plant.name(x)} are not moving: they are in position "
+                     f"{state.at[x]}", None)
 
 
 def of_enter(plant, state, x):
     """A train enters."""
     if x not in plant.inward:
-        yield Demand(f"section {plant.name(x)} is not a border: trains enter at the ends of the network",
+        yield Demand(f"section {plant.name(x)} is not a border: trains enter at the ends of the "
+                     f"network",
                      None)
     yield from vacant(plant, state, x)
     yield from unlocked(plant, state, x)
@@ -197,7 +205,8 @@ def of_leave(plant, state, x):
     if train is None:
         yield Demand(f"no train is in section {plant.name(x)} only", None)
     elif plant.nexts[x, train[0]]:
-        yield Demand(f"the network continues after section {plant.name(x)}: trains leave at its ends",
+        yield Demand(f"the network continues after section {plant.name(x)}: trains leave at its "
+                     f"ends",
                      None)
 
 

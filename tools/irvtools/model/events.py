@@ -1,9 +1,9 @@
-"""The page's own model of the thirteen events and of hazards, by the table of docs/reference/model.md.
+"""The page's own model of the thirteen events and of hazards, by the table of
+docs/reference/model.md.
 
-No answer depends on it: it draws what happens and searches for runs, and `irv replay` answers each run that
-is shown. Each function of EVENTS changes a state in place and returns True, or returns False and changes
-nothing: the event isn't enabled.
-"""
+No answer depends on it: it draws what happens and searches for runs, and `irv replay` answers each
+run that is shown. Each function of EVENTS changes a state in place and returns True, or returns
+False and changes nothing: the event isn't enabled. """
 
 from irvtools.model.state import State
 
@@ -206,8 +206,8 @@ def hazard(plant, state):
 
 
 def replayed(plant, events, state=None):
-    """The states of a run from a state, or from the start, one after each event; None where it is no
-    run."""
+    """The states of a run from a state, or from the start, one after each event; None where it is
+    no run."""
     states = [State(plant) if state is None else state.copy()]
     for event in events:
         after = states[-1].copy()

@@ -1,9 +1,9 @@
-"""The page's own reading of the nine families of the invariant, by docs/reference/model.md, in words.
+"""The page's own reading of the nine families of the invariant, by docs/reference/model.md, in
+words.
 
-Each function of FAMILIES yields how a state violates its family: a sentence, with the sections and the
-boards that it is about. No command of `irv` names the families of a state, so the page marks as its own
-what it says by them.
-"""
+Each function of FAMILIES yields how a state violates its family: a sentence, with the sections and
+the boards that it is about. No command of `irv` names the families of a state, so the page marks as
+its own what it says by them. """
 
 from irvtools.model.events import hazard
 
@@ -11,7 +11,8 @@ HOLDING = ("allocating", "locked", "occupied")
 
 
 def held_places(plant, state):
-    """For each section the routes that hold it, each with the place on its path, or None beside it."""
+    """For each section the routes that hold it, each with the place on its path, or None beside
+    it."""
     places = {}
     for r, route in enumerate(plant.routes):
         if state.mode[r] in HOLDING:
@@ -28,7 +29,8 @@ def broken_v1(plant, state):
         seen, rel = state.seen[r], state.rel[r]
         right = rel < seen <= len(route.path) if state.mode[r] == "occupied" else not (seen or rel)
         if not right:
-            yield (f"route {route.name} is {state.mode[r]}, with {seen} sections detected and {rel} released",
+            yield (f"route {route.name} is {state.mode[r]}, with {seen} sections detected and "
+                   f"{rel} released",
                    route.path, [])
 
 
@@ -46,7 +48,8 @@ def broken_v3(plant, state):
         for r, i in holders:
             right = "used" if i is not None and i < state.seen[r] else "locked"
             if state.lock[x] != right:
-                yield (f"section {plant.name(x)}, which route {plant.routes[r].name} has locked, has the "
+                yield (f"section {plant.name(x)}, which route {plant.routes[r].name} has locked, "
+                       f"has the "
                        f"lock state {state.lock[x]}, not {right}", [x], [])
 
 
@@ -77,7 +80,8 @@ def position_words(state, x):
 
 
 def broken_v6(plant, state):
-    """Points of a path are commanded as they are listed, and in that position once the route is locked."""
+    """Points of a path are commanded as they are listed, and in that position once the route is
+    locked."""
     for r, route in enumerate(plant.routes):
         for x, position in route.points:
             if x not in route.path or state.mode[r] not in HOLDING:
@@ -85,7 +89,8 @@ def broken_v6(plant, state):
             lies = state.at[x] == position or state.mode[r] == "allocating"
             kept = state.mode[r] == "allocating" or route.path.index(x) >= state.rel[r]
             if kept and not (lies and state.to[x] == position):
-                yield (f"points {plant.name(x)} are {position_words(state, x)} and commanded to {state.to[x]}, but "
+                yield (f"points {plant.name(x)} are {position_words(state, x)} and commanded to "
+                       f"{state.to[x]}, but "
                        f"route {route.name}, which is {state.mode[r]}, lists {position}", [x], [])
 
 
@@ -111,7 +116,8 @@ def broken_v7(plant, state):
     for direction, body in state.trains:
         x = body[-1]
         if is_plain(plant, x, direction) and not is_led(plant, state, x, direction):
-            yield (f"the front of a train that runs {direction} is in section {plant.name(x)}, where no board "
+            yield (f"the front of a train that runs {direction} is in section {plant.name(x)}, "
+                   f"where no board "
                    "stops it, and no route leads it on over a vacant path", [x], [])
 
 
@@ -126,7 +132,8 @@ def broken_v8(plant, state):
     for direction, body in state.trains:
         for x in body:
             if is_plain(plant, x, direction) and not is_kept_for(plant, state, x, direction):
-                yield (f"a train that runs {direction} is in section {plant.name(x)}, and no route in that "
+                yield (f"a train that runs {direction} is in section {plant.name(x)}, and no route "
+                       f"in that "
                        "direction has this section locked for it", [x], [])
 
 
@@ -135,7 +142,8 @@ def broken_v9(plant, state):
     for r, route in enumerate(plant.routes):
         for b in route.protecting_boards:
             if state.mode[r] == "locked" and state.aspect[b] != "closed":
-                yield (f"board {plant.boards[b].name}, which protects the locked route {route.name}, "
+                yield (f"board {plant.boards[b].name}, which protects the locked route "
+                       f"{route.name}, "
                        "is open", [plant.boards[b].section], [b])
 
 

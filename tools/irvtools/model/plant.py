@@ -1,5 +1,5 @@
-"""A configuration as a plant: its sections, boards and routes by their numbers, as docs/reference/model.md
-counts them.
+"""A configuration as a plant: its sections, boards and routes by their numbers, as
+docs/reference/model.md counts them.
 
 It is read leniently, so that a plan can be drawn of a network that breaks rules too: a name that
 nothing has is None, and a name that several have stands for the first. The events of `events.py`

@@ -7,7 +7,8 @@ ROUTE_WORDS = ("mark", "allocate", "lock", "sense", "release", "finish", "cancel
 
 
 class State:
-    """All that changes, in lists by number. `on` counts for each section the trains that have it."""
+    """All that changes, in lists by number. `on` counts for each section the trains that have
+    it."""
 
     __slots__ = ("mode", "seen", "rel", "at", "to", "aspect", "lock", "trains", "on")
 

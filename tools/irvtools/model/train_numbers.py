@@ -4,7 +4,8 @@ from __future__ import annotations
 
 
 def numbered(states: list, events: list) -> list:
-    """Returns for each state of a run the numbers of its trains, in the order of its list of trains."""
+    """Returns for each state of a run the numbers of its trains, in the order of its list of
+    trains."""
     numbers = list(range(1, len(states[0].trains) + 1))
     count, found = len(numbers), [numbers]
     for before, (word, x) in zip(states, events):

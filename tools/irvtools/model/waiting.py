@@ -1,5 +1,5 @@
-"""What each train and each route in use waits for, in a state without an automatic event: the page's own
-reading, by the demands of the event that would be next."""
+"""What each train and each route in use waits for, in a state without an automatic event: the
+page's own reading, by the demands of the event that would be next."""
 
 from irvtools.model.disabled_events import unmet
 from irvtools.model.phrases import join

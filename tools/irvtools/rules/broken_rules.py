@@ -1,24 +1,30 @@
-"""The broken rules of the network, of the table and of the columns, in words: what the configuration has,
-and what it should have. `irv check` answers which rules are broken, and where; the words are the page's own.
+"""The broken rules of the network, of the table and of the columns, in words: what the
+configuration has, and what it should have. `irv check` answers which rules are broken, and where;
+the words are the page's own.
 
-Each function of EXPLAINED takes a plant and the numbers of the places, and yields sentences. `where` says
-what to mark in the plan.
-"""
+Each function of EXPLAINED takes a plant and the numbers of the places, and yields sentences.
+`where` says what to mark in the plan. """
 
 from irvtools.rules import column_rules as columns
 from irvtools.rules import network_rules as network
 from irvtools.rules import table_rules as table
 from irvtools.trackplan.marks import Marks
 
-NEEDED = ("A configuration that breaks this rule is not a plant: nothing else is asked about it, and there "
+NEEDED = ("A configuration that breaks this rule is not a plant: nothing else is asked about it, "
+          "and there "
           "is no verdict.")
 RESTS = "Safety depends on this rule."
-IDLE = ("Safety does not depend on this rule: the sections that a route locks keep other routes away. But "
+IDLE = ("Safety does not depend on this rule: the sections that a route locks keep other routes "
+        "away. But "
         "the table does not say what it should.")
-IDLE_OVERLAP = ("Safety depends on this rule only for the points of the path. These points are in the overlap.")
-IDLE_END = ("Safety depends on this rule only in that a board or the end of the network stops a train at the "
-            "end of the path, as it does here. It does not depend on the rest of the rule (the destination, "
-            "and no boards inside a path): a train stops at a closed board. But the table does not say what "
+IDLE_OVERLAP = ("Safety depends on this rule only for the points of the path. These points are in "
+                "the overlap.")
+IDLE_END = ("Safety depends on this rule only in that a board or the end of the network stops a "
+            "train at the "
+            "end of the path, as it does here. It does not depend on the rest of the rule (the "
+            "destination, "
+            "and no boards inside a path): a train stops at a closed board. But the table does not "
+            "say what "
             "it should.")
 WORDLESS = "This version has no sentence for the rule {}; docs/reference/model.md has the rule."
 UNKNOWN = "It is not known whether safety depends on this rule."
@@ -48,21 +54,23 @@ def read_line(line):
 
 
 def sentences(plant, rule, places):
-    """What the configuration has and what it should have. If a route is in the wrong direction, that comes
-    first."""
+    """What the configuration has and what it should have. If a route is in the wrong direction,
+    that comes first."""
     if rule not in EXPLAINED:
         return [WORDLESS.format(rule)]
     i = places[0][1]
     found = list(EXPLAINED[rule](plant, *(number for _, number in places)))
     wrong = columns.wrong_way(plant, plant.routes[i]) if rule in ("C1", *BY_DIRECTION) else None
     if wrong and rule != "C1":
-        wrong = (f"Route {plant.routes[i].name} is in the wrong direction (see C1), which may be the cause "
+        wrong = (f"Route {plant.routes[i].name} is in the wrong direction (see C1), which may be "
+                 f"the cause "
                  "of this.")
     return [wrong, *found] if wrong else found
 
 
 def rests(plant, rule, places):
-    """Returns whether safety depends on what is broken of a rule; on an unknown rule of the columns it may."""
+    """Returns whether safety depends on what is broken of a rule; on an unknown rule of the columns
+    it may."""
     if rule not in EXPLAINED:
         return rule[0] == "C" and places != [] and places[0][0] != "boards"
     i = places[0][1]

@@ -1,5 +1,5 @@
-"""The broken rules of the columns in words, C1 to C8: what the table has, and what it should have. Each
-function takes a plant and the numbers of the places, and yields sentences."""
+"""The broken rules of the columns in words, C1 to C8: what the table has, and what it should have.
+Each function takes a plant and the numbers of the places, and yields sentences."""
 
 from irvtools.model.plant import OPPOSITE, OTHER_LEG
 from irvtools.model.phrases import join, way_words
@@ -19,24 +19,30 @@ def leads(plant, sections, direction):
 
 
 def wrong_way(plant, route):
-    """Returns what is wrong with a route whose path leads against its direction, in a sentence; None if it
-    doesn't."""
+    """Returns what is wrong with a route whose path leads against its direction, in a sentence;
+    None if it doesn't."""
     source, other = plant.boards[route.source], OPPOSITE[route.direction]
     way = [source.section, *route.path]
     if leads(plant, way, other):
         there = plant.board_on.get((source.section, other))
         as_is = f", for example {plant.boards[there].name} on the same section" if there is not None else ""
-        return (f"Route {route.name} is in the wrong direction: its entry board {source.name} is for trains "
+        return (f"Route {route.name} is in the wrong direction: its entry board {source.name} is "
+                f"for trains "
                 f"that run {route.direction}, but its path leads {other} from section "
-                f"{plant.name(source.section)}. It needs an entry board for trains that run {other}{as_is}.")
+                f"{plant.name(source.section)}. It needs an entry board for trains that run "
+                f"{other}{as_is}.")
     if len(route.path) < 2 or not leads(plant, route.path, other):
         return None
     if leads(plant, [source.section, *route.path[::-1]], route.direction):
-        return (f"Route {route.name} lists its path in the wrong direction, from its end to its beginning. "
-                f"Its entry board {source.name} is for trains that run {route.direction}, so it should list "
+        return (f"Route {route.name} lists its path in the wrong direction, from its end to its "
+                f"beginning. "
+                f"Its entry board {source.name} is for trains that run {route.direction}, so it "
+                f"should list "
                 f"{join(plant.name(x) for x in route.path[::-1])}.")
-    return (f"Route {route.name} is in the wrong direction: its entry board {source.name} is for trains that "
-            f"run {route.direction}, but its path leads {other}, from section {plant.name(route.path[0])} to "
+    return (f"Route {route.name} is in the wrong direction: its entry board {source.name} is for "
+            f"trains that "
+            f"run {route.direction}, but its path leads {other}, from section "
+            f"{plant.name(route.path[0])} to "
             f"section {plant.name(route.path[-1])}.")
 
 
@@ -47,7 +53,8 @@ def path_gap(plant, i):
     for before, x in gaps(plant, route, route.path, source.section):
         comes = f"after {plant.name(before)} comes {way_words(plant, before, route.direction)}"
         if x == route.path[0]:
-            yield (f"Route {route.name}, which runs {route.direction}, begins at {source.name} on section "
+            yield (f"Route {route.name}, which runs {route.direction}, begins at {source.name} on "
+                   f"section "
                    f"{plant.name(before)}, but its path starts with {plant.name(x)}; {comes}.")
         else:
             yield (f"Route {route.name}, which runs {route.direction}, lists {plant.name(x)} after "
@@ -61,8 +68,10 @@ def path_end(plant, i):
     for x in route.path[:-1]:
         board = plant.board_on.get((x, direction))
         if board is not None:
-            yield (f"The path of route {route.name} continues past board {plant.boards[board].name} on section "
-                   f"{plant.name(x)}, where a train stops. A route must end at the first board for its "
+            yield (f"The path of route {route.name} continues past board "
+                   f"{plant.boards[board].name} on section "
+                   f"{plant.name(x)}, where a train stops. A route must end at the first board for "
+                   f"its "
                    "direction.")
     last = route.path[-1]
     board = plant.board_on.get((last, direction))
@@ -72,16 +81,21 @@ def path_end(plant, i):
                f"{plant.boards[board].name}, but its destination is {named}; it should be "
                f"{plant.boards[board].name}.")
     elif board is None and plant.nexts[last, direction]:
-        yield (f"The path of route {route.name} ends in section {plant.name(last)}, where no board stops a "
-               f"train that runs {direction}: the train continues to {way_words(plant, last, direction)}, "
-               "which the route does not lock. The path must continue to a board or out of the network.")
+        yield (f"The path of route {route.name} ends in section {plant.name(last)}, where no board "
+               f"stops a "
+               f"train that runs {direction}: the train continues to "
+               f"{way_words(plant, last, direction)}, "
+               "which the route does not lock. The path must continue to a board or out of the "
+               "network.")
     elif board is None and route.destination is not None:
-        yield (f"The path of route {route.name} leads out of the network at section {plant.name(last)}, but "
+        yield (f"The path of route {route.name} leads out of the network at section "
+               f"{plant.name(last)}, but "
                f"its destination is {named}; it should be null.")
 
 
 def runs_on(plant, i):
-    """C2, as far as safety depends on it: whether nothing stops a train at the end of a route's path."""
+    """C2, as far as safety depends on it: whether nothing stops a train at the end of a route's
+    path."""
     route = plant.routes[i]
     last = route.path[-1], route.direction
     return last not in plant.board_on and bool(plant.nexts[last])
@@ -98,8 +112,8 @@ def points_wrong(plant, i):
 
 
 def wrong_on_path(plant, route):
-    """Yields the points of a route's path that it doesn't list in the position that its path needs, each with
-    the positions that would do."""
+    """Yields the points of a route's path that it doesn't list in the position that its path needs,
+    each with the positions that would do."""
     positions = dict(route.points)
     way = [plant.boards[route.source].section, *route.path]
     for place in range(1, len(way)):
@@ -117,7 +131,8 @@ def points_of_path_wrong(plant, route):
     for x, needed in wrong_on_path(plant, route):
         if x not in positions:
             should = f", in position {join(needed, 'or')}" if needed else ""
-            yield (f"Route {route.name} leads over points {plant.name(x)}, but does not list them; it "
+            yield (f"Route {route.name} leads over points {plant.name(x)}, but does not list them; "
+                   f"it "
                    f"should{should}.")
             continue
         leg = positions[x]
@@ -125,7 +140,8 @@ def points_of_path_wrong(plant, route):
         other = plant.name(plant.sections[x].neighbours[OTHER_LEG[leg]])
         goes = f"its path leads over {other}: the position should be {OTHER_LEG[leg]}." if needed \
             else f"its path leads neither over {leads} nor over {other}."
-        yield (f"Route {route.name} lists points {plant.name(x)} in position {leg}, which leads to {leads}, "
+        yield (f"Route {route.name} lists points {plant.name(x)} in position {leg}, which leads to "
+               f"{leads}, "
                f"but {goes}")
 
 
@@ -133,7 +149,8 @@ def overlap_gap(plant, i):
     """C4."""
     route = plant.routes[i]
     for before, x in gaps(plant, route, route.overlap, route.path[-1]):
-        yield (f"The overlap of route {route.name}, which runs {route.direction}, lists {plant.name(x)} after "
+        yield (f"The overlap of route {route.name}, which runs {route.direction}, lists "
+               f"{plant.name(x)} after "
                f"{plant.name(before)}; after {plant.name(before)} comes "
                f"{way_words(plant, before, route.direction)}.")
 
@@ -153,19 +170,22 @@ def unlisted_share(plant, i, j):
     """C6."""
     one, other = plant.routes[i].name, plant.routes[j].name
     names = join(plant.name(x) for x in shared(plant, i, j))
-    yield (f"Routes {one} and {other} both lock {names}, but {one} does not list {other} as a conflict; each "
+    yield (f"Routes {one} and {other} both lock {names}, but {one} does not list {other} as a "
+           f"conflict; each "
            "should list the other.")
 
 
 def bare_border(plant, i):
     """C7."""
     inward = plant.inward[i]
-    yield (f"The network ends at section {plant.name(i)}, but no board stops trains that enter there and run "
+    yield (f"The network ends at section {plant.name(i)}, but no board stops trains that enter "
+           f"there and run "
            f"{inward}. The section needs a board for direction {inward}.")
 
 
 def unlisted_protection(plant, i, j):
     """C8."""
     one, other = plant.routes[i], plant.routes[j]
-    yield (f"Route {other.name} begins at {plant.boards[other.source].name}, a protecting board of route "
+    yield (f"Route {other.name} begins at {plant.boards[other.source].name}, a protecting board of "
+           f"route "
            f"{one.name}, but {one.name} does not list {other.name} as a conflict; it should.")

@@ -1,5 +1,5 @@
-"""The broken rules of the network in words, N1 to N8: what it has, and what it should have. Each function
-takes a plant and the number of the place, and yields sentences."""
+"""The broken rules of the network in words, N1 to N8: what it has, and what it should have. Each
+function takes a plant and the number of the place, and yields sentences."""
 
 from irvtools.model.plant import OPPOSITE
 from irvtools.model.phrases import join
@@ -16,8 +16,10 @@ def same_board(plant, i):
     """N2."""
     board = plant.boards[i]
     first = plant.boards[plant.board_named[board.name]]
-    yield (f"Two boards are called {board.name}: the one on section {plant.name(first.section)} for trains "
-           f"that run {first.direction}, and the one on section {plant.name(board.section)} for trains that "
+    yield (f"Two boards are called {board.name}: the one on section {plant.name(first.section)} "
+           f"for trains "
+           f"that run {first.direction}, and the one on section {plant.name(board.section)} for "
+           f"trains that "
            f"run {board.direction}. Each board needs its own name.")
 
 
@@ -28,7 +30,8 @@ def wrong_neighbour(plant, i):
         if name == section.name and plant.section_named[name] == i:
             yield f"Section {section.name} names itself as its neighbour ({end_words(side, leg)})."
         elif name not in plant.section_named:
-            yield (f"Section {section.name} names {name} as its neighbour ({end_words(side, leg)}), but no "
+            yield (f"Section {section.name} names {name} as its neighbour "
+                   f"({end_words(side, leg)}), but no "
                    "section has that name.")
 
 
@@ -44,7 +47,8 @@ def same_neighbour(plant, i):
     for name in dict.fromkeys(names):
         if names.count(name) > 1:
             ends = [end_words(side, leg) for side, leg, other in section.ends if other == name]
-            yield (f"Section {section.name} names {name} as its neighbour more than once: {join(ends)}. Its "
+            yield (f"Section {section.name} names {name} as its neighbour more than once: "
+                   f"{join(ends)}. Its "
                    "neighbours must differ.")
 
 
@@ -61,7 +65,8 @@ def not_named_back(plant, i):
             continue
         there = f"does not name {section.name}" if not back else \
             f"names {section.name} {join(end_words(*end) for end in back)}"
-        yield (f"Section {section.name} names {name} as its neighbour ({end_words(side, leg)}), but {name} "
+        yield (f"Section {section.name} names {name} as its neighbour ({end_words(side, leg)}), "
+               f"but {name} "
                f"{there}. It should name it once, on its {OPPOSITE[side]} side.")
 
 
@@ -74,7 +79,8 @@ def returns(plant, i):
     """N7."""
     walk = walk_back(plant, i)
     names = join([plant.name(x) for x in walk], "and then")
-    yield (f"From section {plant.name(i)} a train that runs up comes back to it: {names}. A network must not "
+    yield (f"From section {plant.name(i)} a train that runs up comes back to it: {names}. A "
+           f"network must not "
            "have a loop in one direction.")
 
 
@@ -98,5 +104,6 @@ def board_at_end(plant, i):
     for side in OPPOSITE:
         board = plant.board_on.get((i, side))
         if board is not None and not any(at == side for at, _, _ in section.ends):
-            yield (f"Section {section.name} has board {plant.boards[board].name} for trains that run {side}, but "
+            yield (f"Section {section.name} has board {plant.boards[board].name} for trains that "
+                   f"run {side}, but "
                    f"no neighbour on its {side} side: no train continues from there.")

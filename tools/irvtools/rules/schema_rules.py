@@ -1,8 +1,8 @@
-"""What is wrong with the schema of a configuration that `irv` refused: the rules F1 to F6, in words.
+"""What is wrong with the schema of a configuration that `irv` refused: the rules F1 to F6, in
+words.
 
-It looks for the fault at the place that `irv` named, by the tables of docs/reference/formats.md. If it finds
-none, only the line of `irv` is shown.
-"""
+It looks for the fault at the place that `irv` named, by the tables of docs/reference/formats.md. If
+it finds none, only the line of `irv` is shown. """
 
 import json
 import re
@@ -146,7 +146,8 @@ def name_faults(value, what):
             wrong = next((one for one in name if not NAME.fullmatch(one)), None)
             why = f"has the character “{wrong}”" if wrong and len(name) <= 32 \
                 else f"has {len(name)} characters"
-            yield (f"The name “{short(name)}” in {member} of {what} {why}. A name has 1 to 32 of the "
+            yield (f"The name “{short(name)}” in {member} of {what} {why}. A name has 1 to 32 of "
+                   f"the "
                    "characters A to Z, a to z, 0 to 9, _ and -.")
 
 
@@ -167,7 +168,8 @@ def document_faults(rule, given, value):
             yield f"The document is {kind_of(value)}, but must be an object."
             return
         yield from (f"The document lacks the member {m}." for m in members if m not in value)
-        yield from (f"The document has the unknown member {m}; its members are {', '.join(members)}."
+        yield from (f"The document has the unknown member {m}; its members are "
+                    f"{', '.join(members)}."
                     for m in value if m not in members)
         for member, kind in members.items():
             right = int if member == "version" else list
@@ -207,7 +209,8 @@ def entry_faults(rule, value, place):
 
 
 def faults(rule, place, given):
-    """Returns what is wrong, in sentences, with a schema that `irv` refused by a rule at a place."""
+    """Returns what is wrong, in sentences, with a schema that `irv` refused by a rule at a
+    place."""
     value, unread = read(given) if rule != "F1" else (None, None)
     if rule == "F2" or unread:
         return [unread] if unread else json_limits.faults(given)

@@ -1,11 +1,12 @@
-"""The broken rules of the interlocking table in words, R1 to R8: what it has, and what it should have. Each
-function takes a plant and a route's number, and yields sentences."""
+"""The broken rules of the interlocking table in words, R1 to R8: what it has, and what it should
+have. Each function takes a plant and a route's number, and yields sentences."""
 
 
 def same_route(plant, i):
     """R1."""
     name = plant.routes[i].name
-    yield (f"Route number {i} is called {name}, like route number {plant.route_named[name]}. Each route "
+    yield (f"Route number {i} is called {name}, like route number {plant.route_named[name]}. Each "
+           f"route "
            "needs its own name.")
 
 
@@ -25,7 +26,8 @@ def wrong_sections(plant, i):
     words = [name for _, name in names]
     for name in dict.fromkeys(words):
         if words.count(name) > 1:
-            yield (f"The path and overlap of route {route.name} list section {name} {words.count(name)} times; "
+            yield (f"The path and overlap of route {route.name} list section {name} "
+                   f"{words.count(name)} times; "
                    "they may list it once.")
 
 
@@ -36,7 +38,8 @@ def wrong_points(plant, i):
     ways = route.member["path"] + route.member["overlap"]
     for name in point_names(route, "points"):
         if is_point(plant, name) and name not in ways:
-            yield (f"Route {route.name} lists points {name}, which are neither in its path nor in its "
+            yield (f"Route {route.name} lists points {name}, which are neither in its path nor in "
+                   f"its "
                    "overlap.")
 
 
@@ -64,7 +67,8 @@ def point_faults(plant, route, member, where):
 def no_destination(plant, i):
     """R5."""
     route = plant.routes[i]
-    yield (f"Route {route.name} ends at {route.member['destination']}, but no board has that name. The "
+    yield (f"Route {route.name} ends at {route.member['destination']}, but no board has that name. "
+           f"The "
            "destination must be a board, or null if the route leads out of the network.")
 
 
@@ -88,7 +92,8 @@ def wrong_protecting_points(plant, i):
     for name in point_names(route, "protecting_points"):
         for list_ in ("path", "overlap"):
             if name in route.member[list_]:
-                yield (f"Route {route.name} lists {name} as protecting points, but they are in its {list_}. "
+                yield (f"Route {route.name} lists {name} as protecting points, but they are in its "
+                       f"{list_}. "
                        "Protecting points are outside path and overlap.")
 
 

@@ -11,8 +11,8 @@ def way_of(plant: Plant, route: Route) -> list[int]:
 
 
 def leading_along(plant: Plant, way: list[int], place: int) -> list[str]:
-    """Returns the positions of the point at a place of a route's way that lead along it: one; two if the
-    way ends there and trains meet the point facing; none if the way has a gap there."""
+    """Returns the positions of the point at a place of a route's way that lead along it: one; two
+    if the way ends there and trains meet the point facing; none if the way has a gap there."""
     legs = plant.sections[way[place]].neighbours
     before, after = way[place - 1], way[place + 1:place + 2]
     if before == legs["stem"]:

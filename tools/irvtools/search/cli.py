@@ -18,11 +18,13 @@ FOUND, NONE_FOUND, NO_ANSWER = range(3)
 
 def parser():
     """Returns the parser of the command line."""
-    line = Parser("irv --search", "Searches at random for a run from the initial state to a hazard, "
+    line = Parser("irv --search", "Searches at random for a run from the initial state to a "
+                                  "hazard, "
                   "shortens it until no event can be left out, and\nprints its text. Places near "
                   "broken rules are searched first. On standard error it prints what `irv replay`\n"
                   "answers to the run; only that is proved. A search that finds none shows "
-                  "nothing.\n\nThe exit status is 0 if a run was printed that replay answered with a "
+                  "nothing.\n\nThe exit status is 0 if a run was printed that replay answered with "
+                  "a "
                   "hazard, 1 if none was found, otherwise 2.", NO_ANSWER,
                   "irv --search [OPTIONS] < CONFIGURATION")
     line.once("--seconds", "how long it searches (60)", default=60, metavar="N",
@@ -55,7 +57,8 @@ def search(options, given):
         searchers.start(options.seconds)
         while not searchers.is_over:
             searchers.wait(options.seconds)
-    effort = (f"{searchers.runs} runs of up to {searchers.longest} events, {searchers.events} events "
+    effort = (f"{searchers.runs} runs of up to {searchers.longest} events, {searchers.events} "
+              f"events "
               f"in total, {searchers.seconds:.1f} s, {searchers.count} processes")
     if searchers.run is None:
         print(f"irv --search: no hazard found in {effort}", file=sys.stderr)

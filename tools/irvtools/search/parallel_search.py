@@ -6,9 +6,8 @@ run to a hazard ends the others.
         ...
         run = searchers.wait(until)       # or poll, as often as one likes
 
-All processes end with the first run that is found, when their time is over, when `stop` is called or
-the block is left, and when the process that started them ends, however that comes about.
-"""
+All processes end with the first run that is found, when their time is over, when `stop` is called
+or the block is left, and when the process that started them ends, however that comes about. """
 
 import multiprocessing
 import os
@@ -31,9 +30,9 @@ def processors():
 
 
 def searching(plant, seed, suspects, seconds, pipe, parents):
-    """What a process does: it searches in slices of time, and sends after each its figures and its run. The
-    ends of pipes at which its parent listens are `parents`: they are closed here, so that what is told
-    to a parent that ended is refused."""
+    """What a process does: it searches in slices of time, and sends after each its figures and its
+    run. The ends of pipes at which its parent listens are `parents`: they are closed here, so that
+    what is told to a parent that ended is refused."""
     for number in (signal.SIGINT, signal.SIGHUP):       # the parent ends this process
         signal.signal(number, signal.SIG_IGN)
     signal.signal(signal.SIGTERM, signal.SIG_DFL)
@@ -51,8 +50,9 @@ def searching(plant, seed, suspects, seconds, pipe, parents):
 
 
 class Searchers:
-    """Some searches in parallel. `run` is what was found, or None, by the search with the seed `found_by`;
-    `runs`, `events` and `longest` are the figures of all together, `seconds` the time that it took."""
+    """Some searches in parallel. `run` is what was found, or None, by the search with the seed
+    `found_by`; `runs`, `events` and `longest` are the figures of all together, `seconds` the time
+    that it took."""
 
     def __init__(self, plant, suspects=(), seed=1, count=None):
         self.plant, self.suspects, self.seed = plant, list(suspects), seed

@@ -1,10 +1,9 @@
-"""A random run of a crew: how eagerly each kind of event is tried is chosen once, then event follows
-event until there is a hazard, nothing more is enabled, or the run is long enough.
+"""A random run of a crew: how eagerly each kind of event is tried is chosen once, then event
+follows event until there is a hazard, nothing more is enabled, or the run is long enough.
 
 No run to a hazard is lost by what a walk does in one turn: a route is marked just before it is
-allocated, since no other event asks whether it is marked, and a point that is thrown settles at once,
-since a train that comes upon it while it moves could have come before it was thrown.
-"""
+allocated, since no other event asks whether it is marked, and a point that is thrown settles at
+once, since a train that comes upon it while it moves could have come before it was thrown. """
 
 from irvtools.search.single_train import Drive
 from irvtools.model.bitset_events import ALLOCATING, DONE, FREE, HAZARD, LOCKED, REFUSED, Simulation
@@ -71,7 +70,8 @@ class Walk:
         return None
 
     def bring(self):
-        """Drives trains to their places, one after the other; answers what came of the last event."""
+        """Drives trains to their places, one after the other; answers what came of the last
+        event."""
         for border, routes in self.shuffled(self.crew.approaches):
             if self.random() >= self.brought:
                 continue
@@ -197,8 +197,8 @@ class Walk:
         return self.set(self.one_of(routes)) if routes else REFUSED
 
     def set(self, r):
-        """A route is asked for and allocated; where no train stands before it, it may be given up at
-        once."""
+        """A route is asked for and allocated; where no train stands before it, it may be given up
+        at once."""
         simulation = self.simulation
         if simulation.mode[r] != FREE or not simulation.can_allocate(r):
             return REFUSED

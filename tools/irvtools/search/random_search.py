@@ -1,6 +1,5 @@
-"""Searches for runs from the initial state to a hazard, at random. What is found is the page's own, until
-`irv replay` has answered it.
-"""
+"""Searches for runs from the initial state to a hazard, at random. What is found is the page's own,
+until `irv replay` has answered it. """
 
 import random
 import time
@@ -22,17 +21,18 @@ MOST_OTHERS = 4
 
 
 def suspects_of(plant, broken):
-    """Where a search looks first, by the rules of the columns that are broken, each with its places (as
-    `rules.read_line` reads them): the routes and borders that break one on which safety rests."""
+    """Where a search looks first, by the rules of the columns that are broken, each with its places
+    (as `rules.read_line` reads them): the routes and borders that break one on which safety
+    rests."""
     kinds = {"routes": "route", "sections": "border"}
     return [(kinds[places[0][0]], places[0][1]) for rule, places in broken
             if broken_rules.rests(plant, rule, places)]
 
 
 class RandomSearch:
-    """A search over a plant. `suspects` are where it should look first: routes by number, or pairs as
-    `suspects_of` gives them. A seed gives one search. `used` has for each route that a run set, used and
-    finished this run, where uses are kept."""
+    """A search over a plant. `suspects` are where it should look first: routes by number, or pairs
+    as `suspects_of` gives them. A seed gives one search. `used` has for each route that a run set,
+    used and finished this run, where uses are kept."""
 
     def __init__(self, plant, seed=1, suspects=(), keeps_uses=True):
         self.plant, self.keeps_uses = plant, keeps_uses
@@ -55,7 +55,8 @@ class RandomSearch:
         return None
 
     def shorter(self, best):
-        """Returns a run that is no longer than one: further runs are made, the more the shorter it is."""
+        """Returns a run that is no longer than one: further runs are made, the more the shorter it
+        is."""
         for _ in range(LOOK_ON // len(best)):
             run = self.walk()
             if run is not None and len(run) <= MUCH_LONGER * len(best):

@@ -1,11 +1,10 @@
-"""What a random run uses: routes that have to do with each other, borders at which trains come in, and
-the routes by which a train comes from there to where it is wanted.
-"""
+"""What a random run uses: routes that have to do with each other, borders at which trains come in,
+and the routes by which a train comes from there to where it is wanted. """
 
 
 class Crew:
-    """Routes and borders, each once, and `approaches`: of each train its border and its routes. It is
-    gathered around a suspect, which is ("route", r) or ("border", x), or around any route."""
+    """Routes and borders, each once, and `approaches`: of each train its border and its routes. It
+    is gathered around a suspect, which is ("route", r) or ("border", x), or around any route."""
 
     def __init__(self, relations, chance, suspects, most_others):
         self.relations, self.chance = relations, chance

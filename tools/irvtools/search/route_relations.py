@@ -1,8 +1,7 @@
 """Which routes have to do with each other: what a search picks together.
 
-Where a train comes to from a board is told by the tracks and not by the table, since the table may be
-wrong: over every leg of a point, up to the boards at which it has to stop.
-"""
+Where a train comes to from a board is told by the tracks and not by the table, since the table may
+be wrong: over every leg of a point, up to the boards at which it has to stop. """
 
 from irvtools.model.bitset_events import AT_A_POINT, NOTHING
 
@@ -71,8 +70,8 @@ class Relations:
         return found
 
     def chain(self, chance, b):
-        """Routes by which a train comes to a board, in their order, and the border at which it comes
-        in, if any: by a short way mostly."""
+        """Routes by which a train comes to a board, in their order, and the border at which it
+        comes in, if any: by a short way mostly."""
         routes = []
         for _ in self.starts:
             if self.borders[b] and (not self.boards[b] or chance.random() < 0.85):

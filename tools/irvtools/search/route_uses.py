@@ -45,8 +45,8 @@ def uses(plant, seconds):
 
 
 def is_use(plant, run, r):
-    """Whether a run that ends with a route's finish shows one train that passed its source and was in
-    each section of its path when that was sensed."""
+    """Whether a run that ends with a route's finish shows one train that passed its source and was
+    in each section of its path when that was sensed."""
     state, route, train = State(plant), plant.routes[r], None
     source = plant.boards[route.source]
     for word, number in run:

@@ -1,9 +1,10 @@
-"""Makes a run to a hazard shorter, until no single event of it can be left out, and easier to follow.
+"""Makes a run to a hazard shorter, until no single event of it can be left out, and easier to
+follow.
 
-If an event is left out, those that aren't enabled without it are left out too. Pieces of some events in a
-row are tried first, which removes whole uses of routes and movements of trains, and single events last. At
-the end each train gets the events by which its rear follows, so that trains have a credible length.
-"""
+If an event is left out, those that aren't enabled without it are left out too. Pieces of some
+events in a row are tried first, which removes whole uses of routes and movements of trains, and
+single events last. At the end each train gets the events by which its rear follows, so that trains
+have a credible length. """
 
 import time
 
@@ -26,8 +27,8 @@ def shorter_by_pieces(facts, run, size, until):
 
 
 def shortened(facts, run, until):
-    """Returns a run to a hazard with events left out, as long as it still ends in one; until a time on the
-    clock."""
+    """Returns a run to a hazard with events left out, as long as it still ends in one; until a time
+    on the clock."""
     length = None
     while length != len(run) and time.monotonic() < until:
         length = len(run)
@@ -37,8 +38,8 @@ def shortened(facts, run, until):
 
 
 def in_order(facts, run):
-    """Returns the same events, easier to follow: a route is requested just before it is allocated, and a
-    train enters just before it moves, if that makes no difference."""
+    """Returns the same events, easier to follow: a route is requested just before it is allocated,
+    and a train enters just before it moves, if that makes no difference."""
     for place in reversed(range(len(run))):
         word, number = run[place]
         if word not in ("mark", "enter"):
@@ -54,8 +55,8 @@ def in_order(facts, run):
 
 
 def with_rears(facts, run):
-    """Returns a run to a hazard in which the rear of each train follows its front as early as the run stays a
-    run to a hazard. Rears that the run moved already are moved anew."""
+    """Returns a run to a hazard in which the rear of each train follows its front as early as the
+    run stays a run to a hazard. Rears that the run moved already are moved anew."""
     fewer = [event for event in run if event[0] != "tail"]
     if to_hazard(Simulation(facts), fewer) == fewer:
         run = fewer
@@ -69,8 +70,8 @@ def with_rears(facts, run):
 
 
 def with_rear(facts, before, run, place):
-    """Returns a run with an event more at a place, by which the rear of a train leaves a section, or None if
-    no train can do that; `before` is the state there."""
+    """Returns a run with an event more at a place, by which the rear of a train leaves a section,
+    or None if no train can do that; `before` is the state there."""
     for _, body in before.trains:
         trial = [*run[:place], ("tail", body[0]), *run[place:]]
         if len(body) > 1 and to_hazard(Simulation(facts), trial) == trial:
@@ -79,8 +80,8 @@ def with_rear(facts, before, run, place):
 
 
 def readable(facts, run, seconds):
-    """Returns a run that is short and in order: shortened again after each change of its order, until nothing
-    changes or the seconds are over. Rears of trains are added last."""
+    """Returns a run that is short and in order: shortened again after each change of its order,
+    until nothing changes or the seconds are over. Rears of trains are added last."""
     until, last = time.monotonic() + seconds, None
     while run != last and time.monotonic() < until:
         last, run = run, in_order(facts, shortened(facts, run, until))

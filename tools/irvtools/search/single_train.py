@@ -1,7 +1,8 @@
-"""Drives one train through route after route: each is locked for it, used by it, and released behind it.
+"""Drives one train through route after route: each is locked for it, used by it, and released
+behind it.
 
-The search brings its trains so to where they are needed, and the report finds so which routes a train can use.
-"""
+The search brings its trains so to where they are needed, and the report finds so which routes a
+train can use. """
 
 from irvtools.model.bitset_events import DONE
 
@@ -9,8 +10,8 @@ MOST_HEADS = 300        # sections that a train passes where no board stops it
 
 
 class Drive:
-    """A train that is driven in a simulation. `run` takes the events; `done` is what came of the last
-    one: after REFUSED or HAZARD nothing more is done."""
+    """A train that is driven in a simulation. `run` takes the events; `done` is what came of the
+    last one: after REFUSED or HAZARD nothing more is done."""
 
     def __init__(self, simulation, run):
         self.simulation, self.run = simulation, run

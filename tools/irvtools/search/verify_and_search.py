@@ -1,5 +1,5 @@
-"""Verify and the search side by side. If a rule is broken on which safety depends, both begin at once, and a
-hazard that one of them finds ends the other."""
+"""Verify and the search side by side. If a rule is broken on which safety depends, both begin at
+once, and a hazard that one of them finds ends the other."""
 
 import time
 
@@ -13,8 +13,9 @@ UNEXPECTED = (2, 3)     # of these what no table should get that breaks no rule 
 
 
 class Found:
-    """What came of it: verify's answer, and a run of the search or None. `is_first` tells that the run came
-    before the answer, `said` what replay answers to it, `fault` that this isn't what it should be."""
+    """What came of it: verify's answer, and a run of the search or None. `is_first` tells that the
+    run came before the answer, `said` what replay answers to it, `fault` that this isn't what it
+    should be."""
 
     def __init__(self):
         self.answer = self.run = self.searchers = self.said = self.fault = None

@@ -1,4 +1,5 @@
-"""The command line of `irv --simulate`: writes the interactive simulator, and compares saved runs."""
+"""The command line of `irv --simulate`: writes the interactive simulator, and compares saved
+runs."""
 
 import sys
 from pathlib import Path
@@ -14,7 +15,8 @@ NOT_WRITTEN = 125       # an exit status that no answer of the program has
 
 def parser():
     """Returns the parser of the command line."""
-    line = Parser("irv --simulate", "Writes an HTML page on which the plant is operated by hand, or "
+    line = Parser("irv --simulate", "Writes an HTML page on which the plant is operated by hand, "
+                                    "or "
                   "compares a saved run with the answers of\n`irv replay` and `irv drive`.\n\n"
                   "The exit status is 0 if the page was written or the answers agree, 1 if they "
                   "differ, otherwise 125.", NOT_WRITTEN,

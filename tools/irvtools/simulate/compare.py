@@ -1,8 +1,8 @@
-"""Asks `irv` about what was simulated: a file that the simulator saved, or a run text or a scenario.
+"""Asks `irv` about what was simulated: a file that the simulator saved, or a run text or a
+scenario.
 
-A file that the simulator saved has what it said about the run, and which events it refused. For other files
-the simulator's model says it here, by a script engine if there is one.
-"""
+A file that the simulator saved has what it said about the run, and which events it refused. For
+other files the simulator's model says it here, by a script engine if there is one. """
 
 import hashlib
 import re
@@ -56,7 +56,8 @@ class Asked:
 def compared(what, said, own):
     """Prints an answer with what the simulator says; returns whether they agree."""
     if own is None:
-        print(f"{what}: {said}; the simulator is not compared, because no script engine is installed ("
+        print(f"{what}: {said}; the simulator is not compared, because no script engine is "
+              f"installed ("
               f"{', '.join(script_engine.NAMES)})")
         return True
     print(f"{what}: {said}; the simulator says {'the same' if own == said else own}")
@@ -75,7 +76,8 @@ def check_played(asked, found):
         if int(place) > len(events):
             raise Refused(f"the line “{line}” names a place that the run does not have")
         text = "".join(f"{one}\n" for one in [*head, *events[:int(place)], event, "end"])
-        agree.append(compared(f"irv replay, with {event} as event {int(place) + 1}", asked.replay(text),
+        agree.append(compared(f"irv replay, with {event} as event "
+                              f"{int(place) + 1}", asked.replay(text),
                               f"not a run at {int(place) + 1}"))
     return all(agree)
 
@@ -119,7 +121,8 @@ def check(file, program, given):
         else:
             agree = check_run(asked, text)
     except UnicodeDecodeError:
-        print(f"irv --simulate: {file} is neither a run text nor a scenario: it has bytes that no name has",
+        print(f"irv --simulate: {file} is neither a run text nor a scenario: it has bytes that no "
+              f"name has",
               file=sys.stderr)
         return NO_ANSWER
     except (OSError, Refused) as fault:

@@ -1,5 +1,5 @@
-"""The plan of `trackplan` as the script of the page draws it: where lines, signs, letters and trains are, and
-the shapes of the signs."""
+"""The plan of `trackplan` as the script of the page draws it: where lines, signs, letters and
+trains are, and the shapes of the signs."""
 
 import re
 
@@ -30,8 +30,8 @@ def joints(drawing):
 
 
 def geometry(drawing):
-    """Returns the plan's strips, the joints, the lines of each section, the places of letters, boards and
-    entries, and the shapes of the signs, which are those of the report."""
+    """Returns the plan's strips, the joints, the lines of each section, the places of letters,
+    boards and entries, and the shapes of the signs, which are those of the report."""
     sections = range(len(drawing.plant.sections))
     return {"strips": [[round(value) for value in strip] for strip in drawing.strips],
             "joints": list(joints(drawing)),

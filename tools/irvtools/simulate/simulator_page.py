@@ -26,8 +26,8 @@ def sum_of(script):
 
 
 class SimulatorPage(Report):
-    """A page that is being made. Of its options it takes the name of the configuration and the program;
-    `outcome` is the verdict's line, once it is made."""
+    """A page that is being made. Of its options it takes the name of the configuration and the
+    program; `outcome` is the verdict's line, once it is made."""
 
     outcome = ""
 
@@ -71,7 +71,8 @@ class SimulatorPage(Report):
             sentences.append(tag("li", text(f"and {len(lines) - WORDED} more")))
         head = (f"This table breaks {len(lines)} rules of the columns" if len(lines) > 1
                 else "This table breaks one rule of the columns")
-        return "free", tag("details", tag("summary", text(f"{head}. It is simulated with free columns."))
+        return "free", tag("details", tag("summary", text(f"{head}. It is simulated with free "
+                                                          f"columns."))
                            + tag("ul", "".join(sentences)), class_="small own")
 
     def sentences(self, line):

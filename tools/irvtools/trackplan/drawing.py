@@ -132,8 +132,8 @@ class Drawing:
             yield "b", board.name, begin, begin + length, y + 4
 
     def labels_in(self, strip, labels):
-        """The names that a strip shows: those that lie in it, and of those that lie whole in no strip
-        the part that is its, moved into it."""
+        """The names that a strip shows: those that lie in it, and of those that lie whole in no
+        strip the part that is its, moved into it."""
         begin, end = strip[0], strip[0] + strip[2]
         for class_, name, low, high, y in labels:
             inside = begin <= low and high <= end
@@ -166,7 +166,8 @@ class Drawing:
         return tag("div", frames, class_=f"frames f{in_row}")
 
     def view(self, content, title):
-        """A view of all strips: `content` is a pair of what lies below the plan and what over it."""
+        """A view of all strips: `content` is a pair of what lies below the plan and what over
+        it."""
         self.count += 1
         below, over = content
         inner = f'{below}<use href="#tracks"/>{over}'
@@ -183,7 +184,8 @@ class Drawing:
             y += height + 8
         width = max(strip[2] for strip in self.strips)
         return ('<div class="box">'
-                f'<svg class="plan" viewBox="0 0 {width:.0f} {y:.0f}" width="{width:.0f}" role="img">'
+                f'<svg class="plan" viewBox="0 0 {width:.0f} {y:.0f}" width="{width:.0f}" '
+                f'role="img">'
                 f"<title>{text(title)}</title>{''.join(windows)}</svg></div>")
 
     def edges(self, number, y, width, height):
@@ -198,7 +200,8 @@ class Drawing:
     def plan(self, marks=None, title="track plan"):
         """The plan with marks, as for a rule that is broken."""
         marks = marks or Marks()
-        boards = "".join(self.sign(b, None, b in marks.boards) for b in range(len(self.plant.boards)))
+        boards = "".join(self.sign(b, None, b in marks.boards)
+                         for b in range(len(self.plant.boards)))
         return self.view((self.marked(marks), boards), title)
 
     def frame(self, state, marks, title, numbers=()):
@@ -232,8 +235,8 @@ class Drawing:
         return "".join(parts)
 
     def letter_place(self, x):
-        """The place of a section's letter, by its middle: above the begin of its line, of points above
-        the stem, so that no name is there."""
+        """The place of a section's letter, by its middle: above the begin of its line, of points
+        above the stem, so that no name is there."""
         section = self.plant.sections[x]
         if not section.is_point:
             return self.end(x, "down")[0] + 7, self.y(x) - 8
@@ -251,7 +254,8 @@ class Drawing:
         letter = ""
         if lock != "f":
             at, y = self.letter_place(x)
-            letter = f'<text x="{at:.0f}" y="{y:.0f}" class="letter">{LETTERS[state.lock[x]]}</text>'
+            word = LETTERS[state.lock[x]]
+            letter = f'<text x="{at:.0f}" y="{y:.0f}" class="letter">{word}</text>'
         if not self.plant.sections[x].is_point:
             return "" if lock == "f" else self.laid(legs["line"], lock) + letter
         parts = [self.laid(legs["stem"], lock)]

@@ -1,8 +1,9 @@
 """Where the sections of a plant lie in a track plan.
 
-A joint is where two sections meet, or where the network ends. A section reaches from joint to joint,
-straight on, but for the minus leg of a point, which leads aside: to another row, where the section
-at its end goes on. So the sections fall into tracks, chains of sections that are joined straight.
+A joint is where two sections meet, or where the network ends. A section reaches from joint to
+joint, straight on, but for the minus leg of a point, which leads aside: to another row, where the
+section at its end goes on. So the sections fall into tracks, chains of sections that are joined
+straight.
 
 Rows are chosen for the tracks by a descent over a cost: tracks on one row must not overlap, legs
 should be short and cross no track. Then the joints get their places along the plan: each section is
@@ -192,8 +193,8 @@ class Layout:
         return self.at[x]["stem"]
 
     def demands(self, first):
-        """What the joints' places have to keep: a joint, a later one, how far apart, and how much it
-        counts to have them no farther apart."""
+        """What the joints' places have to keep: a joint, a later one, how far apart, and how much
+        it counts to have them no farther apart."""
         for x, section in enumerate(self.plant.sections):
             weight = 1.6 if section.is_point else 1.0
             downs = [j for key, j in self.at[x].items() if self.side_of(x, key) == "down"]

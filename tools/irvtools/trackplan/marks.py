@@ -2,8 +2,8 @@
 
 
 class Marks:
-    """What is marked in a plan: sections (each with a leg, or None for all legs), a route's path, overlap
-    and protecting points likewise, boards, and the section of a hazard."""
+    """What is marked in a plan: sections (each with a leg, or None for all legs), a route's path,
+    overlap and protecting points likewise, boards, and the section of a hazard."""
 
     def __init__(self, sections=(), boards=(), hazard=None):
         self.sections = [(x, None) for x in sections if x is not None]

@@ -1,8 +1,8 @@
 """The rows of a plan: which track lies above which.
 
-A descent over a cost: tracks on one row must not overlap, the legs between tracks should be short and
-cross no track, and among equals tracks lie in the order of the configuration. There is no chance in it.
-"""
+A descent over a cost: tracks on one row must not overlap, the legs between tracks should be short
+and cross no track, and among equals tracks lie in the order of the configuration. There is no
+chance in it. """
 
 ROW = 68                # from row to row
 GAP = 34                # between tracks on one row
@@ -104,8 +104,8 @@ class Rows:
         return total
 
     def descend(self, rows):
-        """Moves tracks one by one, to another row, into a new row, or with another track, as long as
-        that costs less."""
+        """Moves tracks one by one, to another row, into a new row, or with another track, as long
+        as that costs less."""
         cost, moved = self.cost(rows), True
         while moved and self.work < MOST_WORK:
             moved = False

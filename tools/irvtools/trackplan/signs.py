@@ -1,8 +1,8 @@
-"""The signs of a track plan, which the HTML report, the simulator, the evidence package and the comparison
-share: colours, shapes and the legend.
+"""The signs of a track plan, which the HTML report, the simulator, the evidence package and the
+comparison share: colours, shapes and the legend.
 
-Each state has a letter, a width or a shape beside its colour. The colours of two states differ by a contrast
-of at least 3 to 1 on a light and on a dark ground."""
+Each state has a letter, a width or a shape beside its colour. The colours of two states differ by a
+contrast of at least 3 to 1 on a light and on a dark ground."""
 
 from __future__ import annotations
 
@@ -76,13 +76,14 @@ ul.legend{{display:flex;flex-wrap:wrap;gap:4px 18px;list-style:none;padding:0;ma
 
 
 def shapes(direction: str) -> dict:
-    """Returns the paths of a board's signs: the bar of a closed one and the arrow of an open one."""
+    """Returns the paths of a board's signs: the bar of a closed one and the arrow of an open
+    one."""
     way = 1 if direction == "up" else -1
     return {"bar": f"M{4 * way} -4.5V4.5M{-3 * way} 0H{3 * way}",
             "way": f"M{-3.5 * way} -4L{4.5 * way} 0L{-3.5 * way} 4z"}
 
 
-ASPECTS = (None, "open", "closed", "hollow")    # how a board looks: None and hollow in a plan without a state
+ASPECTS = (None, "open", "closed", "hollow")    # how boards look: without a state None or hollow
 SQUARE = '<rect x="-6" y="-6" width="12" height="12" class="{}"/>'
 
 
@@ -105,7 +106,8 @@ def board_id(direction: str, aspect: str | None) -> str:
 
 def hazard(x: float, y: float) -> str:
     """Returns the sign of a hazard: a ring with a cross."""
-    return (f'<circle cx="{x:.0f}" cy="{y:.0f}" r="17" class="hz"/><path class="hz" d="M{x - 9:.0f} {y - 9:.0f}'
+    return (f'<circle cx="{x:.0f}" cy="{y:.0f}" r="17" class="hz"/><path class="hz" '
+            f'd="M{x - 9:.0f} {y - 9:.0f}'
             f'L{x + 9:.0f} {y + 9:.0f}M{x - 9:.0f} {y + 9:.0f}L{x + 9:.0f} {y - 9:.0f}"/>')
 
 
@@ -113,19 +115,23 @@ def number(x: float, y: float, direction: str, value: int) -> str:
     """Returns the label with a train's number."""
     half = 4 + 4 * len(str(value))
     return (f'<g class="number {direction}" transform="translate({x:.0f} {y:.0f})">'
-            f'<rect x="{-half}" y="-7" width="{2 * half}" height="14" rx="6"/><text y="4">{value}</text></g>')
+            f'<rect x="{-half}" y="-7" width="{2 * half}" height="14" rx="6"/><text '
+            f'y="4">{value}</text></g>')
 
 
 LINE = '<path d="M3 15H43" class="{}"/>'
 TRAIN = '<path d="M3 11H33" class="tr {0}"/><path d="{1}" class="ah {0}"/>'
 SAMPLES = (
     (LINE.format("t f"), "section: free"),
-    (LINE.format("t l") + '<text x="23" y="8" class="letter">L</text>', "section: locked by a route (L)"),
+    (LINE.format("t l") + '<text x="23" y="8" '
+                          'class="letter">L</text>', "section: locked by a route (L)"),
     (LINE.format("t u") + LINE.format("core") + '<text x="23" y="8" class="letter">U</text>',
      "section: locked and traversed (U)"),
-    ('<path d="M3 17H15L43 17" class="t f"/><path d="M15 17L31 5" class="d f"/><circle cx="15" cy="17" r="4" '
+    ('<path d="M3 17H15L43 17" class="t f"/><path d="M15 17L31 5" class="d f"/><circle cx="15" '
+     'cy="17" r="4" '
      'class="g"/>', "points: the dashed leg is not set"),
-    ('<path d="M3 17H15" class="t f"/><path d="M15 17H43" class="d f"/><path d="M15 17L31 5" class="d f"/>'
+    ('<path d="M3 17H15" class="t f"/><path d="M15 17H43" class="d f"/><path d="M15 17L31 5" '
+     'class="d f"/>'
      '<circle cx="15" cy="17" r="5.5" class="mv"/>', "points: moving"),
     ('<g transform="translate(23 12)">' + board("up", "closed") + "</g>", "board: closed"),
     ('<g transform="translate(23 12)">' + board("up", "open") + "</g>", "board: open"),
@@ -141,6 +147,7 @@ SAMPLES = (
 def legend() -> str:
     """Returns the legend: each sign with its words."""
     return tag("ul", "".join(
-        tag("li", f'<svg width="46" height="24" viewBox="0 0 46 24" aria-hidden="true">{sample}</svg>'
+        tag("li", f'<svg width="46" height="24" viewBox="0 0 46 24" '
+                  f'aria-hidden="true">{sample}</svg>'
             + text(words)) for sample, words in SAMPLES), class_="legend")
 

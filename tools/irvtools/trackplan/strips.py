@@ -24,8 +24,8 @@ class Strips:
         return [number for number, (begin, end) in enumerate(self.spans) if begin < x < end]
 
     def price(self, x, ideal):
-        """What a cut at a place costs: points that it goes through, what is shown twice, and how far
-        it is from where it should be."""
+        """What a cut at a place costs: points that it goes through, what is shown twice, and how
+        far it is from where it should be."""
         cut = self.cut_at(x)
         points = sum(self.drawing.plant.sections[number].is_point for number in cut)
         begin, end = self.widened(cut, x)
