@@ -301,8 +301,8 @@ class Names:
 
 
 def is_sign(word):
-    """Whether it is a sign, a number, one letter, or a place for something, in capitals."""
-    return not re.search(r"[^\W\d_]{2}", word) or re.fullmatch(r"[A-Z]+", word) is not None
+    """Whether it is a sign, a number, a checksum, one letter, or a place for something, in capitals."""
+    return not re.search(r"[^\W\d_]{2}", word) or re.fullmatch(r"[A-Z]+|[0-9a-f]{64}", word) is not None
 
 
 class Places:
