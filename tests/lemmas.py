@@ -1,4 +1,4 @@
-"""Tests of `tools/lemmas`: crates/LEMMAS.md is up to date, and lists the lemmas that other crates import."""
+"""Tests of `tools/lemmas`: crates/LEMMAS.txt is up to date, and lists the lemmas that other crates import."""
 
 import subprocess
 import tempfile
