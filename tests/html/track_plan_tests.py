@@ -16,13 +16,6 @@ from tests.support.harness import test_case
 
 
 LEAST_GAP = 3           # between names of one line
-# points side by side whose names are as wide as they are, in each direction
-LONG_NAMES = [
-    "linear a . W101abcd . "
-    "m1", "point W101abcd up a W102abcd x", "point W102abcd down b W101abcd y",
-    "linear b W102abcd . m2 .", "linear x W101abcd . m3 .", "linear y . W102abcd . m4",
-    "linear c . W103abcd . m5", "point W103abcd down W104abcd c d", "linear d . W103abcd . m6",
-    "point W104abcd up W103abcd e f", "linear e W104abcd . m7 .", "linear f W104abcd . m8 ."]
 
 
 def texts_of(drawing):
@@ -67,7 +60,7 @@ def plan_faults(name, drawing):
 
 def check_plans(_, is_long):
     """Plans: no name touches another or is cut, and a plant has one plan."""
-    found = {**plants(), "long names": configurations.plant_text(LONG_NAMES)}
+    found = plants()
     for count in (1, 2, 5, 16, *((51,) if is_long else ())):
         found[f"stations {count}"] = configurations.made("stations", str(count))
     for name, given in found.items():
