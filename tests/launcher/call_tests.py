@@ -41,6 +41,11 @@ def keeps_what_is_read(top):
             and conf.read_text() == "in")
 
 
+def hint(command):
+    """Returns the line that a terminal shows after a rejection."""
+    return f"irv: ./irv {command} --explain says in sentences what is wrong and where\r\n"
+
+
 def on_a_terminal(top, *words, output=None, script="irv", reads_it=False):
     """Calls the launcher, or another script of the copy, on a terminal. Returns what had come there
     when it ended, and the status. Standard output is the terminal too unless a file is given, and
@@ -97,9 +102,10 @@ def shows_that_it_works(top):
             for shown, status in (slow, beside, fault)]
     begin = ["2"]
     lines = ["irv: read fault", "irv: cannot read standard input", ""]
-    return (ends == [(begin, ["slow", ""], 6), (begin, [""], 6), (begin, lines, 8)]
+    hinted = hint("slow").strip()
+    return (ends == [(begin, ["slow", hinted, ""], 6), (begin, [hinted, ""], 6), (begin, lines, 8)]
             and (top / "told").read_text() == "slow\n"
-            and short == ("check\r\n", 6))
+            and short == ("check\r\n" + hint("check"), 6))
 
 
 def ends_with_the_launcher(top):
@@ -142,8 +148,9 @@ def announces_a_terminal(top):
     asked = on_a_terminal(top, "check", reads_it=True)
     page = on_a_terminal(top, "--html", "p.html", reads_it=True)
     made = on_a_terminal(top, "make", "--stations", "1", reads_it=True)
-    return (asked == (line + "check\r\n", 6) and page == (line.replace("check", "--html"), 3)
-            and made == ("make --stations 1\r\n", 6))
+    return (asked == (line + "check\r\n" + hint("check"), 6)
+            and page == (line.replace("check", "--html"), 3)
+            and made == ("make --stations 1\r\n" + hint("make"), 6))
 
 
 CallTests = copy_tests("CallTests", (

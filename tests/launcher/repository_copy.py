@@ -170,7 +170,7 @@ middle: low
 # the tools by the options of the launcher that call them
 TOOLS = {"--html": "html", "--simulate": "simulate", "--csv": "csv", "--batch": "batch",
          "--package": "package", "--verify-package": "verify_package", "--import": "import",
-         "--sumo": "sumo", "--search": "search", "--release": "release"}
+         "--sumo": "sumo", "--search": "search", "--release": "release", "--explain": "explain"}
 # what of tools/ is copied: what the launcher itself uses
 COPIED = ("launcher", "irvtools/launcher", "irvtools/__init__.py", "irvtools/paths.py",
           "irvtools/mutants/__init__.py", "irvtools/mutants/crates.py", "progress.py",

@@ -14,8 +14,10 @@ SCRIPT = """#!/bin/sh
 echo clean
 """
 # each option of the launcher that needs the program, with arguments
+# the word by which an option of the launcher comes to need the program, if another one than --csv's
+NEEDS_PROGRAM = {"--verify-package": "--with-program"}
 NEED_PROGRAM = [["check"], ["verify", "--cert", "c"], ["--build"], ["--install", "there"],
-                *([option, "--with-network", "x"] for option in TOOLS)]
+                *([option, NEEDS_PROGRAM.get(option, "--with-network"), "x"] for option in TOOLS)]
 
 
 def place(top):
