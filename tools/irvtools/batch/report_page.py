@@ -89,12 +89,12 @@ def row_markup(row, number):
     seconds = math.fsum(each.measure("seconds") for each in row.results)
     memory = max([each.measure("memory_kib", max) for each in row.results], default=0) / 1024
     links = [tag("a", text(words), href=path) for words, path in files_shown(row)]
-    safe_by = [short_question(row, each) for each in row.results if each.says_safe]
+    safe_questions = [short_question(row, each) for each in row.results if each.says_safe]
     cells = [tag("td", verdict_cell(row), class_="said", data_key=number),
              tag("td", text(row.name), class_="name"),
              *(number_cell(what, sizes.get(what, "–")) for what in HEADER[2:5]),
              labelled("broken rules", text(rules(row)), "rules"),
-             labelled("safe by", text(", ".join(safe_by) or "–")),
+             labelled("safe by", text(", ".join(safe_questions) or "–")),
              number_cell("seconds", f"{seconds:.1f}"), number_cell("MiB", f"{memory:.0f}"),
              labelled("files", " ".join(links), "links")]
     return tag("tr", "".join(cells), class_=row.tone, data_word=row.verdict)
