@@ -165,7 +165,7 @@ def check_large_pages(_, __):
     for route, name in zip(wide["routes"], names):
         route.update(name=name, conflicts=[other for other in names if other != name])
     none = {**wide, "routes": []}
-    for old, new, wanted in ((wide, none, "232 more have no picture"), (wide, none, "… (left out)"),
+    for old, new, wanted in ((wide, none, "232 more have no picture"), (wide, none, "… (cut)"),
                              (none, wide, "232 more have no picture")):
         page = comparison_page.Picture(comparing.Comparison(old, new), "<old>", "a&b").page()
         if wanted not in page or page.count("<svg class=") != 26 or "&lt;old&gt; and a&amp;b" not in page:

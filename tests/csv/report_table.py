@@ -63,4 +63,4 @@ def seen(cell):
     """A cell of routes.csv as it is seen: without the apostrophe by which it is kept, and not longer than
     the page has it."""
     cell = cell.removeprefix("'")
-    return cell if len(cell) <= LONGEST_CELL else cell[:LONGEST_CELL] + " … (left out)"
+    return cell if len(cell) <= LONGEST_CELL else cell[:LONGEST_CELL] + " … (cut)"
