@@ -56,9 +56,6 @@ OLD_NAMES = {
     "a document": r"\bdocs/(?:ARCHITECTURE|ASSESSOR|CASES|COMMANDS|FORMATS|MANY|MODEL|PAGE|PLAY|PROVED"
                   r"|QUALIFICATION|RELEASES|SHEETS|SPEED|TRACEABILITY)\.md",
 }
-# Debt: first lines that are wrong since `plant_of` of ilk_answers says that a plant is sound. They are to be corrected
-# with the next change of their crates, since a comment there has every crate above proved again.
-WRONG_FIRST_LINES = {"crates/ilk_answers/specs/Besides.antt", "crates/ilk_plant/specs/Kept.antt"}
 KEEPS_OLD_NAMES = ("CHANGELOG.md", "tests/docs.py")
 # What says that a plant is safe without any search: laws, and the checker of certificates.
 APART_FROM_SEARCH = ("ilk_evidence", "ilk_forever", "ilk_plant_audit", "ilk_strict")
@@ -546,8 +543,7 @@ def see_denied(repository, seen):
     seen.ask(len(files) > 40, f"crates: only {len(files)} files deny that public contracts cite them")
     for path, how in files.items():
         call, name = how or ("", "")
-        is_debt = str(path.relative_to(root)) in WRONG_FIRST_LINES
-        seen.ask((how is not None) == is_debt, f"{path.relative_to(root)} says that no public contract cites it, and {call} "
+        seen.ask(how is None, f"{path.relative_to(root)} says that no public contract cites it, and {call} "
                               f"reaches {name}")
 
 

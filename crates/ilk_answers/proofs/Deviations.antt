@@ -3,15 +3,14 @@ use Rattle.std.proofs.Common.{◌≡◌, ℕ, Bool, true, false, if◌then◌els
 use Rattle.ilk_lines.specs.Lines.{Bytes}
 use Rattle.ilk_plant.specs.ColumnRules.{column_rules_broken}
 use Rattle.ilk_plant.specs.Draft.{numbered}
-use Rattle.ilk_plant.specs.Kept.{IsSound}
 use Rattle.ilk_plant.specs.Limits.{HasLimits}
 use Rattle.ilk_plant.specs.NetworkRules.{network_rules_broken}
-use Rattle.ilk_plant.specs.Plant.{PlantLists}
+use Rattle.ilk_plant.specs.Plant.{IsPlant, PlantLists}
 use Rattle.ilk_plant.specs.TableRules.{table_rules_broken}
 use Rattle.ilk_plant.specs.declared.broken.Broken.{Broken}
 use Rattle.ilk_plant.specs.declared.draft.NetDraft.{NetDraft}
 use Rattle.ilk_plant.specs.declared.draft.TableDraft.{TableDraft}
-use Rattle.ilk_plant.proofs.Sound.{numbered-IsSound}
+use Rattle.ilk_plant.proofs.Sound.{sound-IsPlant}
 use Rattle.ilk_net_read.specs.Fault.{broken}
 use Rattle.ilk_net_read.specs.declared.fault.Form.{Form}
 use Rattle.ilk_net_read.specs.declared.fault.Form.TheVariants.{F1, F2, F3, F4, F5, F6}
@@ -25,10 +24,9 @@ use Rattle.ilk_words.specs.declared.command.Command.TheVariants.{Check}
 use Rattle.ilk_words.specs.declared.lengths.TheConstants.{MAX_CONFIGURATION}
 use Rattle.ilk_words.specs.declared.plan.Stages.TheVariants.{All}
 use Rattle.ilk_answers.specs.Answer.{AnswersFound, broken_lines, form_refused, or_refused, plant_of, plant_of_drafts, refusals_of}
-use Rattle.ilk_answers.specs.Besides.{IsSoundIfPlant}
 use Rattle.ilk_answers.specs.Refusal.{broken_places, form_name, place_text, refusal_line, refused_at}
 use Rattle.ilk_answers.specs.Stages.{or_later, rules_broken}
-use Rattle.ilk_answers.specs.Strict.{HasSafePlant, begins_in, each_line_begins_in, harmless_beginnings}
+use Rattle.ilk_answers.specs.Strict.{HasSafePlant, IsPlantIfFree, begins_in, each_line_begins_in, harmless_beginnings}
 use Rattle.ilk_answers.specs.declared.refusals.Refusal.{Refusal}
 use Rattle.ilk_answers.specs.declared.refusals.Refusal.TheVariants.{Form as FormRefusal, Rule as RuleRefusal}
 use Rattle.ilk_answers.specs.declared.refusals.Refusals.{Refusals}
@@ -41,29 +39,29 @@ use Rattle.ilk_answers.proofs.Harmless.{are_harmless, harmless-begins, harmless-
 
 -- ---- the plant of a configuration under free columns
 
--- drafts within the limits give a sound plant, if they give one
-pub sound-drafts : (net : NetDraft) (table : TableDraft) → HasLimits net table → IfOk (plant_of_drafts (All Free) (Ok (net, table))) IsSound
-sound-drafts net table limits = of_refusals (refusals_of (rules_broken (All Free) net table)) refl
+-- drafts within the limits give a plant, if they break no rule but those of the columns
+pub plant-drafts : (net : NetDraft) (table : TableDraft) → HasLimits net table → IfOk (plant_of_drafts (All Free) (Ok (net, table))) IsPlant
+plant-drafts net table limits = of_refusals (refusals_of (rules_broken (All Free) net table)) refl
   where
     of_network : (network later : List Broken) → or_later network later ≡ [] → (network ≡ []) × (later ≡ [])
     of_network [] later e = (refl, e)
     of_network (b ∷ network) later e = absurd (cc)
 
-    of_refusals : (o : Option Refusals) → refusals_of (rules_broken (All Free) net table) ≡ o → IfOk (or_refused o (numbered net table)) IsSound
+    of_refusals : (o : Option Refusals) → refusals_of (rules_broken (All Free) net table) ≡ o → IfOk (or_refused o (numbered net table)) IsPlant
     of_refusals (Some refusals) is = tt
     of_refusals None is =
         let stages = of_network (network_rules_broken net) (or_later (table_rules_broken net table) []) (none-broken (rules_broken (All Free) net table) is) in
         let routes = of_network (table_rules_broken net table) [] stages.1 in
-        numbered-IsSound net table (record { limits = limits; network = stages.0; routes = routes.0 })
+        sound-IsPlant net table (record { limits = limits; network = stages.0; routes = routes.0 })
 
-pub free-sound : (conf : List ℕ) (drafts : Result (NetDraft × TableDraft) FormFault) → drafts_of conf ≡ drafts → IfOk drafts (λ d. HasLimits d.0 d.1) → IsSoundIfPlant conf
-free-sound conf drafts is limits = of_length (nat_lt MAX_CONFIGURATION (length conf))
+pub free-plant : (conf : List ℕ) (drafts : Result (NetDraft × TableDraft) FormFault) → drafts_of conf ≡ drafts → IfOk drafts (λ d. HasLimits d.0 d.1) → IsPlantIfFree conf
+free-plant conf drafts is limits = of_length (nat_lt MAX_CONFIGURATION (length conf))
   where
-    of_drafts : (read : Result (NetDraft × TableDraft) FormFault) → IfOk read (λ d. HasLimits d.0 d.1) → IfOk (plant_of_drafts (All Free) read) IsSound
+    of_drafts : (read : Result (NetDraft × TableDraft) FormFault) → IfOk read (λ d. HasLimits d.0 d.1) → IfOk (plant_of_drafts (All Free) read) IsPlant
     of_drafts (Err fault) within = tt
-    of_drafts (Ok (net, table)) within = sound-drafts net table within
+    of_drafts (Ok (net, table)) within = plant-drafts net table within
 
-    of_length : (b : Bool) → IfOk (if b then Err (form_refused (broken F1 Document)) else plant_of_drafts (All Free) (drafts_of conf)) IsSound
+    of_length : (b : Bool) → IfOk (if b then Err (form_refused (broken F1 Document)) else plant_of_drafts (All Free) (drafts_of conf)) IsPlant
     of_length true = tt
     of_length false = of_drafts (drafts_of conf) (subst (λ read. IfOk read (λ d. HasLimits d.0 d.1)) (sym is) limits)
 
@@ -73,8 +71,8 @@ holds-if_ok (Ok x) P so = so
 holds-if_ok (Err e) P so = tt
 
 -- a configuration with too many bytes has no plant
-pub long-sound : (conf : List ℕ) → nat_lt MAX_CONFIGURATION (length conf) ≡ true → IsSoundIfPlant conf
-long-sound conf long = rw long tt
+pub long-plant : (conf : List ℕ) → nat_lt MAX_CONFIGURATION (length conf) ≡ true → IsPlantIfFree conf
+long-plant conf long = rw long tt
 
 -- ---- what the lines of a report say of the refusals
 
@@ -133,7 +131,7 @@ first-harmless (b ∷ first) later none h = let no : b ∷ first ≡ [] = none h
 
 -- if each broken rule of some drafts is harmless, they have a plant that is safe for runs of any length
 safe-drafts : (conf : List ℕ) (net : NetDraft) (table : TableDraft) → nat_lt MAX_CONFIGURATION (length conf) ≡ false →
-    drafts_of conf ≡ Ok (net, table) → IsSoundIfPlant conf →
+    drafts_of conf ≡ Ok (net, table) → IsPlantIfFree conf →
     are_harmless (rules_broken (All Strict) net table) ≡ true → HasSafePlant conf
 safe-drafts conf net table short read sound harmless =
     let p : PlantLists = numbered net table in
@@ -144,11 +142,11 @@ safe-drafts conf net table short read sound harmless =
     ap (λ b. if b then Err (form_refused (broken F1 Document)) else plant_of_drafts (All Free) (drafts_of conf)) short
     ∙ ap (plant_of_drafts (All Free)) read
     ∙ ap (λ found. or_refused (refusals_of found) p) none in
-    let plant : IsSound p = subst (λ found. IfOk found IsSound) free sound in
-    record { plant = p; read = free; safe = strict-forever p plant.plant (strict_from_rules p (harmless-keeps p routes.1)) }
+    let plant : IsPlant p = subst (λ found. IfOk found IsPlant) free sound in
+    record { plant = p; read = free; safe = strict-forever p plant (strict_from_rules p (harmless-keeps p routes.1)) }
 
 -- so has a configuration whose refusals are all harmless
-safe-refused : (conf : List ℕ) (refusals : Refusals) → plant_of (All Strict) conf ≡ Err refusals → IsSoundIfPlant conf → is_harmless_refusal refusals.first ≡ true → are_harmless refusals.rest ≡ true → HasSafePlant conf
+safe-refused : (conf : List ℕ) (refusals : Refusals) → plant_of (All Strict) conf ≡ Err refusals → IsPlantIfFree conf → is_harmless_refusal refusals.first ≡ true → are_harmless refusals.rest ≡ true → HasSafePlant conf
 safe-refused conf refusals is sound first rest = of_length (nat_lt MAX_CONFIGURATION (length conf)) refl is
   where
     -- a fault of the form isn't harmless
@@ -179,7 +177,7 @@ safe-refused conf refusals is sound first rest = of_length (nat_lt MAX_CONFIGURA
 -- so has one that check refuses with lines that all begin in the harmless ways
 pub deviations-safe :
     (conf : List ℕ) (found : Result PlantLists Refusals) (extra : Option (List ℕ)) (made : Reply) →
-    found ≡ plant_of (All Strict) conf → IsSoundIfPlant conf → AnswersFound (Check Strict) found extra made →
+    found ≡ plant_of (All Strict) conf → IsPlantIfFree conf → AnswersFound (Check Strict) found extra made →
     made.status ≡ IsRefused → each_line_begins_in harmless_beginnings made.report ≡ true → HasSafePlant conf
 deviations-safe conf (Ok p) extra made known sound told refused lines =
     let good : Good ≡ IsRefused = ap (λ (r : Reply). r.status) (sym told) ∙ refused in absurd (cc)

@@ -33,9 +33,9 @@ use Rattle.ilk_words.specs.declared.limits.TheConstants.{MAX_DEPTH, MAX_SEARCH_C
 use Rattle.ilk_words.specs.declared.plan.Stages.{Stages}
 use Rattle.ilk_words.specs.declared.plan.Stages.TheVariants.{All, Network}
 use Rattle.ilk_answers.specs.Answer.{AnswersFound, IsAnswerTo, form_refused, plant_of, plant_of_drafts, refusals_of}
-use Rattle.ilk_answers.specs.Besides.{AnswersSome, IsSoundIfPlant}
+use Rattle.ilk_answers.specs.Besides.{AnswersSome}
 use Rattle.ilk_answers.specs.Stages.{columns_broken, or_later, rules_broken}
-use Rattle.ilk_answers.specs.Strict.{HasSafePlant, HasTableOf, IsCleanAndSafe, IsCleanFor, IsStrictlyRight, SaysSafeAtOneOrSpent, TellsNoHazard, each_line_begins_in, harmless_beginnings}
+use Rattle.ilk_answers.specs.Strict.{HasSafePlant, HasTableOf, IsCleanAndSafe, IsCleanFor, IsPlantIfFree, IsStrictlyRight, SaysSafeAtOneOrSpent, TellsNoHazard, each_line_begins_in, harmless_beginnings}
 use Rattle.ilk_answers.specs.Verdicts.{TellsVerdict, verdict_line, verdict_run, verdict_status}
 use Rattle.ilk_answers.specs.declared.refusals.Refusals.{Refusals}
 use Rattle.ilk_answers.specs.declared.reply.Reply.{Reply}
@@ -137,7 +137,7 @@ module _ (command : Command) (stages : Stages) (planned : (plan_of command).stag
       check-safe c found (Some some.text) made (asked-by c (Check Strict) (All Strict) is refl known) sound (told-as (Check Strict) is) good
 
   deviations-right : (conf : Option (List ℕ)) → IfSome conf (λ c. found ≡ plant_of stages c) →
-      IfSome conf IsSoundIfPlant → command ≡ Check Strict → made.status ≡ IsRefused →
+      IfSome conf IsPlantIfFree → command ≡ Check Strict → made.status ≡ IsRefused →
       each_line_begins_in harmless_beginnings made.report ≡ true → IfSome conf HasSafePlant
   deviations-right None known plant is refused lines = tt
   deviations-right (Some c) known plant is refused lines =
@@ -173,7 +173,7 @@ pub strictly-right :
     {E : Type 0} (command : Command) (stages : Stages) (conf extra : Option (List ℕ))
     (found : Result PlantLists Refusals) (made : Result Reply E) →
     (plan_of command).stages ≡ Some stages → has_option_limits command ≡ true →
-    IfSome conf (λ c. found ≡ plant_of stages c) → IfSome conf IsSoundIfPlant → IfOk found IsSound →
+    IfSome conf (λ c. found ≡ plant_of stages c) → IfSome conf IsPlantIfFree → IfOk found IsSound →
     IfOk made (AnswersSome command found extra) → IfOk made (IsStrictlyRight (Some command) conf extra)
 strictly-right command stages conf extra found (Err e) planned limits known plant sound some = tt
 strictly-right command stages conf extra found (Ok made) planned limits known plant sound some = record {

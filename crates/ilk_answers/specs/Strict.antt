@@ -1,9 +1,9 @@
 -- What the answers say under strict columns: a configuration that breaks no rule is safe for runs of any length, and so is
 -- one that breaks C4, C5, C6 and C8 only.
-use Rattle.std.specs.Prelude.{ℕ, ◌≡◌, ◌≢◌, ◌⊎◌, ◌++◌, ◌==◌, Bool, IsTrue, Option, Some, IfSome, Ok, List, [], ◌∷◌, codes, decimal}
+use Rattle.std.specs.Prelude.{ℕ, ◌≡◌, ◌≢◌, ◌⊎◌, ◌++◌, ◌==◌, Bool, IsTrue, Option, Some, IfOk, IfSome, Ok, List, [], ◌∷◌, codes, decimal}
 use Rattle.std.specs.List.{list_all, list_any, starts_with}
 use Rattle.ilk_lines.specs.Lines.{Bytes, lines_of}
-use Rattle.ilk_plant.specs.Plant.{PlantLists}
+use Rattle.ilk_plant.specs.Plant.{IsPlant, PlantLists}
 use Rattle.ilk_engine.specs.CertificateOf.{IsCertificateOf}
 use Rattle.ilk_forever.specs.Forever.{IsForeverSafe}
 use Rattle.ilk_engine.specs.declared.verdict.Verdict.TheVariants.{Safe}
@@ -29,6 +29,10 @@ pub record IsCleanAndSafe (conf : List ℕ) : Type 0 where
   pub plant : PlantLists
   pub clean : IsCleanFor conf plant
   pub safe : IsForeverSafe plant
+
+-- what a configuration of these bytes gives, if it breaks no rule but those of the columns, is a plant
+abbrev pub IsPlantIfFree : List ℕ → Type 0
+IsPlantIfFree conf = IfOk (plant_of (All Free) conf) IsPlant
 
 -- the beginnings of the lines that refuse by a rule which safety doesn't need: C4, C5, C6 and C8
 abbrev pub harmless_beginnings : List Bytes

@@ -1,6 +1,6 @@
 ghost use Rattle.std.specs.Prelude.{◌≡◌, ◌≤◌, IfOk, OnOk, length};
 ghost use Rattle.ilk_answers.specs.Answer.{plant_of};
-ghost use Rattle.ilk_answers.specs.Besides.{IsSoundIfPlant};
+ghost use Rattle.ilk_answers.specs.Strict.{IsPlantIfFree};
 ghost use Rattle.ilk_words.specs.declared.lengths.TheConstants.{MAX_CONFIGURATION};
 
 use crate::Refusals;
@@ -20,7 +20,7 @@ pub fn plant_of(
 ) -> Result<Result<Plant, Refusals>, AllocError>
     requires { length conf.now ≤ MAX_CONFIGURATION }
     ensures found { IfOk result (λ found. found ≡ plant_of stages conf.now) }
-    ensures sound { OnOk result (IsSoundIfPlant conf.now) }
+    ensures plant { OnOk result (IsPlantIfFree conf.now) }
 {
     match read_drafts(alloc, conf) {
         Ok((net, table)) => check_drafts(alloc, stages, &net, &table),

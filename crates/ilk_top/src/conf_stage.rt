@@ -1,6 +1,6 @@
 ghost use Rattle.std.specs.Prelude.{◌≡◌, true, IfOk, IfSome, OnOk, Err, Some, is_ok};
 ghost use Rattle.ilk_answers.specs.Answer.{plant_of};
-ghost use Rattle.ilk_answers.specs.Besides.{IsSoundIfPlant};
+ghost use Rattle.ilk_answers.specs.Strict.{IsPlantIfFree};
 ghost use Rattle.ilk_top.specs.Handled.{SourceHandled};
 ghost use Rattle.ilk_words.specs.declared.lengths.TheConstants.{MAX_CONFIGURATION};
 
@@ -20,7 +20,7 @@ pub fn read_plant<C: Source>(
 ) -> Result<Result<Plant, Refusals>, NoReply>
     ensures found { IfOk result
         (λ found. IfSome (C.left conf.old) (λ c. found ≡ plant_of stages c)) }
-    ensures sound { OnOk result (IfSome (C.left conf.old) IsSoundIfPlant) }
+    ensures plant { OnOk result (IfSome (C.left conf.old) IsPlantIfFree) }
     ensures handled { SourceHandled C.left C.faults (Some true) (Some MAX_CONFIGURATION)
         (result ≡ Err NoReply.ReadFault) (is_ok result) conf.old conf.new }
 {

@@ -21,7 +21,7 @@ returns-in-Ok-clause-strict g c =
     let Found : Result PlantLists Refusals → Type 0 = λ found. IfSome (g.C.Source.left c.args.conf.now) (λ x. found ≡ plant_of c.args.stages x) in
     strictly-right c.args.command.now c.args.stages (g.C.Source.left c.args.conf.now)
     (g.D.Source.left c.args.extra.now) (Ok c.in-Ok.plant) c.plant_reply-reply.result c.requires.stages
-    c.requires.options (subst Found c.in-Ok.is c.in_ok-plant.ensures.found) c.in_ok-plant.ensures.sound
+    c.requires.options (subst Found c.in-Ok.is c.in_ok-plant.ensures.found) c.in_ok-plant.ensures.plant
     (record {
       plant = c.is_sound.ensures;
       walks = c.is_of_drafts.ensures.walks;
@@ -57,6 +57,6 @@ returns-in_ok-reply-in-Err-clause-strict g c =
     strictly-right {E = NoReply} c.args.command.now c.args.stages (g.C.Source.left c.args.conf.now)
     (g.D.Source.left c.args.extra.now) (Err c.in-Err.refusals) (Ok c.in_ok-reply-in-Err.field-0)
     c.requires.stages c.requires.options (subst Found c.in-Err.is c.in_ok-plant.ensures.found)
-    c.in_ok-plant.ensures.sound tt
+    c.in_ok-plant.ensures.plant tt
     (some-refused c.args.command.now c.in-Err.refusals (g.D.Source.left c.args.extra.now)
     c.in_ok-reply-in-Err.field-0 c.in_ok-reply-in-Err.ensures.reply)
