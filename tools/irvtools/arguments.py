@@ -3,6 +3,7 @@
 from __future__ import annotations
 
 import argparse
+import sys
 from pathlib import Path
 
 from irvtools.paths import PROGRAM
@@ -61,3 +62,16 @@ def whole_number(least: int, greatest: int):
                 f"{word!r} is not a whole number from {least} to {greatest}")
         return int(word)
     return read
+
+
+def standard_input(tool: str, status: int, most: int = -1) -> bytes:
+    """Returns the bytes of standard input, at most `most` of them. If they cannot be read, ends the tool with one
+    line and the exit status `status`."""
+    why = "it is closed"
+    try:
+        if sys.stdin is not None:
+            return sys.stdin.buffer.read(most)
+    except OSError as fault:
+        why = fault.strerror
+    print(f"{tool}: standard input cannot be read: {why}", file=sys.stderr)
+    raise SystemExit(status)

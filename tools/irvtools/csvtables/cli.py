@@ -4,7 +4,7 @@ import argparse
 import sys
 from pathlib import Path
 
-from irvtools.arguments import Parser
+from irvtools.arguments import Parser, standard_input
 from irvtools.calls.refusal import Refused, reason
 from irvtools.csvtables import (
     comparing, comparison_page, configurations, control_table, fill_command, network, reading, renaming,
@@ -105,9 +105,9 @@ def see_output(line, given):
         line.error(f"--control-table does not go with {'--fill' if given.fill else '--out'}")
 
 
-def standard_input():
+def given_configuration():
     """Returns the configuration on standard input."""
-    return configurations.read(sys.stdin.buffer.read(MOST_BYTES + 1), "standard input")
+    return configurations.read(standard_input("irv --csv", REFUSED, MOST_BYTES + 1), "standard input")
 
 
 def compared(name):
@@ -129,7 +129,7 @@ def read_source(options):
     """Returns the configuration that is read."""
     source = source_of(options)
     if source is None:
-        return standard_input()
+        return given_configuration()
     return reading.read_directory(source) if options.in_ is not None or Path(source).is_dir() \
         else configurations.read(configurations.read_bytes(source), source)
 

@@ -53,9 +53,11 @@ def read_source(directory: str | None) -> JsonSource | CsvSource:
     """Returns the configuration that is asked about."""
     if directory is not None:
         return CsvSource(directory)
+    if sys.stdin is None:
+        raise Refused("standard input cannot be read: it is closed")
     try:
         return JsonSource(sys.stdin.buffer.read())
-    except (OSError, AttributeError) as fault:
+    except OSError as fault:
         raise Refused(f"standard input cannot be read: {reason(fault)}") from None
 
 

@@ -3,6 +3,7 @@
 import sys
 from pathlib import Path
 
+from irvtools.arguments import standard_input
 from irvtools.calls.program import Program
 from irvtools.calls.progress import Interrupted, Progress, interruptible
 from irvtools.html.import_notes import boards_by_rule
@@ -28,7 +29,7 @@ def read_options(words):
 def written(options, given):
     """Writes the report; returns it."""
     by_rule = boards_by_rule(options.import_notes) if options.import_notes is not None else set()
-    report = Report(options, sys.stdin.buffer.read(), given, options.has_times)
+    report = Report(options, standard_input(NAME, NOT_WRITTEN), given, options.has_times)
     report.by_rule = by_rule
     report.progress = Progress(NAME)
     options.out.write_text(report.make(), encoding="utf-8", errors="replace")

@@ -9,6 +9,7 @@ import sys
 import tempfile
 from pathlib import Path
 
+from irvtools.arguments import standard_input
 from irvtools.package.contents import Package
 from irvtools.package.options import Options, Refused, parser
 
@@ -54,7 +55,7 @@ def main(words: list[str]) -> int:
     given = parser(NOT_MADE).parse_args(words)
     try:
         options = Options(given)
-        data = sys.stdin.buffer.read()
+        data = standard_input("irv --package", NOT_MADE)
         for each in SIGNALS:
             signal.signal(each, interrupt)
         package = make(options, data)

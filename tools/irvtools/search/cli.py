@@ -2,7 +2,7 @@
 
 import sys
 
-from irvtools.arguments import Parser, whole_number
+from irvtools.arguments import Parser, standard_input, whole_number
 from irvtools.calls.program import Program, replay_line
 from irvtools.model.events import hazard, replayed
 from irvtools.model.plant import Plant
@@ -86,7 +86,7 @@ def main(words):
               "./irv --build", file=sys.stderr)
         return NO_ANSWER
     try:
-        return search(options, sys.stdin.buffer.read())
+        return search(options, standard_input("irv --search", NO_ANSWER))
     except KeyboardInterrupt:
         print("irv --search: interrupted", file=sys.stderr)
         return NO_ANSWER

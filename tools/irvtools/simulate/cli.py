@@ -5,7 +5,7 @@ import sys
 from pathlib import Path
 from types import SimpleNamespace
 
-from irvtools.arguments import Parser
+from irvtools.arguments import Parser, standard_input
 from irvtools.html.options import Refused, is_same, name_of_input, read_labels
 from irvtools.simulate.compare import check
 from irvtools.simulate.simulator_page import SimulatorPage
@@ -37,7 +37,7 @@ def write(out, program, labels):
         return NOT_WRITTEN
     options = SimpleNamespace(name=name_of_input(), program=program, program_file=Path(program),
                               labels=labels)
-    page = SimulatorPage(options, sys.stdin.buffer.read())
+    page = SimulatorPage(options, standard_input("irv --simulate", NOT_WRITTEN))
     try:
         out.write_text(page.make(), encoding="utf-8", errors="replace")
     except OSError as fault:
@@ -66,4 +66,4 @@ def main(words):
             return NOT_WRITTEN
     if given.labels is not None:
         line.error("--labels does not go with --compare")
-    return check(given.compare, str(program), sys.stdin.buffer.read())
+    return check(given.compare, str(program), standard_input("irv --simulate", NOT_WRITTEN))

@@ -5,7 +5,7 @@ import sys
 from pathlib import Path
 from typing import Dict, List, Tuple
 
-from irvtools.arguments import Parser, whole_number
+from irvtools.arguments import Parser, standard_input, whole_number
 from irvtools.calls.program import Program
 from irvtools.importing.faults import ImportFault
 from irvtools.sumo import driveways, simulation, trains
@@ -149,7 +149,7 @@ def main(words: List[str]) -> int:
               "./irv --build", file=sys.stderr)
         return NOT_DONE
     try:
-        return export(options, sys.stdin.buffer.read())
+        return export(options, standard_input("irv --sumo", NOT_DONE))
     except (NotDone, TooManyWays, simulation.SumoFault, ImportFault) as fault:
         print(f"irv --sumo: {fault}", file=sys.stderr)
         return NOT_DONE
