@@ -3,6 +3,8 @@
 A status without its line is no answer: it may be that of a signal, of a shell or of a full machine.
 """
 
+from __future__ import annotations
+
 import re
 import signal
 
@@ -47,7 +49,7 @@ def is_answer(command, status, line):
     return pattern is not None and re.fullmatch(pattern, line) is not None
 
 
-def why_no_answer(command: str, status: int, line: str, complaint: str):
+def why_no_answer(command: str, status: int, line: str, complaint: str) -> str | None:
     """Returns why a status, a line and a complaint are no answer of the program, or None if they
     are one."""
     if is_answer(command, status, line):

@@ -1,8 +1,11 @@
 """Questions about a configuration: the arguments that ask them, and the file that lists them."""
 
+from __future__ import annotations
+
 import argparse
 import shlex
 from pathlib import Path
+from typing import Callable, Iterable
 
 from irvtools.csvtables import csv_text
 from irvtools.batch.file_names import shown
@@ -25,7 +28,7 @@ class Words(argparse.ArgumentParser):
         raise Refused(message)
 
 
-def number(least, most):
+def number(least: int, most: int) -> Callable[[str], int]:
     """Returns a reader of whole numbers between two bounds."""
     def read(word):
         if not (word.isascii() and word.isdigit() and least <= int(word) <= most):
@@ -102,7 +105,7 @@ class Question:
         return (self.kind, self.words) == (other.kind, other.words)
 
 
-def from_words(texts):
+def from_words(texts: Iterable[str]) -> list[Question]:
     """Returns the questions about each configuration, by the arguments of the command line."""
     questions = []
     for text in texts:
@@ -123,7 +126,7 @@ def without_duplicates(questions, place):
     return once
 
 
-def read_list(file, names):
+def read_list(file: Path, names: Iterable[str]) -> dict[str, list[Question]]:
     """Returns the questions about each of these configurations, by a file."""
     try:
         text = file.read_bytes().decode()

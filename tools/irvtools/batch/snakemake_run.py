@@ -1,6 +1,8 @@
 """Has Snakemake do the jobs that have no answer yet. One call at a time works in a directory of
 results."""
 
+from __future__ import annotations
+
 import contextlib
 import fcntl
 import json
@@ -11,8 +13,11 @@ import subprocess
 import sys
 import time
 from pathlib import Path
+from typing import Any, BinaryIO, Iterator
 
 from irvtools.batch.measuring import end_with_parent
+from irvtools.batch.progress import Progress
+from irvtools.batch.store import Store
 from irvtools.calls.progress import Interrupted
 from irvtools.calls.refusal import Refused
 
@@ -23,13 +28,13 @@ MISSING = ("Snakemake is not installed, and runs the jobs; install it, for examp
            "`apt-get install --no-install-recommends snakemake`")
 
 
-def need_engine():
+def need_engine() -> None:
     """Refuses to go on without Snakemake."""
     if shutil.which(ENGINE) is None:
         raise Refused(MISSING)
 
 
-def version_in(store):
+def version_in(store: Store) -> str:
     """Returns Snakemake's name and version, which it wrote when it last had something to do
     here."""
     try:
@@ -39,7 +44,7 @@ def version_in(store):
 
 
 @contextlib.contextmanager
-def alone(store):
+def alone(store: Store) -> Iterator[BinaryIO]:
     """While it is open no other call works in the directory, nor a Snakemake that an earlier
     call left."""
     with open(store.top / "lock", "wb") as lock:
@@ -61,7 +66,7 @@ def remove_temporary(store):
             left.unlink(missing_ok=True)
 
 
-def sweep(store, jobs):
+def sweep(store: Store, jobs: dict[str, dict[str, Any]]) -> tuple[list[dict[str, Any]], set[str]]:
     """Removes what earlier calls left, and each answer that is not whole; returns the jobs that
     have no answer, and the keys of those of them that were begun before."""
     remove_temporary(store)
@@ -91,7 +96,8 @@ def watch(child, store, missing, progress):
             return child.wait(progress.seconds)
 
 
-def put_targets(store, groups, apart):
+def put_targets(store: Store, groups: list[list[dict[str, Any]]],
+                apart: list[dict[str, Any]]) -> None:
     """Keeps the groups, and the files for which Snakemake is asked."""
     ends = [store.group_end(store.put_group(group))
             for group in groups] + [store.answer_file(job) for job in apart]
@@ -122,7 +128,8 @@ def stop(child, store):
     remove_temporary(store)
 
 
-def do_all(store, missing, handed_on, lock, progress):
+def do_all(store: Store, missing: list[dict[str, Any]], handed_on: list[str], lock: BinaryIO,
+           progress: Progress) -> int:
     """Has Snakemake do what it was asked for, which gives these jobs their answers; returns its
     exit status. Its output goes to a file. It has its own group of processes, so that all of
     them can be ended."""

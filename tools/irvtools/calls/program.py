@@ -1,10 +1,14 @@
 """Asks the program. What a page calls an answer comes from here, and from nowhere else."""
 
+from __future__ import annotations
+
 import itertools
 import subprocess
 import tempfile
 import time
 from pathlib import Path
+
+from irvtools.model.plant import Plant
 
 REPLAY_SECONDS = 60
 
@@ -61,6 +65,6 @@ class Program:
         return answer
 
 
-def replay_line(plant, hazard):
+def replay_line(plant: Plant, hazard: tuple[str, int] | None) -> str:
     """Returns the line by which replay names a hazard of the page's own model, or no hazard."""
     return "no hazard" if hazard is None else f"hazard {hazard[0]} {plant.name(hazard[1])}"

@@ -1,5 +1,7 @@
 """What is refused, and how it is told."""
 
+from __future__ import annotations
+
 SHOWN = 40              # characters of a text that is told
 TOLD = 20               # faults that are told one by one
 
@@ -17,12 +19,12 @@ class Refused(Exception):
         return self.faults[:TOLD] + ([f"and {more} more"] if more > 0 else [])
 
 
-def shown(text):
+def shown(text: str) -> str:
     """A text as it is told: on one line, in quotation marks, cut where it is long."""
     line = "".join(one if one.isprintable() else "�" for one in text)
     return f"“{line if len(line) <= SHOWN else line[:SHOWN] + '…'}”"
 
 
-def reason(fault):
+def reason(fault: OSError) -> str:
     """Why the system refused to read or to write, in its own words."""
     return fault.strerror or str(fault)

@@ -1,6 +1,10 @@
 """The formulas of a configuration's queries, as the program exports them."""
 
+from __future__ import annotations
+
 import subprocess
+from pathlib import Path
+from typing import Callable
 
 from irvtools.checkers import dimacs
 
@@ -9,7 +13,7 @@ class ExportError(Exception):
     """A formula that the program didn't export: the message says which, and what it answered."""
 
 
-def text_of(program, conf, columns, kind, number):
+def text_of(program: Path | str, conf: bytes, columns: str, kind: str, number: int) -> bytes:
     """The text of the formula of one query."""
     words = ["export", "--columns", columns, "--query", kind, "--number", str(number)]
     try:
@@ -23,6 +27,7 @@ def text_of(program, conf, columns, kind, number):
     return done.stdout
 
 
-def formulas_of(program, conf, columns):
+def formulas_of(program: Path | str, conf: bytes,
+                columns: str) -> Callable[[str, int], tuple[int, list[tuple[int, ...]]]]:
     """What gives the formula of each query of a configuration."""
     return lambda kind, number: dimacs.read(text_of(program, conf, columns, kind, number))

@@ -6,7 +6,10 @@ which no name has. Spreadsheets keep that as it is, or take it as their own sign
 out; both are read as the same cell.
 """
 
+from __future__ import annotations
+
 import re
+from typing import Callable
 
 from irvtools.rules.schema_rules import NAME
 from irvtools.calls.refusal import shown
@@ -44,27 +47,27 @@ def is_plain(cell):
     return not is_date and cell.lower() not in TRUTHS
 
 
-def kept(cell):
+def kept(cell: str) -> str:
     """A cell as it is written, so that spreadsheets leave it as it is."""
     return cell if is_plain(cell) else APOSTROPHE + cell
 
 
-def bare(cell):
+def bare(cell: str) -> str:
     """What a cell says, without the apostrophe by which it is kept."""
     return cell.strip().removeprefix(APOSTROPHE)
 
 
-def words(cell):
+def words(cell: str) -> list[str]:
     """The words of a cell that was read."""
     return bare(cell).split()
 
 
-def list_text(names):
+def list_text(names: list[str]) -> str:
     """A cell with a list of names."""
     return kept(" ".join(names))
 
 
-def points_text(points):
+def points_text(points: list[dict[str, str]]) -> str:
     """A cell with a list of points."""
     return kept(" ".join(map(point_word, points)))
 
@@ -94,13 +97,13 @@ def hint(word):
     return ": a spreadsheet may have made this of a name" if CHANGED.fullmatch(word) else ""
 
 
-def name_or_none(cell):
+def name_or_none(cell: str) -> str | None:
     """The name in a cell, or None where it is empty."""
     word = one_word(cell)
     return None if word is None else name(word)
 
 
-def needed_name(cell):
+def needed_name(cell: str) -> str:
     """The name in a cell that may not be empty."""
     found = name_or_none(cell)
     if found is None:
@@ -108,7 +111,7 @@ def needed_name(cell):
     return found
 
 
-def one_of(choices):
+def one_of(choices: tuple[str, ...]) -> Callable[[str], str]:
     """A reader of a cell that has one of some words."""
     def read(cell):
         word = one_word(cell)
@@ -119,12 +122,12 @@ def one_of(choices):
     return read
 
 
-def names(cell):
+def names(cell: str) -> list[str]:
     """The names of a list."""
     return [name(word) for word in words(cell)]
 
 
-def points(cell):
+def points(cell: str) -> list[dict[str, str]]:
     """The points of a list, each with its position."""
     return [point(word) for word in words(cell)]
 

@@ -5,7 +5,10 @@ A quotation mark opens a cell in quotation marks only as its first character; in
 of them stand for one. Lines end with CR LF, LF or CR.
 """
 
+from __future__ import annotations
+
 import re
+from typing import Iterable
 
 from irvtools.calls.refusal import Refused
 
@@ -22,7 +25,7 @@ class Row:
         self.line, self.cells = line, cells
 
 
-def letters(number):
+def letters(number: int) -> str:
     """The letters by which spreadsheets call a column, of its number from 0."""
     word = ""
     while number >= 0:
@@ -105,12 +108,12 @@ class Reader:
         return Refused(f"{self.file}, line {row.line}, column {column}: {why}")
 
 
-def read(file, text, separator):
+def read(file: str, text: str, separator: str) -> list[Row]:
     """The rows of a text. The file's name is for what is told."""
     return list(Reader(file, text.removeprefix(MARK), separator).rows())
 
 
-def first_row(text, separator):
+def first_row(text: str, separator: str) -> list[str]:
     """The cells of the first line, whatever stands in it; for the choice of the separator."""
     line = ENDS.split(text.removeprefix(MARK), maxsplit=1)[0]
     return [cell.strip(' "') for cell in line.split(separator)]
@@ -122,6 +125,6 @@ def quoted(cell):
     return f'"{cell.replace(QUOTE, QUOTE * 2)}"' if re.search('[",;\r\n]', cell) else cell
 
 
-def written(rows):
+def written(rows: Iterable[Iterable[str]]) -> str:
     """Returns the text of rows of cells."""
     return "".join(",".join(map(quoted, row)) + "\r\n" for row in rows)

@@ -1,6 +1,8 @@
 """The report: the verdict first, then its parts in order. Each answer is the program's; the rest is
 marked as the report's own."""
 
+from __future__ import annotations
+
 from pathlib import Path
 
 from irvtools.rules import schema_rules
@@ -231,7 +233,7 @@ class Report:
                         + tag("p", foot, class_="foot small"))
 
 
-def counts_words(plant):
+def counts_words(plant: Plant) -> str:
     """What a plant has, in numbers."""
     return (f"{len(plant.sections)} sections, {len(plant.points)} of them with points; "
             f"{len(plant.boards)} boards; {len(plant.routes)} routes.")

@@ -1,9 +1,15 @@
 """Lists, points and ways in words."""
 
+from __future__ import annotations
+
+from typing import Iterable
+
+from irvtools.model.plant import Plant
+
 SIGNS = {"plus": "+", "minus": "-"}
 
 
-def join(words, last="and"):
+def join(words: Iterable[str], last: str = "and") -> str:
     """Returns words as a sentence lists them."""
     words = list(words)
     if len(words) < 2:
@@ -11,17 +17,17 @@ def join(words, last="and"):
     return f"{', '.join(words[:-1])} {last} {words[-1]}"
 
 
-def point_word(listed):
+def point_word(listed: dict[str, str]) -> str:
     """A listed point with the sign of its position."""
     return listed["point"] + SIGNS[listed["position"]]
 
 
-def list_words(listed):
+def list_words(listed: list[str] | list[dict[str, str]]) -> list[str]:
     """The words of a list: names, or points with the signs of their positions."""
     return [one if isinstance(one, str) else point_word(one) for one in listed]
 
 
-def way_words(plant, x, side):
+def way_words(plant: Plant, x: int, side: str) -> str:
     """What is next to a section, in words."""
     names = [plant.name(y) for y in plant.next_to(x, side)]
     return join(names, "or") if names else "nothing"

@@ -4,8 +4,11 @@ words.
 It looks for the fault at the place that `irv` named, by the tables of docs/reference/formats.md. If
 it finds none, only the line of `irv` is shown. """
 
+from __future__ import annotations
+
 import json
 import re
+from typing import Any, Iterator
 
 from irvtools.rules import json_limits
 
@@ -26,7 +29,7 @@ LIMITS = {"path": (1, 32), "overlap": (0, 8), "points": (0, 40), "conflicts": (0
 CHOICES = {"kind": ("linear", "point"), "faces": ("up", "down"), "position": ("plus", "minus")}
 
 
-def route_members(version):
+def route_members(version: int) -> dict[str, str]:
     """Returns the members of a route of a version, in the order of a CSV file's columns."""
     return ROUTE if version == 1 else {**ROUTE, **SECOND}
 
@@ -36,7 +39,7 @@ def no_constant(word):
     raise ValueError(f"{word} is not JSON")
 
 
-def read(given):
+def read(given: bytes) -> tuple[Any, str | None]:
     """The value of a configuration's bytes, and None; or None and why there is none, in words."""
     try:
         text = given.decode()
@@ -158,7 +161,7 @@ def limit_faults(value, what):
             yield f"{member} of {what} has {len(value[member])} entries, but must have {least} to {most}."
 
 
-def document_faults(rule, given, value):
+def document_faults(rule: str, given: bytes | None, value: Any) -> Iterator[str]:
     """What is wrong with the document."""
     if rule == "F1":
         yield f"The configuration has {len(given)} bytes, but at most {MOST_BYTES} are read."
@@ -188,7 +191,7 @@ def document_faults(rule, given, value):
             yield f"The configuration has {len(value['routes'])} routes, but must have at most 256."
 
 
-def entry_faults(rule, value, place):
+def entry_faults(rule: str, value: Any, place: str) -> Iterator[str]:
     """What is wrong with a section or a route."""
     list_, number = place.rstrip("]").split("[")
     entry = value[list_][int(number)]
@@ -208,7 +211,7 @@ def entry_faults(rule, value, place):
         yield from limit_faults(entry, what)
 
 
-def faults(rule, place, given):
+def faults(rule: str, place: str, given: bytes) -> list[str]:
     """Returns what is wrong, in sentences, with a schema that `irv` refused by a rule at a
     place."""
     value, unread = read(given) if rule != "F1" else (None, None)

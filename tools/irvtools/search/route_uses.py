@@ -5,12 +5,15 @@ so, by the shortest run that is known, each route that begins there is set, used
 brings a train to the next board.
 """
 
+from __future__ import annotations
+
 import heapq
 import time
 
 from irvtools.search.single_train import Drive
 from irvtools.model.events import apply
 from irvtools.model.bitset_events import Facts, Simulation
+from irvtools.model.plant import Plant
 from irvtools.model.state import State
 
 
@@ -22,7 +25,7 @@ def arrivals(facts):
             yield drive
 
 
-def uses(plant, seconds):
+def uses(plant: Plant, seconds: float) -> tuple[dict[int, list[tuple[str, int]]], bool]:
     """A run for each route that is found used; and whether there was time to look at all."""
     end, facts = time.monotonic() + seconds, Facts(plant)
     found, stood, count = {}, set(), 0
@@ -44,7 +47,7 @@ def uses(plant, seconds):
     return found, not queue
 
 
-def is_use(plant, run, r):
+def is_use(plant: Plant, run: list[tuple[str, int]], r: int) -> bool:
     """Whether a run that ends with a route's finish shows one train that passed its source and was
     in each section of its path when that was sensed."""
     state, route, train = State(plant), plant.routes[r], None

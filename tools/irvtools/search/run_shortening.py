@@ -6,9 +6,11 @@ events in a row are tried first, which removes whole uses of routes and movement
 single events last. At the end each train gets the events by which its rear follows, so that trains
 have a credible length. """
 
+from __future__ import annotations
+
 import time
 
-from irvtools.model.bitset_events import Simulation, to_hazard
+from irvtools.model.bitset_events import Facts, Simulation, to_hazard
 
 PIECES = (16, 8, 4, 2, 1)       # events in a row
 
@@ -79,7 +81,7 @@ def with_rear(facts, before, run, place):
     return None
 
 
-def readable(facts, run, seconds):
+def readable(facts: Facts, run: list[tuple[str, int]], seconds: float) -> list[tuple[str, int]]:
     """Returns a run that is short and in order: shortened again after each change of its order,
     until nothing changes or the seconds are over. Rears of trains are added last."""
     until, last = time.monotonic() + seconds, None

@@ -1,8 +1,10 @@
 """Places along a line that keep demands, each of which says how far apart two places have to be at
 least, and how much it counts to have them no farther apart: as short as that allows."""
 
+from __future__ import annotations
 
-def lowest(count, demands):
+
+def lowest(count: int, demands: list[tuple[int, int, float, float]]) -> list[float]:
     """The least places that keep all demands, by the longest way to each."""
     outs, waits = [[] for _ in range(count)], [0] * count
     for low, high, least, _ in demands:
@@ -20,7 +22,8 @@ def lowest(count, demands):
     return places
 
 
-def pulled(count, demands, places):
+def pulled(count: int, demands: list[tuple[int, int, float, float]],
+           places: list[float]) -> list[float]:
     """Pulls places together: a group that would have to move together moves as far as that makes
     the plan shorter, until no group does."""
     outs, ins = [[] for _ in range(count)], [[] for _ in range(count)]
