@@ -2,12 +2,16 @@
 verdicts. The page and the files that a pipeline reads are made only from this value, so they can
 be made again."""
 
+from __future__ import annotations
+
 import json
 import math
+from typing import Any
 
 from irvtools.batch import verdicts
 from irvtools.batch.directory import MOST_BYTES
 from irvtools.batch.file_names import shown
+from irvtools.batch.store import Store
 from irvtools.calls.verdict import HAZARD_FOUND, NOT_SHOWN, RANKING, REFUSED
 from irvtools.calls.verdict import SAFE, SAFE_WITH_DEVIATIONS
 from irvtools.paths import TOP
@@ -21,7 +25,7 @@ OUTCOMES = (CONTRADICTION, HAZARD_FOUND, NO_ANSWER, REFUSED, NOT_SHOWN, SAFE_WIT
 NOT_BEGUN = "the job was not begun"
 
 
-def sizes_of(data):
+def sizes_of(data: bytes) -> dict[str, int] | None:
     """Returns how many sections, points and routes a configuration has, or None if it can't be
     read."""
     try:
@@ -54,12 +58,14 @@ def job_value(store, jobs, key):
     return value if answer else {**value, "failure": why_failed(store, jobs, key)}
 
 
-def verdict_value(found):
+def verdict_value(found: tuple[str, str] | None) -> dict[str, str] | None:
     """Returns a word and a sentence as a value, or None."""
     return found and {"word": found[0], "sentence": found[1]}
 
 
-def make(store, about, configurations, asked, jobs):
+def make(store: Store, about: dict[str, Any], configurations: dict[str, tuple[str, bytes]],
+         asked: dict[str, list[tuple[str, str]]],
+         jobs: dict[str, dict[str, Any]]) -> dict[str, Any]:
     """Returns the report's value."""
     values = {key: job_value(store, jobs, key) for key in jobs}
     return {
@@ -72,7 +78,8 @@ def make(store, about, configurations, asked, jobs):
     }
 
 
-def configuration_verdict(store, values, keys):
+def configuration_verdict(store: Store, values: dict[str, dict[str, Any]],
+                          keys: list[str]) -> dict[str, str]:
     """Returns the verdict of a configuration as a value, by the jobs with these keys."""
     return verdict_value(verdicts.of_configuration(
         store, [(values[key]["job"], values[key]["answer"]) for key in keys]))
@@ -203,13 +210,13 @@ class Row:
                 min(outcomes, default=len(OUTCOMES)))
 
 
-def rows_of(report):
+def rows_of(report: dict[str, Any]) -> list[Row]:
     """Returns the rows, the worst first."""
     rows = [Row(report, each) for each in report["configurations"]]
     return sorted(rows, key=lambda row: row.rank)
 
 
-def verdict_counts(rows):
+def verdict_counts(rows: list[Row]) -> str:
     """Returns how many rows have each verdict's word, in the order of the ranking, in words."""
     words = [row.verdict for row in rows]
     return ", ".join(f"{words.count(word)} {word}" for word in RANKING if word in words)

@@ -8,11 +8,14 @@ before a file is used again: configurations, scenarios, the program, and the fil
 and groups.
 """
 
+from __future__ import annotations
+
 import hashlib
 import json
 import os
 import tempfile
 from pathlib import Path
+from typing import Any
 
 MARK = "irv-batch"               # the file by which a directory of results is known
 PIECE = 1 << 20
@@ -20,12 +23,12 @@ PROVED_NOTE = ".built"          # what the name of the note of a proof has after
 RIGHTS = 0o666
 
 
-def checksum_of(data):
+def checksum_of(data: bytes) -> str:
     """Returns the checksum (SHA-256) of bytes."""
     return hashlib.sha256(data).hexdigest()
 
 
-def checksum_of_file(path):
+def checksum_of_file(path: Path) -> str:
     """Returns the checksum (SHA-256) of a file."""
     summed = hashlib.sha256()
     with open(path, "rb") as file:
@@ -34,7 +37,7 @@ def checksum_of_file(path):
     return summed.hexdigest()
 
 
-def text_of(value):
+def text_of(value: Any) -> bytes:
     """Returns a value as the bytes of which a checksum is made: one text for one value."""
     return json.dumps(value, sort_keys=True, separators=(",", ":")).encode()
 

@@ -8,9 +8,10 @@ order of `STRENGTH`."""
 
 from __future__ import annotations
 
-from typing import Iterable
+from typing import Any, Iterable
 
 from irvtools.batch.html_verdicts import word_and_sentence
+from irvtools.batch.store import Store
 from irvtools.calls import verdict
 from irvtools.calls.verdict import Answered, Verdict
 
@@ -40,7 +41,8 @@ def answered(store, job, answer) -> Answered:
     return Answered(job["kind"], job["columns"], answer["status"], output_of(store, job, answer))
 
 
-def of_job(store, job, answer) -> tuple[str, str] | None:
+def of_job(store: Store, job: dict[str, Any],
+           answer: dict[str, Any] | None) -> tuple[str, str] | None:
     """Returns the word and the sentence to which one answer comes, or None if its kind says
     nothing of that."""
     if answer is None:
@@ -67,7 +69,9 @@ def of_refutations(job, answer) -> tuple[str, str]:
     return verdict.NOT_SHOWN, f"No statement about safety. {call}."
 
 
-def of_configuration(store, jobs) -> tuple[str, str]:
+def of_configuration(
+        store: Store,
+        jobs: list[tuple[dict[str, Any], dict[str, Any] | None]]) -> tuple[str, str]:
     """Returns the word and the sentence of a configuration, by all jobs about it and their
     answers, in pairs."""
     of_program = [answered(store, job, answer) for job, answer in jobs

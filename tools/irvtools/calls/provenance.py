@@ -33,7 +33,7 @@ def sum_of(data: bytes) -> str:
     return hashlib.sha256(data).hexdigest()
 
 
-def sum_of_file(file) -> str:
+def sum_of_file(file: str | Path) -> str:
     """Returns the SHA-256 checksum of a file, with its length; or why there is none."""
     try:
         digest, length = hashlib.sha256(), 0

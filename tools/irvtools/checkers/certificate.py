@@ -5,7 +5,10 @@ reads the bytes of a certificate line by line and names the first bad one. `chec
 with a certificate, also with a spent one.
 """
 
+from __future__ import annotations
+
 import re
+from typing import Callable
 
 from irvtools.checkers import dimacs
 
@@ -34,7 +37,7 @@ def need(test, message):
         raise CertificateError(message)
 
 
-def read_step(line, number):
+def read_step(line: str, number: int) -> tuple[tuple[int, ...], list[int]]:
     """The clause and the hints of a step's line."""
     match = STEP.fullmatch(line)
     need(match, f"line {number}: neither a step nor what may follow it: {line[:100]!r}")
@@ -45,7 +48,9 @@ def read_step(line, number):
     return clause, hints
 
 
-def read(text):
+def read(
+        text: bytes
+) -> tuple[str, str, list[tuple[str, int, list[tuple[tuple[int, ...], list[int]]]]]]:
     """What a certificate tells, `safe` or `spent`, with its number, and its queries with their steps."""
     try:
         lines = dimacs.lines_of(text)
@@ -94,7 +99,9 @@ def is_fresh(clauses, clause):
     return False
 
 
-def checked_steps(name, formula, steps, want_fresh):
+def checked_steps(name: str, formula: tuple[int, list[tuple[int, ...]]],
+                  steps: list[tuple[tuple[int, ...], list[int]]],
+                  want_fresh: bool) -> list[tuple[int, ...]]:
     """The clauses of a formula with those of all steps, each of which follows; the empty one, if
     any, comes last."""
     variables, clauses = formula[0], list(formula[1])
@@ -110,7 +117,7 @@ def checked_steps(name, formula, steps, want_fresh):
     return clauses
 
 
-def queries_of(most):
+def queries_of(most: int) -> list[tuple[str, int]]:
     """The queries that a safe certificate with this number rests on, in order."""
     bases = [(kind, number) for number in range(most + 1) for kind in ("hazard", "breach")]
     return [*bases, ("step", most)]
@@ -158,7 +165,8 @@ def lines_taken(formula_of, known):
     raise BadLine
 
 
-def audited(text, formula_of, known=0):
+def audited(text: bytes, formula_of: Callable[[str, int], tuple[int, list[tuple[int, ...]]]],
+            known: int = 0) -> str:
     """What an audit answers to these bytes: `accepted k=K`, or `rejected line N` with the first bad
     line. A line is bad too where it is missing, or where no line feed ends it. Who has had so many of
     the lines audited before, at the beginning of another text, may say so: of their steps it isn't asked
@@ -176,7 +184,7 @@ def audited(text, formula_of, known=0):
     return f"accepted k={told}"
 
 
-def is_refuted(steps):
+def is_refuted(steps: list[tuple[tuple[int, ...], list[int]]]) -> bool:
     """Whether the last step has the empty clause."""
     return bool(steps) and steps[-1][0] == ()
 
@@ -222,7 +230,8 @@ def check_spent(count, queries, formula_of):
     need(steps_counted == count, f"{steps_counted} steps with a literal, and {count} are told")
 
 
-def check(text, formula_of):
+def check(text: bytes,
+          formula_of: Callable[[str, int], tuple[int, list[tuple[int, ...]]]]) -> str:
     """Checks a certificate over the formulas of its queries; answers its second line."""
     told, number, queries = read(text)
     (check_safe if told == "safe" else check_spent)(int(number), queries, formula_of)

@@ -13,6 +13,8 @@ whose literals are all false, which ends the line, or all but one that is unset,
 then on. Hints by resolution (those with a sign) are refused: they are more than a certificate needs.
 """
 
+from __future__ import annotations
+
 import re
 
 ADDED = re.compile(r"([1-9][0-9]*) ((?:-?[1-9][0-9]* )*)0 ((?:-?[1-9][0-9]* )*)0")
@@ -61,7 +63,7 @@ def falsified_along(clauses, clause, hints, place):
     return False
 
 
-def check(formula, proof):
+def check(formula: str, proof: str) -> int:
     """Checks that a text is a refutation of a formula; answers how many clauses it adds."""
     clauses, last, added, refuted = read_formula(formula), None, 0, False
     last = len(clauses)

@@ -46,7 +46,7 @@ def additions_of(text: bytes) -> bytes:
     return b"".join(only_additions(io.BytesIO(text)))
 
 
-def steps_text(steps) -> bytes:
+def steps_text(steps: Iterable[tuple[tuple[int, ...], list[int]]]) -> bytes:
     """Returns the clauses of a certificate's steps as a text."""
     return text_of([[*(str(literal).encode() for literal in clause), b"0"] for clause, _ in steps])
 

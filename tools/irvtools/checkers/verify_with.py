@@ -16,6 +16,8 @@ The first line of a refutation is left out if it begins with `%`, since picosat 
 with `d` are too, since rup takes nothing from an item that only deletes, and reads at most 64 MiB.
 """
 
+from __future__ import annotations
+
 import concurrent.futures
 import os
 import shlex
@@ -23,6 +25,7 @@ import subprocess
 import sys
 import tempfile
 from pathlib import Path
+from typing import Sequence
 from irvtools.arguments import Parser, whole_number
 from irvtools.paths import TOP
 
@@ -52,7 +55,7 @@ def said(*texts):
     return next((line.strip() for line in reversed(lines) if line.strip()), "nothing")
 
 
-def queries_for(k):
+def queries_for(k: int) -> list[tuple[str, int]]:
     """The queries that have to be refuted for a plant to be safe at k."""
     return [(kind, n) for n in range(k + 1) for kind in ("hazard", "breach")] + [("step", k)]
 
@@ -85,12 +88,12 @@ class Plant:
         return f"irv rup says of the solver's text, with status {status}: {said(complaint, out)}"
 
 
-def name_of(query):
+def name_of(query: Sequence[str | int]) -> str:
     """A query, as the reports call it."""
     return f"{query[0]} {query[1]}"
 
 
-def leave_out_what_adds_nothing(proof):
+def leave_out_what_adds_nothing(proof: Path) -> None:
     """Leaves out the first line of a refutation, where it begins with `%`, and each that begins with `d`."""
     taken = proof.with_suffix(".taken")
     with open(proof, "rb") as lines, open(taken, "wb") as out:

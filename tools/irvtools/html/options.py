@@ -1,10 +1,13 @@
 """What the caller of the HTML report asks for: its arguments, and the files that they name."""
 
+from __future__ import annotations
+
 import os
 from pathlib import Path
 
 from irvtools.arguments import Parser, whole_number
 from irvtools.calls import refusal as calls_refusal
+from irvtools.calls.program import Program
 from irvtools.csvtables import labels
 
 OF_VERIFY = ("columns", "depth", "conflicts", "cert")       # options that verify has too
@@ -22,7 +25,7 @@ class Refused(Exception):
     """Arguments that the report does not take, with the reason."""
 
 
-def parser(status):
+def parser(status: int) -> Parser:
     """Returns the parser of the command line."""
     line = Parser("irv --html", "Writes an HTML report of a configuration: the track plan, broken "
                   "rules, the verdict, runs step by step,\nwhat each route is good for, and what "
@@ -93,7 +96,7 @@ class Options:
         return named + [(file, what) for file, what in given if file is not None]
 
 
-def read_labels(directory):
+def read_labels(directory: str | None) -> labels.Labels | None:
     """Returns the labels in the CSV files of a directory, or `None` if none is named."""
     try:
         return None if directory is None else labels.read(directory)
@@ -101,7 +104,7 @@ def read_labels(directory):
         raise Refused(f"--labels: {refused.faults[0]}") from None
 
 
-def subject_text(name, said):
+def subject_text(name: str, said: str) -> str:
     """Returns a text of the report's subject; refuses one that is empty, too long or not
     printable."""
     if not said.strip() or len(said) > MOST_CHARACTERS or not said.isprintable():
@@ -109,7 +112,7 @@ def subject_text(name, said):
     return said
 
 
-def name_of_input():
+def name_of_input() -> str:
     """Returns the name of the file that is standard input, or "standard input" if it is none."""
     try:
         name = Path(STANDARD_INPUT).resolve()
@@ -118,7 +121,7 @@ def name_of_input():
         return "standard input"
 
 
-def is_same(one, other):
+def is_same(one: str, other: str) -> bool:
     """Returns whether two names are of one file, which may not exist yet. Devices and pipes are
     none."""
     try:
@@ -129,7 +132,7 @@ def is_same(one, other):
         return False
 
 
-def guard_files(options):
+def guard_files(options: Options) -> None:
     """Refuses if one file would be written over another that is read or written, or if the report's
     directory does not exist."""
     if not options.out.parent.is_dir():
@@ -141,7 +144,7 @@ def guard_files(options):
                 raise Refused(f"{what} and {is_what} would be one file, {file}")
 
 
-def guard_words(options, program):
+def guard_words(options: Options, program: Program) -> None:
     """Refuses options that verify refuses: asks `program` over an empty input, which has no
     verdict."""
     for name, value in options.of_verify.items():

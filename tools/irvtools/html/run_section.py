@@ -1,14 +1,22 @@
 """A run or a scenario of the caller, on the page: step by step, up to its end or to the event that
 isn't enabled, and why it isn't."""
 
+from __future__ import annotations
+
+from typing import TYPE_CHECKING
+
 from irvtools.model.disabled_events import unmet_words
 from irvtools.model.events import apply, hazard
 from irvtools.html.run_file import COMMANDS, bad_line, driven
 from irvtools.html.markup import tag, text
 from irvtools.html.run_frames import NOTE, RunView, trouble
+from irvtools.model.plant import Plant
 from irvtools.model.state import State, event_line
 from irvtools.model.waiting import waiting
 from irvtools.model.descriptions import counted, hazard_words
+
+if TYPE_CHECKING:
+    from irvtools.html.report import Report
 
 ASK_SECONDS = 60        # for replay or drive
 ANSWERED = (0, 1, 6)    # their statuses if they answer
@@ -28,7 +36,7 @@ class GivenView(RunView):
         return before + super().frame(events, place, states, marks, answered)
 
 
-def given_part(page, columns):
+def given_part(page: Report, columns: str) -> None:
     """The run or the scenario."""
     given = page.given_run
     page.head(f"{given.what.capitalize()} {given.name}", "given")
@@ -88,7 +96,8 @@ def run_part(page, view, answer):
     draw(page, view, first, events if place is None else events[:place - 1])
 
 
-def first_refused(plant, first, events):
+def first_refused(plant: Plant, first: State | None,
+                  events: list[tuple[str, int]]) -> tuple[int | None, State]:
     """The number of the first event, from 1, that isn't enabled or comes after a hazard, or None;
     and the state before it, or the last one."""
     state = State(plant) if first is None else first.copy()

@@ -1,15 +1,23 @@
 """What the search found, on the page."""
 
+from __future__ import annotations
+
+from typing import TYPE_CHECKING
+
 from irvtools.calls.verdict import Answered
 from irvtools.model.events import hazard
 from irvtools.model.events import replayed as states_of
 from irvtools.html.markup import tag, text
-from irvtools.html.run_frames import NOTE, trouble
+from irvtools.html.run_frames import NOTE, RunView, trouble
 from irvtools.model.state import run_text
 from irvtools.model.descriptions import hazard_words
+from irvtools.search.verify_and_search import Found
+
+if TYPE_CHECKING:
+    from irvtools.html.report import Report
 
 
-def add_finding(page, view, found):
+def add_finding(page: Report, view: RunView, found: Found) -> bool:
     """Counts the run that the search found for the verdict, if replay answers the same hazard;
     returns whether there is such a run."""
     if found.run is None:
@@ -31,7 +39,7 @@ def add_finding(page, view, found):
     return True
 
 
-def search_part(page, view, found):
+def search_part(page: Report, view: RunView, found: Found) -> None:
     """The search, and the run that it found."""
     searchers = found.searchers
     if not page.options.search_seconds or not searchers.seconds and found.run is None:

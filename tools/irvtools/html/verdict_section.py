@@ -1,7 +1,10 @@
 """What verify answers, the run that shows it, and a search beside it."""
 
+from __future__ import annotations
+
 import tempfile
 from pathlib import Path
+from typing import TYPE_CHECKING
 
 from irvtools.model.events import apply, hazard
 from irvtools.model.events import replayed as states_of
@@ -15,10 +18,13 @@ from irvtools.search.state_shrinking import shrunk
 from irvtools.model.state import read_run
 from irvtools.model.descriptions import FAMILIES, counted, verdict_words
 
+if TYPE_CHECKING:
+    from irvtools.html.report import Report
+
 NOT_KEPT = "FILE"       # what a certificate that isn't kept is called in a call
 
 
-def verdict_part(page, columns, is_forced):
+def verdict_part(page: Report, columns: str, is_forced: bool) -> None:
     """What verify answers, and the run that shows it or one that was found by the search."""
     page.head("Verification", "verify")
     if is_forced and page.options.columns == "strict":

@@ -4,14 +4,18 @@
 nothing to do with what is wrong. What is left here is the page's own, and small enough to be read.
 """
 
+from __future__ import annotations
+
 import time
+from typing import Iterator
 
 from irvtools.model.events import apply
 from irvtools.model.invariant import HOLDING, meets
+from irvtools.model.plant import Plant
 from irvtools.model.state import State
 
 
-def leads_out(plant, state, event):
+def leads_out(plant: Plant, state: State, event: tuple[str, int]) -> bool:
     """Whether a state meets the invariant, and one event leads from it to a state that doesn't."""
     if not meets(plant, state):
         return False
@@ -55,7 +59,7 @@ def without_tail(state, number):
     return state
 
 
-def smaller(plant, state):
+def smaller(plant: Plant, state: State) -> Iterator[State]:
     """States with less in them, the boldest first."""
     used = [r for r in range(len(plant.routes)) if state.mode[r] != "free"]
     for number in range(len(state.trains)):
@@ -79,7 +83,8 @@ def smaller(plant, state):
             yield with_part(with_part(state, "at", x, "plus"), "to", x, "plus")
 
 
-def shrunk(plant, state, event, seconds=10):
+def shrunk(plant: Plant, state: State, event: tuple[str, int],
+           seconds: float = 10) -> State | None:
     """The state with all left out that isn't needed; None where the event doesn't lead out of the
     invariant, by the page's own reading of it."""
     if not leads_out(plant, state, event):

@@ -1,9 +1,13 @@
 """The simulator's script: files of this directory in one text, and the plant as they read it."""
 
+from __future__ import annotations
+
 import json
 from pathlib import Path
+from typing import Any, Iterable
 
 from irvtools.html.style import CSS
+from irvtools.model.plant import Plant
 
 HERE = Path(__file__).resolve().parent
 # what knows plants, without a document; in this order, because each uses those before it
@@ -12,13 +16,13 @@ MODEL = ("plant", "route_events", "train_events", "model", "texts", "waiting", "
 VIEW = ("elements", "train_lines", "plan", "lists", "choosing", "files", "keys", "page")
 
 
-def script(names):
+def script(names: Iterable[str]) -> str:
     """These files as one script."""
     parts = [(HERE / f"{name}.js").read_text(encoding="utf-8") for name in names]
     return '"use strict";\n' + "\n".join(parts)
 
 
-def style():
+def style() -> str:
     """The style of the page: that of the report, and its own."""
     return CSS + (HERE / "simulator.css").read_text(encoding="utf-8")
 
@@ -38,7 +42,7 @@ def route_value(route):
             "protecting_boards": route.protecting_boards}
 
 
-def plant_value(plant):
+def plant_value(plant: Plant) -> dict[str, list[dict[str, Any]]]:
     """A plant as the script reads it."""
     return {"sections": [section_value(section) for section in plant.sections],
             "boards": [{"name": board.name, "section": board.section, "direction": board.direction}
@@ -46,12 +50,12 @@ def plant_value(plant):
             "routes": [route_value(route) for route in plant.routes]}
 
 
-def as_json(value):
+def as_json(value: Any) -> str:
     """A value as JSON inside a script: no end of an element is in it."""
     text = json.dumps(value, separators=(",", ":"), ensure_ascii=True)
     return text.replace("<", "\\u003c").replace(">", "\\u003e").replace("&", "\\u0026")
 
 
-def page():
+def page() -> str:
     """The page's body, with marks for what a plant puts there."""
     return (HERE / "simulator.html").read_text(encoding="utf-8")
