@@ -5,6 +5,7 @@ from __future__ import annotations
 import argparse
 import sys
 from pathlib import Path
+from typing import Callable
 
 from irvtools.paths import PROGRAM
 
@@ -53,7 +54,7 @@ class Parser(argparse.ArgumentParser):
                           default=PROGRAM, metavar="FILE")
 
 
-def whole_number(least: int, greatest: int):
+def whole_number(least: int, greatest: int) -> Callable[[str], int]:
     """Returns what reads a whole number in decimal digits between two bounds."""
     def read(word: str) -> int:
         is_number = word.isascii() and word.isdigit() and len(word) < 16

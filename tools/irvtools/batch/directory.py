@@ -1,6 +1,8 @@
 """Reads the directory of configurations. What it returns is data: a name may be any bytes, and
 no link leads out of the directory."""
 
+from __future__ import annotations
+
 import os
 import stat
 from pathlib import Path
@@ -13,12 +15,12 @@ MOST_BYTES = 4194304            # the greatest length of a configuration
 MOST_SCENARIO = 8192            # the greatest length of a scenario
 
 
-def is_inside(directory, path):
+def is_inside(directory: Path, path: Path) -> bool:
     """Returns whether a path, its links followed, is in a directory or below it."""
     return Path(os.path.realpath(path)).is_relative_to(os.path.realpath(directory))
 
 
-def read_file(directory, name, most):
+def read_file(directory: Path, name: str, most: int) -> bytes:
     """Returns the bytes of a file of the directory. One byte more than `most` is read of a
     longer file, so that the program refuses it."""
     path = Path(directory, name)
@@ -52,7 +54,7 @@ def names_in(directory):
     return sorted(found, key=os.fsencode)
 
 
-def read_directory(directory):
+def read_directory(directory: Path) -> dict[str, bytes]:
     """Returns the configurations of a directory: the bytes of each by its name."""
     if not Path(directory).is_dir():
         raise Refused(f"{shown(str(directory))}: not a directory")

@@ -1,11 +1,15 @@
 """Makes jobs of questions. A job's key is the checksum of what its answer is made of, and the
 keys of the jobs that it needs are a part of that: so equal keys are equal work."""
 
+from __future__ import annotations
+
 import os
+from pathlib import Path
 
 from irvtools.batch.job_kinds import HTML_TOOL
 from irvtools.batch.directory import MOST_SCENARIO, read_file
 from irvtools.batch.file_names import shown
+from irvtools.batch.questions import Question
 from irvtools.calls.refusal import Refused
 from irvtools.checkers.verify_with import queries_for
 from irvtools.html.options import MOST_CHARACTERS
@@ -24,7 +28,7 @@ def html_tool_checksum():
                                  for file in files).encode())
 
 
-def read_scenarios(directory, asked):
+def read_scenarios(directory: Path, asked: dict[str, list[Question]]) -> dict[str, bytes]:
     """Returns the scenarios that questions name, which are in the directory too: the bytes of
     each by its name."""
     read = {}
@@ -36,7 +40,7 @@ def read_scenarios(directory, asked):
     return read
 
 
-def title_of(name):
+def title_of(name: str) -> str:
     """Returns the title of a configuration's HTML report: its name, of a long one the end."""
     title = "".join(one if one.isprintable() else f"\\u{ord(one):04x}" for one in shown(name))
     return title if len(title) <= MOST_CHARACTERS else "…" + title[1 - MOST_CHARACTERS:]

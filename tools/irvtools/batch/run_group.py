@@ -5,6 +5,8 @@ the results. Each job of a group has its own process: if one is killed, the othe
 needs an answer which does not exist is not begun.
 """
 
+from __future__ import annotations
+
 import os
 import sys
 from pathlib import Path
@@ -42,7 +44,7 @@ def is_done(store, key):
     return store.answer(job) is not None
 
 
-def run(option, name):
+def run(option: str, name: str) -> int:
     """Does the job or the group with this name in the current directory; returns 0 if each job
     has its answer, otherwise 1."""
     store = Store(Path.cwd().resolve())

@@ -2,6 +2,8 @@
 cell of each is written and read.
 """
 
+from __future__ import annotations
+
 from irvtools.csvtables import cells
 from irvtools.rules.schema_rules import CHOICES, LINEAR, POINT, ROUTE, SECOND
 from irvtools.html.control_table import heading
@@ -55,11 +57,11 @@ OF_ROUTES = columns(ROUTE)
 PROTECTING = columns(SECOND)                    # what a route of version 2 has besides
 
 
-def of_routes(version):
+def of_routes(version: int) -> list[Column]:
     """The columns of the routes of a version."""
     return OF_ROUTES + (PROTECTING if version == 2 else [])
 
 
-def of_section(kind):
+def of_section(kind: str) -> list[Column]:
     """The columns that a section of a kind has."""
     return [one for one in OF_SECTIONS if one.member in MEMBERS[kind]]

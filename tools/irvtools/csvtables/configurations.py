@@ -3,7 +3,10 @@ that F2 to F5 ask. The counts of F6 are asked only where something is
 compared; all other rules are for `irv check`.
 """
 
+from __future__ import annotations
+
 import json
+from typing import Any
 
 from irvtools.rules import schema_rules
 from irvtools.rules.schema_rules import LINEAR, MOST_BYTES, POINT, route_members
@@ -11,7 +14,7 @@ from irvtools.calls.refusal import Refused, reason
 from irvtools.csvtables import spreadsheets
 
 
-def read(given, name):
+def read(given: bytes, name: str) -> dict[str, Any]:
     """The configuration of some bytes; `name` is what they are called where they are refused."""
     if len(given) > MOST_BYTES:
         raise Refused(f"{name}: there are more than {MOST_BYTES} bytes, which a configuration may have")
@@ -35,7 +38,7 @@ def form_faults(given, value):
                         or schema_rules.entry_faults("F5", value, place))
 
 
-def see_counts(value, name):
+def see_counts(value: dict[str, Any], name: str) -> None:
     """Refuses a configuration that breaks F6."""
     faults = [*schema_rules.document_faults("F6", None, value)]
     for list_ in ("sections", "routes"):
@@ -50,7 +53,7 @@ def refuse(faults, name):
         raise Refused(*(f"{name}: {fault[0].lower()}{fault[1:].removesuffix('.')}" for fault in faults))
 
 
-def read_bytes(path):
+def read_bytes(path: str) -> bytes:
     """The bytes of a file, or the first of them where there are too many."""
     try:
         with open(path, "rb") as file:
@@ -61,7 +64,7 @@ def read_bytes(path):
     return given
 
 
-def read_text(path, what):
+def read_text(path: str, what: str) -> str:
     """The text of a file; `what` is what it is called where it is too long."""
     given = read_bytes(path)
     if len(given) > MOST_BYTES:
@@ -80,7 +83,7 @@ def members_of(entry, version):
     return route_members(version)
 
 
-def written(value):
+def written(value: dict[str, Any]) -> str:
     """The text of a configuration: a line for each section and for each route."""
     lists = ",\n".join(list_text(list_, value) for list_ in ("sections", "routes"))
     text = f'{{"version": {value["version"]},\n{lists}}}\n'

@@ -5,7 +5,10 @@ A section under another name is one whose neighbours and boards are those of the
 board under another name stands on the same section in the same direction.
 """
 
+from __future__ import annotations
+
 from collections import Counter, defaultdict
+from typing import Any
 
 from irvtools.csvtables.renaming import BOARD, BOARDS, ROUTE, SECTION, missing, names_of, renamed
 
@@ -21,7 +24,7 @@ def by_name(entries, others):
             if left[entry["name"]]}
 
 
-def first_numbers(entries):
+def first_numbers(entries: list[dict[str, Any]]) -> dict[str, int]:
     """The number of the first entry of each name."""
     numbers = {}
     for number, entry in enumerate(entries):

@@ -6,8 +6,12 @@ does. So are the types, traits and constants of the code that they use. Names ar
 standard library and ported crates are left out.
 """
 
+from __future__ import annotations
+
 import functools
 import re
+from pathlib import Path
+from typing import Iterator
 
 from irvtools.paths import TOP
 
@@ -189,7 +193,8 @@ def file_at(path):
     return File(path) if path.suffix == ".antt" else Code(path)
 
 
-def needed(roots, without=frozenset()):
+def needed(roots: list[tuple[str, str]],
+           without: frozenset[str] = frozenset()) -> dict[tuple[Path, str], int]:
     """Returns the needed definitions, each file and name with its number of lines, in the order in
     which they are named."""
     found, queue = {}, list(roots)
@@ -207,7 +212,7 @@ def needed(roots, without=frozenset()):
     return found
 
 
-def stages():
+def stages() -> Iterator[tuple[str, dict[Path, list[tuple[str, int]]]]]:
     """Yields each stage's title, and its definitions by file, with their lines."""
     listed = set()
     for number, (title, roots, crates) in enumerate(STAGES, 1):
@@ -221,7 +226,7 @@ def stages():
         yield title, by_file
 
 
-def left_over(last):
+def left_over(last: dict[Path, list[tuple[str, int]]]) -> list[str]:
     """Returns the definitions of the last stage that are needed without a formula."""
     reached = needed([TOP_CALL], FORMULA)
     return [f"{place}: {name}" for place, items in last.items() for name, _ in items

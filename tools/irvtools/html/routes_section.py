@@ -1,7 +1,10 @@
 """Which routes a train can use, on the page."""
 
+from __future__ import annotations
+
 import time
 from concurrent.futures import ThreadPoolExecutor
+from typing import TYPE_CHECKING
 
 from irvtools.search.random_search import RandomSearch
 from irvtools.html.markup import table, tag, text
@@ -10,12 +13,15 @@ from irvtools.model.state import event_line
 from irvtools.search.route_uses import uses
 from irvtools.model.descriptions import counted
 
+if TYPE_CHECKING:
+    from irvtools.html.report import Report
+
 USE_SECONDS = 5         # to find the runs that use routes
 SEARCH_SECONDS = 2      # for random runs through others
 ANSWER_SECONDS = 5      # for the answers about them
 
 
-def routes_part(page, columns):
+def routes_part(page: Report, columns: str) -> list[int]:
     """Which routes a train can use. Returns the routes for which no such run was found, if there
     was time to look for all."""
     page.head("Routes that a train can use", "routes")

@@ -1,5 +1,10 @@
 """The broken rules on the page."""
 
+from __future__ import annotations
+
+from typing import TYPE_CHECKING
+
+from irvtools.calls.program import Answer
 from irvtools.rules import schema_rules
 from irvtools.rules import broken_rules
 from irvtools.search.random_search import suspects_of
@@ -8,11 +13,14 @@ from irvtools.html.run_frames import trouble
 from irvtools.model.descriptions import counted
 from irvtools.model.phrases import join
 
+if TYPE_CHECKING:
+    from irvtools.html.report import Report
+
 PICTURED = 24           # broken rules with a picture
 WORDED = 600            # broken rules with a sentence
 
 
-def rules_part(page, answer, lines):
+def rules_part(page: Report, answer: Answer, lines: list[str]) -> None:
     """The broken rules."""
     page.head("Rules", "rules")
     page.show(answer)

@@ -4,6 +4,8 @@ The search makes its runs with it. It has the same events as `events.py`, which 
 the tests compare the two event by event, and what is found is replayed by the other one and by
 `irv`. """
 
+from __future__ import annotations
+
 FREE, MARKED, ALLOCATING, LOCKED, OCCUPIED = range(5)
 REFUSED, DONE, HAZARD = range(3)        # what comes of an event
 
@@ -281,7 +283,8 @@ class Simulation:
             "enter", "head", "tail", "leave")}
 
 
-def to_hazard(simulation, events):
+def to_hazard(simulation: Simulation,
+              events: list[tuple[str, int]]) -> list[tuple[str, int]] | None:
     """Those of some events that are enabled in turn, up to a hazard; None where they come to
     none."""
     run, do = [], simulation.by_word()

@@ -5,6 +5,11 @@ No answer depends on it: it draws what happens and searches for runs, and `irv r
 run that is shown. Each function of EVENTS changes a state in place and returns True, or returns
 False and changes nothing: the event isn't enabled. """
 
+from __future__ import annotations
+
+from typing import Iterable
+
+from irvtools.model.plant import Plant
 from irvtools.model.state import State
 
 
@@ -128,7 +133,7 @@ def enter(plant, state, x):
     return True
 
 
-def ahead(plant, state, x, direction):
+def ahead(plant: Plant, state: State, x: int, direction: str) -> int | None:
     """The section ahead, or None."""
     section = plant.sections[x]
     if not section.is_point:
@@ -181,7 +186,7 @@ EVENTS = {"mark": mark, "allocate": allocate, "lock": lock_route, "sense": sense
           "settle": settle, "enter": enter, "head": head, "tail": tail, "leave": leave}
 
 
-def apply(plant, state, event):
+def apply(plant: Plant, state: State, event: tuple[str, int]) -> bool:
     """Does an event in place, where it is enabled; answers whether it was."""
     return EVENTS[event[0]](plant, state, event[1])
 
@@ -194,7 +199,7 @@ def strays(plant, state, x, body):
     return wrong in body[max(0, place - 1):place + 2]
 
 
-def hazard(plant, state):
+def hazard(plant: Plant, state: State) -> tuple[str, int] | None:
     """The hazard of the least section, Two before Wrong, as its word and the section; or None."""
     for x, trains in enumerate(state.on):
         if trains > 1:
@@ -205,7 +210,8 @@ def hazard(plant, state):
     return None
 
 
-def replayed(plant, events, state=None):
+def replayed(plant: Plant, events: Iterable[tuple[str, int]],
+             state: State | None = None) -> list[State] | None:
     """The states of a run from a state, or from the start, one after each event; None where it is
     no run."""
     states = [State(plant) if state is None else state.copy()]

@@ -3,6 +3,12 @@
 An event is a pair of its word and a number: of a route, or of a section.
 """
 
+from __future__ import annotations
+
+from typing import Iterable
+
+from irvtools.model.plant import Plant
+
 ROUTE_WORDS = ("mark", "allocate", "lock", "sense", "release", "finish", "cancel")
 
 
@@ -45,20 +51,20 @@ class State:
             self.on[x] -= 1
 
 
-def event_line(plant, event):
+def event_line(plant: Plant, event: tuple[str, int]) -> str:
     """An event as a line of a run."""
     word, number = event
     things = plant.routes if word in ROUTE_WORDS else plant.sections
     return f"{word} {things[number].name}"
 
 
-def read_event(plant, line):
+def read_event(plant: Plant, line: str) -> tuple[str, int]:
     """The event of a line."""
     word, name = line.split(" ")
     return word, (plant.route_named if word in ROUTE_WORDS else plant.section_named)[name]
 
 
-def state_lines(plant, state):
+def state_lines(plant: Plant, state: State) -> list[str]:
     """A state's lines."""
     lines = [f"route {route.name} {state.mode[r]} {state.seen[r]} {state.rel[r]}"
              for r, route in enumerate(plant.routes)]
@@ -70,14 +76,14 @@ def state_lines(plant, state):
     return lines
 
 
-def run_text(plant, events, state=None):
+def run_text(plant: Plant, events: Iterable[tuple[str, int]], state: State | None = None) -> str:
     """The text of a run: from the start, or from a state."""
     first = ["start"] if state is None else ["state", *state_lines(plant, state), "events"]
     lines = ["run 1", *first, *(event_line(plant, event) for event in events), "end"]
     return "".join(f"{line}\n" for line in lines)
 
 
-def read_state_line(plant, state, words):
+def read_state_line(plant: Plant, state: State, words: list[str]) -> None:
     """Takes a line of a state into it."""
     kind, name, *rest = words
     if kind == "route":
@@ -94,7 +100,7 @@ def read_state_line(plant, state, words):
         state.add_train(name, [plant.section_named[x] for x in rest])
 
 
-def read_run(plant, text):
+def read_run(plant: Plant, text: str) -> tuple[State | None, list[tuple[str, int]]]:
     """The state in which a run begins, None for the start, and its events. The text is one that
     `irv` printed or read."""
     lines = text.split("\n")

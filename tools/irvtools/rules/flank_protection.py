@@ -5,9 +5,12 @@ A vehicle is followed back from the path, against the direction in which it woul
 thing that keeps it out, or to a border.
 """
 
-from collections import namedtuple
+from __future__ import annotations
 
-from irvtools.model.plant import OPPOSITE, OTHER_LEG
+from collections import namedtuple
+from typing import Iterator
+
+from irvtools.model.plant import OPPOSITE, OTHER_LEG, Plant, Route
 from irvtools.rules.way_points import way_of
 
 # a way: the point of the path, its leg, the section at that leg, and what keeps a vehicle out; from beyond the
@@ -19,7 +22,7 @@ KINDS = ("a protecting point", "a protecting board", "a board that it would pass
 POINT, BOARD, CLOSED, NOTHING = KINDS
 
 
-def flanks(plant, route):
+def flanks(plant: Plant, route: Route) -> Iterator[Flank]:
     """The ways into a route's path: over the leg of a point that it does not use, and from beyond its end if
     a protecting point or a protecting board is there."""
     way = [plant.boards[route.source].section, *route.path]
@@ -46,7 +49,7 @@ def far_ends(plant, route):
                 yield Flank(last, None, begin, guard)
 
 
-def guards(plant, route, begin, direction, to):
+def guards(plant: Plant, route: Route, begin: int, direction: str, to: int) -> Iterator[Guard]:
     """What keeps out a vehicle that would run in a direction from a section to the one after it."""
     left, known = [(begin, to)], set()
     while left:
@@ -74,7 +77,7 @@ def guard_at(plant, route, x, direction, to):
     return None if plant.nexts[x, OPPOSITE[direction]] else Guard(NOTHING, x)
 
 
-def crossing(plant, x):
+def crossing(plant: Plant, x: int) -> int | None:
     """The point whose stem a point's stem joins, so that their legs make lines that cross; or None."""
     other = plant.sections[x].neighbours.get("stem")
     is_one = other is not None and plant.sections[other].is_point \
@@ -119,7 +122,7 @@ def leading_in(plant, route, inside, stops):
     return found
 
 
-def effect(plant, route, x, position):
+def effect(plant: Plant, route: Route, x: int, position: str) -> str:
     """What a protecting point does in a position: LEADS_IN, if a vehicle that meets it facing is led into
     the path, or into the overlap though the other position leads away; PROTECTS, if it is led away;
     TRAILED, if a vehicle comes in over it that meets it trailing; IDLE, if none comes in over it before it

@@ -1,18 +1,22 @@
 """The broken rules of the network in words, N1 to N8: what it has, and what it should have. Each
 function takes a plant and the number of the place, and yields sentences."""
 
-from irvtools.model.plant import OPPOSITE
+from __future__ import annotations
+
+from typing import Iterator
+
+from irvtools.model.plant import OPPOSITE, Plant
 from irvtools.model.phrases import join
 
 
-def same_section(plant, i):
+def same_section(plant: Plant, i: int) -> Iterator[str]:
     """N1."""
     section = plant.sections[i]
     yield (f"Section number {i} is called {section.name}, like section number "
            f"{plant.section_named[section.name]}. Each section needs its own name.")
 
 
-def same_board(plant, i):
+def same_board(plant: Plant, i: int) -> Iterator[str]:
     """N2."""
     board = plant.boards[i]
     first = plant.boards[plant.board_named[board.name]]
@@ -23,7 +27,7 @@ def same_board(plant, i):
            f"run {board.direction}. Each board needs its own name.")
 
 
-def wrong_neighbour(plant, i):
+def wrong_neighbour(plant: Plant, i: int) -> Iterator[str]:
     """N3."""
     section = plant.sections[i]
     for side, leg, name in section.ends:
@@ -40,7 +44,7 @@ def end_words(side, leg):
     return f"on its {side} side" if leg == "line" else f"{leg}, on its {side} side"
 
 
-def same_neighbour(plant, i):
+def same_neighbour(plant: Plant, i: int) -> Iterator[str]:
     """N4."""
     section = plant.sections[i]
     names = [name for _, _, name in section.ends]
@@ -52,7 +56,7 @@ def same_neighbour(plant, i):
                    "neighbours must differ.")
 
 
-def not_named_back(plant, i):
+def not_named_back(plant: Plant, i: int) -> Iterator[str]:
     """N5."""
     section = plant.sections[i]
     for side, leg, name in section.ends:
@@ -70,12 +74,12 @@ def not_named_back(plant, i):
                f"{there}. It should name it once, on its {OPPOSITE[side]} side.")
 
 
-def alone(plant, i):
+def alone(plant: Plant, i: int) -> Iterator[str]:
     """N6."""
     yield f"Section {plant.name(i)} has no neighbour. A linear section needs one on at least one side."
 
 
-def returns(plant, i):
+def returns(plant: Plant, i: int) -> Iterator[str]:
     """N7."""
     walk = walk_back(plant, i)
     names = join([plant.name(x) for x in walk], "and then")
@@ -84,7 +88,7 @@ def returns(plant, i):
            "have a loop in one direction.")
 
 
-def walk_back(plant, i):
+def walk_back(plant: Plant, i: int) -> list[int]:
     """Returns the sections of a shortest walk up from a section to itself."""
     before, queue = {}, [i]
     for x in queue:
@@ -98,7 +102,7 @@ def walk_back(plant, i):
     return walk[::-1]
 
 
-def board_at_end(plant, i):
+def board_at_end(plant: Plant, i: int) -> Iterator[str]:
     """N8."""
     section = plant.sections[i]
     for side in OPPOSITE:
