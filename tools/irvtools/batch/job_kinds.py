@@ -3,13 +3,17 @@ solvers. Each returns its answer as a value: `line`, what is shown; `is_good`; w
 `files`, made in the room of the job, by their roles. `is_good` is None if there was nothing to
 do."""
 
+from __future__ import annotations
+
 import os
 import sys
+from pathlib import Path
+from typing import Any
 
 from irvtools.batch import html_verdicts
 from irvtools.batch.measuring import Called
 from irvtools.batch.program_answers import NoAnswer, why_no_answer
-from irvtools.batch.store import checksum_of_file
+from irvtools.batch.store import Store, checksum_of_file
 from irvtools.calls.verdict import SAFE
 from irvtools.paths import TOP
 
@@ -31,7 +35,8 @@ def checked(store, checksum):
     return path
 
 
-def call_program(program, configuration, room, command, *words):
+def call_program(program: Path, configuration: Path, room: Path, command: str,
+                 *words: str) -> Called:
     """Calls a command with a configuration; raises NoAnswer if what comes is no answer of the
     program."""
     done = Called([str(program), command, *words], configuration, room)
@@ -41,24 +46,24 @@ def call_program(program, configuration, room, command, *words):
     return done
 
 
-def ask(store, job, room, command, *words):
+def ask(store: Store, job: dict[str, Any], room: Path, command: str, *words: str) -> Called:
     """Asks the program about the job's configuration; returns the call."""
     return call_program(checked(store, job["program"]), checked(store, job["configuration"]), room,
                         command, *words)
 
 
-def answered(done, is_good, **files):
+def answered(done: Called, is_good: bool, **files: Path) -> dict[str, Any]:
     """Returns the answer of a call, with its output as a file."""
     return {"line": done.line, "status": done.status, "is_good": is_good, **done.measures(),
             "files": {"report": done.output, **files}}
 
 
-def without_call(line, is_good):
+def without_call(line: str, is_good: bool | None) -> dict[str, Any]:
     """Returns an answer for which nothing was called."""
     return {"line": line, "status": None, "is_good": is_good, **NOTHING_TOOK, "files": {}}
 
 
-def file_of(store, job, role):
+def file_of(store: Store, job: dict[str, Any], role: str) -> tuple[Path | None, dict[str, Any]]:
     """Returns the path of a file of another job that this one needs, whose checksum is right, or
     None if that job's answer has no such file; and the answer."""
     other = store.job(job["needs"][role.partition(" ")[0]])

@@ -1,8 +1,11 @@
 """The files of a report that a pipeline reads: JUnit and CSV."""
 
+from __future__ import annotations
+
 import csv
 import io
 import math
+from typing import Any
 from xml.sax.saxutils import escape, quoteattr
 
 from irvtools.batch.batch_report import GOOD, LEFT_OUT, NO_ANSWER, rows_of
@@ -42,7 +45,7 @@ def proved_word(report):
     return "yes" if report["is_proved"] else "no"
 
 
-def junit(report):
+def junit(report: dict[str, Any]) -> str:
     """Returns the report as JUnit."""
     results = [(row, result) for row in rows_of(report) for result in row.results]
     outcomes = [result.outcome for _, result in results]
@@ -69,7 +72,7 @@ def checksums_of(result):
     return " ".join(f"{role}={checksum}" for role, _, checksum in result.files())
 
 
-def table(report):
+def table(report: dict[str, Any]) -> str:
     """Returns the report as CSV, with a line for each question."""
     out = io.StringIO()
     writer = csv.writer(out, lineterminator="\r\n")

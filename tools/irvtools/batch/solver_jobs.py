@@ -1,5 +1,9 @@
 """Does the jobs that show safety by refutations of another solver; job_kinds.py does the others."""
 
+from __future__ import annotations
+
+from typing import Any
+
 from irvtools.batch.job_kinds import answered, ask, file_of, without_call
 from irvtools.batch.measuring import Called, last_line
 from irvtools.checkers.verify_with import HAS_ASSIGNMENT, leave_out_what_adds_nothing, name_of
@@ -62,7 +66,8 @@ def do_rup(store, job, room):
     return answered(done, done.status == 0 and done.line == f"refuted {name_of(job['query'])}")
 
 
-def safe_by_line(job, rups):
+def safe_by_line(job: dict[str, Any],
+                 rups: dict[str, tuple[dict[str, Any], dict[str, Any]]]) -> tuple[str, bool]:
     """Returns the line of verify_with, and whether it says safe. `rups` has the jobs of rup and
     their answers by the names of the queries on which safety at k depends. Each must be for its
     query, for this configuration with these columns, and by this program."""

@@ -2,14 +2,17 @@
 its files are on the disk. From the beginning of the job until then failures/KEY.json says why
 there is no answer."""
 
+from __future__ import annotations
+
 import contextlib
 import importlib
 import sys
 import tempfile
 from pathlib import Path
+from typing import Any
 
 from irvtools.batch.measuring import machine
-from irvtools.batch.store import checksum_of_file, text_of
+from irvtools.batch.store import Store, checksum_of_file, text_of
 from irvtools.batch.program_answers import NoAnswer
 
 OF_PROGRAM = ("check", "verify", "audit", "drive", "html")
@@ -51,14 +54,14 @@ def doer(kind):
     return module_for(kind).DOES[kind]
 
 
-def prepare(store, job):
+def prepare(store: Store, job: dict[str, Any]) -> None:
     """Reads what a job needs besides its own files, once for all jobs of a group."""
     doer(job["kind"])
     with contextlib.suppress(NoAnswer, OSError):
         module_for("check").checked(store, job["program"])
 
 
-def work(store, key):
+def work(store: Store, key: str) -> int:
     """Does a job; returns the exit status."""
     try:
         note_failure(store, key, NO_WORD)

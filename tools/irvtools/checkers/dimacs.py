@@ -1,6 +1,9 @@
 """Formulas in the DIMACS CNF format: reads them exactly, and counts their satisfying assignments."""
 
+from __future__ import annotations
+
 import re
+from typing import Iterable
 
 NUMBER = "(?:0|[1-9][0-9]*)"
 HEADER = re.compile(rf"p cnf ({NUMBER}) ({NUMBER})")
@@ -11,7 +14,7 @@ class DimacsError(Exception):
     """A text that isn't of the format: the message names the line."""
 
 
-def lines_of(text):
+def lines_of(text: bytes) -> list[str]:
     """The lines of a text of ASCII, each of which is ended by one line feed."""
     if not text.isascii():
         raise DimacsError("a byte that isn't ASCII")
@@ -31,7 +34,7 @@ def read_clause(line, number, variables):
     return clause
 
 
-def read(text):
+def read(text: bytes) -> tuple[int, list[tuple[int, ...]]]:
     """The number of variables and the clauses, in order."""
     lines = lines_of(text)
     header = HEADER.fullmatch(lines[0]) if lines else None
@@ -44,7 +47,7 @@ def read(text):
                        for number, line in enumerate(lines[1:], 2)]
 
 
-def propagated(clauses, literals):
+def propagated(clauses: list[tuple[int, ...]], literals: Iterable[int]) -> set[int] | None:
     """The literals that are set once propagation is at its end, or none where a clause is false."""
     true = set(literals)
     moved = True
@@ -62,7 +65,7 @@ def propagated(clauses, literals):
     return true
 
 
-def count_assignments(formula, most):
+def count_assignments(formula: tuple[int, list[tuple[int, ...]]], most: int) -> int:
     """How many assignments satisfy a small formula, by trying both values of each variable; the
     counting ends above `most`."""
     variables, clauses = formula

@@ -1,6 +1,9 @@
 """Configurations for cases: from a short plant text, or made to a size."""
 
+from __future__ import annotations
+
 import json
+from typing import Any, Iterable
 
 
 def or_null(word):
@@ -8,13 +11,13 @@ def or_null(word):
     return None if word == "." else word
 
 
-def linear(name, down, up, board_down, board_up):
+def linear(name: str, down: str, up: str, board_down: str, board_up: str) -> dict[str, str | None]:
     """A linear section's object."""
     return {"name": name, "kind": "linear", "down": or_null(down), "up": or_null(up),
             "board_down": or_null(board_down), "board_up": or_null(board_up)}
 
 
-def point(name, faces, stem, plus, minus):
+def point(name: str, faces: str, stem: str, plus: str, minus: str) -> dict[str, str]:
     """A point's object."""
     return {"name": name, "kind": "point", "faces": faces, "stem": stem,
             "plus": plus, "minus": minus}
@@ -29,7 +32,7 @@ def listed(word):
 SINCE_SECOND = ("protecting_points", "protecting_boards")
 
 
-def route(words):
+def route(words: list[str]) -> dict[str, Any]:
     """A route's object, from NAME from BOARD to BOARD and its lists, each after its name."""
     name, heading, source, heading_two, destination, *rest = words
     if (heading, heading_two) != ("from", "to"):
@@ -50,7 +53,8 @@ def route(words):
             "protecting_boards": lists["protecting_boards"]}
 
 
-def document(sections, routes, version=1):
+def document(sections: list[dict[str, Any]], routes: list[dict[str, Any]],
+             version: int = 1) -> bytes:
     """A configuration's bytes. The routes of version 1 have no protecting lists."""
     if version == 1:
         routes = [{key: value for key, value in route.items() if key not in SINCE_SECOND}
@@ -59,7 +63,7 @@ def document(sections, routes, version=1):
     return json.dumps(value, separators=(",", ":")).encode()
 
 
-def plant_text(lines):
+def plant_text(lines: Iterable[str]) -> bytes:
     """The configuration that a short plant text stands for: of version 2 where it has a protecting
     list, or says so, else of version 1."""
     sections, routes, version = [], [], 1
@@ -89,7 +93,7 @@ def line_sections(count):
             for i, name in enumerate(names)]
 
 
-def made_line(count):
+def made_line(count: int) -> bytes:
     """A line of that many sections, without boards and routes."""
     return document(line_sections(count), [])
 
@@ -175,7 +179,7 @@ def station_routes(number, count):
             for place, (source, destination, first, last, listed_point) in enumerate(rows, 1)]
 
 
-def made_stations(count):
+def made_stations(count: int) -> tuple[list[dict[str, Any]], list[dict[str, Any]]]:
     """Stations in a row, each a loop of two tracks between two points, joined by single lines. The
     conflicts of a route are the others that share a section of its path."""
     sections = [linear("l0", ".", "p1", ".", "l0U")]
@@ -213,20 +217,20 @@ def made_loops(count, groups):
     return document(sections, [])
 
 
-def printed(document):
+def printed(document: dict[str, Any]) -> bytes:
     """A configuration's bytes as the program prints them: the members in the order of their names, and a
     line feed."""
     return json.dumps(document, sort_keys=True, separators=(",", ":")).encode() + b"\n"
 
 
-def stations_text(count, form=None):
+def stations_text(count: int, form: str | None = None) -> bytes:
     """The configuration of that many stations; `bare` has no routes, and `printed` is as `make` prints it."""
     sections, routes = made_stations(count)
     text = document(sections, [] if form == "bare" else routes)
     return printed(json.loads(text)) if form == "printed" else text
 
 
-def made(kind, *words):
+def made(kind: str, *words: str) -> bytes:
     """A configuration of a kind that is too large to write out."""
     if kind == "line":
         return made_line(int(words[0]))

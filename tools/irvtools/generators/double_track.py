@@ -11,6 +11,8 @@ Before the first part, behind the last and between two parts stand the sections 
 routes are those of the network (lib/tablegen.py).
 """
 
+from __future__ import annotations
+
 import json
 import re
 
@@ -20,7 +22,7 @@ from irvtools.generators.configurations import linear, point
 LINE = re.compile(r"(?:[0-9]*[sbL])+")
 
 
-def letters_of(word):
+def letters_of(word: str) -> str:
     """The letters of a line, one for each part."""
     return "".join(letter * int(count or 1) for count, letter in re.findall(r"([0-9]*)([sbL])", word))
 
@@ -76,7 +78,7 @@ def open_lines(letters):
             yield linear(name, down, up, "." if down == "." else f"{name}_D", "." if up == "." else f"{name}_U")
 
 
-def configuration(word):
+def configuration(word: str) -> bytes:
     """The bytes of a line's configuration."""
     letters = letters_of(word)
     sections = []

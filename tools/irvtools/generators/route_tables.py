@@ -5,14 +5,17 @@ gives the list of its routes as objects of version 2, or the refusal as a text, 
 `G2 document`. It shares nothing with the program.
 """
 
+from __future__ import annotations
+
 import functools
 import itertools
+from typing import Any
 
 MAX_PATH = 32
 MAX_ROUTES = 256
 
 
-def boards_of(sections):
+def boards_of(sections: list[dict[str, Any]]) -> list[tuple[str, str, str]]:
     """The boards in the order of their numbers: name, section and direction."""
     found = []
     for section in sections:
@@ -76,7 +79,7 @@ class Network:
         return found
 
 
-def routes(conf):
+def routes(conf: dict[str, Any]) -> list[dict[str, Any]] | str:
     """The list of routes, or the refusal."""
     network = Network(conf["sections"])
     boards = boards_of(conf["sections"])
@@ -98,7 +101,7 @@ def routes(conf):
             for n, (name, section, direction, path) in enumerate(found)]
 
 
-def with_routes(conf):
+def with_routes(conf: dict[str, Any]) -> dict[str, Any]:
     """The configuration of version 2 with the same network and its routes, of which no rule G is broken."""
     found = routes(conf)
     if isinstance(found, str):

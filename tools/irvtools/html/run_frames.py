@@ -5,6 +5,8 @@ that is drawn. If the page's own states don't agree with these answers, the run 
 page says so. The last frame comes first. An event that moves no train and opens no board has a
 frame that is folded. """
 
+from __future__ import annotations
+
 import time
 from concurrent.futures import ThreadPoolExecutor
 
@@ -188,6 +190,6 @@ def pictured(events):
     return found[-MOST_PICTURED:]
 
 
-def trouble(words):
+def trouble(words: str) -> str:
     """A sentence at the place at which the page can't go on."""
     return tag("p", text(words), class_="own bad")

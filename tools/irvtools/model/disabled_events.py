@@ -5,22 +5,26 @@ event is enabled exactly if it has no unmet demand.
 Each function of DEMANDS takes a plant, a state and a number, and yields the unmet demands: each as
 what the state has, and as what is waited for, or None if waiting is of no use. """
 
+from __future__ import annotations
+
 from collections import namedtuple
 
 from irvtools.model.events import ahead
 from irvtools.model.invariant import held_places
 from irvtools.model.phrases import join
+from irvtools.model.plant import Plant
+from irvtools.model.state import State
 from irvtools.model.descriptions import has_trains, kept_by
 
 Demand = namedtuple("Demand", "unmet awaited")
 
 
-def unmet(plant, state, event):
+def unmet(plant: Plant, state: State, event: tuple[str, int]) -> list[Demand]:
     """The demands of an event that a state doesn't meet."""
     return list(DEMANDS[event[0]](plant, state, event[1]))
 
 
-def unmet_words(plant, state, event):
+def unmet_words(plant: Plant, state: State, event: tuple[str, int]) -> str:
     """These demands as a sentence lists them."""
     return "; ".join(demand.unmet for demand in unmet(plant, state, event))
 

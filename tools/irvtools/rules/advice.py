@@ -1,17 +1,20 @@
 """What an engineer looks for in a table of routes and no rule asks: found by the page itself, and no
 answer. What the ways of the network are `irv table` says."""
 
+from __future__ import annotations
+
 import json
 
+from irvtools.model.plant import Board, Plant, Route
 from irvtools.rules.column_rules import wrong_on_path
 
 
-def without_overlap(plant):
+def without_overlap(plant: Plant) -> list[Route]:
     """Routes that end at a board and have no overlap behind it."""
     return [route for route in plant.routes if route.destination is not None and not route.overlap]
 
 
-def overlap_ends(plant):
+def overlap_ends(plant: Plant) -> tuple[list[Route], list[Route]]:
     """Routes whose overlap doesn't end at a board for their direction: those where the line goes on, and
     those where the network ends."""
     going_on, outside = [], []
@@ -71,13 +74,13 @@ def used_borders(plant):
     return used & set(plant.inward)
 
 
-def unused_boards(plant):
+def unused_boards(plant: Plant) -> list[Board]:
     """Boards at which no route begins or ends."""
     used = {b for route in plant.routes for b in (route.source, route.destination)}
     return [board for board in plant.boards if board.number not in used]
 
 
-def points_one_way(plant):
+def points_one_way(plant: Plant) -> tuple[list[tuple[int, str, int]], list[int]]:
     """Points that every route that locks them wants in one position, with it and the number of routes;
     and points that no route locks."""
     wanted = {x: [] for x in plant.points}
@@ -88,7 +91,7 @@ def points_one_way(plant):
     return one_way, [x for x, found in wanted.items() if not found]
 
 
-def exchanged_legs(plant):
+def exchanged_legs(plant: Plant) -> list[tuple[int, list[Route]]]:
     """Points over which two or more routes lead, and which each of these lists in the other position
     than the one that leads along its path; with these routes."""
     wrong, over = {}, {}
@@ -103,7 +106,7 @@ def exchanged_legs(plant):
     return [(x, routes) for x, routes in wrong.items() if len(routes) > 1 and routes == over[x]]
 
 
-def end_of(plant, way):
+def end_of(plant: Plant, way: tuple[int, tuple[int, ...]]) -> str | None:
     """Where a way ends: a board's name, or None where it leads out."""
     board = plant.boards[way[0]]
     last = plant.board_on.get((way[1][-1], board.direction))

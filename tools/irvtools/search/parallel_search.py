@@ -9,6 +9,8 @@ run to a hazard ends the others.
 All processes end with the first run that is found, when their time is over, when `stop` is called
 or the block is left, and when the process that started them ends, however that comes about. """
 
+from __future__ import annotations
+
 import multiprocessing
 import os
 import signal
@@ -21,7 +23,7 @@ SLICE = 0.5             # seconds after which a process tells its figures, and s
 TO_END = 2.0            # seconds in which a process that is told to end has to
 
 
-def processors():
+def processors() -> int:
     """How many processors this process may use."""
     try:
         return len(os.sched_getaffinity(0))

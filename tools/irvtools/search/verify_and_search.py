@@ -1,10 +1,16 @@
 """Verify and the search side by side. If a rule is broken on which safety depends, both begin at
 once, and a hazard that one of them finds ends the other."""
 
+from __future__ import annotations
+
 import time
+from typing import TYPE_CHECKING
 
 from irvtools.calls.background import Beside
 from irvtools.search.parallel_search import Searchers
+
+if TYPE_CHECKING:
+    from irvtools.html.report import Report
 
 GRACE = 2.0             # seconds that verify still has once the search has found a run
 TURN = 0.05             # seconds between two looks
@@ -22,7 +28,7 @@ class Found:
         self.is_first = False
 
 
-def search(page, words):
+def search(page: Report, words: list[str]) -> Found:
     """Asks verify with some arguments, and searches."""
     found, options = Found(), page.options
     is_beside = page.is_endangered and options.search_seconds > 0
