@@ -1,8 +1,11 @@
 """The index of a batch: a row for each configuration, the worst first, and below it the answer
 to each question."""
 
+from __future__ import annotations
+
 import math
 from pathlib import Path
+from typing import Any
 
 from irvtools.batch.batch_report import CONTRADICTION, GOOD, LEFT_OUT, NO_ANSWER
 from irvtools.batch.batch_report import rows_of, verdict_counts
@@ -188,7 +191,7 @@ def foundations(report):
                       "scripts that ask and make this page are tested, not proved."))
 
 
-def page(report):
+def page(report: dict[str, Any]) -> str:
     """Returns the page's text."""
     rows, title = rows_of(report), "Batch verification of interlockings"
     counts = f"{len(rows)} configurations of {report['directory']}: {verdict_counts(rows)}."

@@ -1,5 +1,9 @@
 """The table that a network has of itself, by the program's `table`."""
 
+from __future__ import annotations
+
+from typing import Any
+
 from irvtools.csvtables import configurations
 from irvtools.calls.program import Program
 from irvtools.calls.refusal import Refused
@@ -7,7 +11,7 @@ from irvtools.calls.refusal import Refused
 SECONDS = 60
 
 
-def own_table(program, value):
+def own_table(program: str, value: dict[str, Any]) -> dict[str, Any]:
     """The configuration that `irv table` prints of a configuration's network."""
     given = configurations.written({**value, "routes": []}).encode()
     answer = Program(program, given).ask(["table", "--columns", "free"], SECONDS)

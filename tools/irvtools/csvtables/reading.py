@@ -2,7 +2,10 @@
 fault of both files, in order.
 """
 
+from __future__ import annotations
+
 from pathlib import Path
+from typing import Any
 
 from irvtools.csvtables import cells
 from irvtools.csvtables import columns
@@ -136,24 +139,26 @@ def routes_of(text, file):
         for row in table.rows]
 
 
-def read_sections(text, file=columns.SECTIONS):
+def read_sections(text: str,
+                  file: str = columns.SECTIONS) -> tuple[list[dict[str, Any]], list[str]]:
     """Returns the sections of a CSV file, and its faults."""
     table, sections = sections_of(text, file)
     return sections, table.faults
 
 
-def read_routes(text, file=columns.ROUTES):
+def read_routes(text: str,
+                file: str = columns.ROUTES) -> tuple[int, list[dict[str, Any]], list[str]]:
     """Returns the version, the routes of a CSV file, and its faults."""
     table, version, routes = routes_of(text, file)
     return version, routes, table.faults
 
 
-def read_directory(directory):
+def read_directory(directory: str | Path) -> dict[str, Any]:
     """Returns the configuration of both CSV files of a directory."""
     return read_with_files(directory)[0]
 
 
-def read_with_files(directory):
+def read_with_files(directory: str | Path) -> tuple[dict[str, Any], dict[str, CsvFile]]:
     """Returns the configuration of both CSV files of a directory, and these files, read."""
     spreadsheets.refuse_directory(directory)
     faults, found = [], []

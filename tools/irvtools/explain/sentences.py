@@ -8,6 +8,7 @@ from pathlib import Path
 
 from irvtools.csvtables.filling import hindrances
 from irvtools.explain import proof_texts, run_texts
+from irvtools.explain.sources import CsvSource, JsonSource
 from irvtools.model.plant import Plant
 from irvtools.rules import explain
 
@@ -51,7 +52,8 @@ def length_of(file: str | None) -> int | None:
     return Path(file).stat().st_size if file is not None and Path(file).is_file() else None
 
 
-def sentences(program: Path, words: list[str], source, output: str) -> list[str]:
+def sentences(program: Path, words: list[str], source: JsonSource | CsvSource,
+              output: str) -> list[str]:
     """Returns what is wrong, a line for each sentence, each with its place, if the program's `output` to
     these arguments refuses or rejects something."""
     lines = output.splitlines()
@@ -108,7 +110,7 @@ def variables_of(program: Path, words: list[str], source) -> int | None:
     return int(found[1]) if found else None
 
 
-def plant_of_answer(source, output: str) -> Plant | None:
+def plant_of_answer(source: JsonSource | CsvSource, output: str) -> Plant | None:
     """Returns the plant of a configuration, or `None` if the program's answer refuses its form, its
     network or its table."""
     if output.startswith(("refused F", "refused N", "refused R")):

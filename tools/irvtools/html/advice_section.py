@@ -1,10 +1,17 @@
 """Advice on the page: what an engineer also looks for, marked as no answer."""
 
+from __future__ import annotations
+
+from typing import TYPE_CHECKING
+
 from irvtools.rules import advice, table_advice
 from irvtools.rules.flank_protection import KINDS, NOTHING, POINT, crossing, flanks
 from irvtools.html.markup import table, tag, text
 from irvtools.model.descriptions import counted
 from irvtools.model.phrases import join
+
+if TYPE_CHECKING:
+    from irvtools.html.report import Report
 
 ASK_SECONDS = 30        # for table
 MOST_NAMES = 40         # that a sentence lists
@@ -12,7 +19,7 @@ MOST_ROWS = 400         # of the table of ways
 KIND_WORDS = {"a board that it would pass closed": "a closed board", "nothing": "nothing"}
 
 
-def advice_part(page, unused):
+def advice_part(page: Report, unused: list[int]) -> None:
     """All advice. `unused` are the routes that no run was found to use."""
     page.head("Advice", "advice")
     page.add(tag("p", text("This is advice, not an answer of irv. An engineer looks for it in such "

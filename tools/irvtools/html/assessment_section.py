@@ -1,12 +1,19 @@
 """What a safety case quotes, on the page."""
 
+from __future__ import annotations
+
+from typing import TYPE_CHECKING
+
 from irvtools.calls import provenance
 from irvtools.html.markup import code, table, tag, text
+
+if TYPE_CHECKING:
+    from irvtools.html.report import Report
 
 LONGEST_LINE = 160      # of an answer
 
 
-def safety_part(page):
+def safety_part(page: Report) -> None:
     """What a safety case quotes."""
     page.head("For the safety case", "safety-case")
     options = page.options

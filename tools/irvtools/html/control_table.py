@@ -1,15 +1,22 @@
 """The interlocking table as a sheet that prints: a row for each route and a column for each of its
 entries, in the words of the CSV files."""
 
+from __future__ import annotations
+
+from typing import TYPE_CHECKING, Any, Collection, Iterable
+
 from irvtools.rules.schema_rules import route_members
 from irvtools.html.markup import tag, text
 from irvtools.model.phrases import list_words
+
+if TYPE_CHECKING:
+    from irvtools.html.report import Report
 
 LONGEST_CELL = 6000     # characters of a cell
 SHORT = 16              # characters of a name that stays in one line
 
 
-def sheet_part(page):
+def sheet_part(page: Report) -> None:
     """The interlocking table, on the page."""
     if not page.plant.routes:
         return
@@ -21,19 +28,20 @@ def sheet_part(page):
                                     "table", "table") + sheet("no.", known, rows), class_="wide"))
 
 
-def heading(member):
+def heading(member: str) -> str:
     """The heading of an entry's column."""
     return member.replace("_", " ")
 
 
-def sheet(first, known, rows):
+def sheet(first: str, known: Iterable[str], rows: Iterable[str]) -> str:
     """A sheet of some rows; `first` is the heading of what is before each."""
     head = tag("thead", tag("tr", "".join(
         tag("th", text(word)) for word in (first, *map(heading, known)))))
     return tag("table", head + tag("tbody", "\n".join(rows)), class_="sheet")
 
 
-def row(first, route, known, marked=(), class_=None):
+def row(first: str, route: dict[str, Any], known: Iterable[str], marked: Collection[str] = (),
+        class_: str | None = None) -> str:
     """A row of the sheet, with the entries that are marked; `first` is before it."""
     return tag("tr", tag("th", text(first)) + "".join(
         tag("td", cell(route.get(member)), class_="differs" if member in marked else None)

@@ -1,6 +1,11 @@
 """Events, states and verdicts in words."""
 
+from __future__ import annotations
+
+from irvtools.calls.program import Answer
 from irvtools.model.phrases import join
+from irvtools.model.plant import Plant
+from irvtools.model.state import State
 
 HAZARDS = {"two": "Two trains are in section {}: a collision.",
            "wrong": "A train is on points {}, which are moving or not set for it: a derailment "
@@ -21,17 +26,17 @@ FAMILIES = {
     "V9": "the protecting boards of a locked route are closed"}
 
 
-def counted(number, word):
+def counted(number: int, word: str) -> str:
     """A number of things."""
     return f"{number} {word}{'' if number == 1 else 's'}"
 
 
-def hazard_words(plant, hazard):
+def hazard_words(plant: Plant, hazard: tuple[str, int]) -> str:
     """A hazard as a sentence."""
     return HAZARDS[hazard[0]].format(plant.name(hazard[1]))
 
 
-def event_words(plant, before, event, after):
+def event_words(plant: Plant, before: State, event: tuple[str, int], after: State) -> str:
     """Returns what an event does, as a sentence."""
     word, number = event
     if word in ROUTE_WORDS:
@@ -121,7 +126,7 @@ SECTION_WORDS = {"throw": throw_words, "settle": settle_words, "enter": enter_wo
                  "head": head_words, "tail": tail_words, "leave": leave_words}
 
 
-def state_words(plant, state):
+def state_words(plant: Plant, state: State) -> str:
     """The routes that are in use, and the points that are not in their commanded position."""
     words = []
     for r, route in enumerate(plant.routes):
@@ -137,7 +142,7 @@ def state_words(plant, state):
     return "; ".join(words)
 
 
-def verdict_words(answer, is_found=False):
+def verdict_words(answer: Answer, is_found: bool = False) -> str:
     """What an answer of verify means, in a sentence or two. `is_found` tells that the search found
     a run to a hazard beside it."""
     kind = answer.line.partition(" ")[0]
@@ -171,13 +176,13 @@ def verdict_words(answer, is_found=False):
     return words.get(kind, "This is no verdict: verify could not answer.")
 
 
-def has_trains(plant, state, x):
+def has_trains(plant: Plant, state: State, x: int) -> str:
     """Which trains are in a section."""
     return join(f"a train that runs {direction} is in {join(plant.name(y) for y in body)}"
                 for direction, body in state.trains if x in body)
 
 
-def kept_by(holders):
+def kept_by(holders: list[str]) -> str:
     """Which routes have a section locked."""
     if not holders:
         return "no route has it locked"

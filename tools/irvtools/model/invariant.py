@@ -5,12 +5,16 @@ Each function of FAMILIES yields how a state violates its family: a sentence, wi
 the boards that it is about. No command of `irv` names the families of a state, so the page marks as
 its own what it says by them. """
 
+from __future__ import annotations
+
 from irvtools.model.events import hazard
+from irvtools.model.plant import Plant
+from irvtools.model.state import State
 
 HOLDING = ("allocating", "locked", "occupied")
 
 
-def held_places(plant, state):
+def held_places(plant: Plant, state: State) -> dict[int, list[tuple[int, int | None]]]:
     """For each section the routes that hold it, each with the place on its path, or None beside
     it."""
     places = {}
@@ -151,12 +155,12 @@ FAMILIES = {"V1": broken_v1, "V2": broken_v2, "V3": broken_v3, "V4": broken_v4, 
             "V6": broken_v6, "V7": broken_v7, "V8": broken_v8, "V9": broken_v9}
 
 
-def broken(plant, state):
+def broken(plant: Plant, state: State) -> list[tuple[str, str, list[int], list[int]]]:
     """How a state violates the families, the least first: family, sentence, sections, boards."""
     return [(family, *what) for family, find in FAMILIES.items() for what in find(plant, state)]
 
 
-def meets(plant, state):
+def meets(plant: Plant, state: State) -> bool:
     """Whether a state meets the invariant. It has the shape, since it is one of this model."""
     return hazard(plant, state) is None and not any(
         next(find(plant, state), None) for find in FAMILIES.values())

@@ -1,8 +1,11 @@
 """The generated part of docs/dev/performance.md: the tables and the link to the chart."""
 
-import re
+from __future__ import annotations
 
-from irvtools.performance.measurements import PROVED, Time
+import re
+from typing import Callable
+
+from irvtools.performance.measurements import PROVED, Measured, Time
 
 BEGIN, END = "<!-- measured: begins -->\n", "<!-- measured: ends -->\n"
 SOLVERS = ("cadical", "minisat", "picosat")
@@ -98,13 +101,13 @@ def origins(measured):
                      for number, (run, names) in enumerate(zip(runs, ends)))
 
 
-def part(measured):
+def part(measured: Measured) -> str:
     """Returns the whole generated part, without its markers."""
     return (f"\n{origins(measured)}\n{answers(measured.plants)}\n"
             f"![Seconds over the number of sections]({PICTURE})\n\n{checks(measured.plants)}\n")
 
 
-def renewed(document, measured, made=part):
+def renewed(document: str, measured: Measured, made: Callable[[Measured], str] = part) -> str:
     """Returns the document with a new generated part."""
     before, begin, rest = document.partition(BEGIN)
     _, end, behind = rest.partition(END)

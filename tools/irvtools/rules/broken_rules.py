@@ -5,6 +5,9 @@ the words are the page's own.
 Each function of EXPLAINED takes a plant and the numbers of the places, and yields sentences.
 `where` says what to mark in the plan. """
 
+from __future__ import annotations
+
+from irvtools.model.plant import Plant
 from irvtools.rules import column_rules as columns
 from irvtools.rules import network_rules as network
 from irvtools.rules import table_rules as table
@@ -46,14 +49,14 @@ EXPLAINED = {
     "C7": columns.bare_border, "C8": columns.unlisted_protection}
 
 
-def read_line(line):
+def read_line(line: str) -> tuple[str, list[tuple[str, int]]]:
     """The rule of a line of check, and its places: each a word and a number."""
     _, rule, *places = line.split(" ")
     return rule, [(place.rstrip("]").split("[")[0], int(place.rstrip("]").split("[")[1]))
                   for place in places if "[" in place]
 
 
-def sentences(plant, rule, places):
+def sentences(plant: Plant, rule: str, places: list[tuple[str, int]]) -> list[str]:
     """What the configuration has and what it should have. If a route is in the wrong direction,
     that comes first."""
     if rule not in EXPLAINED:
@@ -68,7 +71,7 @@ def sentences(plant, rule, places):
     return [wrong, *found] if wrong else found
 
 
-def rests(plant, rule, places):
+def rests(plant: Plant, rule: str, places: list[tuple[str, int]]) -> bool:
     """Returns whether safety depends on what is broken of a rule; on an unknown rule of the columns
     it may."""
     if rule not in EXPLAINED:
@@ -81,7 +84,7 @@ def rests(plant, rule, places):
     return rule in RESTING
 
 
-def safety(plant, rule, places):
+def safety(plant: Plant, rule: str, places: list[tuple[str, int]]) -> str:
     """Returns whether safety depends on a broken rule, in a sentence."""
     if rule[0] in "NR":
         return NEEDED
@@ -92,7 +95,7 @@ def safety(plant, rule, places):
     return {"C2": IDLE_END, "C3": IDLE_OVERLAP}.get(rule, IDLE)
 
 
-def where(plant, rule, places):
+def where(plant: Plant, rule: str, places: list[tuple[str, int]]) -> Marks:
     """What to mark in the plan."""
     if not places:
         return Marks([])

@@ -1,8 +1,14 @@
 """The broken rules of the interlocking table in words, R1 to R8: what it has, and what it should
 have. Each function takes a plant and a route's number, and yields sentences."""
 
+from __future__ import annotations
 
-def same_route(plant, i):
+from typing import Iterator
+
+from irvtools.model.plant import Plant
+
+
+def same_route(plant: Plant, i: int) -> Iterator[str]:
     """R1."""
     name = plant.routes[i].name
     yield (f"Route number {i} is called {name}, like route number {plant.route_named[name]}. Each "
@@ -10,13 +16,13 @@ def same_route(plant, i):
            "needs its own name.")
 
 
-def no_source(plant, i):
+def no_source(plant: Plant, i: int) -> Iterator[str]:
     """R2."""
     route = plant.routes[i]
     yield f"Route {route.name} begins at {route.member['source']}, but no board has that name."
 
 
-def wrong_sections(plant, i):
+def wrong_sections(plant: Plant, i: int) -> Iterator[str]:
     """R3."""
     route = plant.routes[i]
     names = [(list_, name) for list_ in ("path", "overlap") for name in route.member[list_]]
@@ -31,7 +37,7 @@ def wrong_sections(plant, i):
                    "they may list it once.")
 
 
-def wrong_points(plant, i):
+def wrong_points(plant: Plant, i: int) -> Iterator[str]:
     """R4."""
     route = plant.routes[i]
     yield from point_faults(plant, route, "points", "among the points")
@@ -64,7 +70,7 @@ def point_faults(plant, route, member, where):
             yield f"Route {route.name} lists points {name} {names.count(name)} times {where}."
 
 
-def no_destination(plant, i):
+def no_destination(plant: Plant, i: int) -> Iterator[str]:
     """R5."""
     route = plant.routes[i]
     yield (f"Route {route.name} ends at {route.member['destination']}, but no board has that name. "
@@ -72,7 +78,7 @@ def no_destination(plant, i):
            "destination must be a board, or null if the route leads out of the network.")
 
 
-def wrong_conflicts(plant, i):
+def wrong_conflicts(plant: Plant, i: int) -> Iterator[str]:
     """R6."""
     route = plant.routes[i]
     names = route.member["conflicts"]
@@ -85,7 +91,7 @@ def wrong_conflicts(plant, i):
             yield f"Route {route.name} lists {name} {names.count(name)} times as a conflict."
 
 
-def wrong_protecting_points(plant, i):
+def wrong_protecting_points(plant: Plant, i: int) -> Iterator[str]:
     """R7."""
     route = plant.routes[i]
     yield from point_faults(plant, route, "protecting_points", "among the protecting points")
@@ -97,7 +103,7 @@ def wrong_protecting_points(plant, i):
                        "Protecting points are outside path and overlap.")
 
 
-def wrong_protecting_boards(plant, i):
+def wrong_protecting_boards(plant: Plant, i: int) -> Iterator[str]:
     """R8."""
     route = plant.routes[i]
     names = route.member.get("protecting_boards", [])

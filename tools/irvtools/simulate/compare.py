@@ -4,6 +4,8 @@ scenario.
 A file that the simulator saved has what it said about the run, and which events it refused. For
 other files the simulator's model says it here, by a script engine if there is one. """
 
+from __future__ import annotations
+
 import hashlib
 import re
 import sys
@@ -106,7 +108,7 @@ def check_scene(asked, text, file):
     return agree
 
 
-def check(file, program, given):
+def check(file: str, program: str, given: bytes) -> int:
     """Asks `irv` about a file; returns the exit status."""
     try:
         text = Path(file).read_bytes().decode("ascii")

@@ -1,5 +1,7 @@
 """The simulator's model by a script engine outside of a browser, if there is one."""
 
+from __future__ import annotations
+
 import json
 import shutil
 import subprocess
@@ -12,12 +14,12 @@ NAMES = ("node", "nodejs")
 SECONDS = 600
 
 
-def find():
+def find() -> str | None:
     """The engine, or None."""
     return next((path for path in map(shutil.which, NAMES) if path), None)
 
 
-def as_text(text):
+def as_text(text: str) -> str:
     """A text as the script has it."""
     return json.dumps(text)
 

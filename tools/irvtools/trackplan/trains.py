@@ -1,6 +1,14 @@
 """A train in a track plan: its line from rear to front, its arrow and its number."""
 
+from __future__ import annotations
+
+from typing import TYPE_CHECKING
+
+from irvtools.model.state import State
 from irvtools.trackplan import signs
+
+if TYPE_CHECKING:
+    from irvtools.trackplan.drawing import Drawing
 
 
 def line(points):
@@ -8,12 +16,12 @@ def line(points):
     return "M" + "L".join(f"{x:.0f} {y:.0f}" for x, y in points)
 
 
-def path(points, class_):
+def path(points: list[tuple[float, float]], class_: str) -> str:
     """A line through points."""
     return f'<path d="{line(points)}" class="{class_}"/>'
 
 
-def train(drawing, direction, body, state, number):
+def train(drawing: Drawing, direction: str, body: list[int], state: State, number: int) -> str:
     """A train, from its rear to its front, with its number."""
     points = []
     for place, x in enumerate(body):
