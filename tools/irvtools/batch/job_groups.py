@@ -9,6 +9,12 @@ configuration of which an earlier call began a job that gave no answer: whatever
 itself only.
 """
 
+from __future__ import annotations
+
+from typing import Any
+
+from irvtools.batch.store import Store
+
 BYTES = 131072  # bytes of configurations in a group, unless another number is given
 SHARES = 3  # a group is a part of what is left: 1 / (SHARES * jobs that run at once)
 ALWAYS_APART = ("html",)
@@ -16,7 +22,8 @@ OF_QUERIES = ("export", "solve", "rup", "verify_with")
 SHORT_QUERIES = 8192            # bytes of a configuration below which its queries are short
 
 
-def grouped(store, missing, tried, most, at_once):
+def grouped(store: Store, missing: list[dict[str, Any]], tried: set[str], most: int, at_once: int
+            ) -> tuple[list[list[dict[str, Any]]], list[dict[str, Any]]]:
     """Returns these jobs as groups, each in the order of the plan, and the jobs that are not
     grouped. `tried` has the keys of jobs that were begun before, `most` is the greatest number
     of bytes of configurations in a group, and `at_once` is how many jobs may run at once."""

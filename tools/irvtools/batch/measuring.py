@@ -1,5 +1,7 @@
 """Calls a program and measures it: its time, its memory, and the machine."""
 
+from __future__ import annotations
+
 import ctypes
 import os
 import platform
@@ -14,18 +16,18 @@ PARENT_DIES = 1         # PR_SET_PDEATHSIG of prctl(2)
 TAIL = 4000             # bytes of a complaint that are read
 
 
-def machine():
+def machine() -> str:
     """Returns this machine in one line."""
     return f"{platform.node()} {platform.system()} {platform.release()} {platform.machine()}"
 
 
-def end_with_parent(number=signal.SIGKILL):
+def end_with_parent(number: int = signal.SIGKILL) -> None:
     """Makes this process end when its parent does; for a child before it becomes another
     program."""
     ctypes.CDLL(None).prctl(PARENT_DIES, int(number))
 
 
-def last_line(data):
+def last_line(data: bytes) -> str:
     """Returns the last line of a text that isn't empty."""
     lines = data.decode(errors="replace").split("\n")
     return next((line.strip() for line in reversed(lines) if line.strip()), "")

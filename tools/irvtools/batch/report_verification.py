@@ -7,9 +7,12 @@ those that say nothing about the interlocking, and HTML reports, of which the ch
 line are compared.
 """
 
+from __future__ import annotations
+
 import json
 import tempfile
 from pathlib import Path
+from typing import Any
 
 from irvtools.batch import html_verdicts
 from irvtools.batch import report_files
@@ -20,9 +23,10 @@ from irvtools.batch.batch_report import sizes_of, verdict_value
 from irvtools.batch.job_kinds import call_program
 from irvtools.batch.planning import FORM
 from irvtools.batch.program_answers import NoAnswer
+from irvtools.batch.progress import Progress
 from irvtools.batch.questions import Question
 from irvtools.batch.solver_jobs import safe_by_line
-from irvtools.batch.store import checksum_of, checksum_of_file, text_of
+from irvtools.batch.store import Store, checksum_of, checksum_of_file, text_of
 from irvtools.calls.proved_program import is_proved
 from irvtools.calls.refusal import Refused
 from irvtools.calls.verdict import SAFE
@@ -43,7 +47,7 @@ class Fault(Exception):
     """Something isn't as the report says: the message says what."""
 
 
-def texts_of(report):
+def texts_of(report: dict[str, Any]) -> dict[str, bytes]:
     """Returns the texts that are made of a report, by their files."""
     return {report_page.FILE: report_page.page(report).encode(),
             report_files.XML: report_files.junit(report).encode(),
@@ -275,7 +279,7 @@ class Verifier:
             raise Fault(f"{answer['line']} does not follow from its queries")
 
 
-def verify(store, program, progress):
+def verify(store: Store, program: Path, progress: Progress) -> tuple[list[str], int, int]:
     """Checks a directory; returns the faults, how many answers there are, and how many of them
     were checked only by their checksums."""
     with tempfile.TemporaryDirectory(prefix="irv-batch-") as room:

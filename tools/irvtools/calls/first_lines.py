@@ -1,5 +1,7 @@
 """The first lines of answers that aren't known to the byte, and their statuses."""
 
+from __future__ import annotations
+
 import re
 
 NUMBER = "(?:0|[1-9][0-9]*)"
@@ -11,11 +13,11 @@ VERDICT = re.compile(rf"(?:{STATIONS})?(?:safe k=(?:[1-9]|1[0-6])|unsafe steps={
 STATUS_OF = {"safe": 0, "unsafe": 1, "not": 2, "breach": 3, "spent": 4}
 
 
-def judgement(line):
+def judgement(line: str) -> str:
     """A verdict without what demo prints before it."""
     return re.sub(f"^{STATIONS}", "", line)
 
 
-def kind_of(verdict):
+def kind_of(verdict: str) -> str:
     """The first word of a verdict."""
     return judgement(verdict).split(" ")[0]

@@ -5,6 +5,7 @@ from __future__ import annotations
 import signal
 import sys
 from contextlib import contextmanager
+from typing import Iterator
 
 SIGNALS = (signal.SIGINT, signal.SIGTERM, signal.SIGHUP)
 
@@ -35,7 +36,7 @@ class Interrupted(BaseException):
 
 
 @contextmanager
-def interruptible():
+def interruptible() -> Iterator[None]:
     """Makes a signal that would end the tool raise `Interrupted`, so that what was begun is taken
     down. A signal that is ignored stays ignored."""
     def end(number, _):

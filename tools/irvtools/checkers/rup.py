@@ -6,14 +6,17 @@ program but the grammar: an item is tried by setting the opposites of its litera
 prints `refuted`, or `rejected item I` with the number of the first bad item.
 """
 
+from __future__ import annotations
+
 import re
 import sys
 from pathlib import Path
+from typing import Iterable, Iterator
 
 LITERAL = re.compile(rb"-?[1-9][0-9]*")
 
 
-def words_of(text):
+def words_of(text: bytes) -> Iterator[bytes]:
     """The words of a text: lines whose first byte is c are left out, and the rest is cut at spaces, tabs
     and carriage returns."""
     for line in text.split(b"\n"):
@@ -21,7 +24,7 @@ def words_of(text):
             yield from (word for word in re.split(rb"[ \t\r]", line) if word)
 
 
-def items_of(words):
+def items_of(words: Iterable[bytes]) -> Iterator[list[bytes]]:
     """The items: each ends with the next word 0, which the last may lack."""
     item = []
     for word in words:
@@ -33,7 +36,7 @@ def items_of(words):
         yield item
 
 
-def literals_of(words, variables):
+def literals_of(words: list[bytes], variables: int) -> list[int] | None:
     """The literals before the last word, which must be 0; None where a word is none."""
     if not words or words[-1] != b"0":
         return None
@@ -120,7 +123,8 @@ class Clauses:
         return not holds
 
 
-def first_bad(variables, formula, text, known=0):
+def first_bad(variables: int, formula: Iterable[Iterable[int]], text: bytes,
+              known: int = 0) -> int | None:
     """The number of the first bad item, or None where the text is accepted. So many items are known to be
     right, since they stand at the beginning of a text that was judged before."""
     clauses = Clauses(variables, formula)
@@ -139,7 +143,8 @@ def first_bad(variables, formula, text, known=0):
     return None if clauses.refuted else number + 1
 
 
-def answer(query, variables, formula, text, known=0):
+def answer(query: str, variables: int, formula: Iterable[Iterable[int]], text: bytes,
+           known: int = 0) -> str:
     """What the program answers to a text that is to refute the formula of a query."""
     bad = first_bad(variables, formula, text, known)
     return f"refuted {query}" if bad is None else f"rejected item {bad}"

@@ -1,5 +1,7 @@
 """The command line of `irv --csv`: reads and writes interlocking tables as CSV, and compares two."""
 
+from __future__ import annotations
+
 import argparse
 import sys
 from pathlib import Path
@@ -186,7 +188,7 @@ def print_out(text):
         raise Refused(f"standard output: it can't be written: {reason(fault)}") from None
 
 
-def main(words):
+def main(words: list[str]) -> int:
     """Does what the arguments ask for; returns the exit status."""
     options = options_of(words)
     try:

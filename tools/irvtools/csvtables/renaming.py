@@ -1,6 +1,9 @@
 """Other names, and routes that are dropped, through all lists of a configuration."""
 
+from __future__ import annotations
+
 from collections import Counter
+from typing import Any
 
 from irvtools.csvtables.configurations import read_text
 from irvtools.rules.schema_rules import NAME
@@ -82,7 +85,7 @@ class Changes:
         return renamed(value, new)
 
 
-def names_of(value):
+def names_of(value: dict[str, Any]) -> dict[str, Counter[str]]:
     """How often each name stands, of each kind."""
     return {ROUTE: Counter(route["name"] for route in value["routes"]),
             SECTION: Counter(section["name"] for section in value["sections"]),
@@ -122,7 +125,7 @@ def taken_twice(value, new):
                        f"a {kind} that isn't there")
 
 
-def missing(value, kind, names):
+def missing(value: dict[str, Any], kind: str, names: Counter[str]) -> list[str]:
     """The names of a kind that the configuration refers to, and nothing has."""
     seen = []
     renamed(value, {one: Seen(seen if one == kind else []) for one in (ROUTE, SECTION, BOARD)})
@@ -150,7 +153,7 @@ def without(value, dropped):
         for route in value["routes"] if route["name"] not in dropped]}
 
 
-def renamed(value, new):
+def renamed(value: dict[str, Any], new: dict[str, dict[str, str]]) -> dict[str, Any]:
     """A configuration with new names: of each kind, by old ones."""
     def of(kind, names):
         if isinstance(names, list):
@@ -164,7 +167,7 @@ def renamed(value, new):
         for list_, kinds in KINDS.items()}}
 
 
-def named(value):
+def named(value: dict[str, Any]) -> dict[str, Any]:
     """Returns a configuration whose routes are called by their source and their destination, or by the
     section at which they end. Alternative routes, which would have one name, also get the name of the
     first point, or else section, over which only that one goes; several without one get a number."""

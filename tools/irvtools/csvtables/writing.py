@@ -1,8 +1,11 @@
 """From a configuration to both CSV files."""
 
+from __future__ import annotations
+
 import os
 import shutil
 from pathlib import Path
+from typing import Any
 
 from irvtools.csvtables import cells
 from irvtools.csvtables import columns
@@ -22,7 +25,7 @@ def csv_rows(known, entries, extra=(), labels=()):
                      for heading in extra]
 
 
-def csv_texts(value):
+def csv_texts(value: dict[str, Any]) -> dict[str, str]:
     """Returns the text of each CSV file of a configuration, by the name of the file."""
     extra = value.get(columns.EXTRA, {})
     known = {columns.SECTIONS: ("sections", columns.OF_SECTIONS),
@@ -32,7 +35,7 @@ def csv_texts(value):
             for file, (list_, of_file) in known.items()}
 
 
-def write_directory(value, directory):
+def write_directory(value: dict[str, Any], directory: str | Path) -> None:
     """Writes both CSV files into a directory, which is made if it does not exist. A file that exists is not
     written over; where one can't be written none is left."""
     texts, directory, made = csv_texts(value), Path(directory), []
@@ -60,7 +63,7 @@ def make_directory(directory):
         raise Refused(f"{directory}: it can't be made: {reason(fault)}") from None
 
 
-def write_new(path, text):
+def write_new(path: str | Path, text: str) -> None:
     """Writes a file that isn't there; none is left where it can't be written whole."""
     try:
         file = open(path, "x", encoding="utf-8", newline="")
@@ -76,7 +79,7 @@ def write_new(path, text):
         raise Refused(cannot(path, fault)) from None
 
 
-def write_over(path, text):
+def write_over(path: Path, text: str) -> None:
     """Writes a file over the one that is there. That one is kept if the new one can't be written whole."""
     new = Path(f"{path}.new")
     write_new(new, text)
@@ -88,7 +91,7 @@ def write_over(path, text):
         raise Refused(cannot(path, fault)) from None
 
 
-def is_there(path):
+def is_there(path: str | Path) -> str:
     """That a file is there."""
     return f"{path}: it is there already, and isn't written over"
 

@@ -1,9 +1,12 @@
 """A run or a scenario that the caller gives, as a file. Its first line says which of the two it
 is."""
 
+from __future__ import annotations
+
 from pathlib import Path
 
 from irvtools.model.events import EVENTS
+from irvtools.model.plant import Plant
 from irvtools.model.state import ROUTE_WORDS, State, read_event, read_state_line, state_lines
 from irvtools.html.options import Refused
 
@@ -70,12 +73,12 @@ class Given:
         return state, [read_event(plant, line) for line in self.lines[begin:last]]
 
 
-def quoted(line):
+def quoted(line: str) -> str:
     """A line as it is quoted, cut if it is long."""
     return f"“{line[:LONGEST_WORD]}{'…' if len(line) > LONGEST_WORD else ''}”"
 
 
-def bad_line(given, plant, number):
+def bad_line(given: Given, plant: Plant, number: int) -> str:
     """Why a line, by its number from 1, is wrong: the page's own words."""
     lines = given.lines
     if number > len(lines) or number == len(lines) and not lines[-1]:
@@ -120,7 +123,7 @@ def bad_event(plant, line, words):
     return MORE
 
 
-def driven(plant, output):
+def driven(plant: Plant, output: str) -> list[tuple[str, int]]:
     """The events of the run that drive printed after its first line."""
     lines = output.split("\n")
     return [read_event(plant, line) for line in lines[3:lines.index("end")]]

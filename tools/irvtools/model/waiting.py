@@ -1,8 +1,12 @@
 """What each train and each route in use waits for, in a state without an automatic event: the
 page's own reading, by the demands of the event that would be next."""
 
+from __future__ import annotations
+
 from irvtools.model.disabled_events import unmet
 from irvtools.model.phrases import join
+from irvtools.model.plant import Plant
+from irvtools.model.state import State
 
 AWAITED = {"marked": "allocate", "allocating": "lock"}      # a route's next event, by its mode
 
@@ -54,7 +58,7 @@ def train_wait(plant, state, train):
     return f"{where} waits at {name}, which is closed: {why}."
 
 
-def waiting(plant, state):
+def waiting(plant: Plant, state: State) -> list[str]:
     """What each train and each route in use waits for: sentences."""
     return ([train_wait(plant, state, train) for train in state.trains]
             + [route_wait(plant, state, r) for r in range(len(plant.routes)) if state.mode[r] != "free"])

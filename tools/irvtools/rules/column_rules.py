@@ -1,11 +1,16 @@
 """The broken rules of the columns in words, C1 to C8: what the table has, and what it should have.
 Each function takes a plant and the numbers of the places, and yields sentences."""
 
-from irvtools.model.plant import OPPOSITE, OTHER_LEG
+from __future__ import annotations
+
+from typing import Iterator
+
+from irvtools.model.plant import OPPOSITE, OTHER_LEG, Plant, Route
 from irvtools.model.phrases import join, way_words
 
 
-def gaps(plant, route, sections, before):
+def gaps(plant: Plant, route: Route, sections: list[int],
+         before: int) -> Iterator[tuple[int, int]]:
     """Yields the gaps of a list of sections: the section before, and the one that is listed."""
     for x in sections:
         if x not in plant.nexts[before, route.direction]:
@@ -18,7 +23,7 @@ def leads(plant, sections, direction):
     return all(y in plant.nexts[x, direction] for x, y in zip(sections, sections[1:]))
 
 
-def wrong_way(plant, route):
+def wrong_way(plant: Plant, route: Route) -> str | None:
     """Returns what is wrong with a route whose path leads against its direction, in a sentence;
     None if it doesn't."""
     source, other = plant.boards[route.source], OPPOSITE[route.direction]
@@ -46,7 +51,7 @@ def wrong_way(plant, route):
             f"section {plant.name(route.path[-1])}.")
 
 
-def path_gap(plant, i):
+def path_gap(plant: Plant, i: int) -> Iterator[str]:
     """C1."""
     route = plant.routes[i]
     source = plant.boards[route.source]
@@ -61,7 +66,7 @@ def path_gap(plant, i):
                    f"{plant.name(before)} in its path; {comes}.")
 
 
-def path_end(plant, i):
+def path_end(plant: Plant, i: int) -> Iterator[str]:
     """C2."""
     route = plant.routes[i]
     direction = route.direction
@@ -93,7 +98,7 @@ def path_end(plant, i):
                f"its destination is {named}; it should be null.")
 
 
-def runs_on(plant, i):
+def runs_on(plant: Plant, i: int) -> bool:
     """C2, as far as safety depends on it: whether nothing stops a train at the end of a route's
     path."""
     route = plant.routes[i]
@@ -101,7 +106,7 @@ def runs_on(plant, i):
     return last not in plant.board_on and bool(plant.nexts[last])
 
 
-def points_wrong(plant, i):
+def points_wrong(plant: Plant, i: int) -> Iterator[str]:
     """C3."""
     route = plant.routes[i]
     yield from points_of_path_wrong(plant, route)
@@ -111,7 +116,7 @@ def points_wrong(plant, i):
             yield f"Route {route.name} has points {plant.name(x)} in its overlap, but does not list them."
 
 
-def wrong_on_path(plant, route):
+def wrong_on_path(plant: Plant, route: Route) -> Iterator[tuple[int, list[str]]]:
     """Yields the points of a route's path that it doesn't list in the position that its path needs,
     each with the positions that would do."""
     positions = dict(route.points)
@@ -125,7 +130,7 @@ def wrong_on_path(plant, route):
                 yield x, needed
 
 
-def points_of_path_wrong(plant, route):
+def points_of_path_wrong(plant: Plant, route: Route) -> Iterator[str]:
     """C3, as far as safety depends on it."""
     positions = dict(route.points)
     for x, needed in wrong_on_path(plant, route):
@@ -145,7 +150,7 @@ def points_of_path_wrong(plant, route):
                f"but {goes}")
 
 
-def overlap_gap(plant, i):
+def overlap_gap(plant: Plant, i: int) -> Iterator[str]:
     """C4."""
     route = plant.routes[i]
     for before, x in gaps(plant, route, route.overlap, route.path[-1]):
@@ -155,18 +160,18 @@ def overlap_gap(plant, i):
                f"{way_words(plant, before, route.direction)}.")
 
 
-def one_sided(plant, i, j):
+def one_sided(plant: Plant, i: int, j: int) -> Iterator[str]:
     """C5."""
     one, other = plant.routes[i].name, plant.routes[j].name
     yield f"Route {one} lists {other} as a conflict, but {other} does not list {one}; it should."
 
 
-def shared(plant, i, j):
+def shared(plant: Plant, i: int, j: int) -> list[int]:
     """Returns the sections that two routes both lock."""
     return [x for x in plant.routes[i].locked if x in plant.routes[j].locked]
 
 
-def unlisted_share(plant, i, j):
+def unlisted_share(plant: Plant, i: int, j: int) -> Iterator[str]:
     """C6."""
     one, other = plant.routes[i].name, plant.routes[j].name
     names = join(plant.name(x) for x in shared(plant, i, j))
@@ -175,7 +180,7 @@ def unlisted_share(plant, i, j):
            "should list the other.")
 
 
-def bare_border(plant, i):
+def bare_border(plant: Plant, i: int) -> Iterator[str]:
     """C7."""
     inward = plant.inward[i]
     yield (f"The network ends at section {plant.name(i)}, but no board stops trains that enter "
@@ -183,7 +188,7 @@ def bare_border(plant, i):
            f"{inward}. The section needs a board for direction {inward}.")
 
 
-def unlisted_protection(plant, i, j):
+def unlisted_protection(plant: Plant, i: int, j: int) -> Iterator[str]:
     """C8."""
     one, other = plant.routes[i], plant.routes[j]
     yield (f"Route {other.name} begins at {plant.boards[other.source].name}, a protecting board of "

@@ -1,14 +1,18 @@
 """Searches for runs from the initial state to a hazard, at random. What is found is the page's own,
 until `irv replay` has answered it. """
 
+from __future__ import annotations
+
 import random
 import time
+from typing import Iterable
 
 from irvtools.rules import broken_rules
 from irvtools.search.route_groups import Crew
 from irvtools.search.route_relations import Relations
 from irvtools.search.run_shortening import readable
 from irvtools.model.bitset_events import Facts
+from irvtools.model.plant import Plant
 from irvtools.search.route_uses import is_use
 from irvtools.search.random_run import Walk
 
@@ -20,7 +24,8 @@ MORE = 400              # runs, after which one route more that meets the suspec
 MOST_OTHERS = 4
 
 
-def suspects_of(plant, broken):
+def suspects_of(plant: Plant, broken: Iterable[tuple[str, list[tuple[str, int]]]]
+                ) -> list[tuple[str, int]]:
     """Where a search looks first, by the rules of the columns that are broken, each with its places
     (as `rules.read_line` reads them): the routes and borders that break one on which safety
     rests."""

@@ -1,9 +1,13 @@
 """The plan of `trackplan` as the script of the page draws it: where lines, signs, letters and
 trains are, and the shapes of the signs."""
 
+from __future__ import annotations
+
 import re
+from typing import Any
 
 from irvtools.trackplan import signs
+from irvtools.trackplan.drawing import Drawing
 
 EDGE_OF_ENTRY = 15      # from the end of a border to the sign at which a train comes in
 JOINT = re.compile(r'<path d="M([-0-9 L]+)" class="(j|torn)"/>')
@@ -29,7 +33,7 @@ def joints(drawing):
         yield match[2], [[int(place) for place in point.split(" ")] for point in match[1].split("L")]
 
 
-def geometry(drawing):
+def geometry(drawing: Drawing) -> dict[str, Any]:
     """Returns the plan's strips, the joints, the lines of each section, the places of letters,
     boards and entries, and the shapes of the signs, which are those of the report."""
     sections = range(len(drawing.plant.sections))
