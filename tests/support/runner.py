@@ -9,13 +9,16 @@ from __future__ import annotations
 import importlib
 import multiprocessing
 import os
+import shutil
 import signal
 import sys
+import tempfile
 import time
 import traceback
 import unittest
 from dataclasses import dataclass
 from multiprocessing import connection
+from pathlib import Path
 from typing import Iterable, Iterator
 
 from irvtools.arguments import Parser, whole_number
@@ -165,6 +168,8 @@ def without_result(unit: list[unittest.TestCase], outcomes: list[Outcome]) -> li
 def answer_unit(unit, answer) -> None:
     """Runs a unit in this process, and sends its results."""
     signal.signal(signal.SIGINT, signal.default_int_handler)
+    for number in (signal.SIGHUP, signal.SIGTERM):      # whatever began the tests may ignore them
+        signal.signal(number, signal.SIG_DFL)
     answer.send(run_unit(unit))
 
 
@@ -256,7 +261,11 @@ def main(words: list[str]) -> int:
         return 2
     same = SETTINGS.program == PROGRAM.resolve()
     again = "tests/run" + ("" if same else f" --program {given.program}") + (" --long" * given.long)
-    return run_and_count(tests, given.jobs, again)
+    with tempfile.TemporaryDirectory(prefix="irv-tests-") as room:
+        if SETTINGS.program.is_file():
+            # the same bytes without what is beside the program: tests make the notes that they need
+            SETTINGS.program = Path(shutil.copy(SETTINGS.program, Path(room, "irv")))
+        return run_and_count(tests, given.jobs, again)
 
 
 def run_and_count(tests: list[unittest.TestCase], jobs: int, again: str) -> int:
