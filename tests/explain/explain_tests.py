@@ -221,7 +221,7 @@ def check_own_faults(program, _):
             (["check", "--in", "none"], b"", "irv: none/sections.csv: it can't be read: No such file or directory\n"
              "irv: none/routes.csv: it can't be read: No such file or directory\n", 125),
             ([], b"", "irv --explain: give a command of irv, as check; see irv --explain --help\n", 125),
-            (["check"], clean, "", 0), (["check", "--explain", "--columns=free"], clean, "", 0)]:
+            (["replay", "--run", "none"], clean, "irv: read fault\n", 8)]:
         done = subprocess.run([TOOL, *([] if "--program" in words else ["--program", program]), *words],
                               input=given, capture_output=True, check=False)
         if (done.stderr.decode(), done.returncode) != (stderr, status):
@@ -234,6 +234,33 @@ def check_own_faults(program, _):
         yield f"full: {done}"
 
 
+def check_verdicts(program, _):
+    """The last line is the verdict of what check or verify answered; other commands have none."""
+    wrong = (TOP / "examples/platforms-wrong-position.json").read_bytes()
+    clean = (TOP / "examples/station.json").read_bytes()
+    for words, given, word in [
+            (["check"], clean, "SAFE"), (["check", "--columns=free"], clean, "NOT SHOWN"),
+            (["check", "--columns", "free"], wrong, "NOT SHOWN"), (["check"], wrong, "REFUSED"),
+            (["check"], without_conflicts(clean), "SAFE WITH DEVIATIONS: proved"),
+            (["verify", "--cert", "c"], clean, "SAFE"),
+            (["verify", "--columns", "free", "--depth", "8", "--cert", "c"], wrong, "HAZARD FOUND"),
+            (["table"], clean, None)]:
+        with tempfile.TemporaryDirectory(prefix="irv-explain-") as room:
+            last = run(program, words, given, room).stderr.decode().splitlines()[-1:]
+        found = last[0].removeprefix("irv: verdict: ").partition(". ")[0] if last else None
+        if found != word:
+            yield f"{words}: {last}, expected {word}"
+
+
+def without_conflicts(given):
+    """Returns a configuration whose routes list no conflicts."""
+    value = json.loads(given)
+    for route in value["routes"]:
+        route["conflicts"] = []
+    return json.dumps(value).encode()
+
+
 ExplainTests = test_case("ExplainTests", [
+    check_verdicts,
     check_cases, check_rules, check_new_rule, check_json_places, check_csv_places, check_passed_through,
     check_own_faults])

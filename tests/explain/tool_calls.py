@@ -16,8 +16,9 @@ def run(program, words, given, room="."):
 
 
 def told(program, words, given, files):
-    """Returns what the tool prints on standard error, over files in its directory."""
+    """Returns what the tool prints on standard error before the verdict, over files in its directory."""
     with tempfile.TemporaryDirectory(prefix="irv-explain-") as room:
         for name, text in files.items():
             Path(room, name).write_text(text, encoding="utf-8")
-        return run(program, words, given, room).stderr.decode()
+        said = run(program, words, given, room).stderr.decode()
+        return "".join(line for line in said.splitlines(keepends=True) if not line.startswith("irv: verdict: "))

@@ -1,4 +1,8 @@
-"""A browser without a screen, driven over a pipe by the protocol of its developer tools."""
+"""A headless browser, driven over a pipe by the protocol of its developer tools.
+
+It is hand-written because the drivers of Debian need a port and a further program; the pipe needs neither, so tests
+can run in parallel.
+"""
 
 import base64
 import json

@@ -1,5 +1,7 @@
 """Random networks that break no rule N, the same at each call.
 
+The generator is hand-written and seeded: a failure has to be repeatable by its seed alone.
+
 A network grows from its lower borders: an open end gets a linear section or a point that parts into two
 ends, or two ends come together at a point. Then each end is closed by a border, the sections are put
 into another order, and boards are put where there may be some.

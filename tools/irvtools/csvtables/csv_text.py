@@ -1,5 +1,8 @@
-"""Values apart by commas, as RFC 4180 has them, and as spreadsheets write them: also apart by semicolons,
-and with a mark of the encoding at the beginning.
+"""Reads and writes CSV as RFC 4180 has it, and as spreadsheets write it: also with semicolons, and with a byte order
+mark at the beginning.
+
+It is hand-written because each fault is reported with its line and column, which the module `csv` of the standard
+library does not tell.
 
 A quotation mark opens a cell in quotation marks only as its first character; inside such a cell two
 of them stand for one. Lines end with CR LF, LF or CR.

@@ -5,9 +5,12 @@ from __future__ import annotations
 
 import subprocess
 import sys
+from pathlib import Path
 
 from irvtools.arguments import Parser
+from irvtools.calls.proved_program import is_proved
 from irvtools.calls.refusal import Refused, reason
+from irvtools.calls.verdict import Answered, verdict
 from irvtools.explain.sentences import command_of, plant_of_answer, sentences
 from irvtools.explain.sources import CsvSource, JsonSource
 from irvtools.rules.table_advice import by_route
@@ -17,6 +20,8 @@ FLAGS = ("--explain", "--advise", "--help", "-h")
 WITH_VALUE = ("--in", "--program")
 WITHOUT_INPUT = ("make", "demo", None)      # commands that read no configuration
 SIGNALLED = 128
+JUDGED = ("check", "verify")                # commands whose answer comes to a verdict
+MOST_ANSWER = 5                             # the greatest exit status of an answer of these
 
 
 def parser() -> Parser:
@@ -105,10 +110,27 @@ def main(words: list[str]) -> int:
         tell(refused.lines())
         return NO_ANSWER
     text = output.decode(errors="replace")
-    tell(sentences(options.program, rest, source, text))
+    tell([*sentences(options.program, rest, source, text), *verdict_lines(options.program, rest, status, text)])
     if options.advise:
         tell(advice_lines(source, text))
     return status
+
+
+def columns_of(words: list[str]) -> str:
+    """Returns the value of --columns among some arguments, strict if it is not given."""
+    for word, value in zip(words, [*words[1:], ""]):
+        if word == "--columns" or word.startswith("--columns="):
+            return word.partition("=")[2] or value
+    return "strict"
+
+
+def verdict_lines(program: Path, words: list[str], status: int, output: str) -> list[str]:
+    """Returns the verdict of what check or verify answered; nothing for another command or a fault."""
+    command = command_of(words)
+    if command not in JUDGED or status > MOST_ANSWER:
+        return []
+    found = verdict([Answered(command, columns_of(words), status, output)], is_proved(Path(program)))
+    return [f"verdict: {found.line}"]
 
 
 def advice_lines(source: JsonSource | CsvSource, output: str) -> list[str]:

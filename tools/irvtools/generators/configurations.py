@@ -1,4 +1,8 @@
-"""Configurations for cases: from a short plant text, or made to a size."""
+"""Configurations for cases: from a short plant text, or made to a size.
+
+They are hand-written because each has to be the same at each call, on each machine, and to meet the rules of a
+configuration; libraries of random data promise neither.
+"""
 
 from __future__ import annotations
 

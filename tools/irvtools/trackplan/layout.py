@@ -1,5 +1,8 @@
 """Where the sections of a plant lie in a track plan.
 
+It is hand-written because layout libraries draw general graphs: a track plan has rows of tracks, up trains from
+left to right, and legs of points that slant.
+
 A joint is where two sections meet, or where the network ends. A section reaches from joint to
 joint, straight on, but for the minus leg of a point, which leads aside: to another row, where the
 section at its end goes on. So the sections fall into tracks, chains of sections that are joined
