@@ -161,11 +161,11 @@ def check_calls(program, _):
     """Advice is printed on standard error, by route, mistakes first; the answer stays the program's."""
     value = with_route(BAY, "ND1-NA1", protecting_points=positions("W3-", "E1+"))
     for given, lines in [
-            (value, ["verdict: NOT SHOWN. ", "mistake: Route ND1-NA1 has the protecting points W3-,",
+            (value, ["mistake: Route ND1-NA1 has the protecting points W3-,",
                      "mistake: Route ND1-NA1 has the protecting points E1+,", "note: Overlaps that do not end "]),
-            (example("examples/station.json"), ["verdict: NOT SHOWN. ", "advice: no mistakes and no notes"]),
+            (example("examples/station.json"), ["advice: no mistakes and no notes"]),
             ({**value, "routes": [{**value["routes"][0], "source": "none", "conflicts": []}]}, [
-                "standard input, line 1, column ", "verdict: REFUSED. ", "no advice: it needs a configuration in which the rules F, N and R "])]:
+                "standard input, line 1, column ", "no advice: it needs a configuration in which the rules F, N and R "])]:
         text = json.dumps(given).encode()
         done = subprocess.run([TOOL, "--program", program, "check", "--advise", "--columns", "free"], input=text,
                               capture_output=True, check=False)

@@ -110,7 +110,9 @@ def main(words: list[str]) -> int:
         tell(refused.lines())
         return NO_ANSWER
     text = output.decode(errors="replace")
-    tell([*sentences(options.program, rest, source, text), *verdict_lines(options.program, rest, status, text)])
+    tell(sentences(options.program, rest, source, text))
+    if options.explain or not options.advise:
+        tell(verdict_lines(options.program, rest, status, text))
     if options.advise:
         tell(advice_lines(source, text))
     return status
