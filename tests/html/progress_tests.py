@@ -78,7 +78,7 @@ def check_certificate(program, _):
         for words in ("SAFE", "The certificate was not kept (--no-cert).", "--cert FILE"):
             if words not in text:
                 yield f"{words!r} isn't on the report"
-        if "/tmp/" in text.replace(directory, ""):
+        if "/tmp/" in text.replace(directory, "").replace(str(Path(program).parent), ""):
             yield "the report names a temporary file"
 
 
