@@ -95,7 +95,7 @@ def files_faults(room, reports, expected):
     lines = [line for line in room.table() if line["question"].startswith("html")]
     yield from differs("CSV", {line["configuration"]: line["verdict"] for line in lines},
                        {name: word for name, (word, _) in reports.items()})
-    yield from differs("CSV counts", counts([line["outcome"] for line in lines]), expected)
+    yield from differs("CSV counts", counts([line["verdict"] for line in lines]), expected)
     suite = xml.etree.ElementTree.parse(room.out / "report.xml").getroot()[0]
     failures = [
         case.find("failure") for case in suite.iter("testcase")
