@@ -1,9 +1,9 @@
 """Finds public calls that may run out of memory and that nothing calls.
 
-No clause refuses a body that always answers out of memory, because memory is never promised. Such a body is found
-only if the program or a test calls it with ample memory. So each public function of the crates whose result may be
-out of memory has to be called outside its own body: by the program, on the way from `run`, or by a test. A function
-is called by its name; a method by its type's name before it, or after a dot in a file that names its type.
+No clause refuses a body that always answers out of memory, because memory is never promised. Only a
+call with ample memory finds it. So each such public function must be called outside its own body:
+by the program, on the way from `run`, or by a test. A function is called by its name; a method by
+its type's name before it, or after a dot in a file that names the type.
 """
 
 import re
@@ -20,12 +20,12 @@ Call = namedtuple("Call", "crate file owner name")
 
 
 def code(text):
-    """The text without its remarks."""
+    """Returns the text without its comments."""
     return REMARK.sub("", text)
 
 
 def owner_at(text, place):
-    """Returns the type whose `impl` contains a place of the text, or None if none does."""
+    """Returns the type whose `impl` contains a place, or `None`."""
     owner = None
     for found in IMPL.finditer(text, 0, place):
         ends = text.find("\n}", found.start())
@@ -40,7 +40,7 @@ def signature(text, place):
 
 
 def public_calls(files):
-    """The public functions and methods that can answer want of memory."""
+    """Yields the public functions and methods that may answer out of memory."""
     for file, text in files.items():
         crate = file.split("/")[0]
         if crate.endswith("_tests") or crate == "irv":
@@ -52,21 +52,21 @@ def public_calls(files):
 
 
 def exported(crate, files):
-    """The names that a crate hands on."""
+    """Returns the names that a crate re-exports."""
     lib = files.get(f"{crate}/src/lib.rt", "")
     return set(re.findall(r"\w+", " ".join(re.findall(r"^pub use [^;]*;", lib, re.M))))
 
 
 def used_from(call, file):
-    """What a file has that uses a function of another one."""
+    """Returns the pattern for importing a function into another file."""
     crate = "crate" if file.startswith(call.crate + "/") else call.crate
     return rf"\buse {crate}::[^;]*\b{call.name}\b"
 
 
 def makes(call, file, text):
-    """Whether a file calls it, outside its definition."""
+    """Returns whether a file makes a call outside its definition."""
     if call.owner is None:
-        # it is that crate's function where the file is its own or names it among what it uses
+        # it is that crate's function only in its own file or one that imports its name
         if file != call.file and not re.search(used_from(call, file), text):
             return False
         calls = rf"(?<!fn )(?<![.:\w]){call.name}(?:::<[^()]*>)?\(|[(,|] *{call.name} *[,)]"
@@ -79,7 +79,7 @@ def makes(call, file, text):
 
 
 def uncalled(files):
-    """The calls that nothing makes, and how many there are in all."""
+    """Returns how many calls there are, and those that nothing makes."""
     count, missing = 0, []
     for call in public_calls(files):
         names = exported(call.crate, files)
@@ -92,14 +92,14 @@ def uncalled(files):
 
 
 def read_files():
-    """The code of all crates, by its file below crates/."""
+    """Returns the code of all crates, by file below crates/."""
     crates = TOP / "crates"
     return {str(it.relative_to(crates)): code(it.read_text())
             for it in sorted(crates.glob("*/src/**/*.rt"))}
 
 
 def self_check():
-    """Sees that a function and a method that nothing calls are found, and those that are called aren't."""
+    """Checks that uncalled functions and methods are found, and called ones are not."""
     lib = "mod a;\npub use a::{asked, Found, left};\n"
     own = ("pub fn asked(alloc: Global) -> Result<u64, AllocError> {\n}\n"
            "pub fn left(alloc: Global) -> Result<u64, AllocError> {\n}\n"
@@ -116,14 +116,14 @@ def self_check():
 
 
 class AllocCoverageTests(Test):
-    """Each public call that may run out of memory is called somewhere."""
+    """Tests that each public call that may run out of memory has a caller."""
 
     def test_self_check(self):
-        """A call that nothing makes is found, and one that is made is not."""
+        """Uncalled functions and methods are found, and called ones are not."""
         self_check()
 
     def test_calls(self):
-        """Something calls each: otherwise a body that always answers out of memory would pass."""
+        """Something calls each; otherwise a body that always answers out of memory would pass."""
         count, missing = uncalled(read_files())
         self.see([f"nothing calls {f'{call.owner}::' if call.owner else ''}{call.name} of crates/{call.file}"
                   for call in missing], count)

@@ -1,9 +1,8 @@
-"""Tests of `audit`: certificates that verify wrote and that were changed afterwards.
+"""Tests of `audit` on changed certificates of verify.
 
-Certificates are changed in the ways of `support/certificate_changes.py`: some whose answers are plain, cuts at
-many lengths, and some hundred at random, the same at each run. Each answer, with the number of the
-line, has to be that of the independent checker over the formulas that `irv export` prints. `tests/fuzz_audit`
-checks many more.
+The changes are those of `support/certificate_changes.py`: some with evident answers, many cuts, and
+some hundred repeatable random ones. Each answer, with its line number, must be that of the
+independent checker over the formulas of `irv export`. `tests/fuzz_audit` checks many more.
 """
 
 import tempfile
@@ -16,7 +15,7 @@ from tests.support import audits, case_files, certificate_changes
 from tests.support.handwritten_certificates import TWO_VARIABLES, WHOLE
 from tests.support.harness import ProgramTest, Test
 
-# each configuration with the number of its random changes
+# each configuration and its number of random changes
 PLANTS = (("line-with-boards", 300), ("platforms", 60), ("station", 60))
 AT_ONCE = 4
 SEED = 30
@@ -29,7 +28,7 @@ def configuration_of(name):
 
 
 def changes_of(audit, count):
-    """Yields the changes of a certificate with their answers, those that are plain first."""
+    """Yields the changes of a certificate with their answers, evident ones first."""
     text = audit.certificate
     yield from certificate_changes.named(text)
     yield from certificate_changes.cuts(text)
@@ -38,7 +37,7 @@ def changes_of(audit, count):
 
 
 def configuration_faults(program, name, count, directory):
-    """Returns the wrong answers to the changes of a certificate, and how many changes there were."""
+    """Returns the wrong answers to a certificate's changes, and the number of changes."""
     audit = audits.Audit(program, configuration_of(name), directory)
     changes = list(changes_of(audit, count))
     with ThreadPoolExecutor(AT_ONCE) as pool:
@@ -51,7 +50,7 @@ def configuration_faults(program, name, count, directory):
 
 
 def self_check():
-    """Yields the wrong answers of the checker to changes of a hand-written certificate."""
+    """Yields the checker's wrong answers to changes of a hand-written certificate."""
     text = WHOLE.replace("|", "\n").encode()
     changes = [*certificate_changes.named(text), *certificate_changes.cuts(text)]
     for other, expected in changes:
@@ -69,7 +68,7 @@ class CheckerTests(Test):
     """The checker alone, on a hand-written certificate."""
 
     def test_self_check(self):
-        """The plain changes of a hand-written certificate have their answers."""
+        """The evident changes of a hand-written certificate have their answers."""
         self.see(self_check())
 
 

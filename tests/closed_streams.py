@@ -1,4 +1,5 @@
-"""Tests of closed standard streams: of the program in a root directory that cannot be read, and of the tools."""
+"""Tests of closed standard streams: of the program without a readable root directory, and of the
+tools."""
 
 import os
 import subprocess
@@ -10,7 +11,7 @@ from tests.support.harness import ProgramTest
 
 
 class ClosedStreamTests(ProgramTest):
-    """A file never takes the place of a closed standard stream."""
+    """Tests that no file replaces a closed standard stream."""
 
     def test_unreadable_root(self):
         """Each call with closed streams ends with its status, its report and its certificate."""
@@ -21,14 +22,14 @@ class ClosedStreamTests(ProgramTest):
 
 
 class ToolTests(ProgramTest):
-    """The tools, whose standard input is closed."""
+    """The tools with closed standard input."""
 
     CALLS = (("html", ["o.html"], 125), ("simulate", ["o.html"], 125), ("simulate", ["--compare", "x"], 125),
              ("search", [], 2), ("package", ["o"], 125), ("csv", ["--named"], 125), ("sumo", ["o"], 125),
              ("explain", ["check"], 125))
 
     def faults(self, tool, words, status, room):
-        """Yields what is wrong with a call without standard input."""
+        """Yields the faults of a call without standard input."""
         done = subprocess.run([TOP / "tools" / tool, "--program", self.program, *words], cwd=room, check=False,
                               capture_output=True, preexec_fn=lambda: os.close(0))
         line = done.stderr.decode()
@@ -36,7 +37,7 @@ class ToolTests(ProgramTest):
             yield f"{tool} {words}: {done.returncode} {line[-300:]}"
 
     def test_tools(self):
-        """Each tool says in one line that standard input cannot be read."""
+        """Each tool prints one line: standard input cannot be read."""
         faults = []
         with tempfile.TemporaryDirectory(prefix="irv-closed-") as room:
             for tool, words, status in self.CALLS:

@@ -1,15 +1,18 @@
-"""Tests of tables with one deviation: those that are proved safe, and those that are not.
+"""Tests of tables with one deviation: proved safe ones and others.
 
-Over the plants of `examples/` and `tests/plants/` and over random tables, one entry of a clean table is taken away
-or changed. If `check` with strict columns then refuses by C4, C5, C6 and C8 only, the clause `strict_deviations` of
-`run` says that the plant is safe: the verdict has to be that, and a random search has to find no hazard. If it
-refuses by any other rule, the verdict must never be that. Nor may it be of a report that was cut.
+One entry of a clean table is removed or changed: in the plants of `examples/` and `tests/plants/`,
+and in random tables. If `check` with strict columns then breaks C4, C5, C6 and C8 only, the clause
+`strict_deviations` of `run` proves the plant safe. Then the verdict must say so, and a random
+search must find no hazard. A report that breaks any other rule, or was cut, must never get that
+verdict.
 """
 
 import copy
+import itertools
 import json
 import random
 import subprocess
+import tempfile
 
 from irvtools.calls.verdict import DEVIATIONS, SAFE_WITH_DEVIATIONS, Answered, verdict
 from irvtools.csvtables import filling
@@ -19,24 +22,25 @@ from irvtools.search.random_search import RandomSearch
 from tests.support import random_tables
 from tests.support.harness import ProgramTest
 
-RANDOM_TABLES, DRAWN, RUNS = 300, 2000, 12      # clean random tables, how many are drawn for them, runs of a search
+RANDOM_TABLES, DRAWN, RUNS = 300, 2000, 12      # clean random tables, tables drawn for them, runs per search
+CLEAN, MOST_ROUTES = 60, 14     # verified tables, and the most routes of one
 PLANTS = ("station", "station-protected", "platforms", "terminus-throat", "line-with-boards")
 
 
 def asked(program, document):
-    """Returns what check with strict columns answers about a document."""
+    """Returns check's answer about a document with strict columns."""
     done = subprocess.run([program, "check"], input=json.dumps(document).encode(), capture_output=True,
                           check=False)
     return Answered("check", "strict", done.returncode, done.stdout.decode())
 
 
 def rules_of(answer):
-    """Returns the rules that a report refuses by."""
+    """Returns the rules that a report names as broken."""
     return {line.split()[1] for line in answer.output.splitlines() if line.startswith("refused ")}
 
 
 def one_sided(document, chance):
-    """A conflict is listed by one of the two routes only."""
+    """Lists a conflict in only one of two routes."""
     route = chance.choice([one for one in document["routes"] if one["conflicts"]] or [None])
     if route:
         route["conflicts"].remove(chance.choice(route["conflicts"]))
@@ -44,7 +48,7 @@ def one_sided(document, chance):
 
 
 def unlisted(document, chance):
-    """Neither of two routes lists their conflict."""
+    """Removes a conflict of two routes from both."""
     route = chance.choice([one for one in document["routes"] if one["conflicts"]] or [None])
     if route:
         name = chance.choice(route["conflicts"])
@@ -56,7 +60,7 @@ def unlisted(document, chance):
 
 
 def bad_overlap(document, chance):
-    """An overlap begins at a section that is not next to the path's end."""
+    """Begins an overlap at a section that is not next to the path's end."""
     route = chance.choice(document["routes"])
     last = next(one for one in document["sections"] if one["name"] == route["path"][-1])
     beside = {last.get(end) for end in ("down", "up", "stem", "plus", "minus")}
@@ -69,7 +73,7 @@ def bad_overlap(document, chance):
 
 
 def turned(document, chance):
-    """A point is listed in its other position."""
+    """Turns a listed point to its other position."""
     route = chance.choice([one for one in document["routes"] if one["points"]] or [None])
     if route:
         entry = chance.choice(route["points"])
@@ -78,7 +82,7 @@ def turned(document, chance):
 
 
 def other_source(document, chance):
-    """A route begins at another route's board."""
+    """Gives a route another route's source."""
     route, other = chance.choice(document["routes"]), chance.choice(document["routes"])
     if route["source"] == other["source"]:
         return None
@@ -87,7 +91,7 @@ def other_source(document, chance):
 
 
 def no_board(document, chance):
-    """A board at which no route begins or ends is missing."""
+    """Removes a board at which no route begins or ends."""
     section = chance.choice([one for one in document["sections"] if one.get("board_up")] or [None])
     used = {one[end] for one in document["routes"] for end in ("source", "destination")}
     if section and section["board_up"] not in used:
@@ -100,7 +104,8 @@ KINDS = (one_sided, unlisted, bad_overlap, turned, other_source, no_board)
 
 
 def faults_of(program, name, clean, chance, seen):
-    """Yields what is wrong with single deviations of a clean table; counts in `seen` what they broke."""
+    """Yields the faults of single deviations of a clean table. Counts in `seen` the rules they
+    broke."""
     for kind in KINDS:
         document = copy.deepcopy(clean)
         if not kind(document, chance):
@@ -118,7 +123,7 @@ def faults_of(program, name, clean, chance, seen):
 
 
 def tables(program):
-    """Yields clean tables with their names: of plants, and random ones whose conflicts and points are filled in."""
+    """Yields named clean tables: plants, and random ones with filled conflicts and points."""
     for name in PLANTS:
         yield name, json.loads((TOP / f"examples/{name}.json").read_bytes())
     for path in sorted((TOP / "tests/plants").glob("*.json")):
@@ -131,12 +136,21 @@ def tables(program):
             yield f"random {seed}", filled
 
 
+def answers(program, document, certificate):
+    """Returns the lines that check answers with strict columns, verify with free ones, and audit about the
+    certificate that verify wrote."""
+    given, free = json.dumps(document).encode(), ["--columns", "free", "--cert", certificate]
+    done = [subprocess.run([program, *words], input=given, stdout=subprocess.PIPE, check=False)
+            for words in (["check"], ["verify", *free], ["audit", *free])]
+    return [each.stdout.decode() for each in done]
+
+
 class DeviationTests(ProgramTest):
-    """Single deviations, and reports that are cut."""
+    """Single deviations, and cut reports."""
 
     def test_single_deviations(self):
-        """A table is called safe with deviations exactly if it breaks C4, C5, C6 and C8 only; then no hazard is
-        found."""
+        """A table is called safe with deviations exactly if it breaks C4, C5, C6 and C8 only. Then
+        no hazard is found."""
         chance, seen, faults, count = random.Random(4), {}, [], 0
         for name, clean in tables(self.program):
             count += 1
@@ -144,9 +158,22 @@ class DeviationTests(ProgramTest):
         faults += [f"no deviation broke {rule}" for rule in (*DEVIATIONS, "C1", "C3") if not seen.get(rule)]
         self.see(faults, count)
 
+    def test_clean_tables(self):
+        """If check finds a table clean, verify finds it safe without the column rules, and audit accepts its
+        certificate."""
+        small = ((name, clean) for name, clean in tables(self.program) if len(clean["routes"]) <= MOST_ROUTES)
+        chosen, faults = list(itertools.islice(small, CLEAN)), []
+        with tempfile.TemporaryDirectory(prefix="irv-clean-") as directory:
+            for name, clean in chosen:
+                found = answers(self.program, clean, f"{directory}/certificate")
+                if found != ["clean\n", "safe k=1\n", "accepted k=1\n"]:
+                    faults.append(f"{name}: {found}")
+        faults += [f"only {len(chosen)} tables"] if len(chosen) < CLEAN else []
+        self.see(faults, len(chosen))
+
     def test_cut_report(self):
-        """A report that is cut after its line of C6 is not called safe: by a full disk the status is a write fault,
-        and what a pipe lost is not read to its end."""
+        """A report that is cut after its line of C6 is not called safe. A full disk gives a write
+        fault, and a broken pipe's report is incomplete."""
         document = json.loads((TOP / "examples/station-protected.json").read_bytes())
         for route in document["routes"]:
             route["conflicts"] = []

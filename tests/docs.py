@@ -1,22 +1,20 @@
-"""Checks the documents against what they speak of.
+"""Checks the documents against the sources.
 
-- The tables of crates in the map are crates.txt: each crate has its row, in the same order. In crates.txt each
-  crate comes after those that it depends on. The diagram and the page of what is proved have each crate but
-  those of tests.
-- No crate of the search is a dependency of the theorems and the checker by which a plant is safe without one.
-- The list of definitions is what `tools/definitions` makes. What the clauses of `run` reach without a
-  formula comes before its last section.
-- Each link leads to a file, each heading that is named after a link is in that file, and each name in the
-  words of a link is declared in the file to which it leads.
-- Each path in backquotes exists, and each name in backquotes is declared (`Names.is_known`).
-- The commands, options and exit statuses of the commands page are those of the program's tables.
-- The lists that say where a change goes have each file that names what they are compared with
-  (`support/change_lists.py`).
-- A file of definitions that says that only private contracts or proofs cite it is reached from no public
-  contract (`support/reached_definitions.py`).
-- No old name is left in options, files, tools, tests or modules (`OLD_NAMES`).
+- The map's tables of crates equal crates.txt, in order, with each crate after its dependencies. The
+  diagram and the page of what is proved have each crate except test crates.
+- The theorems and the checker for safety without search depend on no crate of the search.
+- `tools/definitions` generates the list of definitions. Those that `run`'s clauses reach without a
+  formula come before the last section.
+- Each link leads to a file, each heading named after a link is in it, and each name in a link's
+  words is declared in it.
+- Each path in backquotes exists, and each name there is declared (`Names.is_known`).
+- The commands page has the commands, options and exit statuses of the program's tables.
+- The change lists have each file that names their witness (`support/change_lists.py`).
+- No public contract reaches a definition file that says that only private contracts or proofs cite
+  it (`support/reached_definitions.py`).
+- Options, files, tools, tests and modules have no old name (`OLD_NAMES`).
 
-The self-check makes changes on a copy, each of which has to fail for its own reason.
+The self-check changes a copy; each change must fail for its own reason.
 """
 
 import functools
@@ -29,10 +27,12 @@ from pathlib import Path
 from tests.support import reached_definitions
 from tests.support import change_lists
 from irvtools.docs.links import REFERENCE, TARGET, with_targets
+from irvtools.docs.tables import rows
 from irvtools.paths import TOP
+from irvtools.release import agreement
 from tests.support.harness import Test
 
-TAKES_LONG = True       # the runner starts it first
+TAKES_LONG = True
 
 DOCUMENTS = ("README.md", "CONTRIBUTING.md", "docs/**/*.md", "tests/README.md", "tests/cases/README.md",
              "tools/README.md", "examples/README.md")
@@ -40,9 +40,9 @@ FENCE = re.compile(r"^```.*?^```", re.S | re.M)
 SPAN = re.compile(r"``? ?(.+?) ?``?(?!`)")
 LINK = re.compile(r"\[([^\]]*)\]\(([^)\s]+)\)(?:, \"([^\"]+)\")?")
 FILE_NAME = re.compile(r"[\w.*-]+\.(?:antt|rt|md|py|js|cases|table|json|run|scene|edit|txt|list|counts)")
-# What isn't in the repository, though a document names it as if it were: what a build makes.
+# Build products, which documents name although the repository does not have them.
 MADE = ("out/", "crates/irv/out/irv")
-# Names of earlier versions, which are left nowhere but in the changelog and here.
+# Names of earlier versions, allowed only in the changelog and here.
 OLD_NAMES = {
     "an option": r"(?<![\w-])--(?:try|page|wait|hunt|play|sheet|case|want|wanted|lot|battery)\b",
     "a tool": r"\btools/(?:hunt|many|safe_by|speed|case|page|play|sheet|bodies|wrong_bodies)\b",
@@ -57,70 +57,58 @@ OLD_NAMES = {
                   r"|QUALIFICATION|RELEASES|SHEETS|SPEED|TRACEABILITY)\.md",
 }
 KEEPS_OLD_NAMES = ("CHANGELOG.md", "tests/docs.py")
-# What says that a plant is safe without any search: laws, and the checker of certificates.
-APART_FROM_SEARCH = ("ilk_evidence", "ilk_forever", "ilk_plant_audit", "ilk_strict")
-# What is no name of this repository, and why a document has it in backquotes.
+# Theorems and the checker of certificates, which show safety without search.
+APART_FROM_SEARCH = ("ilk_unroll", "ilk_forever", "ilk_plant_audit", "ilk_strict")
+# Tests that the qualification page names; tests/release checks that they exist.
+COMPARED = {name for one in agreement.CHECKS for name in one.tests}
+# Names in backquotes that are not of this repository, with the reason.
 FOREIGN = {"Fn": "a trait of Rust", "col": "an example of an option that there isn't"}
 
 
 def read(path):
-    """The text of a file."""
+    """Returns the text of a file."""
     return path.read_text(encoding="utf-8")
 
 
 def crates_of(root):
-    """The lines of crates.txt: each crate with those that it stands on."""
+    """Returns the crates of crates.txt with their dependencies."""
     lines = (line.partition("#")[0] for line in read(root / "crates.txt").splitlines())
     return {name.strip(): rest.split() for name, colon, rest in (it.partition(":") for it in lines)
             if colon}
 
 
-def rows(text, *heads):
-    """The rows of each table whose head begins with these words, as lists of cells."""
-    found, inside = [], False
-    for line in text.splitlines():
-        cells = [cell.strip() for cell in re.split(r"(?<!\\)\|", line)[1:-1]]
-        if tuple(cells[:len(heads)]) == heads:
-            inside = True
-        elif not line.startswith("|"):
-            inside = False
-        elif inside and not line.startswith("|---"):
-            found.append(cells)
-    return found
-
-
 def spans(text):
-    """What stands in backquotes."""
+    """Returns the texts in backquotes."""
     return SPAN.findall(text)
 
 
 class Repository:
-    """A copy of the repository, and what it declares, once that is asked."""
+    """A copy of the repository, and what it declares, on demand."""
 
     def __init__(self, root):
         self.root = root
 
     @functools.cached_property
     def names(self):
-        """What it declares."""
+        """Returns what it declares."""
         return Names(self.root)
 
 
 class Seen:
-    """What was asked: how much of it is so, and what is said of the rest."""
+    """The number of true answers, and the faults."""
 
     def __init__(self):
         self.passed, self.faults = 0, []
 
     def ask(self, is_so, fault):
-        """Counts one question; `fault` is what is wrong where it isn't so."""
+        """Counts one question; `fault` describes a false answer."""
         if is_so:
             self.passed += 1
         else:
             self.faults.append(fault)
 
     def same(self, what, told, wanted):
-        """Asks whether what is told is what is; of lists, what is left out and what is too much."""
+        """Asks whether `told` is `wanted`. The fault about lists names missing and extra items."""
         fault = f"{told!r} is told, and {wanted!r} is so"
         if isinstance(told, list) and isinstance(wanted, list):
             less = [item for item in wanted if item not in told]
@@ -130,7 +118,7 @@ class Seen:
 
 
 def see_map(repository, seen):
-    """The map has the crates of crates.txt, in their order; in crates.txt each comes after what it depends on."""
+    """The map has crates.txt's crates in order, and each crate there comes after its dependencies."""
     root = repository.root
     crates = crates_of(root)
     page = read(root / "docs/dev/architecture.md")
@@ -158,7 +146,7 @@ def see_map(repository, seen):
 
 
 def see_definitions(repository, seen):
-    """The list of definitions and the reading plan are as the tool prints them."""
+    """The list of definitions and the reading plan are as generated."""
     checked = subprocess.run([repository.root / "tools/definitions", "--check"], stdout=subprocess.PIPE,
                              stderr=subprocess.PIPE)
     said = checked.stdout.decode().splitlines()
@@ -166,8 +154,8 @@ def see_definitions(repository, seen):
 
 
 def see_left(repository, seen):
-    """Each definition that the clauses of `run` reach without a formula stands in a section of the
-    assessor's page that says what it is for, and not in the last one."""
+    """Each definition that `run`'s clauses reach without a formula has a section of the assessor's
+    page with its purpose, not the last one."""
     printed = subprocess.run([repository.root / "tools/definitions", "--left"], stdout=subprocess.PIPE,
                              stderr=subprocess.PIPE)
     seen.ask(printed.returncode == 0, f"tools/definitions --left: {printed.stderr.decode().strip()}")
@@ -176,14 +164,14 @@ def see_left(repository, seen):
 
 
 def search_of(root):
-    """The crates of the floor of crates.txt that is called search."""
+    """Returns the crates of crates.txt's search layer."""
     text = read(root / "crates.txt")
-    floor = re.search(r"^# floor \d+, search\b.*\n((?:(?!#).*\n)*)", text, re.M)
-    return set(re.findall(r"^(\w+):", floor[1], re.M)) if floor else set()
+    layer = re.search(r"^# layer \d+, search\b.*\n((?:(?!#).*\n)*)", text, re.M)
+    return set(re.findall(r"^(\w+):", layer[1], re.M)) if layer else set()
 
 
 def below(crates, name):
-    """The crates of this repository on which one stands."""
+    """Returns a crate's dependencies in this repository."""
     found, left = set(), [name]
     while left:
         for low in crates.get(left.pop(), []):
@@ -194,9 +182,9 @@ def below(crates, name):
 
 
 def see_search(repository, seen):
-    """No crate of the search stands below those on which a safe answer rests without a search."""
+    """The crates for safety without search depend on no crate of the search."""
     crates, search = crates_of(repository.root), search_of(repository.root)
-    seen.ask(len(search) > 1, "crates.txt: no floor is called search")
+    seen.ask(len(search) > 1, "crates.txt: no layer is called search")
     for name in APART_FROM_SEARCH:
         seen.ask(name in crates, f"crates.txt: there is no crate {name}")
         low = sorted(below(crates, name) & search)
@@ -204,14 +192,14 @@ def see_search(repository, seen):
 
 
 class Names:
-    """What the repository declares, and the words of its formats."""
+    """The repository's declarations, and the words of its formats."""
 
     HEAD = re.compile(r"^ *(?:unfoldable |abbrev |infixr? \d+ )*pub (?!mod |use )"
                       r"(?:record |syntax |data )?(◌?[^\s(:{]+)", re.M)
-    # a field of a record, or a constructor
+    # a record field or a constructor
     PART = re.compile(r"^ +(?:pub )?([\w-]+) :", re.M)
     LEMMA = re.compile(r"^ *(?:abbrev |unfoldable )?(?:pub )?([\w-]+) :", re.M)
-    # calls, types and constants; fields and variants, which stand alone on a line; labels of clauses
+    # calls, types and constants; fields and variants alone on a line; clause labels
     CODE = re.compile(r"\b(?:fn|struct|enum|trait|const|static|type|mod|impl|ghost) (?:<.*?> ?)?(\w+)"
                       r"|^ +(?:pub(?:\(crate\))? )?(\w+)(?: \{|\(.*\))?[:,]"
                       r"|^ +(?:ensures|requires|lends) (\w+) \{|^ +(\w+) \{$", re.M)
@@ -241,14 +229,14 @@ class Names:
         self.others.update(re.findall(r"^(?:class|def) (\w+)", read(root / "tests/support/harness.py"), re.M))
 
     def is_test(self, word):
-        """Returns whether a word is the name of a test: its module, and its method."""
+        """Returns whether a word is a test's name: its module and method."""
         module, _, method = word.rpartition(".")
         file = self.root / "tests" / (module.replace(".", "/") + "_tests.py")
         file = file if file.is_file() else self.root / "tests" / (module.replace(".", "/") + ".py")
         return file.is_file() and re.search(rf"(?:check|test)_{method}\b", read(file)) is not None
 
     def enter(self, path, kind):
-        """Enters what a file of a crate declares."""
+        """Enters the declarations of a crate's file."""
         text = read(path)
         if kind == "src":
             names = {name for found in self.CODE.findall(text) for name in found if name}
@@ -266,29 +254,29 @@ class Names:
             self.enter_words(text)
 
     def enter_words(self, text):
-        """Enters the words of the strings of a file; of a file of cases all keys are such words."""
+        """Enters the words of a file's strings; in a file of cases, also all keys."""
         for found in self.STRING.findall(self.REMARK.sub("", text)):
             self.words.update(re.findall(r"[\w-]+", found))
         self.words.update(re.findall(r"^([a-z]+)(?: [\w.-]+)*:", text, re.M))
 
     def enter_script(self, text):
-        """Enters the options and the calls of a script too."""
+        """Enters also a script's options and calls."""
         self.enter_words(text)
         self.words.update(re.findall(r"--([a-z][a-z-]*)", text))
         self.words.update(re.findall(r"^(\w+)\(\) \{", text, re.M))
 
     @functools.cached_property
     def declared(self):
-        """All that is declared somewhere."""
+        """Returns all declarations."""
         return set().union(*self.by_file.values())
 
     def is_known(self, word):
-        """Whether a word in backquotes has a meaning: it is declared in a crate, or imported there
-        from the standard library; or it is a word of a format, which stands in a string of the code or
-        of the tests; or a sign, a number, or a place for something, in capitals."""
+        """Returns whether a word in backquotes has a meaning: it is declared in a crate, imported
+        from the standard library, or in a string of code or tests. Signs, numbers and placeholders
+        in capitals also have one."""
         if word.startswith("ilk_"):
             return word in self.crates
-        if re.fullmatch(r"[a-z_]+(\.[a-z_]+)+", word) and self.is_test(word):
+        if word in COMPARED or re.fullmatch(r"[a-z_]+(\.[a-z_]+)+", word) and self.is_test(word):
             return True
         if re.fullmatch(r"\w+\.\.", word):
             return any(name.startswith(word[:-2]) for name in self.declared)
@@ -301,13 +289,13 @@ class Names:
 
 
 def is_sign(word):
-    """Whether it is a sign, a number, a checksum, one letter, or a place for something, in capitals."""
+    """Returns whether it is a sign, a number, a checksum, a letter, or a placeholder in capitals."""
     return not re.search(r"[^\W\d_]{2}", word) or re.fullmatch(r"[A-Z]+|[0-9a-f]{64}", word) is not None
 
 
 class Places:
-    """The paths that a line of a document names. One without a crate's name, or without a folder, is
-    of the crate, or in the folder, that the line named last."""
+    """The paths that a line of a document names. One without a crate or directory is in the last
+    one named."""
 
     def __init__(self, root, document):
         self.root = root
@@ -315,11 +303,11 @@ class Places:
         self.last = []
 
     def find(self, named):
-        """Whether such a file or folder is there."""
+        """Returns whether such a file or directory exists."""
         return bool(self.all(named))
 
     def all(self, named):
-        """The files and folders of that name. `..` in a name, and `*`, stand for anything."""
+        """Returns the files and directories of that name. `..` in a name, and `*`, match anything."""
         pattern = re.sub(r"(?<=[\w-])\.\.|(?<=/)\.\.(?=[\w])", "*", named).rstrip("/")
         if pattern.startswith("/"):
             return []
@@ -328,12 +316,12 @@ class Places:
             if found:
                 self.enter(found[0])
                 return found
-        # of no crate, but of several
+        # in no single crate, but in several
         found = [] if self.last else list(self.root.glob(f"crates/*/{pattern}"))
         return found if len(found) > 1 else []
 
     def enter(self, found):
-        """What comes next in the line may be beside this, or in its crate."""
+        """Makes its directory and crate the base of the next paths."""
         self.last = [found if found.is_dir() else found.parent]
         parts = found.relative_to(self.root).parts
         if parts[0] == "crates" and len(parts) > 1:
@@ -342,12 +330,12 @@ class Places:
 
 
 def documents(root):
-    """The documents."""
+    """Returns the documents."""
     return [path for pattern in DOCUMENTS for path in sorted(root.glob(pattern))]
 
 
 def see_links(repository, seen):
-    """Each link leads somewhere, and what it is called is there."""
+    """Each link leads somewhere, and its named targets exist."""
     root, names = repository.root, repository.names
     for document in documents(root):
         text = with_targets(FENCE.sub("", read(document)))
@@ -370,12 +358,12 @@ def see_links(repository, seen):
 
 
 def is_path(span):
-    """Whether it names a file or a folder."""
+    """Returns whether it names a file or a directory."""
     return re.fullmatch(r"[\w.*/-]+", span) and ("/" in span or FILE_NAME.fullmatch(span))
 
 
 def see_span(names, places, where, span, seen):
-    """What stands in backquotes has a meaning."""
+    """A text in backquotes has a meaning."""
     if span in MADE:
         return
     if is_path(span):
@@ -385,7 +373,7 @@ def see_span(names, places, where, span, seen):
         if span in names.crates:
             places.enter(places.root / "crates" / span)
     else:
-        # several words: files of the repository, options, and what only a name can be
+        # several words: files of the repository, options, and words that can only be names
         for word in re.findall(r"[\w./:-]+", span):
             word = word.rstrip(".:")
             if "/" in word and (places.root / word.split("/")[0]).is_dir():
@@ -397,7 +385,7 @@ def see_span(names, places, where, span, seen):
 
 
 def see_spans(repository, seen):
-    """Each path and each name in backquotes is there, and each path in what is shown."""
+    """Each path and name in backquotes exists, and each path in code blocks."""
     root, names = repository.root, repository.names
     for document in documents(root):
         text = read(document)
@@ -413,7 +401,7 @@ def see_spans(repository, seen):
 
 
 def see_contracts(repository, seen):
-    """Each call that a row of docs/assurance/proved.md names is in the code of one of its crates."""
+    """Each call in a row of docs/assurance/proved.md is in the code of one of its crates."""
     root, names = repository.root, repository.names
     for cells in rows(read(root / "docs/assurance/proved.md"), "crate", "what is proved"):
         declared = set().union(*(names.by_crate.get((crate, "src"), set()) for crate in spans(cells[0])))
@@ -423,7 +411,7 @@ def see_contracts(repository, seen):
 
 
 class Tables:
-    """The tables of commands, options and statuses, as the program's definitions have them."""
+    """The program's tables of commands, options and statuses, from its definitions."""
 
     def __init__(self, root):
         self.root = root
@@ -438,23 +426,23 @@ class Tables:
                                           read(self.file_of("complaint : Status")), re.M))
 
     def file_of(self, head):
-        """The file of definitions that has a definition with this head."""
+        """Returns the file that has a definition with this head."""
         return next(path for path in sorted(self.root.glob("crates/*/specs/*.antt"))
                     if f"abbrev pub {head}" in read(path))
 
     def listed(self, name):
-        """The items of a list."""
+        """Returns the items of a list."""
         body = re.search(rf"^{name} =((?:.|\n +)*)", self.text, re.M)[1]
         return [item for item in re.split(r"\s*∷\s*", body.strip()) if item != "[]"]
 
     def record(self, name):
-        """The fields of a record."""
+        """Returns the fields of a record."""
         body = re.search(rf"^{name} = record \{{((?:.|\n)*?)\}}$", self.text, re.M)[1]
         return {field: " ".join(value.split()) for field, value in
                 re.findall(r"(\w+) = ((?:[^;]|\n)*?)(?:;|$|\s*\Z)", body.strip())}
 
     def word(self, value):
-        """The text that a term is: of a value its word, of a number its digits."""
+        """Returns a term's text: a value's word or a number's digits."""
         name, _, rest = value.partition(" ")
         if name == "codes":
             return rest.strip('"')
@@ -463,11 +451,11 @@ class Tables:
         return re.search(rf'^{name} {rest} = codes "([^"]*)"', self.text, re.M)[1]
 
     def name(self, record):
-        """The name of an option or of a command."""
+        """Returns the name of an option or command."""
         return self.word(record["name"])
 
     def values(self, option):
-        """The words that an option takes, or the least and the greatest number; none for any text."""
+        """Returns an option's words, or its least and greatest number, or `None` for any text."""
         words = re.fullmatch(r"one_among \(map (\w+) (\w+)\)", option["values"])
         if words:
             return [self.word(f"{words[1]} {it}") for it in self.listed(words[2])]
@@ -475,21 +463,21 @@ class Tables:
         return tuple(self.limits.get(it, it) for it in numbers.groups()) if numbers else None
 
     def default(self, option):
-        """The value where the option isn't on the line, if there is one."""
+        """Returns an option's default, or `None` if it has none."""
         value = re.fullmatch(r"Some \((.*)\)", option["default"])
         return self.word(value[1]) if value else None
 
     def options_of(self, command):
-        """The options of a command, by their names in the definitions."""
+        """Returns a command's options, by their names in the definitions."""
         return [it for it in re.split(r"\s*∷\s*", command["options"]) if it != "[]"]
 
     def takers(self, option):
-        """The commands that take an option."""
+        """Returns the commands that take an option."""
         return [self.name(it) for it in self.commands.values() if option in self.options_of(it)]
 
 
 def told_values(cell):
-    """The values that a cell tells: words, or the least and the greatest number."""
+    """Returns the values in a cell: words, or the least and greatest number."""
     numbers = re.match(r"a whole number, (\d+) to (\d+)", cell)
     return numbers.groups() if numbers else spans(cell) or None
 
@@ -526,7 +514,7 @@ def see_commands(repository, seen):
 
 
 def see_lists(repository, seen):
-    """Each list that says where a change goes has every file that names its witness."""
+    """Each list of files that a change touches has every file that names its witness."""
     root, where = repository.root, "CONTRIBUTING.md, files that a change touches"
     for heading, witness, count, missing in change_lists.left_out(root, lambda: Places(root, root / change_lists.MAP)):
         seen.ask(missing is not None, f"{where}: there is no list {heading!r}")
@@ -536,7 +524,7 @@ def see_lists(repository, seen):
 
 
 def see_denied(repository, seen):
-    """No public contract reaches what says that private contracts or proofs alone cite it."""
+    """No public contract reaches a definition that denies it in its file."""
     root = repository.root
     count, files = reached_definitions.denied(root)
     seen.ask(count > 400, f"crates: only {count} public calls are found")
@@ -548,13 +536,13 @@ def see_denied(repository, seen):
 
 
 def tracked(root):
-    """Returns the files of the repository by their paths; in a copy without git, those that are not made."""
+    """Returns the repository's files by path, without build products."""
     listed = subprocess.run(["git", "-C", TOP, "ls-files"], capture_output=True, text=True).stdout.split("\n")
     return [name for name in listed if name and (root / name).is_file()]
 
 
 def see_old_names(repository, seen):
-    """No old name is left in a text, or as the name of a file."""
+    """No text or file name has an old name."""
     for name in tracked(repository.root):
         if name in KEEPS_OLD_NAMES:
             continue
@@ -572,21 +560,21 @@ CHECKS = (see_map, see_search, see_definitions, see_left, see_links, see_spans, 
 
 
 def see_all(root, checks=CHECKS):
-    """What these checks say of the documents."""
+    """Returns the result of these checks."""
     repository, seen = Repository(root), Seen()
     for check in checks:
         check(repository, seen)
     return seen
 
 
-# Changes that make a document wrong: which check refuses it, the file, what is replaced there and by
-# what, and a part of what is said of it.
+# Changes that make a document wrong: the refusing check, the file, the old and new text, and a part
+# of the fault.
 CHANGES = {
     "a crate that the map leaves out": (
         see_map, "docs/dev/architecture.md", r"^\| `ilk_replay` \|.*\n", "", "ilk_replay has no row"),
     "a crate that stands on a later one": (
-        see_map, "crates.txt", r"^(ilk_ints:.*)\n((?:.*\n)*?)(ilk_copy:.*\n)", r"\3\1\n\2",
-        "crates.txt: ilk_copy stands before ilk_ints"),
+        see_map, "crates.txt", r"^(ilk_ints:.*)\n((?:.*\n)*?)(ilk_forms:.*\n)", r"\3\1\n\2",
+        "crates.txt: ilk_forms stands before ilk_ints"),
     "two crates that the map has in another order": (
         see_map, "docs/dev/architecture.md", r"^(\| `ilk_motion` \|.*\n)(\| `ilk_routes` \|.*\n)", r"\2\1",
         "the crates, their order"),
@@ -611,8 +599,8 @@ CHANGES = {
         see_spans, "CONTRIBUTING.md", r"`ilk_model/src/event\.rt`", "`ilk_model/src/events.rt`",
         "`ilk_model/src/events.rt` isn't there"),
     "a definition renamed": (
-        see_links, "crates/ilk_plant/specs/NetworkRules.antt", r"\bstands_alone\b", "has_no_neighbour",
-        "NetworkRules.antt: stands_alone isn't declared there"),
+        see_links, "crates/ilk_plant/specs/NetworkRules.antt", r"\bis_isolated\b", "has_no_neighbour",
+        "NetworkRules.antt: is_isolated isn't declared there"),
     "a definition renamed that no link leads to": (
         see_spans, "crates/ilk_answers/specs/Strict.antt", r"\bSaysSafeAtOneOrSpent\b", "SaysSafeOrSpent",
         "`SaysSafeAtOneOrSpent` is declared nowhere"),
@@ -635,8 +623,8 @@ CHANGES = {
         see_lists, "tools/irvtools/trackplan/rows.py", r"\A", "CREWS = ['cancel']\n",
         "rows.py is left out, which names the event cancel"),
     "a bare number for the depth": (
-        see_lists, "crates/ilk_copy/src/lib.rt", r"\A", "// a run has at most 16 events\n",
-        "ilk_copy/src/lib.rt is left out, which names the depth"),
+        see_lists, "crates/ilk_forms/src/lib.rt", r"\A", "// a run has at most 16 events\n",
+        "ilk_forms/src/lib.rt is left out, which names the depth"),
     "a list under another heading": (
         see_lists, "CONTRIBUTING.md", r"^### A family of the invariant$", "### A family",
         "there is no list 'A family of the invariant'"),
@@ -655,7 +643,7 @@ CHANGES = {
 
 
 def self_check():
-    """The faults of this check itself: changes that aren't refused for their own reason."""
+    """Yields the faults of this check: changes that are not refused for their own reason."""
     seen = Seen()
     with tempfile.TemporaryDirectory(prefix="irv-docs-") as folder:
         copy = Path(folder) / "irv"
@@ -675,7 +663,7 @@ def self_check():
 
 
 class DocumentTests(Test):
-    """The documents beside the sources."""
+    """The documents compared with the sources."""
 
     def test_self_check(self):
         """Each planted change is refused for its own reason."""
@@ -683,6 +671,6 @@ class DocumentTests(Test):
         self.see(seen.faults, seen.passed)
 
     def test_documents(self):
-        """The documents say what the sources are."""
+        """The documents agree with the sources."""
         seen = see_all(TOP)
         self.see(seen.faults, seen.passed)

@@ -1,15 +1,15 @@
-"""Finds duplicates: equal bodies of functions, contracts, statements of lemmas and definitions.
+"""Finds duplicates: equal function bodies, contracts, statements of lemmas and definitions.
 
-Two of them are equal if their texts are, except for white space, comments and the names that they declare
-(`support/sources.py`). `duplicates.list` has a line for each known duplicate, which begins with the reason why it
-may stay:
+Two are equal if their texts are, apart from white space, comments and declared names
+(`support/sources.py`). `duplicates.list` has a line per known duplicate, with the reason why it may
+stay:
 
-- `debt`: one of the two should go when its crate is changed anyway;
-- `example`: a worked example that is read by itself, with all that it is about;
-- `apart`: the two mean different things, or must not share what they depend on.
+- `debt`: one should go with the next change of its crate.
+- `example`: a worked example, complete in itself.
+- `apart`: the two differ in meaning, or must not share dependencies.
 
-The list only gets shorter: a duplicate that is not in it fails, and so does a line that no longer holds
-(`tests/update_lists` takes such lines off).
+The list only gets shorter: an unlisted duplicate fails, and so does an outdated line, which
+`tests/update_lists` removes.
 """
 
 from collections import defaultdict
@@ -31,13 +31,13 @@ def found_twice(texts):
 
 
 def listed(text):
-    """The lines of the list: each finding, with its reason."""
+    """Returns the list's findings, each with its reason."""
     lines = (line.split(" ", 1) for line in text.splitlines() if line and not line.startswith("#"))
     return {finding: reason for reason, finding in lines}
 
 
 def faults_of(found, allowed):
-    """Returns what is wrong with what was found, compared with what may stay."""
+    """Returns the faults of the findings, compared with the allowed ones."""
     faults = [f"duplicate: {finding}" for finding in found if finding not in allowed]
     faults += [f"the list has what is no longer a duplicate (tests/update_lists): {finding}"
                for finding in allowed if finding not in found]
@@ -46,7 +46,7 @@ def faults_of(found, allowed):
 
 
 def still(text, found):
-    """The list without the lines that are no longer so."""
+    """Returns the list without outdated lines."""
     return "".join(line + "\n" for line in text.splitlines()
                    if not line or line.startswith("#") or line.split(" ", 1)[1] in found)
 
@@ -168,7 +168,7 @@ WANTED = [
 
 
 def self_check():
-    """Sees that what was planted is found, and how a list is held against it."""
+    """Checks that planted duplicates are found and compared with a list."""
     found = found_twice(PLANTED)
     assert found == WANTED, found
     text = "# remarks\n" + "".join(f"debt {finding}\n" for finding in WANTED)
@@ -183,19 +183,19 @@ def self_check():
 
 
 def update():
-    """Takes what is gone off the list."""
+    """Removes outdated lines from the list."""
     text = LIST.read_text(encoding="utf-8")
     LIST.write_text(still(text, found_twice(sources.texts_of(TOP))), encoding="utf-8")
 
 
 class DuplicateTests(Test):
-    """Nothing new is duplicated."""
+    """Tests that nothing new is duplicated."""
 
     def test_self_check(self):
         """Planted duplicates are found, and a list is compared with them."""
         self_check()
 
     def test_sources(self):
-        """What is duplicated is listed in `duplicates.list`, and what is listed is duplicated."""
+        """`duplicates.list` has exactly the duplicates."""
         found = found_twice(sources.texts_of(TOP))
         self.see(faults_of(found, listed(LIST.read_text(encoding="utf-8"))), max(len(found), 1))

@@ -1,6 +1,6 @@
 """Makes the packages `tests` and `irvtools` importable for a script of this directory, and runs it.
 
-This is the only module that changes the import path."""
+No other module changes the import path."""
 
 import os
 import sys

@@ -1,4 +1,5 @@
-"""Tests of `tools/lemmas`: crates/LEMMAS.txt is up to date, and lists the lemmas that other crates import."""
+"""Tests of `tools/lemmas`: crates/LEMMAS.txt is up to date, and lists the lemmas that other crates
+import."""
 
 import subprocess
 import tempfile
@@ -35,7 +36,7 @@ FOUND = [("low", "proofs/Sums.antt", "sum-none", "The sum of a list without item
 
 
 def called(*words):
-    """Returns what `tools/lemmas` prints, with its exit status."""
+    """Returns the output of `tools/lemmas` and its exit status."""
     done = subprocess.run([TOP / "tools/lemmas", *words], stdout=subprocess.PIPE, stderr=subprocess.STDOUT, text=True,
                           check=False)
     return done.returncode, done.stdout
@@ -52,7 +53,7 @@ class LemmaTests(Test):
         self.assertLess(page.stat().st_size, MOST_BYTES)
 
     def test_small_tree(self):
-        """Lemmas that another crate imports are listed; definitions and lemmas of one crate are not."""
+        """Only lemmas that another crate imports are listed, and no definitions."""
         with tempfile.TemporaryDirectory(prefix="irv-lemmas-") as made:
             for name, text in FILES.items():
                 path = Path(made) / name
@@ -65,7 +66,7 @@ class LemmaTests(Test):
             "- `inner`: in a module\n"))
 
     def test_search(self):
-        """Words find lemmas by their names; words of none end with status 1."""
+        """Words find lemmas by name. Words without a match end with status 1."""
         lemma = lemmas.all_lemmas(TOP)[0]
         status, text = called(lemma.name, lemma.crate.upper())
         self.assertEqual(status, 0)
@@ -73,6 +74,6 @@ class LemmaTests(Test):
         self.assertEqual(called("no-such-lemma", "x"), (1, "tools/lemmas: no lemma has no-such-lemma and x\n"))
 
     def test_arguments(self):
-        """Options that do not go together end with status 2."""
+        """Options that exclude each other end with status 2."""
         self.assertEqual(called("--write", "--check"), (
             2, "tools/lemmas: --write, --check and WORD do not go together; see tools/lemmas --help\n"))

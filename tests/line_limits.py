@@ -2,6 +2,7 @@
 
 Counted for each crate, and for `tools/` and `tests/`:
 
+- `wide-comments`: lines of comments in `.rt` and `.antt` files over 100 columns, but for a URL or a drawing;
 - `wide`: lines of clauses in the code over 100 columns;
 - `wider`: those of them over 120;
 - `proof-lines`: lines of `specs/` and `proofs/` over 250 columns;
@@ -15,14 +16,19 @@ allowed count, so that it cannot rise again.
 
 import re
 from collections import Counter, defaultdict
+from pathlib import Path
 
 from tests.support import sources
 from irvtools.paths import TOP
 from tests.support.harness import Test
 
 COUNTS = TOP / "tests/line_limits.counts"
-KINDS = ("wide", "wider", "proof-lines", "proofs", "files")
+KINDS = ("wide-comments", "wide", "wider", "proof-lines", "proofs", "files")
 CLAUSE_WIDTH, WIDEST_CLAUSE, PROOF_WIDTH, MOST_LINES = 100, 120, 250, 300
+COMMENT_WIDTH = 100
+COMMENT = {".rt": re.compile(r"\s*//"), ".antt": re.compile(r"\s*--")}     # a line that is only a comment
+URL = re.compile(r"https?://\S+")
+DRAWING = re.compile(r"\S {3,}\S")      # three spaces in a row, which no sentence has
 CLAUSE = re.compile(r" *(?:requires|ensures|lends|invariant|ghost)\b(?! use).*\{")
 
 
@@ -33,7 +39,7 @@ def place_of(file):
 
 
 def clause_lines(lines):
-    """The numbers of the lines on which clauses stand, from the opening brace to its closing one."""
+    """Yields the line numbers of clauses, from the opening to the closing brace."""
     depth = 0
     for number, line in enumerate(lines, 1):
         if depth or CLAUSE.match(line):
@@ -41,10 +47,19 @@ def clause_lines(lines):
             depth = max(0, depth + line.count("{") - line.count("}"))
 
 
+def is_wide_comment(line):
+    """Returns whether a comment is too wide without its URLs, and is not a drawing."""
+    return len(URL.sub("", line)) > COMMENT_WIDTH and not DRAWING.search(line)
+
+
 def found_of(file, text):
-    """What is too wide or too long in a file: its kind, the number of the line, how wide or long."""
+    """Yields what is too wide or too long in a file: kind, line number and size."""
     lines = text.rstrip("\n").split("\n")
     is_proof, is_code = "/proofs/" in file, not file.endswith(".antt")
+    comment = COMMENT.get(Path(file).suffix)
+    if comment:
+        yield from (("wide-comments", number, len(line)) for number, line in enumerate(lines, 1)
+                    if comment.match(line) and is_wide_comment(line))
     if file.endswith(".rt"):
         widths = [(number, len(lines[number - 1])) for number in clause_lines(lines)]
         yield from (("wide", number, width) for number, width in widths if width > CLAUSE_WIDTH)
@@ -57,42 +72,42 @@ def found_of(file, text):
 
 
 def over_limit(texts):
-    """All of them: where it is counted, its kind, its file, its line, and how wide or long it is."""
+    """Returns all of them: place, kind, file, line and size."""
     return [(place_of(file), kind, file, number, size) for file, text in texts.items()
             if "/declared/" not in file for kind, number, size in found_of(file, text)]
 
 
 def scripts_of(root):
-    """The files of code in other languages, by their paths from the top, with their texts."""
+    """Returns the code files in other languages, by path, with their texts."""
     found = [path for directory in ("tools", "tests") for end in ("js", "bash")
              for path in root.glob(f"{directory}/**/*.{end}")]
     return {str(path.relative_to(root)): path.read_text(encoding="utf-8") for path in [*found, root / "irv"]}
 
 
 def counted(found):
-    """How many there are of each kind at each place."""
+    """Returns the number of each kind at each place."""
     return Counter((place, kind) for place, kind, *_ in found)
 
 
 def read_counts(text):
-    """The counts that are written down."""
+    """Returns the recorded counts."""
     return Counter({(place, kind): int(number) for place, *rest in
                     (line.split() for line in text.splitlines() if line and not line.startswith("#"))
                     for kind, _, number in (it.partition("=") for it in rest)})
 
 
 def written(counts):
-    """The counts as they are written down: a line for each place."""
+    """Returns the counts as recorded: a line per place."""
     rows = defaultdict(list)
     for place, kind in sorted(counts, key=lambda it: (it[0], KINDS.index(it[1]))):
         if counts[place, kind]:
             rows[place].append(f"{kind}={counts[place, kind]}")
-    return "# tests/found says what is counted. These numbers may only fall.\n" + "".join(
+    return "# tests/line_limits.py says what is counted. These numbers may only fall.\n" + "".join(
         f"{place} {' '.join(row)}\n" for place, row in rows.items())
 
 
 def faults_of(now, allowed):
-    """What is wrong where there is so much and there may be so much."""
+    """Yields the differences between present and allowed counts."""
     for place, kind in sorted(set(now) | set(allowed)):
         have, most = now[place, kind], allowed[place, kind]
         if have > most:
@@ -102,12 +117,12 @@ def faults_of(now, allowed):
 
 
 def lowered(now, allowed):
-    """The counts that are written down now: none rises."""
+    """Returns the recorded counts, lowered to the present ones."""
     return Counter({key: min(now[key], allowed[key]) for key in allowed})
 
 
 def self_check():
-    """Sees that each kind is counted where it should be, and how counts are held against each other."""
+    """Checks the counts of each kind and place, and their comparison."""
     clause = "    ensures same { " + "x" * 90 + " }"
     texts = {
         "crates/a/src/a.rt": "\n".join([
@@ -117,11 +132,15 @@ def self_check():
         "crates/a/proofs/A.antt": "short\n" * 301 + "b" * 251 + "\n" + "b" * 250 + "\n",
         "crates/b/proofs/B.antt": "short\n" * 300,
         "crates/b/src/b.rt": "a;\n" * 301,
-        "tools/c.py": "c\n" * 301,
+        "crates/c/src/c.rt": "\n".join([
+            "    /// " + "x" * 93, "    /// " + "x" * 92, "//! " + "x" * 97, "// " + "x" * 98, "let a = 1; // " + "x" * 90,
+            "/// (https://" + "x" * 90 + "), for short", "/// " + "x" * 90 + " (https://a.b), for short"]),
+        "crates/c/specs/C.antt": "\n".join(["-- " + "x" * 98, "--  a" + " " * 90 + "b--c", "x " * 60]),
+        "tools/c.py": "# " + "c" * 110 + "\n" + "c\n" * 300,
         "tests/d.py": "d\n" * 300,
     }
     wanted = {("a", "wide"): 2, ("a", "wider"): 1, ("a", "proof-lines"): 2, ("a", "proofs"): 1,
-              ("b", "files"): 1, ("tools", "files"): 1}
+              ("c", "wide-comments"): 5, ("b", "files"): 1, ("tools", "files"): 1}
     now = counted(over_limit(texts))
     assert now == Counter(wanted), now
     assert read_counts(written(now)) == now, written(now)
@@ -134,20 +153,20 @@ def self_check():
 
 
 def update():
-    """Lowers the counts to what there is now."""
+    """Lowers the counts to the present ones."""
     now = counted(over_limit(sources.texts_of(TOP) | scripts_of(TOP)))
     COUNTS.write_text(written(lowered(now, read_counts(COUNTS.read_text(encoding="utf-8")))), encoding="utf-8")
 
 
 class LineLimitTests(Test):
-    """No line is wider and no file longer than the limits, but for those that are counted."""
+    """Tests that only counted lines and files exceed the limits."""
 
     def test_self_check(self):
-        """Each kind is counted where it should be."""
+        """Each kind is counted in its place."""
         self_check()
 
     def test_sources(self):
-        """There are as many as `line_limits.counts` says."""
+        """The counts equal those of `line_limits.counts`."""
         now = counted(over_limit(sources.texts_of(TOP) | scripts_of(TOP)))
         allowed = read_counts(COUNTS.read_text(encoding="utf-8"))
         self.see(faults_of(now, allowed), max(len(set(now) | set(allowed)), 1))

@@ -1,6 +1,6 @@
-"""Checks the sources of the tools, the tests and the launcher by pyflakes, by shellcheck and by rules of imports.
+"""Checks the sources of tools, tests and launcher with pyflakes, shellcheck and import rules.
 
-A checker that is not installed is a skipped test.
+A missing checker skips its test.
 """
 
 from __future__ import annotations
@@ -28,19 +28,19 @@ TEST_CLASS = re.compile(r"^class \w+\((?:\w+\.)?\w*Test(?:Case)?\w*\):|\btest_ca
 
 
 def python_files(top: Path) -> list[Path]:
-    """Returns the Python files of `tools/` and `tests/`, and their scripts without an ending."""
+    """Returns the Python files and scripts of `tools/` and `tests/`."""
     found = [path for directory in ("tools", "tests") for path in sorted((top / directory).rglob("*"))]
     return [path for path in found if path.is_file() and (
         path.suffix == ".py" or not path.suffix and PYTHON_START.match(path.read_bytes()[:80]))]
 
 
 def shell_files(top: Path) -> list[Path]:
-    """Returns the launcher, the script of CI and the parts of the launcher."""
+    """Returns the launcher, its parts and CI's script."""
     return [top / "irv", top / ".ci/run", *sorted((top / "tools").rglob("*.bash"))]
 
 
 def said_by(command: list[str], files: Iterable[Path]) -> list[str]:
-    """Returns the lines that a checker prints about these files, or skips the test if it is not installed."""
+    """Returns a checker's lines about these files, or skips the test if it is not installed."""
     if shutil.which(command[0]) is None:
         raise unittest.SkipTest(f"{command[0]} is not installed")
     done = subprocess.run([*command, *map(str, files)], stdout=subprocess.PIPE, stderr=subprocess.STDOUT,
@@ -50,7 +50,7 @@ def said_by(command: list[str], files: Iterable[Path]) -> list[str]:
 
 
 def pyflakes() -> list[str]:
-    """Returns the command of pyflakes, whose name depends on the system."""
+    """Returns the pyflakes command of this system."""
     return ["pyflakes3" if shutil.which("pyflakes3") else "pyflakes"]
 
 
@@ -67,7 +67,7 @@ def rule_faults(top: Path) -> Iterable[str]:
 
 
 def imported_by(text: str) -> set[str]:
-    """Returns the modules of `tests` that a file may import, by their whole names."""
+    """Returns the full names of the `tests` modules that a file may import."""
     found = set()
     for module, names, alone in IMPORTED.findall(text):
         found.add(module or alone)
@@ -77,10 +77,10 @@ def imported_by(text: str) -> set[str]:
 
 
 def unused_faults(top: Path, modules: Iterable[str]) -> Iterable[str]:
-    """Yields the files of `tests/` that no runner runs and no other file imports or names, and those whose tests do
-    not run.
+    """Yields the files of `tests/` that no runner runs and no other file imports or names, and
+    those with tests that do not run.
 
-    `modules` are the names of the modules that the runner reads."""
+    `modules` are the modules that the runner reads."""
     modules = set(modules)
     files = [path for path in python_files(top) if path.relative_to(top).parts[0] == "tests"]
     texts = {path.relative_to(top).as_posix(): path.read_text(encoding="utf-8") for path in files}
@@ -113,15 +113,15 @@ def wrong_files(top: Path) -> None:
 
 
 class LintTests(Test):
-    """The checkers over the sources of this checkout."""
+    """Tests of this checkout's sources."""
 
     def test_pyflakes(self):
-        """pyflakes has no remark about the Python files."""
+        """pyflakes finds nothing in the Python files."""
         files = python_files(TOP)
         self.see(said_by(pyflakes(), files), len(files))
 
     def test_shellcheck(self):
-        """shellcheck has no remark about the launcher and the script of CI."""
+        """shellcheck finds nothing in the launcher and CI's script."""
         files = shell_files(TOP)
         self.see(said_by(["shellcheck"], files), len(files))
 
@@ -130,7 +130,7 @@ class LintTests(Test):
         self.see(rule_faults(TOP), len(python_files(TOP)))
 
     def test_each_file_is_run(self):
-        """The runner reads each file that has tests, and each other file below tests/ is imported."""
+        """The runner reads each test file, and others below tests/ are imported."""
         self.see(unused_faults(TOP, runner.test_modules()))
 
 
@@ -145,12 +145,12 @@ class WrongFileTests(Test):
         wrong_files(self.top)
 
     def test_rules(self):
-        """Each broken rule is found, by its file."""
+        """Each broken rule is found in its file."""
         found = [fault.split(" ")[0] for fault in rule_faults(self.top)]
         self.assertEqual(found, ["tools/a", "tools/b.py", "tools/c.py"])
 
     def test_files_that_no_test_uses(self):
-        """A test that does not run and a file that nobody imports are found."""
+        """An unused test and an unused file are found."""
         found = list(unused_faults(self.top, ["tests.e"]))
         self.assertEqual(found, [
             "tests/d.py has a test case, and the runner does not read it",
@@ -158,7 +158,7 @@ class WrongFileTests(Test):
             "tests/support/i.py is neither a test module nor imported by one"])
 
     def test_pyflakes_remark(self):
-        """pyflakes finds an import that is not used, in a script without an ending too."""
+        """pyflakes finds an unused import, also in a script without an ending."""
         found = said_by(pyflakes(), python_files(self.top))
         self.assertTrue(any("tools/a:" in line for line in found), found)
         self.assertTrue(any("support/f.py:" in line for line in found), found)

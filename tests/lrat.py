@@ -1,8 +1,8 @@
-"""Tests of `tools/lrat` and `tools/audit`: certificates of worked plants, judged by a checker of LRAT.
+"""Tests of `tools/lrat` and `tools/audit`: certificates of worked plants, with an LRAT checker.
 
-The plants are the safe ones of `examples/`, and lines of 1, 2 and 4 generated stations. Each query that
-`tools/lrat` writes has to be a refutation. Then a digit is changed, one at a time, all over it: the checker has
-to refuse it, or, in the rare case that the change leaves a refutation, the checker of certificates has to agree.
+The plants are the safe ones of `examples/`, and lines of 1, 2 and 4 generated stations. Each query
+of `tools/lrat` must be a refutation. Then single digits all over it are changed. The LRAT checker
+must refuse each change, unless the certificate checker agrees that it is still a refutation.
 """
 
 import subprocess
@@ -18,7 +18,7 @@ from tests.support.harness import ProgramTest, Test
 
 EXAMPLES = ("line-with-boards", "platforms", "station", "station-protected", "terminus-throat")
 STATIONS = (1, 2, 4)
-# of a refutation with many steps few changes are tried, since each is judged whole
+# few changes for refutations with many steps: each is checked whole
 CHANGES, MOST_STEPS, FEWER_CHANGES = 12, 200, 2
 
 # every assignment of two variables breaks a clause
@@ -45,7 +45,7 @@ HANDWRITTEN = [
 
 
 def said_of(formula, proof):
-    """Returns the fault that the checker finds in a refutation, or an empty text."""
+    """Returns the checker's fault in a refutation, or an empty text."""
     try:
         lrat.check(formula, proof)
         return ""
@@ -54,7 +54,7 @@ def said_of(formula, proof):
 
 
 def self_check():
-    """Yields the wrong answers of the checker to the hand-written refutations."""
+    """Yields the checker's wrong answers to the hand-written refutations."""
     for lines, wanted in HANDWRITTEN:
         said = said_of(CNF, "".join(f"{line}\n" for line in lines.split("|") if line))
         if (wanted not in said) if wanted else said:
@@ -62,13 +62,13 @@ def self_check():
 
 
 def as_steps(proof):
-    """A refutation's lines as steps of a certificate."""
+    """Returns a refutation's lines as certificate steps."""
     return [certificate.read_step(f"step {line.partition(' ')[2]}", number)
             for number, line in enumerate(proof.splitlines(), 1)]
 
 
 def is_certified(formula, proof):
-    """Whether the checker of certificates accepts the refutation."""
+    """Returns whether the certificate checker accepts the refutation."""
     try:
         steps = as_steps(proof)
         certificate.checked_steps("query", formula, steps, False)
@@ -78,7 +78,7 @@ def is_certified(formula, proof):
 
 
 def changed(proof, count):
-    """The refutation with one digit changed, at so many places after the numbers of its lines."""
+    """Yields the refutation with one digit changed, at about `count` places after line numbers."""
     places, is_after = [], False
     for place, character in enumerate(proof):
         is_after = character != "\n" and (is_after or character == " ")
@@ -90,7 +90,7 @@ def changed(proof, count):
 
 
 def query_faults(path):
-    """What is wrong with a query that was written, and how many changes were tried and refused."""
+    """Returns a written query's faults, and how many changes were tried and refused."""
     formula, proof = path.read_text(), path.with_suffix(".lrat").read_text()
     said = said_of(formula, proof)
     if said:
@@ -106,8 +106,8 @@ def query_faults(path):
 
 
 def audit_faults(program, conf_file, cert):
-    """What `tools/audit` says wrongly of a certificate: it accepts it as it is, refuses it with its last
-    hint changed, and tells neither where there is no such file."""
+    """Yields the wrong answers of `tools/audit`: it must accept the certificate, refuse it with
+    another last hint, and do neither without a file."""
     text = cert.read_bytes()
     place = text.rindex(b" 0\nend\n") - 1
     digit = int(text[place:place + 1]) % 9 + 1
@@ -122,8 +122,8 @@ def audit_faults(program, conf_file, cert):
 
 
 def plant_faults(program, plant):
-    """What is wrong with a plant's queries, how many there are, and how many changes of them were tried
-    and refused."""
+    """Returns the faults of a plant's queries, their number, and how many changes were tried and
+    refused."""
     with tempfile.TemporaryDirectory(prefix="irv-lrat-") as name:
         directory = Path(name)
         (directory / "conf").write_bytes(plant)
@@ -152,7 +152,7 @@ class LratTests(ProgramTest):
     """The certificates of worked plants."""
 
     def see_plant(self, plant):
-        """Checks a plant's queries; at least nine of ten changed digits are refused."""
+        """Checks a plant's queries. At least nine of ten changed digits are refused."""
         faults, queries, tried, refused = plant_faults(self.program, plant)
         if 10 * refused < 9 * tried:
             faults.append(f"only {refused} of {tried} changed digits are refused")

@@ -1,8 +1,8 @@
 """Tests of `tools/mutants`, in a small copy of a repository with a fake toolchain.
 
-The fake prover calls a function wrong whose body has the word `wrong`, and one that calls such a function
-unproved. The tests are about the tool: which mutants it tries together, what it takes for a refusal and what
-for a bad edit, and what it does not try again.
+The fake prover calls a function wrong if its body has the word `wrong`, and unproved if it calls
+such a function. The tests cover the tool: mutants tried together, refusals, bad edits, and mutants
+not tried again.
 """
 
 import os
@@ -81,7 +81,7 @@ fn third() -> u8
 
 
 def lay_out(top):
-    """Writes the copy: a crate `high` over a crate `low`."""
+    """Writes the copy: a crate `high` that depends on a crate `low`."""
     for path, text in {"bin/rt": RT, "kit/bin/rattle": RATTLE, "kit/START-HERE.md": "",
                        "crates.txt": "low:\nhigh: low\n", "HANDLES": "Handles allowed: none.\n",
                        "crates/low/src/lib.rt": "", "crates/high/src/lib.rt": CODE,
@@ -94,7 +94,7 @@ def lay_out(top):
 
 
 def write(top, directory="mutants", **edits):
-    """Writes edits of `high`, each by its old and its new text."""
+    """Writes edits of `high`, each with its old and new text."""
     (top / "crates/high" / directory).mkdir(exist_ok=True)
     for name, (old, new) in edits.items():
         (top / "crates/high" / directory / f"{name}.edit").write_text(
@@ -102,7 +102,7 @@ def write(top, directory="mutants", **edits):
 
 
 def call(top, *words):
-    """Calls the tool of the copy: its lines, its status, and the checks that it asked for."""
+    """Calls the copy's tool. Returns its lines, its status, and the requested checks."""
     (top / "calls").write_text("")
     environment = dict(os.environ, PATH=f"{top}/bin:{os.environ['PATH']}",
                        XDG_CACHE_HOME=str(top / "cache"))
@@ -116,33 +116,33 @@ FIRST, SECOND, THIRD = ("    1", "    wrong"), ("first() + 1", "wrong"), ("secon
 
 
 def tries_together(top):
-    """Mutants of three functions are refused by one check."""
+    """One check refuses mutants of three functions."""
     write(top, a=FIRST, b=SECOND, c=THIRD)
     lines, status, checks = call(top)
     return (lines[-1], status, checks) == ("3 passed, 0 failed", 0, ["check first second third"])
 
 
 def tries_by_itself(top):
-    """With --alone each has a check of its own; and one that is named is the only one."""
+    """With `--alone` each has its own check. A named mutant is the only one."""
     write(top, a=FIRST, b=SECOND)
     alone, one = call(top, "--alone")[2], call(top, "--alone", "high/b")
     return alone == ["check first", "check second"] and one[2] == ["check second"]
 
 
 def tries_one_function_in_two_checks(top):
-    """Two mutants of one function don't share a check."""
+    """Two mutants of one function do not share a check."""
     write(top, a=FIRST, b=("    1", "    wrong + 1"), c=SECOND)
     return call(top)[1:] == (0, ["check first second", "check first"])
 
 
 def tries_apart_what_hides_another(top):
-    """An edit whose text is there twice after another edit has a check of its own."""
+    """An edit whose text is duplicated by another edit has its own check."""
     write(top, a=FIRST, b=("first() + 1", "wrong + LIMIT"), c=("+ LIMIT", "+ wrong"))
     return call(top)[1:] == (0, ["check first second", "check third"])
 
 
 def lets_none_through(top):
-    """A body that is still proved fails, alone and in a round with others."""
+    """A body that is still proved fails, alone and with others."""
     write(top, a=FIRST, b=("first() + 1", "first() + 2"), c=THIRD)
     lines, status, _ = call(top)
     return (status == 1 and lines[-1] == "2 passed, 1 failed"
@@ -150,7 +150,7 @@ def lets_none_through(top):
 
 
 def caller_of_a_mutant_is_not_refused(top):
-    """One that isn't proved only for what it calls is tried by itself, and let through."""
+    """A function that is unproved only because of its callees is tried by itself, and not refused."""
     write(top, a=FIRST, b=("first() + 1", "1 + first()"))
     lines, status, checks = call(top)
     return (status, checks) == (1, ["check first second", "check second"]) and any(
@@ -158,7 +158,7 @@ def caller_of_a_mutant_is_not_refused(top):
 
 
 def unread_spoils_no_other(top):
-    """An edit that the prover can't read fails, and those beside it are tried without it."""
+    """An edit that the prover cannot read fails, and others are tried without it."""
     write(top, a=FIRST, b=("first() + 1", "unreadable"), c=THIRD)
     lines, status, _ = call(top)
     return (status == 1 and lines[-1] == "2 passed, 1 failed"
@@ -166,27 +166,27 @@ def unread_spoils_no_other(top):
 
 
 def names_gone_show_nothing(top):
-    """A refusal for a name that a proof file has is none."""
+    """A refusal because of a proof file's missing name does not count."""
     write(top, a=("    1", "    gone"))
     lines, status, _ = call(top)
     return status == 1 and any(line.startswith("high/a: NOT SHOWN") for line in lines)
 
 
 def reads_what_is_said_of_recursion(top):
-    """The proof files of a function that calls itself are in a directory with a + before its name."""
+    """A recursive function's proof files are in a directory with a + before its name."""
     write(top, a=("    1", "    itself"))
     lines, status, _ = call(top)
     return (lines[-1], status) == ("1 passed, 0 failed", 0)
 
 
 def others_see_a_constant(top):
-    """A change outside a body has a check of its own, of all functions."""
+    """A change outside a body has its own check of all functions."""
     write(top, a=FIRST, b=("LIMIT: u8 = 1", "LIMIT: u8 = 2"))
     return call(top)[1:] == (0, ["check first", "check"])
 
 
 def refuses_what_an_edit_adds(top):
-    """A function that the edit adds is its own too: where that isn't proved, the edit is refused."""
+    """A function that the edit adds counts too: if it is not proved, the edit is refused."""
     path = top / "crates/high/mutants/a.edit"
     path.parent.mkdir()
     path.write_text("file: src/lib.rt\nold: const LIMIT: u8 = 1;\n"
@@ -196,14 +196,15 @@ def refuses_what_an_edit_adds(top):
 
 
 def applies_once(top):
-    """An edit whose old text is there twice or not at all, that changes nothing, or has another line, fails."""
+    """An edit fails if its old text is missing or duplicated, it changes nothing, or has another
+    line."""
     write(top, a=("u8", "u16"), b=("nowhere", "1"), c=("    1", "    1"), d=("    1", "    wrong\nmore"))
     lines, status, checks = call(top)
     return (status, lines[-1], checks) == (1, "0 passed, 4 failed", [])
 
 
 def tries_nothing_twice(top):
-    """What was refused isn't tried again, until a source changes of the crate or of one below."""
+    """A refused edit is tried again only if a source of the crate or a dependency changes."""
     write(top, a=FIRST)
     first, again = call(top), call(top)
     (top / "crates/low/src/lib.rt").write_text("// another\n")
@@ -214,7 +215,7 @@ def tries_nothing_twice(top):
 
 
 def names_what_there_is(top):
-    """An edit of `must-fail/` is tried where it is named, and what isn't there is refused."""
+    """A named edit of `must-fail/` is tried, and a missing one is refused."""
     write(top, "must-fail", a=FIRST)
     return (call(top)[0] == ["0 passed, 0 failed"] and call(top, "high/a")[1] == 0
             and [call(top, it)[1] for it in ("high/b", "higher", "--together")] == [1, 1, 2])
@@ -229,7 +230,7 @@ def wants_proved_libraries(top):
 
 
 def passes_over(top):
-    """If CI of the toolchain caches nothing, it says so, and fails only edits that cannot be read."""
+    """If the toolchain's CI caches nothing, the tool says so, and fails only unreadable edits."""
     write(top, a=FIRST)
     (top / "old").write_text("")
     lines, status, checks = call(top)
@@ -253,7 +254,7 @@ class MutantToolTests(Test):
 
 
 def add_checks():
-    """Adds a test for each check, which returns whether it is well."""
+    """Adds a test for each check."""
     for check in CHECKS:
         def test(self, check=check):
             with tempfile.TemporaryDirectory(prefix="irv-mutants-test-") as directory:

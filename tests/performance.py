@@ -1,9 +1,9 @@
-"""Tests of the performance page: that its tables and chart match the kept measurement, and of the
-code that makes them.
+"""Tests of the performance page: its tables and chart match the kept measurement, and their code is
+right.
 
-A made-up measurement is read, and the tables and the chart are compared with values derived by hand.
-Texts that tools/benchmark does not print are rejected. The double-track lines of the benchmark have to
-be those of `tests/plants/`, and to have as many sections, points and routes as their parts.
+The tables and the chart of a made-up measurement are compared with hand-derived values. Texts that
+tools/benchmark does not print are rejected. The double-track lines must be those of
+`tests/plants/`, with as many sections, points and routes as their parts.
 """
 
 import json
@@ -47,7 +47,7 @@ ROWS = [
 SENTENCES = ["Measured on 2020-02-29: A Processor, 2 processors, 8 GiB of memory.", "The program was the proved one",
              "`verify` was called with `--conflicts 300000`.", "ended after 50 seconds of CPU time",
              "at the beginning and the end: 0.1 to 2.5."]
-# another call's print behind it, and the sentences by which each is told then
+# the output of another call after it, and the sentences about each call
 ANOTHER = """\
 machine: Another, 1 processors, 4 GiB of memory
 day: 2020-03-01
@@ -62,16 +62,16 @@ EACH = ["1 generated station to line 11L, measured on 2020-02-29: A Processor, 2
         "cadical 1, minisat 2", "cadical 2, minisat 2", "the end: 0.1 to 2.5.", "the end: 0.3.",
         "| line 11L | 112, 44, 176 | spent conflicts=100000 | 123 | 300 | 0 | - | - | - |",
         "| line s | 14, 8, 20 | safe k=1 | 0.65 | 16 | 0 | - | - | - |"]
-# a change of the measurement, by what it is no longer one
+# changes that make the measurement invalid
 BAD = [("day: 2020-02-29\n", ""), ("    audit: accepted", "    audit accepted"), ("6 sections", "six sections"),
        ("cadical unsat 0.25 s", "cadical maybe 0.25 s"), ("load: 2.5\n", "load: 2.5\nTraceback\n"),
        ("load: 2.5\n", "load: 2.5\nmachine: Another\n")]
-# lines with their sections, points and routes, by the parts: of s 12, 8, 20, of b 18, 12, 40, of L 10, 4, 16
+# lines with their sections, points and routes; of s 12, 8, 20, of b 18, 12, 40, of L 10, 4, 16
 LINES = {"s": (14, 8, 20), "b": (20, 12, 40), "L": (12, 4, 16), "11L": (112, 44, 176), "b2s3L": (74, 40, 128)}
 
 
 def table_faults():
-    """What is wrong in the tables of the made-up measurement."""
+    """Yields the faults in the made-up measurement's tables."""
     document = f"before\n{tables.BEGIN}old\n{tables.END}behind\n"
     text = tables.renewed(document, measurements.Measured(MADE_UP))
     lines = text.splitlines()
@@ -89,7 +89,7 @@ def table_faults():
 
 
 def several_faults():
-    """What is wrong where several calls were printed one after another."""
+    """Yields the faults if several calls were printed one after another."""
     several = measurements.Measured(MADE_UP + ANOTHER)
     text = tables.part(several)
     yield from (f"not said of several: {sentence}" for sentence in EACH if text.count(sentence) != 1)
@@ -99,7 +99,7 @@ def several_faults():
 
 
 def refusal_faults():
-    """Which texts are read that aren't measurements."""
+    """Yields the invalid measurements that are accepted."""
     for old, new in BAD:
         try:
             measurements.Measured(MADE_UP.replace(old, new, 1))
@@ -114,7 +114,7 @@ def refusal_faults():
 
 
 def picture_faults():
-    """What is wrong in the picture of the made-up measurement."""
+    """Yields the faults in the made-up measurement's chart."""
     drawn = chart.Picture(measurements.Measured(MADE_UP).plants)
     root = xml.etree.ElementTree.fromstring(drawn.drawn())
     titles = sorted(title.text for title in root.iter("{http://www.w3.org/2000/svg}title"))
@@ -133,7 +133,7 @@ def picture_faults():
 
 
 def repository_faults():
-    """Yields what of the repository does not match the kept measurement."""
+    """Yields the repository's differences from the kept measurement."""
     found = measurements.Measured(TEXT.read_text(encoding="utf-8"))
     page = PAGE.read_text(encoding="utf-8")
     if tables.renewed(page, found) != page:
@@ -143,7 +143,7 @@ def repository_faults():
 
 
 def line_faults():
-    """Which double-track lines aren't those that they should be."""
+    """Yields the wrong double-track lines."""
     for word, wanted in LINES.items():
         document = json.loads(double_track.configuration(word))
         sections = document["sections"]
@@ -159,7 +159,7 @@ def line_faults():
 
 
 class PerformanceTests(Test):
-    """What makes the performance page, and that the page is made of what was measured."""
+    """Tests of the performance page and of the code that makes it."""
 
 
 def add_checks():

@@ -1,15 +1,15 @@
-"""Tests commands together: one reads what another prints.
+"""Tests commands that read each other's output.
 
-- `make` prints for 1 to 16 stations what `irvtools/generators/configurations.py` writes by itself, and `check` finds
-  it clean.
-- `demo` prints the same line and writes the same certificate at each run, and `audit` accepts it.
-- `table` prints the routes that `irvtools/generators/route_tables.py` finds by itself, or is refused as that says,
-  for each plant of `examples/` and each random network; `check` finds what it prints clean, except for C7 if the
-  columns were free; and `table` of what it printed prints it once more.
-- `drive` prints what `support/drive_model.py` finds by itself, over those plants and their tables, for random
-  scenarios; and `replay` of the run that is printed shows the hazard that it names, or none.
+- `make` prints for 1 to 16 stations what `irvtools/generators/configurations.py` writes. `check`
+  finds it clean.
+- `demo` prints the same line and writes the same certificate each time. `audit` accepts it.
+- `table` prints the routes, or the refusal, of `irvtools/generators/route_tables.py` for each plant
+  of `examples/` and each random network. `check` finds its output clean, except for C7 with free
+  columns. `table` of its own output prints it again.
+- `drive` prints what `support/drive_model.py` finds, over those plants and their tables, for random
+  scenarios. `replay` of the printed run shows its hazard, or none.
 
-Each run makes the same 60 networks; with --long it makes 10,000.
+Each run makes the same 60 networks, or 10,000 with `--long`.
 """
 
 import collections
@@ -30,30 +30,30 @@ from tests.support.harness import ProgramTest
 AT_ONCE = 4
 NETWORKS = 60
 MANY_NETWORKS = 10000
-SCENES = 8              # for each plant
+SCENES = 8              # per plant
 MOST_COMMANDS = 24
-LONG_LINE, LONG_SCENE = 60, 900     # sections, and trains that run through them one after another
+LONG_LINE, LONG_SCENE = 60, 900     # sections, and trains that run through them in turn
 SHOWN_BYTES = 300
 
 
 class Calls:
-    """Calls of the program in a directory, each with files of its own."""
+    """Calls of the program in a directory, each with its own files."""
 
     def __init__(self, program, directory):
         self.program, self.directory = program, directory
 
     def path(self, name):
-        """A file of this thread."""
+        """Returns a file of this thread."""
         return self.directory / f"{name}-{threading.get_ident()}"
 
     def call(self, words, given=b""):
-        """The output and the status; the output says it where there was something on standard error."""
+        """Returns the output and the status. The output includes standard error."""
         words = [str(word) for word in words]
         output, errors, status = programs.call(self.program, words, given, self.directory)
         return output + errors, status
 
     def fault(self, words, given, wanted, status):
-        """What is wrong with an answer, or nothing."""
+        """Returns the fault of an answer, or nothing."""
         got = self.call(words, given)
         if got == (wanted, status):
             return []
@@ -63,14 +63,14 @@ class Calls:
 
 
 def make_faults(calls, count):
-    """What is wrong with the stations that make prints."""
+    """Yields the faults of make's stations."""
     wanted = configurations.stations_text(count, "printed")
     yield from calls.fault(["make", "--stations", count], b"", wanted, 0)
     yield from calls.fault(["check"], wanted, b"clean\n", 0)
 
 
 def demo_faults(calls, count):
-    """What is wrong with two demonstrations of so many stations."""
+    """Yields the faults of two demonstrations of `count` stations."""
     line = f"stations={count} sections={5 * count + 1} routes={8 * count} safe k=1\n".encode()
     written = []
     for _ in range(2):
@@ -83,7 +83,7 @@ def demo_faults(calls, count):
 
 
 def borders_broken(sections):
-    """The lines of C7: borders without a board for trains that come in."""
+    """Yields the lines of C7: borders without boards for entering trains."""
     for number, section in enumerate(sections):
         if section["kind"] == "linear" and (section["down"] is None) != (section["up"] is None):
             inward = "up" if section["down"] is None else "down"
@@ -92,7 +92,7 @@ def borders_broken(sections):
 
 
 def table_faults(calls, network):
-    """What is wrong with the table of a network."""
+    """Yields the faults of a network's table."""
     given = json.dumps(network).encode()
     broken = list(borders_broken(network["sections"]))
     found = route_tables.routes(network)
@@ -112,7 +112,7 @@ def table_faults(calls, network):
 
 
 def scenes_of(document, seed):
-    """Returns random scenarios: mostly entries at boundary sections and marked routes, some cancelled routes."""
+    """Yields random scenarios: mostly entries at borders and marked routes, some cancelled routes."""
     chance = random.Random(seed)
     sections = [section["name"] for section in document["sections"]]
     borders = [section["name"] for section in document["sections"]
@@ -129,7 +129,7 @@ def scenes_of(document, seed):
 
 
 def used_up(document, lines, chance):
-    """The commands, most often without those at which the drive is stuck."""
+    """Returns the commands, usually without those that stop the drive."""
     while lines and chance.randrange(12):
         _, text = drive_model.answer(document, lines)
         words = text.split(" steps=")[0].split()
@@ -140,7 +140,7 @@ def used_up(document, lines, chance):
 
 
 def replayed_faults(calls, given, text):
-    """What is wrong with the answers of replay to the run of a drive."""
+    """Yields the faults of replay's answers to a drive's run."""
     first, _, run = text.partition("\n")
     hazard = first.partition(" steps=")[0] if first.startswith("hazard") else None
     calls.path("run").write_text(run)
@@ -149,7 +149,7 @@ def replayed_faults(calls, given, text):
 
 
 def drive_faults(calls, document, seed, counted):
-    """What is wrong with drives over a plant."""
+    """Yields the faults of drives over a plant."""
     given = json.dumps(document).encode()
     for lines in scenes_of(document, seed):
         kind, text = drive_model.answer(document, lines)
@@ -162,7 +162,7 @@ def drive_faults(calls, document, seed, counted):
 
 
 def long_drive_faults(calls):
-    """What is wrong with a drive whose run is near the most bytes that replay reads."""
+    """Yields the faults of a drive whose run is near replay's greatest length."""
     names = [f"s{i}" for i in range(LONG_LINE)]
     one = [f"enter {names[0]}", *(f"head {name}" for name in names[:-1]),
            *(f"tail {name}" for name in names[:-1]), f"leave {names[-1]}"]
@@ -175,43 +175,64 @@ def long_drive_faults(calls):
     yield from replayed_faults(calls, given, text)
 
 
-def plant_faults(calls, document, seed, counted):
-    """What is wrong with the table of a network, and with drives over it and over its table."""
-    yield from table_faults(calls, document)
-    documents = [document]
+def drives_faults(calls, document, seed, counted):
+    """Yields the faults of drives over a network and over its table."""
+    plants = [document]
     if not isinstance(route_tables.routes(document), str):
-        documents.append(route_tables.with_routes(document))
-    for place, one in enumerate(documents):
+        plants.append(route_tables.with_routes(document))
+    for place, one in enumerate(plants):
         yield from drive_faults(calls, one, 2 * seed + place, counted)
 
 
-def tasks(calls, count, counted):
-    """What is tried: a name, and what gives its faults."""
+def documents(count):
+    """Yields the plants of the examples, generated stations and `count` random networks: a name, the
+    configuration, and the seed of its scenarios."""
+    for number, path in enumerate(sorted(case_files.EXAMPLES.glob("*.json"))):
+        yield path.stem, json.loads(path.read_text()), -1 - number
+    for stations in (1, 2, 4):
+        yield f"stations {stations}", json.loads(configurations.stations_text(stations)), stations
+    for seed in range(count):
+        yield f"network {seed}", random_networks.network(seed)[0], seed
+
+
+def tasks(calls, count):
+    """Yields named tests, each with its faults."""
     for stations in range(1, 17):
         yield f"make {stations}", make_faults(calls, stations)
     for stations in (1, 2, 3):
         yield f"demo {stations}", demo_faults(calls, stations)
     yield "a long drive", long_drive_faults(calls)
-    for number, path in enumerate(sorted(case_files.EXAMPLES.glob("*.json"))):
-        yield path.stem, plant_faults(calls, json.loads(path.read_text()), -1 - number, counted)
-    for stations in (1, 2, 4):
-        document = json.loads(configurations.stations_text(stations))
-        yield f"stations {stations}", plant_faults(calls, document, stations, counted)
-    for seed in range(count):
-        yield f"network {seed}", plant_faults(calls, random_networks.network(seed)[0], seed, counted)
+    for name, document, _ in documents(count):
+        yield name, table_faults(calls, document)
+
+
+def faults_of(every):
+    """Returns the faults of tasks, of which some run at once."""
+    with ThreadPoolExecutor(AT_ONCE) as pool:
+        return [f"{name}: {fault}" for (name, _), found in
+                zip(every, pool.map(lambda task: list(task[1]), every)) for fault in found]
 
 
 class PipelineTests(ProgramTest):
-    """Commands of which one reads what another prints."""
+    """Tests of commands that read each other's output."""
 
     def test_tasks(self):
-        """Each task is well, and drives come to each kind of rest."""
-        counted, faults = collections.Counter(), []
+        """Each task passes."""
         with tempfile.TemporaryDirectory(prefix="irv-pipelines-") as directory:
-            every = list(tasks(Calls(self.program, Path(directory)), MANY_NETWORKS if self.is_long else NETWORKS,
-                               counted))
-            with ThreadPoolExecutor(AT_ONCE) as pool:
-                for (name, _), found in zip(every, pool.map(lambda task: list(task[1]), every)):
-                    faults += [f"{name}: {fault}" for fault in found]
+            every = list(tasks(Calls(self.program, Path(directory)), self.networks()))
+            self.see(faults_of(every), len(every))
+
+    def test_drives(self):
+        """Each drive is that of the independent model, and drives come to each kind of rest."""
+        every = [(*one, collections.Counter()) for one in documents(self.networks())]
+        with tempfile.TemporaryDirectory(prefix="irv-pipelines-") as directory:
+            calls = Calls(self.program, Path(directory))
+            faults = faults_of([(name, drives_faults(calls, document, seed, counted))
+                                for name, document, seed, counted in every])
+        counted = sum((one[-1] for one in every), collections.Counter())
         faults += [f"no drive came to {kind}" for kind in drive_model.STATUS_OF if not counted[kind]]
-        self.see(faults, len(every))
+        self.see(faults, sum(counted.values()))
+
+    def networks(self):
+        """Returns the number of random networks."""
+        return MANY_NETWORKS if self.is_long else NETWORKS

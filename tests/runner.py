@@ -1,4 +1,4 @@
-"""Tests of the runner, over small trees of tests: crashes, killed processes, names, set-ups and the order."""
+"""Tests of the runner over small test trees: crashes, killed processes, names, set-ups and order."""
 
 from __future__ import annotations
 
@@ -73,20 +73,19 @@ class RunnerTests(Test):
         path.write_text(text, encoding="utf-8")
 
     def run_tests(self, *words: str) -> tuple[int, list[str], str]:
-        """Returns the exit status of the runner, the lines that it prints without their seconds, and its
-        messages."""
+        """Returns the runner's exit status, its lines without seconds, and its messages."""
         done = subprocess.run([self.top / "tests/run", *words], stdout=subprocess.PIPE, stderr=subprocess.PIPE,
                               text=True, check=False)
         return done.returncode, SECONDS.sub("S)", done.stdout).splitlines(), done.stderr
 
     def see_results(self, status: int, count: str, *lines: str) -> None:
-        """Runs all tests, and fails if the status, the last line or one of these lines is another one."""
+        """Runs all tests. Fails if the status, the last line or one of these lines differs."""
         got, printed, errors = self.run_tests("--jobs", "2")
         self.assertEqual((got, printed[-1:], errors), (status, [count], ""), printed)
         self.see((f"{line!r} is not printed: {printed}" for line in lines if line not in printed), 1 + len(lines))
 
     def test_each_result(self):
-        """A crash, a killed process and a failed part are failures of their tests; the others still run."""
+        """A crash, a killed process and a failed part fail their tests; others still run."""
         self.write("small.py", SMALL)
         self.see_results(
             1, "3 passed, 4 failed, 2 skipped", "passed small.good (3 checks, S): A test that passes.",
@@ -102,7 +101,7 @@ class RunnerTests(Test):
                          (0, ["passed small.long (S)", "1 passed, 0 failed, 0 skipped"]))
 
     def test_names(self):
-        """A test runs by its whole name or its first parts; a name of no test ends with status 2."""
+        """A test runs by its whole name or its first parts. An unknown name ends with status 2."""
         self.write("subject/part_tests.py", ORDER.format(False))
         self.write("small.py", SMALL)
         for name in ("subject", "subject.part", "subject.part.one"):
@@ -113,7 +112,7 @@ class RunnerTests(Test):
                 2, [], f"tests/run: no test is called {name}; see tests/run --list\n"))
 
     def test_broken_modules(self):
-        """A module that cannot be imported, and one without a test, are failures."""
+        """A module that cannot be imported or has no test is a failure."""
         self.write("broken.py", "import no_such_module\n")
         self.write("empty.py", "")
         self.see_results(1, "0 passed, 2 failed, 0 skipped", "FAILED broken.import (S)",
@@ -121,7 +120,7 @@ class RunnerTests(Test):
                          "    the module has no test")
 
     def test_shared_set_up(self):
-        """The tests of a module whose set-up crashes fail; they are skipped if it is."""
+        """A module's tests fail if its set-up crashes, and are skipped if it is."""
         self.write("a/one_tests.py", SHARED.format("pass"))
         self.see_results(0, "2 passed, 0 failed, 0 skipped")
         self.write("a/one_tests.py", SHARED.format("raise unittest.SkipTest('no reason')"))
@@ -130,7 +129,7 @@ class RunnerTests(Test):
                          "FAILED a.two.b (S)", "    KeyError: 'missing'")
 
     def test_shared_kill(self):
-        """If a process that several tests share is killed, all of them fail."""
+        """If a process of several tests is killed, all fail."""
         self.write("a/one_tests.py", SHARED.format("os.kill(os.getpid(), signal.SIGKILL)"))
         self.see_results(1, "0 passed, 2 failed, 0 skipped", "FAILED a.one.a (S)", "FAILED a.one.b (S)")
 
@@ -143,7 +142,7 @@ class RunnerTests(Test):
         self.assertEqual([line.split()[1] for line in printed[:-1]], ["b.one", "a.one", "c.one"])
 
     def test_program(self):
-        """If a test needs the program and it does not exist, the status is 2 and no test runs."""
+        """If a test needs a missing program, the status is 2 and no test runs."""
         self.write("a.py", ORDER.format(False).replace("def test", "needs_program = True\n    def test"))
         status, printed, errors = self.run_tests("--program", "missing")
         self.assertEqual((status, printed), (2, []))

@@ -1,7 +1,7 @@
-"""Tests of `rup`: refutations from the steps of certificates, and changes of them.
+"""Tests of `rup`: refutations from certificate steps, and changes of them.
 
-Each answer has to be that of the independent checker of refutations. `tests/fuzz_rup` checks many more, and
-refutations of other solvers.
+Each answer must be the independent refutation checker's. `tests/fuzz_rup` checks many more, and
+other solvers' refutations.
 """
 
 import subprocess
@@ -13,12 +13,13 @@ from irvtools.checkers import certificate, refutations, rup
 from tests.support import case_files, handwritten_certificates
 from tests.support.harness import ProgramTest, Test
 
-# each configuration with the number of changes of each of its texts
+# each configuration and the number of changes per text
 PLANTS = (("line-with-boards", 60), ("platforms", 15), ("station", 15))
 AT_ONCE = 4
 SEED = 33
 
-# texts over the four clauses of two variables, and the first bad item, or None if the text refutes them
+# texts over the four clauses of two variables, and the first bad item, or None if the text refutes
+# them
 HANDWRITTEN = [
     ("1 0 0", None), ("1 0", None), ("0", 1), ("d 1 2 0 1 0", None), ("1 -1 0 1 0", None), ("", 1),
     ("3 0", 1), ("1 0 2", 2), ("-1 0", None), ("2 0 d 1 2 0 0", None), ("1 1 0", None), ("1 2 0", 2),
@@ -30,7 +31,7 @@ HANDWRITTEN = [
 
 
 def self_check():
-    """Yields the wrong answers of the checker to the hand-written texts."""
+    """Yields the checker's wrong answers to the hand-written texts."""
     for text, expected in HANDWRITTEN:
         got = rup.first_bad(*handwritten_certificates.TWO_VARIABLES, text.encode())
         if got != expected:
@@ -38,7 +39,7 @@ def self_check():
 
 
 def queries_of(program, conf, directory):
-    """Yields the queries of the certificate that verify writes, each with the text of its steps' clauses."""
+    """Yields the queries of verify's certificate, each with the text of its steps' clauses."""
     path = directory / "certificate"
     done = subprocess.run([str(program), "verify", "--cert", str(path)], input=conf, stdout=subprocess.PIPE)
     if done.returncode != 0:
@@ -48,7 +49,7 @@ def queries_of(program, conf, directory):
 
 
 def texts_of(text, count):
-    """Yields a refutation and its changes, each with the number of items that are known to be right."""
+    """Yields a refutation and its changes, each with its number of items known to be right."""
     yield text, 0
     yield b"", 0
     items = text.count(b"\n")
@@ -62,7 +63,7 @@ def texts_of(text, count):
 
 
 def configuration_faults(program, name, count, directory):
-    """Returns the wrong answers to the texts of a configuration, and how many texts there were."""
+    """Returns the wrong answers to a configuration's texts, and the number of texts."""
     conf = (case_files.EXAMPLES / f"{name}.json").read_bytes()
     asked = refutations.Refutations(program, conf, directory)
     faults, checked = [], 0

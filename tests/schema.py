@@ -1,7 +1,7 @@
-"""Tests of the schema of a configuration, on every configuration of `tests/cases` and `examples/`.
+"""Tests of the configuration schema on every configuration of `tests/cases` and `examples/`.
 
-The schema has to accept what the rules F accept, and to refuse what breaks one of the rules F3 to F6, except
-for the few cases listed below, which no schema can express. Debian's python3-jsonschema judges it.
+The schema must accept what rules F accept, and refuse what breaks one of F3 to F6. The few
+exceptions below cannot be expressed in a schema. Debian's python3-jsonschema checks it.
 """
 
 import json
@@ -13,18 +13,17 @@ from tests.support.harness import Test
 
 SCHEMA = json.loads((TOP / "docs/reference/configuration.schema.json").read_text(encoding="utf-8"))
 
-# to a schema 1.0 and 1 are one number, however it is written
+# a schema sees 1.0 and 1 as one number
 UNSAID = {"version 1.0", "version 1e0"}
 
 # commands that read no configuration
 READ_NONE = ("make", "demo")
 
-MOST_BYTES = 20000          # the library takes long for more
+MOST_BYTES = 20000          # the library is slow for more
 
 
 def rule_of_form(case):
-    """The rule of the form that a case's configuration breaks, `right` where it breaks none, or nothing
-    where the case doesn't say."""
+    """Returns the rule F that a case's configuration breaks, `right` if none, or `None` if unknown."""
     if case.words and any(command in case.words for command in READ_NONE):
         return None
     if case.verdicts or case.has_formula:
@@ -36,7 +35,7 @@ def rule_of_form(case):
 
 
 def all_cases():
-    """Every case, each example as one, and one more."""
+    """Yields every case, each example as one, and one more."""
     for path in sorted(case_files.CASES.glob("*.cases")):
         yield from case_files.read_case_file(path)
     yield from member_cases.member_cases()
@@ -44,7 +43,7 @@ def all_cases():
         example = case_files.Case(f"the example {path.stem}", path.name)
         example.conf, example.status = path.read_bytes(), 0
         yield example
-    # the third version of what has all members of the second
+    # version 3 with all members of version 2
     third = case_files.Case("station-protected in version 3", "tests/schema")
     protected = (case_files.EXAMPLES / "station-protected.json").read_bytes()
     third.conf = protected.replace(b'"version": 2', b'"version": 3')
@@ -53,7 +52,7 @@ def all_cases():
 
 
 def fault_of(case, rule, accepts):
-    """Returns what is wrong with the schema's answer to a case, or None."""
+    """Returns the fault of the schema's answer to a case, or `None`."""
     wanted = rule == "right" or case.name in UNSAID
     if accepts(json.loads(case.conf)) != wanted:
         return f"{case.where}: {case.name}: the schema {'refuses' if wanted else 'accepts'} it, the rules say {rule}"
@@ -61,7 +60,7 @@ def fault_of(case, rule, accepts):
 
 
 class SchemaTests(Test):
-    """The schema beside the rules F."""
+    """The schema compared with the rules F."""
 
     def test_cases(self):
         """The schema answers each case as the rules do."""

@@ -1,7 +1,7 @@
-"""Tests of docs/assurance/traceability.md and of the definitions that assessors read.
+"""Tests of docs/assurance/traceability.md and of the definitions for assessors.
 
 Each assumption, application condition, failure mode, requirement, command, exit status and tool has
-evidence that exists. Wrong sources are found, each by its own fault.
+existing evidence. Wrong sources are found, each by its own fault.
 """
 
 import re
@@ -15,7 +15,7 @@ from irvtools.docs.requirements import FORMATS, MODEL
 from irvtools.paths import TOP
 from tests.support.harness import Test
 
-# changes of a source: the file, what is replaced and by what, and a part of the fault
+# changes of a source: file, old and new text, and a part of the fault
 CHANGES = {
     "a failure mode without evidence": (
         QUALIFICATION,
@@ -113,7 +113,7 @@ CHANGES = {
     ),
     "a requirement with another definition": (
         DATA,
-        r"^(N2 \| ilk_plant/specs/Draft\.antt:)is_named_before",
+        r"^(N2 \| ilk_plant/specs/Draft\.antt:)is_duplicate",
         r"\1numbered",
         "N2: the model has other definitions",
     ),
@@ -133,7 +133,7 @@ CHANGES = {
 
 
 def faults_after(change):
-    """Returns the faults of a copy of the sources with one change, or that nothing was changed."""
+    """Returns the faults of a copy of the sources with one change, or of no change."""
     file, pattern, replacement, _ = change
     with tempfile.TemporaryDirectory(prefix="irv-traceability-") as folder:
         root = Path(folder)
@@ -155,18 +155,18 @@ def faults_after(change):
 
 
 class TraceabilityTests(Test):
-    """The page, its sources, and the pages of definitions."""
+    """Tests of the page, its sources, and the pages of definitions."""
 
     def test_evidence(self):
-        """Each line has evidence that exists, and the page is as it is generated."""
+        """Each line has existing evidence, and the page is as generated."""
         self.see(traceability.faults() + traceability.differences())
 
     def test_definitions(self):
-        """The list of definitions and the reading plan are as they are generated."""
+        """The list of definitions and the reading plan are as generated."""
         self.see(definition_pages.differences())
 
     def test_wrong_sources(self):
-        """Each wrong source is found by its own fault, which the sources of today do not have."""
+        """Each wrong source is found by its own fault, which the present ones do not have."""
         before, wrong = traceability.faults(), []
         for name, change in CHANGES.items():
             found = [fault for fault in faults_after(change) if fault not in before]

@@ -1,8 +1,8 @@
-"""Runs each transcript of the documents over the program, and compares what is printed.
+"""Runs each transcript of the documents with the program, and compares the output.
 
-`support/transcripts.py` says what a transcript is. Each document has a directory of its own, with copies of
-`examples/` and of the tools, in which `./irv` is the program. A transcript that calls a program which is not
-installed, such as another solver, is skipped.
+`support/transcripts.py` describes transcripts. Each document has its own directory, with copies of
+`examples/` and the tools, in which `./irv` is the program. A transcript that calls a missing
+program, such as another solver, is skipped.
 """
 
 import re
@@ -15,7 +15,7 @@ from irvtools.paths import TOP
 from tests.support.harness import ProgramTest, Test
 
 PARTS = "examples", "tools"
-# documents by hand, with how many commands pass, fail and are left out
+# hand-written documents, with how many commands pass, fail and are left out
 HAND_WRITTEN = [
     ("```\n$ echo a; echo b\na\nb\n```\n", 1, 0, 0),
     ("```\n$ echo a\nb\n```\n", 0, 1, 0),
@@ -46,8 +46,8 @@ exec {program} "$@"
 
 
 def lay_out(directory, program):
-    """Lays out the directory in which the transcripts of a document run: there `./irv` calls the program, and the
-    tools that the launcher's options name."""
+    """Prepares the directory of a document's transcripts: `./irv` calls the program, and the tools
+    of the launcher's options."""
     for part in PARTS:
         shutil.copytree(TOP / part, directory / part, ignore=shutil.ignore_patterns("__pycache__"))
     shutil.copy(TOP / "VERSION", directory / "VERSION")
@@ -57,10 +57,10 @@ def lay_out(directory, program):
 
 
 class ReaderTests(Test):
-    """The reader of transcripts alone."""
+    """Tests of the transcript reader."""
 
     def test_self_check(self):
-        """Hand-written documents have as many commands that pass, fail and are skipped."""
+        """Hand-written documents have their numbers of passed, failed and skipped commands."""
         faults = []
         for text, *wanted in HAND_WRITTEN:
             with tempfile.TemporaryDirectory(prefix="irv-transcripts-") as directory:

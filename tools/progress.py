@@ -1,5 +1,5 @@
 #!/usr/bin/env python3
-"""Prints how far the proof of the crates is: see irvtools/launcher/progress.py."""
+"""Prints the progress of the proof: see irvtools/launcher/progress.py."""
 
 import sys
 

@@ -1,5 +1,5 @@
 #!/usr/bin/env python3
-"""Has the program proved and built: see irvtools/launcher/prove_program.py."""
+"""Proves and builds the program: see irvtools/launcher/prove_program.py."""
 
 import sys
 

@@ -1,4 +1,4 @@
-"""Tests with names of all kinds: what is answered, what is kept, and that changes are found."""
+"""Tests of unusual file names: answers, displayed names and found changes."""
 
 import html
 import random
@@ -10,7 +10,7 @@ from irvtools.html.options import MOST_CHARACTERS
 from tests.batch.workspace import batch_case, differs, without_progress
 from tests.support.harness import Test
 
-# names that a shell, a page, or a table could take for something else
+# names that a shell, a page or a table could misread
 NAMES = {"platforms.json": b"a 'quoted\" $(touch broken) name.json",
          "platforms-wrong-position.json": b"-dash<b>&amp;{key}.json",
          "two-sections.json": b"=1+1.json", "station.json": b"below/line\nend \xff.json"}
@@ -29,11 +29,11 @@ QUESTIONS = """configuration,ask,words
 *,html,--verify-seconds 0 --search-seconds 0
 """
 SCENARIO = "drive 1\nenter line\nend\n"
-SUMS = 100              # how often random seconds are added up in two orders
+SUMS = 100              # random sums of seconds, each in two orders
 
 
 def fill(room):
-    """Adds four configurations with names of all kinds, and questions about each."""
+    """Adds four configurations with unusual names, and questions about each."""
     for example, name in NAMES.items():
         room.add(example, name)
     (room.directory / "a scene").write_text(SCENARIO, encoding="ascii")
@@ -41,9 +41,8 @@ def fill(room):
 
 
 def check_names(room):
-    """Each answer is the documented one, whatever the names are, and the index and JUnit show
-    the names as they are. A second call does nothing; a call after a change does only what
-    changed."""
+    """Each answer is as documented, and the index and JUnit show each name. Only changes make later
+    calls do jobs."""
     fill(room)
     first = room.call()
     yield from differs("status", (first.returncode, without_progress(first.stderr)), (1, ""))
@@ -70,9 +69,9 @@ def jobs_of(room):
 
 
 def expected_answers():
-    """Returns the outcome and the line of each answer but that of verify_with."""
+    """Returns each answer's expected outcome and line, except for verify_with and html."""
     name = dict(SHOWN)
-    name["two-sections.json"] = "\\x3d1+1.json"         # in a table no name begins a formula
+    name["two-sections.json"] = "\\x3d1+1.json"         # escaped: no name begins a formula in a table
     name["platforms-wrong-position.json"] = "\\x2ddash<b>&amp;{key}.json"
     return {
         (name["platforms.json"], "check"): ("good", "clean"),
@@ -87,27 +86,26 @@ def expected_answers():
         (name["two-sections.json"], "verify"): ("HAZARD FOUND", "unsafe steps=3 hazard=two a"),
         (name["two-sections.json"], "drive"): ("REFUSED", "refused C7 sections[0]"),
         (name["station.json"], "check"): ("good", "clean"),
-        # no section is called line: the second line of the scenario is bad
+        # no section is called line: the scenario's line 2 is bad
         (name["station.json"], "drive"): ("NOT SHOWN", "rejected line 2"),
-        # a train is on the line, and no route is set: all commands were given, and the train has
-        # not left
+        # all commands were given, but without a route the train has not left
         (name["platforms.json"], "drive"): ("NOT SHOWN", "stuck at 2 steps=1"),
     }
 
 
 def names_faults(room):
-    """Yields what is wrong with the answers about configurations with names of all kinds."""
+    """Yields the faults in answers about unusual names."""
     found, expected = room.answers(), expected_answers()
     solved = found.pop((SHOWN["platforms.json"], "verify_with"), ("", ""))
     reports = {key: found.pop(key) for key in list(found) if key[1] == "html"}
     yield from differs("answers", found, expected)
-    # within no seconds at all verify may have found the hazard of two-sections.json, or not
+    # within 0 seconds verify may miss the hazard of two-sections.json
     outcomes = sorted(outcome for outcome, _ in reports.values())
     if outcomes not in (["REFUSED", "REFUSED", "good", "good"],
                         ["HAZARD FOUND", "REFUSED", "good", "good"]):
         yield f"HTML reports: {outcomes}"
     yield from differs("titles", sorted(titles(room)), sorted(SHOWN.values()))
-    # an empty text refutes no query that needs more than propagation, as step 1 of this table does
+    # an empty proof refutes only queries that propagation refutes; step 1 needs more
     if solved[0] != "NOT SHOWN" or not solved[1].endswith("step 1"):
         yield f"a solver that wrote nothing: {solved}"
     yield from differs("touched", list(room.room.rglob("broken")), [])
@@ -132,9 +130,8 @@ def titles(room):
 
 
 def order_faults(room):
-    """Yields a fault if the report's texts depend on the order in which a job's needs are
-    listed, which is another one in a report that is read again; also if a sum of seconds ends
-    halfway between two that are shown."""
+    """Yields a fault if the report's texts depend on the order of a job's needs, which changes on
+    re-reading. Some sums of seconds are halfway between two displayed values."""
     report, turned = room.report(), room.report()
     for each in turned["jobs"].values():
         each["job"]["needs"] = dict(reversed(each["job"]["needs"].items()))
@@ -150,7 +147,7 @@ def order_faults(room):
 
 
 def shortened(data):
-    """Leaves out the last bytes."""
+    """Leaves out the last two bytes."""
     return data[:-2]
 
 
@@ -160,7 +157,7 @@ def other_steps(data):
 
 
 def other_verdict(data):
-    """Changes the verdict of each configuration that was refused."""
+    """Changes the verdict of each refused configuration."""
     configurations, between, jobs = data.partition(b'"jobs":{')
     return configurations.replace(b'"word":"REFUSED"', b'"word":"SAFE"') + between + jobs
 
@@ -172,17 +169,17 @@ def other_word(data):
 
 
 def no_word(data):
-    """Puts a word where a verdict's should be."""
+    """Replaces a verdict by an unknown word."""
     return data.replace(b'"word":"REFUSED"', b'"word":"GREEN"')
 
 
 def called_proved(data):
-    """Says that the program is proved."""
+    """Claims that the program is proved."""
     return data.replace(b'"is_proved":false', b'"is_proved":true')
 
 
 def changes(room):
-    """Each thing that was changed afterwards is found by --verify-report."""
+    """`--verify-report` finds each later change."""
     configuration = next(each["checksum"] for each in room.report()["configurations"]
                          if each["name"] == "=1+1.json")
     report, certificate = room.out / "report.json", room.file("verify", "certificate", "safe k=1")
@@ -209,10 +206,10 @@ def changes(room):
 
 
 class TitleTests(Test):
-    """Tests of the titles of HTML reports."""
+    """Tests of HTML report titles."""
 
     def test_titles(self):
-        """A title is printable and not too long, and a name that can be a title is one."""
+        """A title is printable and not too long. A suitable name is its own title."""
         names = {"a.json": "a.json", "x" * 300 + ".json": "…" + "x" * (MOST_CHARACTERS - 6) + ".json",
                  "a\u00a0b.json": "a\\u00a0b.json", "a\nb.json": "a\\x0ab.json"}
         self.see(fault for name, title in names.items()

@@ -1,5 +1,4 @@
-"""Tests of answers that were forged on the machine that did the work: the report repeats them,
-and --verify-report finds them."""
+"""Tests of forged answers: the report repeats them, and `--verify-report` finds them."""
 
 import json
 
@@ -9,7 +8,7 @@ SOLVER = "verify_with --solver 'sh -c \": >{proof}; exit 20\" {cnf}'"
 QUESTIONS = ("--ask", "check", "--ask", "verify", "--ask", SOLVER,
              "--ask", "html --columns free --verify-seconds 5 --search-seconds 0")
 SAFE_LINE = "SAFE. No run of any length ends in a hazard."
-# of each kind of question the answer that is forged, and the fault that is found
+# by kind of question: the forged answer, and the fault that is found
 FORGED = {
     "check": ({"line": "clean", "is_good": True,
                "status": 0}, "irv check says refused C3 routes[1], and the report "
@@ -25,7 +24,7 @@ FORGED = {
 
 
 def forge(room, kind, changes):
-    """Changes an answer of a kind; returns what it was and its file."""
+    """Forges an answer of a kind. Returns its file and the original."""
     file = next((room.out / "results" / kind).glob("*/answer.json"))
     before = file.read_bytes()
     file.write_text(json.dumps({**json.loads(before), **changes}), encoding="utf-8")
@@ -33,8 +32,7 @@ def forge(room, kind, changes):
 
 
 def check_forged(room):
-    """Each answer that is forged as one of a safe table is repeated by the next report, and
-    found."""
+    """The next report repeats each answer that is forged as safe, and verification finds it."""
     room.add("platforms-wrong-position.json")
     room.call(*QUESTIONS)
     yield from differs("before", room.verify()[0], 0)

@@ -1,4 +1,4 @@
-"""Tests of the index in a browser: sorting, filtering, without script, on a phone, in the dark."""
+"""Browser tests of the index: sorting, filtering, no script, phone and dark mode."""
 
 import tempfile
 from pathlib import Path
@@ -21,7 +21,7 @@ SORT = (
     "[...document.querySelectorAll('table.index tbody tr')].map(row => row.cells[{}].textContent)")
 FILTER = ("(() => {{ const one = document.querySelector('{}'); one.value = '{}';"
           " one.dispatchEvent(new Event('{}')); }})()")
-# the texts whose contrast to what is behind them is too small
+# the texts with too little contrast to their background
 CONTRAST = """(() => {
   const numbers = colour => colour.match(/[0-9.]+/g).map(Number);
   const light = colour => { const [r, g, b] = numbers(colour).map(one => one / 255)
@@ -48,10 +48,10 @@ TOO_WIDE = """[...document.querySelectorAll('body *')].filter(one => one.getClie
 
 
 class IndexTests(Test):
-    """Tests of the index in a browser."""
+    """Browser tests of the index."""
 
     def setUp(self):
-        """Writes the index, and starts a browser."""
+        """Writes the index and starts a browser."""
         file = browser.find()
         if file is None:
             self.skipTest("no browser is installed (Debian's package chromium)")
@@ -71,8 +71,8 @@ class IndexTests(Test):
         return shown
 
     def test_sorts(self):
-        """A click on a title sorts by its column, another click the other way, and the first
-        column brings back the order of the page."""
+        """A click on a title sorts by its column, and another click reverses this. The first column
+        restores the page's order."""
         shown = self.opened()
         first = shown.ask(NAMES)
         up, down = (shown.ask(SORT.format("configuration", 1)) for _ in range(2))
@@ -88,8 +88,7 @@ class IndexTests(Test):
         ])
 
     def test_filters(self):
-        """The text and the verdict that are chosen hide the other rows, and the page says how
-        many are shown."""
+        """The chosen text and verdict hide the other rows, and the page prints how many are shown."""
         shown = self.opened()
         all_ = len(CONFIGURATIONS)
         hazards = [name for name, _, word, _ in CONFIGURATIONS if word == HAZARD_FOUND]
@@ -103,8 +102,7 @@ class IndexTests(Test):
         self.see([*faults, *differs("all", len(shown.ask(NAMES)), all_), *shown.faults()])
 
     def test_without_script(self):
-        """Without its script the page has all rows, the worst first, and nothing that does
-        nothing."""
+        """Without its script the page has all rows, worst first, and no dead controls."""
         shown = self.browser.page(*WIDE)
         shown.call("Emulation.setScriptExecutionDisabled", value=True)
         shown.call("Page.navigate", url=self.file.resolve().as_uri())
@@ -115,15 +113,13 @@ class IndexTests(Test):
         self.see([*differs("rows", found, words), *differs("controls", buttons, 0)])
 
     def test_phone(self):
-        """At 390 pixels nothing is wider than the screen, and the page is laid out for that
-        width."""
+        """At 390 pixels the layout fits, and nothing is wider than the screen."""
         shown = self.opened(PHONE)
         width = shown.ask("[innerWidth, document.documentElement.scrollWidth]")
         self.see([*differs("width", width, [390, 390]), *shown.ask(TOO_WIDE), *shown.faults()])
 
     def test_contrast(self):
-        """Each text differs enough from what is behind it, by day and in the dark, and the dark
-        page is dark."""
+        """Each text has enough contrast in light and dark mode, and the dark page is dark."""
         faults = []
         for scheme, is_dark in (("light", False), ("dark", True)):
             shown = self.opened(prefers_color_scheme=scheme)
@@ -134,7 +130,7 @@ class IndexTests(Test):
         self.see(faults)
 
     def test_focus(self):
-        """The titles and the filters can be reached and used by keys."""
+        """Titles and filters work by keyboard."""
         shown = self.opened()
         shown.ask("document.querySelector('input').focus()")
         shown.write("unsafe")
@@ -147,7 +143,7 @@ class IndexTests(Test):
 
 
 def until(ask, is_there, tries=500):
-    """Returns what is answered once it is there."""
+    """Returns the first answer that satisfies `is_there`, or the last after `tries`."""
     for _ in range(tries):
         found = ask()
         if is_there(found or ()):

@@ -1,5 +1,5 @@
-"""Tests of work that is stopped in the middle: the report says what has no answer, no half of a
-result is used, and the next call finishes the work."""
+"""Tests of interrupted work: the report names missing answers, no partial result is used, and the
+next call finishes."""
 
 import contextlib
 import os
@@ -14,14 +14,14 @@ from unittest import SkipTest
 
 from tests.batch.workspace import batch_case, differs, done_line, run, without_progress
 
-REPORTS = 4             # calls that are interrupted while they make a report
-LONG = 300              # seconds to wait for something, however loaded the machine is
-SMALL_DISK, LARGE_DISK = "2m", "64m"    # below the certificate of a terminus, and far above
+REPORTS = 4             # calls interrupted while making a report
+LONG = 300              # seconds to wait for an event on a loaded machine
+SMALL_DISK, LARGE_DISK = "2m", "64m"    # less than the certificate of a terminus, and far more
 
 
 def check_no_answer(room):
-    """A call that gives no answer is reported, and the next call asks again; a certificate that
-    is none is found."""
+    """A call without an answer is reported and repeated by the next call. An invalid certificate is
+    found."""
     room.add("platforms.json")
     words = ["--ask", "verify"]
     for wish, why in ((
@@ -44,7 +44,7 @@ def check_no_answer(room):
 
 
 def begun(room, words, **others):
-    """Returns a call that was begun and waits in verify."""
+    """Starts a call that waits in verify, and returns it."""
     room.fake("wait")
     call = subprocess.Popen(room.words(*words), stdin=subprocess.DEVNULL, stdout=subprocess.DEVNULL,
                             **others)
@@ -55,7 +55,7 @@ def begun(room, words, **others):
 
 
 def check_killed(room):
-    """If tools/batch is killed in the middle, the next call finishes the work."""
+    """If tools/batch is killed, the next call finishes the work."""
     room.add("platforms.json")
     words = ["--ask", "check", "--ask", "verify"]
     first = begun(room, words, stderr=subprocess.DEVNULL)
@@ -70,7 +70,7 @@ def check_killed(room):
 
 
 def processes_of(room):
-    """Returns the command lines of processes that work in a room."""
+    """Returns the command lines of a room's processes."""
     found = []
     for path in Path("/proc").glob("[0-9]*/cmdline"):
         with contextlib.suppress(OSError):
@@ -80,8 +80,8 @@ def processes_of(room):
 
 
 def check_interrupted(room):
-    """A call that is interrupted ends all that it runs, says so, and leaves no temporary file
-    anywhere. The next call finishes the work."""
+    """An interrupted call ends its processes, reports the interruption and leaves no temporary
+    file. The next call finishes the work."""
     room.add("platforms.json")
     room.add("two-sections.json")
     temporary = room.room / "temporary"
@@ -112,8 +112,7 @@ def check_interrupted(room):
 
 
 def check_interrupted_report(room):
-    """A call that is interrupted while an HTML report asks verify leaves no temporary file of the
-    report."""
+    """An interruption while an HTML report runs verify leaves no temporary file of the report."""
     room.add("platforms.json")
     temporary = room.room / "temporary"
     temporary.mkdir()
@@ -129,8 +128,8 @@ def check_interrupted_report(room):
 
 
 def check_terminal(room):
-    """On a terminal a call says what it is doing in a line that it clears at last; in a file it
-    says none of that."""
+    """On a terminal a call shows its progress in a line that it finally clears. A file gets no
+    progress."""
     room.add("platforms.json")
     reader, terminal = pty.openpty()
     done = run_beside(room.words("--ask", "check"), terminal)
@@ -149,7 +148,7 @@ def check_terminal(room):
 
 
 def run_beside(words, terminal):
-    """Calls a command whose standard error is a terminal; returns its output."""
+    """Runs a command with a terminal as standard error. Returns its output."""
     done = subprocess.run(words, stdin=subprocess.DEVNULL, stdout=subprocess.PIPE, stderr=terminal,
                           text=True, check=False, timeout=LONG)
     os.close(terminal)
@@ -157,7 +156,7 @@ def run_beside(words, terminal):
 
 
 def check_full(room):
-    """If the certificate can't be written, the report says so, and the next call finishes the
+    """If the certificate cannot be written, the report says so, and the next call finishes the
     work."""
     room.add("terminus-throat.json")
     checks, both = room.words("--ask", "check"), room.words("--ask", "check", "--ask", "verify")
@@ -171,8 +170,8 @@ def check_full(room):
 
 
 def check_worker_killed(room):
-    """If a worker is killed in the middle, the program that it runs ends with it, the others go
-    on, and the next call does only its job."""
+    """If a worker is killed, its program ends too and the other workers go on. The next call does
+    only its job."""
     room.add("platforms.json")
     room.fake("orphan")
     words = ["--ask", "check", "--ask", "verify", "--ask", "audit"]
@@ -192,8 +191,8 @@ def check_worker_killed(room):
 
 @contextlib.contextmanager
 def small_disk(directory):
-    """Mounts a small disk at a directory while it is open; gives a function that enlarges it, or
-    None if none can be mounted here."""
+    """Mounts a small disk at a directory. Yields a function that enlarges it, or `None` if mounting
+    is impossible."""
     def mount(*words):
         return run(["mount", *words, str(directory)])
     directory.mkdir()
@@ -206,8 +205,8 @@ def small_disk(directory):
 
 
 def check_full_disk(room):
-    """If the disk is full, the report says so, no half of a result is used, and once there is
-    room the next call finishes the work."""
+    """If the disk is full, the report says so and no partial result is used. With space, the next
+    call finishes the work."""
     room.add("terminus-throat.json")
     room.fake("go")
     words = ["--ask", "check", "--ask", "verify"]

@@ -1,5 +1,5 @@
-"""Tests of groups: they change no answer and no key, and a group whose worker is killed loses
-only the job that was under way."""
+"""Tests of job groups: they change no answer or key, and a killed worker loses only its current
+job."""
 
 import itertools
 
@@ -7,12 +7,12 @@ from irvtools.batch.job_groups import SHORT_QUERIES
 from tests.batch.workspace import EXAMPLES, batch_case, differs, done_line
 
 QUESTIONS = ("--ask", "check", "--ask", "verify", "--ask", "audit")
-# six groups if one job runs at a time, each of a third of what is left: of 3, 2, 1, 1, 1 and 1
+# six groups for one job at a time, each a third of the rest: 3, 2, 1, 1, 1 and 1
 SAME_LENGTH = ["".join(ending) for ending in itertools.product(" \n", repeat=4)][:9]
 
 
 def rules_in(room):
-    """Returns how many jobs of each rule Snakemake began in the last call."""
+    """Returns how many jobs of each rule Snakemake started in the last call."""
     log = (room.out / "snakemake.log").read_text(encoding="utf-8")
     begun = [
         line.split()[1].rstrip(":") for line in log.splitlines()
@@ -27,9 +27,8 @@ def keys_in(room):
 
 
 def check_groups(room):
-    """Jobs of small configurations are grouped, with the same answers and keys as apart; without
-    grouping each job is one for Snakemake. A second call knows the answers, however they were
-    made."""
+    """Jobs of small configurations are grouped, with unchanged answers and keys. Without grouping,
+    Snakemake runs each job by itself. A second call knows all answers."""
     for name in ("platforms.json", "platforms-wrong-position.json", "three-sections.json"):
         room.add(name)
     first = room.call(*QUESTIONS)
@@ -46,8 +45,8 @@ def check_groups(room):
 
 
 def check_large_apart(room):
-    """The jobs of a configuration that fills a group are apart, so that Snakemake does them in
-    parallel; so are the queries of one that is not short, beside a group of its other jobs."""
+    """A configuration that fills a group has single jobs, which can run in parallel. So have the
+    queries of one that is not short, beside a group of its other jobs."""
     room.add("platforms.json")
     room.add("station.json")
     room.call(*QUESTIONS, "--batch-bytes", str((EXAMPLES / "station.json").stat().st_size))
@@ -57,15 +56,14 @@ def check_large_apart(room):
     words = ("--ask", "check", "--ask",
              "verify_with --solver 'sh -c \": >{proof}; exit 20\" {cnf}'")
     room.call(*words)
-    # check of platforms is known; its queries are short
+    # the check of platforms is known, and its queries are short
     yield from differs("queries", rules_in(room),
                        {"several": 2, "export": 5, "solve": 5, "rup": 5, "verify_with": 1})
 
 
 def check_group_killed(room):
-    """If the worker of a group is killed, its answers stay, the job under way ended without a
-    message, and the rest was not begun. The next call does that job apart, and the rest in
-    groups."""
+    """If a group's worker is killed, its answers stay. Its current job ended without a message, and
+    the rest was not begun. The next call runs that job alone, and the rest in groups."""
     platforms = (EXAMPLES / "platforms.json").read_bytes()
     for number, ending in enumerate(SAME_LENGTH):
         (room.directory / f"{number}.json").write_bytes(platforms + ending.encode())
@@ -94,8 +92,7 @@ def check_group_killed(room):
 
 
 def check_one_option(room):
-    """A single option for Snakemake may begin with a dash. If nothing is done, the report says
-    that no job was begun."""
+    """A single option for Snakemake may begin with a dash. If nothing runs, the report says so."""
     room.add("platforms.json")
     done = room.call("--ask", "check", "--snakemake", "--dry-run")
     yield from differs("not begun", (done.returncode, room.answers()), (3, {

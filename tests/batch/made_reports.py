@@ -1,4 +1,4 @@
-"""Values of reports made from hand-written answers, as a batch would make them."""
+"""Report values made from hand-written answers, as a batch would make them."""
 
 from __future__ import annotations
 
@@ -12,15 +12,14 @@ OUTPUT = "output.txt"
 
 
 class Answers:
-    """A place of results in which hand-written answers are kept: what `batch_report` needs of a
-    store."""
+    """A store with hand-written answers: the part that `batch_report` needs."""
 
     def __init__(self, room):
         self.room, self.jobs, self.answers = Path(room), {}, {}
 
     def add(self, kind, line, status=0, columns=STRICT, is_good=True, more=""):
-        """Adds an answer, whose output is its line and the text of `more`; None as the line is
-        no answer. Returns the key of its job."""
+        """Adds an answer and returns its job's key. The output is `line` and `more`; `None` means
+        that it is missing."""
         key = f"{len(self.jobs):064x}"
         self.jobs[key] = {
             "kind": kind, "key": key, "columns": columns, "needs": {}, "configuration": "c"
@@ -54,8 +53,8 @@ class Answers:
 
 
 def made_report(configurations, is_proved=True):
-    """Returns the value of a report about configurations, each with its answers: the arguments
-    of `Answers.add`."""
+    """Returns the report value of `configurations`, each with `Answers.add` arguments for its
+    answers."""
     with tempfile.TemporaryDirectory(prefix="irv-batch-test-") as room:
         store, asked = Answers(room), {}
         for name, answers in configurations.items():

@@ -1,14 +1,12 @@
-"""Hundreds of configurations: plain calls one after the other and four at once, and then a batch;
-how the times compare, that a second call asks nothing, and that after one change only one
-configuration is asked about. It does not run in CI: its figures are those of a machine that has
-nothing else to do. If something else is at work, four at once do not get four times as much of the
-machine as one: then compare with what plain calls take four at once, and compare CPU seconds rather
-than wall-clock time.
+"""Benchmark with hundreds of configurations: plain calls one by one and four at once, then a batch.
+It compares their times. A second call may ask nothing, and after one change only one configuration
+may be asked about. It does not run in CI and needs an idle machine: otherwise four processes get
+less than four times its time. Then compare with four plain calls at once, by CPU seconds.
 
-The configurations are the same at each run: the examples, a station of tests/plants, generated
-stations, lines of real size, plain and with random protection; and each of them with a single
-fault. The questions are which rules are broken, the verdict with free columns and an eighth of the
-usual conflicts, and the audit of its certificate. It takes about twenty minutes.
+Each run uses the same configurations: the examples, a station of tests/plants, generated stations,
+and lines of real size with and without random protection. Each also comes with a single fault. The
+questions are the broken rules, the verdict with free columns and an eighth of the usual conflicts,
+and its certificate's audit. It takes about twenty minutes.
 """
 
 import concurrent.futures
@@ -33,7 +31,7 @@ MOST_RATIO, MOST_SECONDS = 1.2, 10
 
 
 def right_ones(program):
-    """Yields configurations without faults, by name, without end."""
+    """Yields faultless configurations with their names, without end."""
     for path in (*sorted(EXAMPLES.glob("*.json")), TOP / "tests/plants/s.json"):
         yield path.stem, json.loads(path.read_bytes())
     for count in range(1, MOST_STATIONS + 1):
@@ -48,8 +46,8 @@ def right_ones(program):
 
 
 def with_a_fault(name, document):
-    """Returns a document with a random single fault, which depends only on the name, or None if
-    it has no routes. Not each kind of fault fits each document."""
+    """Returns a document with a single fault that depends only on the name, or `None` without
+    routes. Not every fault fits every document."""
     chance, second = random.Random(name), copy.deepcopy(document)
     second["version"] = 2
     for route in second["routes"]:
@@ -76,7 +74,7 @@ def fill(room, count):
 
 
 def used():
-    """Returns the wall-clock time, and the CPU seconds of what was called."""
+    """Returns the wall-clock time and the called processes' CPU seconds."""
     children = resource.getrusage(resource.RUSAGE_CHILDREN)
     return time.monotonic(), children.ru_utime + children.ru_stime
 
@@ -94,7 +92,7 @@ def by_plain_calls(room, path):
 
 
 def plain(room, at_once):
-    """Asks about each configuration by plain calls, `at_once` in parallel; returns what it took."""
+    """Asks about each configuration by plain calls, `at_once` in parallel. Returns the time used."""
     begin = used()
     with concurrent.futures.ThreadPoolExecutor(at_once) as pool:
         list(
@@ -104,7 +102,7 @@ def plain(room, at_once):
 
 
 def in_a_batch(room):
-    """Asks about all configurations in a batch; returns the call and what it took."""
+    """Asks about all configurations in a batch. Returns the call and the time used."""
     begin = used()
     words = [word for question in QUESTIONS for word in ("--ask", question)]
     done = room.call(*words, "--cores", str(CORES))
@@ -112,7 +110,7 @@ def in_a_batch(room):
 
 
 def compare(room):
-    """Prints the times of plain calls and of a batch; yields a fault if the batch is too slow."""
+    """Prints the times of plain calls and a batch. Yields a fault if the batch is too slow."""
     one = plain(room, 1)
     print(f"plain calls, one after the other: {one[0]:.1f} s, {one[1]:.1f} CPU seconds", flush=True)
     best = plain(room, CORES)
@@ -129,7 +127,7 @@ def compare(room):
 
 
 def measure(room, count):
-    """Runs the benchmark with `count` configurations; yields the faults."""
+    """Runs the benchmark with `count` configurations. Yields the faults."""
     fill(room, count)
     found = len(list(room.directory.glob("*.json")))
     yield from differs("configurations", found, count)

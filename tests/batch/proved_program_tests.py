@@ -1,4 +1,4 @@
-"""Tests of a batch with a program that is known to be proved: a note of its build is beside it."""
+"""Tests of a batch with a proved program, which has a note of its build beside it."""
 
 import hashlib
 import shutil
@@ -10,7 +10,7 @@ QUESTIONS = ("--ask", "check", "--ask", "html --verify-seconds 0 --search-second
 
 
 def proved(room):
-    """Replaces the program by a copy that is noted as proved."""
+    """Replaces the program by a copy noted as proved."""
     program = room.room / "irv"
     shutil.copy(room.true_program, program)
     total = hashlib.sha256(program.read_bytes()).hexdigest()
@@ -20,8 +20,8 @@ def proved(room):
 
 
 def said(room):
-    """Returns whether the index and each HTML report say that nothing is proved, and what the CSV
-    says of the program."""
+    """Returns whether index and HTML reports say that nothing is proved, and the CSV's entry about
+    the program."""
     pages = [room.out / "index.html", *(
         room.out / "results/html" / each["job"] / file["name"]
         for each in room.report()["configurations"][0]["questions"][1:]
@@ -31,9 +31,9 @@ def said(room):
 
 
 def check_note(room):
-    """With the proved program neither the index nor a report says that nothing is proved; without
-    its note both do, and the same bytes are not called proved because an earlier call knew it. A
-    machine that does not know the program as proved finds that claim."""
+    """With the proved program neither the index nor a report says that nothing is proved. Without
+    the note both do, even if an earlier call knew the bytes as proved. A machine without the note
+    finds a claim of proof."""
     room.add("platforms.json")
     room.program = proved(room)
     yield from differs("status", room.call(*QUESTIONS).returncode, 0)

@@ -1,5 +1,5 @@
-"""Tests with random single faults in tables of real size: each hazard that a report found comes
-first, and index, CSV and JUnit say what the reports say first."""
+"""Tests with random single faults in tables of real size: hazards come first, and index, CSV and
+JUnit agree with the reports."""
 
 import html
 import json
@@ -14,7 +14,7 @@ from tests.support.real_size_lines import NETWORKS, with_routes
 
 COUNT = 30
 QUESTIONS = ("--ask", "check", "--ask", "html --verify-seconds 2 --search-seconds 4")
-FEWEST_HAZARDS = 10             # with fewer the order would show little
+FEWEST_HAZARDS = 10             # fewer would show little about the order
 FIRST_LINE = re.compile(r'<p class="verdict \w+" id="verdict" data-word="([^"]*)"><b>\1</b>')
 RUN = re.compile(r'<pre class="run">(.*?)</pre>', re.S)
 
@@ -30,8 +30,7 @@ def fill(room):
 
 
 def first_words(room):
-    """Returns the word with which each configuration's report begins, by the configuration's
-    name, and the report."""
+    """Returns the first word of each configuration's report by name, and the report."""
     report, found = room.report(), {}
     for each in report["configurations"]:
         key = next(one["job"] for one in each["questions"] if one["question"].startswith("html"))
@@ -42,7 +41,7 @@ def first_words(room):
 
 
 def has_hazard(room, name, shown):
-    """Returns whether `irv replay` answers a hazard to a run that a report prints."""
+    """Returns whether `irv replay` answers a hazard to a report's run."""
     path = room.room / "printed.run"
     for run in RUN.findall(shown):
         path.write_text(html.unescape(run), encoding="ascii")
@@ -57,13 +56,13 @@ def has_hazard(room, name, shown):
 
 
 def counts(words):
-    """Returns how often each word is among these, the worst first."""
+    """Returns how often each word occurs, the worst first."""
     return [(word, words.count(word)) for word in RANKING if word in words]
 
 
 def check_random_faults(room):
-    """Thirty random single faults: every hazard comes first in the index, and index, CSV and
-    JUnit count what the reports say first."""
+    """With thirty random single faults each hazard comes first in the index. Index, CSV and JUnit
+    count the reports' first words."""
     fill(room)
     done = room.call(*QUESTIONS)
     yield from differs("status", done.returncode, 1)
@@ -91,7 +90,7 @@ def check_random_faults(room):
 
 
 def files_faults(room, reports, expected):
-    """Yields what CSV and JUnit say otherwise than the reports."""
+    """Yields the differences of CSV and JUnit from the reports."""
     lines = [line for line in room.table() if line["question"].startswith("html")]
     yield from differs("CSV", {line["configuration"]: line["verdict"] for line in lines},
                        {name: word for name, (word, _) in reports.items()})

@@ -1,4 +1,4 @@
-"""Tests of what is refused, and of a machine without Snakemake."""
+"""Tests of refusals, and of a machine without Snakemake."""
 
 import os
 import sys
@@ -7,7 +7,7 @@ from tests.batch.workspace import EXAMPLES, batch_case, differs, run
 
 
 def check_missing(room):
-    """Without Snakemake it says what to install, and makes nothing."""
+    """Without Snakemake a call says what to install, and makes nothing."""
     room.add("platforms.json")
     done = run([sys.executable, *room.words()], env={"PATH": str(room.directory)})
     yield from differs("status", done.returncode, 2)
@@ -19,8 +19,7 @@ def check_missing(room):
 
 
 def cases(room):
-    """Returns for each refusal what is said, the arguments, what is done before, and OUT if it is
-    another one."""
+    """Returns each refusal's message, arguments, preparation and, if it is another one, OUT."""
     outside = room.room / "outside.json"
     outside.write_bytes(b"{}")
     link, listed = room.directory / "link.json", room.directory / "questions.csv"

@@ -1,5 +1,4 @@
-"""Tests of the verdict of each configuration, the order of the rows, and that index, CSV and
-JUnit agree."""
+"""Tests of configurations' verdicts, the order of rows, and the agreement of index, CSV and JUnit."""
 
 import csv
 import io
@@ -23,8 +22,7 @@ SPENT = ("verify", "spent conflicts=9", 4, "free", False)
 DEVIATES = ("check", "refused C4 routes[0]", 5, "strict", False, "refused C5 routes[1] routes[2]\n")
 OTHER = ("check", "refused C4 routes[0]", 5, "strict", False, "refused C3 routes[1]\n")
 UNSAFE = ("verify", "unsafe steps=3 hazard=two a", 1, "free", False)
-# of each configuration its answers, its word, and whether every answer is good, the worst
-# configuration first
+# each configuration's answers, its word and whether every answer is good, the worst first
 CONFIGURATIONS = (
     ("both", (CLEAN, ("html", FOUND, 0, "strict", False)), rules.HAZARD_FOUND, False),
     ("found", (OTHER, ("html", FOUND, 0, "strict", False)), rules.HAZARD_FOUND, False),
@@ -52,7 +50,7 @@ CONFIGURATIONS = (
 
 
 def the_report(is_proved=True):
-    """Returns the value of the report about CONFIGURATIONS, which are in reverse order."""
+    """Returns the value of the report about CONFIGURATIONS in reverse order."""
     return made_report({name: answers for name, answers, *_ in reversed(CONFIGURATIONS)}, is_proved)
 
 
@@ -64,8 +62,8 @@ def check_words(_, __):
 
 
 def check_order(_, __):
-    """Hazards come first, contradictions among them before others and other ones next; what is
-    not shown comes before what is safe, and missing answers come first among equal words."""
+    """Hazards come first, contradictions before other ones. Missing proofs come before safe ones.
+    Among equal words, missing answers come first."""
     words = [row.verdict for row in rows_of(the_report())]
     yield from differs("words", words, [word for _, _, word, _ in CONFIGURATIONS])
     names = [row.name for row in rows_of(the_report())]
@@ -78,8 +76,8 @@ def check_order(_, __):
 
 
 def check_contradictions(_, __):
-    """An answer that says safe beside a hazard, or a rejected certificate, is a contradiction
-    and never good."""
+    """An answer that says safe beside a hazard, or a rejected certificate, is a contradiction and
+    never good."""
     rows = {row.name: row for row in rows_of(the_report())}
     wrong = {name for name, row in rows.items() if row.is_contradiction}
     yield from differs("contradictions", wrong, {"both", "rejected"})
@@ -101,8 +99,7 @@ def check_proof(_, __):
 
 
 def check_strength(_, __):
-    """The word that prevails between two answers is the one that the program's own answers would
-    come to."""
+    """The stronger of two answers' words is the one that the program's answers would give."""
     by_word = {}
     for word, answers in ROWS:
         by_word.setdefault(word, answers)
@@ -113,8 +110,8 @@ def check_strength(_, __):
 
 
 def check_agreement(_, __):
-    """CSV has each configuration's word beside each question, and JUnit fails each answer that
-    is not good, with the word as the type; an HTML report's hazard is never called good."""
+    """CSV has the configuration's word beside each question. JUnit fails each answer that is not
+    good, with the word as type. A report's hazard is never called good."""
     report = the_report()
     results = [(row, result) for row in rows_of(report) for result in row.results]
     lines = list(csv.DictReader(io.StringIO(table(report))))
@@ -134,8 +131,8 @@ def check_agreement(_, __):
 
 
 def check_links(_, __):
-    """Links are named by what they show; a hazard has a link to its frame or its run; checksums
-    are folded."""
+    """Links are named by their contents. A hazard links to its frame or its run. Checksums are
+    folded."""
     report = the_report()
     links = {row.name: plain_links(report, row) for row in rows_of(report)}
     run, rules_ = "Show the run to the hazard", "broken rules (check)"
@@ -157,7 +154,7 @@ def check_links(_, __):
 
 
 def plain_links(report, row):
-    """Returns the words of the links in a row of the index, in order."""
+    """Returns the words of the links in an index row, in order."""
     shown = page(report)
     start = shown.index(f'<td class="name">{row.name}</td>')
     begin = shown.rindex("<tr ", 0, start)

@@ -1,4 +1,4 @@
-"""A directory of configurations, one of results, and calls of tools/batch with them."""
+"""Directories of configurations and results, and calls of tools/batch with them."""
 
 from __future__ import annotations
 
@@ -18,7 +18,7 @@ from tests.support.harness import SETTINGS, ProgramTest
 
 TOOL = TOP / "tools/batch"
 EXAMPLES = TOP / "examples"
-# a program that does what a file beside it says, and otherwise what the true one does
+# does what a file beside it says, and otherwise what the real program does
 FAKE = """#!/bin/sh
 case "$1:$(cat '{wish}')" in
     verify:kill) kill -9 $$ ;;
@@ -35,7 +35,7 @@ exec '{program}' "$@"
 
 
 class Room:
-    """A directory of configurations and one of results, with a program."""
+    """Directories of configurations and results, with a program."""
 
     def __init__(self, room, program):
         self.room, self.program, self.true_program = Path(room), program, program
@@ -50,7 +50,7 @@ class Room:
         return path
 
     def fake(self, wish):
-        """Replaces the program by one that does something else first."""
+        """Replaces the program by one that first does something else."""
         self.wish = self.room / "wish"
         self.wish.write_text(wish, encoding="ascii")
         self.program = self.room / "fake"
@@ -59,7 +59,7 @@ class Room:
         self.program.chmod(0o755)
 
     def words(self, *words):
-        """Returns the command line of a call."""
+        """Returns the arguments of a call."""
         return [
             str(TOOL),
             str(self.directory),
@@ -68,11 +68,11 @@ class Room:
         ]
 
     def call(self, *words, **others):
-        """Asks about the directory; returns the call."""
+        """Asks about the directory. Returns the call."""
         return run(self.words(*words), **others)
 
     def verify(self):
-        """Checks the results by the true program; returns the status and the lines."""
+        """Checks the results with the real program. Returns the status and the lines."""
         done = run(
             [str(TOOL), "--verify-report",
              str(self.out), "--program",
@@ -84,19 +84,17 @@ class Room:
         return json.loads((self.out / "report.json").read_bytes())
 
     def table(self):
-        """Returns the lines of report.csv, by the names of the columns."""
+        """Returns the lines of report.csv by column names."""
         with open(self.out / "report.csv", encoding="utf-8", newline="") as file:
             return list(csv.DictReader(file))
 
     def answers(self):
-        """Returns the outcome and the line of each answer, by the configuration and the first
-        word of the question."""
+        """Returns each answer's outcome and line, by configuration and first word of the question."""
         return {(row["configuration"], row["question"].split()[0]): (row["outcome"], row["answer"])
                 for row in self.table()}
 
     def index_rows(self):
-        """Returns the rows of the index in their order: the verdict's word, the text of its
-        cell, and the name."""
+        """Returns the rows of the index in order: the verdict's word, its cell's text and the name."""
         page = (self.out / "index.html").read_text(encoding="utf-8")
         body = page.partition('<table class="index">')[2].partition("<tbody>")[2].partition(
             "</tbody>")[0]
@@ -106,7 +104,7 @@ class Room:
         return [(word, plain(cell), plain(name)) for word, cell, name in rows]
 
     def file(self, kind, role, line=None):
-        """Returns a file of an answer, of the one with this line if one is given."""
+        """Returns a file of an answer, or of the one with `line` if given."""
         for path in sorted((self.out / "results" / kind).glob("*/answer.json")):
             answer = json.loads(path.read_bytes())
             if role in answer["files"] and line in (None, answer["line"]):
@@ -126,31 +124,28 @@ def run(words, **others):
 
 
 def without_progress(said):
-    """Returns what was said without the lines that say how far the work is: their number depends
-    on the machine."""
+    """Returns the messages without the progress lines, whose number depends on the machine."""
     return "".join(line for line in said.splitlines(keepends=True)
                    if not re.fullmatch(r"irv --batch: \d+ of \d+ jobs\n", line))
 
 
 def differs(what, found, expected):
-    """Yields a fault if something else was found than is expected."""
+    """Yields a fault if `found` differs from `expected`."""
     if found != expected:
         yield f"{what}: {found!r} instead of {expected!r}"
 
 
 def done_line(configurations, verdicts, good, jobs, room):
-    """Returns the line that a call prints at its end; `jobs` is how many jobs were done and how
-    many were known."""
+    """Returns the last line of a call. `jobs` counts the done and the known jobs."""
     return (f"{configurations} configurations ({verdicts}), {good} good; {jobs[0]} jobs were done, "
             f"{jobs[1]} were known; {room.out / 'index.html'}\n")
 
 
-WITHOUT_SNAKEMAKE = ("check_missing",)      # what is tested even if Snakemake is not installed
+WITHOUT_SNAKEMAKE = ("check_missing",)      # tests that need no Snakemake
 
 
 def batch_case(name, functions):
-    """Returns a test case class with a method for each function, which takes a room and yields
-    faults."""
+    """Returns a test case class with a method per function, which takes a room and yields faults."""
     def method(function):
         def test(self):
             if not shutil.which("snakemake") and function.__name__ not in WITHOUT_SNAKEMAKE:

@@ -1,1 +1,1 @@
-"""Tests of calls of the program and of what its answers come to."""
+"""Tests of the program's calls and of verdicts on its answers."""

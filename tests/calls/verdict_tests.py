@@ -1,5 +1,4 @@
-"""Tests of the verdict's word: each row of its table, what beats what, and what counts as no
-answer."""
+"""Tests of the verdict's word: table rows, ranking, and missing answers."""
 
 import hashlib
 import subprocess
@@ -24,7 +23,7 @@ LATE = Answered("verify", "free", None, "")
 
 
 def refusal(*lines, columns="strict", command="check", status=5, is_whole=True):
-    """A report of broken rules."""
+    """Returns a report of broken rules."""
     return Answered(command, columns, status, "".join(f"refused {line}\n" for line in lines), is_whole)
 
 
@@ -71,7 +70,7 @@ ROWS = [
 
 
 def check_words(_, __):
-    """Each row of the table, and which row beats which."""
+    """Each table row has its word, and its rank among the rows."""
     for word, answers in ROWS:
         found = verdict(answers, True).word
         if found != word:
@@ -86,7 +85,7 @@ def check_order(_, __):
 
 
 def check_tones(_, __):
-    """Only an answer of the proved program is good, and the line says if nothing is proved."""
+    """Only the proved program's answer is good. The line says if nothing is proved."""
     for word, answers in ROWS:
         proved, unproved = (verdict(answers, is_proved) for is_proved in (True, False))
         tone = {rules.HAZARD_FOUND: "bad", rules.SAFE: "good", rules.SAFE_WITH_DEVIATIONS: "good"}
@@ -99,8 +98,7 @@ def check_tones(_, __):
 
 
 def check_without_the_clause(_, __):
-    """Without the clause on deviations a table that deviates is refused, or safe if verify says
-    so."""
+    """Without the clause on deviations a deviating table is refused, or safe by verify."""
     kept = rules.DEVIATIONS_ARE_PROVED
     rules.DEVIATIONS_ARE_PROVED = False
     try:
@@ -112,8 +110,7 @@ def check_without_the_clause(_, __):
 
 
 def check_ranking(_, __):
-    """A hazard ranks first, and what isn't shown before what is safe; each word has a rank and a
-    tone."""
+    """A hazard ranks first, and missing proof before safety. Each word has a rank and a tone."""
     ranks = [rules.RANKING.index(word) for word in (rules.HAZARD_FOUND, rules.NOT_SHOWN, rules.SAFE)]
     if ranks != sorted(ranks) or ranks[0] != 0:
         yield f"the order is {rules.RANKING}"
@@ -126,7 +123,7 @@ PureTests = test_case("PureTests", [check_words, check_order, check_tones, check
 
 
 def asked(program, name, command, columns):
-    """What the program answers of an example."""
+    """Returns the program's answer about an example."""
     with tempfile.TemporaryDirectory(prefix="irv-test-") as directory:
         words = ["--cert", str(Path(directory, "cert"))] if command == "verify" else []
         done = subprocess.run([program, command, "--columns", columns, *words], check=False,
@@ -135,10 +132,10 @@ def asked(program, name, command, columns):
 
 
 class ExampleTests(ProgramTest):
-    """Tests with answers of the program."""
+    """Tests with the program's answers."""
 
     def test_examples(self):
-        """The words of examples: a clean table under free columns is never safe."""
+        """Each example has its word. A clean table with free columns is never safe."""
         expected = [("platforms-wrong-position.json", "check", "free", rules.NOT_SHOWN),
                     ("platforms-wrong-position.json", "check", "strict", rules.REFUSED),
                     ("station.json", "check", "strict", rules.SAFE),
@@ -152,7 +149,7 @@ class ExampleTests(ProgramTest):
 
 
 class ProvedProgramTests(Test):
-    """Tests of whether a program is known to be proved."""
+    """Tests of whether a program is proved."""
 
     def test_note(self):
         """A program is proved only if a note beside it names its bytes."""

@@ -1,1 +1,1 @@
-"""The cases over the program: `*.cases` files and what runs them."""
+"""The program's test cases: `*.cases` files and their runner."""

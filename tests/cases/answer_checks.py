@@ -1,5 +1,5 @@
-"""What is asked of an answer that isn't known to the byte: verdicts, their runs and certificates,
-and formulas."""
+"""Checks of answers that are not known to the byte: verdicts with runs and certificates, and
+formulas."""
 
 import re
 
@@ -12,20 +12,20 @@ LARGE_FILE = 2 ** 24
 
 
 def certificate_of(verdict):
-    """The second line of the certificate that comes with a verdict, or nothing."""
+    """Returns the second line of a verdict's certificate, or nothing."""
     if kind_of(verdict) not in ("safe", "spent"):
         return None
     return f"{kind_of(verdict)} {judgement(verdict).partition('=')[2]}"
 
 
 def columns(case):
-    """The words that give another call the columns of the case."""
+    """Returns the arguments that give another call the case's columns."""
     return ["--columns", programs.option(case.words, "--columns", "strict")]
 
 
 def run_faults(program, case, directory, verdict, text):
-    """What is wrong with the run's text after a verdict: its beginning and its number of events, and
-    what the program's own replay of it shows."""
+    """Yields the faults of the run after a verdict: its beginning, its number of events, and the
+    program's replay of it."""
     lines = text.decode().splitlines()
     beginning = "state" if kind_of(verdict) == "not" else "start"
     if lines[:2] != ["run 1", beginning] or not text.endswith(b"\nend\n"):
@@ -48,7 +48,7 @@ def run_faults(program, case, directory, verdict, text):
 
 
 def verdict_faults(program, case, directory, output, status):
-    """What is wrong with the answer to verify."""
+    """Yields the faults of verify's answer."""
     line, _, text = output.partition(b"\n")
     verdict = line.decode()
     if verdict not in case.verdicts:
@@ -63,7 +63,7 @@ def verdict_faults(program, case, directory, output, status):
 
 
 def certificate_faults(program, case, directory, wanted, text):
-    """What is wrong with a certificate, by a check of its own over the formulas that the program exports."""
+    """Yields the faults of a certificate, by a separate check over the program's exported formulas."""
     def formula_of(kind, number):
         words = ["export", *columns(case), "--query", kind, "--number", str(number)]
         output, errors, status = programs.call(program, words, case.conf, directory)
@@ -80,19 +80,19 @@ def certificate_faults(program, case, directory, wanted, text):
 
 
 def content(path):
-    """The bytes of a file, or its length where it has very many."""
+    """Returns a file's bytes, or a very long one's length."""
     size = path.stat().st_size
     return path.read_bytes() if size <= LARGE_FILE else size
 
 
 def files_in(directory):
-    """The files of a case's directory, with their bytes."""
+    """Returns the files of a case's directory, with their bytes."""
     return {str(path.relative_to(directory)): content(path) for path in directory.rglob("*") if path.is_file()}
 
 
 def file_faults(program, case, directory, output, before):
-    """What is wrong with the files after a call: there is the certificate, if one is due, and besides
-    all is as it was before."""
+    """Yields the faults of the files after a call: the certificate exists if due, and all others
+    are unchanged."""
     wanted = case.certificate
     if case.verdicts:
         wanted = certificate_of(output.partition(b"\n")[0].decode())
@@ -111,7 +111,7 @@ def file_faults(program, case, directory, output, before):
 
 
 def formula_faults(case, output):
-    """What is wrong with an exported formula."""
+    """Yields the faults of an exported formula."""
     try:
         formula = dimacs.read(output)
     except dimacs.DimacsError as fault:

@@ -13,15 +13,15 @@ from tests.support import program as programs
 from tests.cases import well_formed
 from tests.support.harness import ProgramTest, Test
 
-TAKES_LONG = True       # the runner starts it first
+TAKES_LONG = True
 
 THREADS = 2
 SHOWN_BYTES = 2000
 
 
 def lay_out(program, case, directory):
-    """Writes a case's files and directories, and makes the calls that come first; answers the files that are
-    there then."""
+    """Writes a case's files and directories, and makes its first calls. Returns the files that
+    exist then."""
     for name in case.directories:
         (directory / name).mkdir()
     for name, data in case.files.items():
@@ -37,14 +37,14 @@ def lay_out(program, case, directory):
 
 
 def shown(data):
-    """Bytes as one line, cut where they are long."""
+    """Returns bytes as one line, cut if long."""
     if len(data) > SHOWN_BYTES:
         return f"{data[:SHOWN_BYTES]!r} and {len(data) - SHOWN_BYTES} bytes more"
     return repr(data)
 
 
 def answer_faults(program, case, directory, before, output, errors, status):
-    """What is wrong with an answer, and with the files that it left."""
+    """Yields the faults of an answer and of the files it left."""
     wanted = [("stderr", case.wanted_stderr(), errors)]
     if case.verdicts:
         yield from answer_checks.verdict_faults(program, case, directory, output, status)
@@ -61,7 +61,7 @@ def answer_faults(program, case, directory, before, output, errors, status):
 
 
 def fault_of(program, case):
-    """What a case's call did wrong, or nothing."""
+    """Returns the fault of a case's call, or nothing."""
     with tempfile.TemporaryDirectory(prefix="irv-case-") as name:
         directory = Path(name)
         conf = None if case.conf_is_folder else case.conf
@@ -76,7 +76,7 @@ def fault_of(program, case):
 
 
 def cases_by_file():
-    """Returns every case, by the name of its file; those of the table of members are together."""
+    """Returns every case, by file; the member table's cases are together."""
     found = {path.stem: case_files.read_case_file(path) for path in sorted(case_files.CASES.glob("*.cases"))}
     return {**found, "members": list(member_cases.member_cases())}
 
@@ -94,7 +94,7 @@ class CaseTests(ProgramTest):
     """The cases over the program."""
 
     def see_cases(self, cases):
-        """Runs cases, some at once."""
+        """Runs cases, several at once."""
         with concurrent.futures.ThreadPoolExecutor(THREADS) as pool:
             found = list(pool.map(lambda case: fault_of(self.program, case), cases))
         self.see([f"{case.where}: {case.name}\n    why: {case.why}\n{fault}"

@@ -1,4 +1,4 @@
-"""The cases of a configuration's members: each missing, unknown, and of every wrong kind."""
+"""The cases of a configuration's members: missing, unknown, and of every wrong kind."""
 
 import copy
 import json
@@ -23,7 +23,7 @@ BASE = {
         {"name": "r2", "source": "m2", "destination": None, "path": ["p", "a"], "overlap": [],
          "points": [{"point": "p", "position": "plus"}], "conflicts": ["r1"]}]}
 
-# The same of version 2, with one more point and two more borders behind it, for what protects.
+# The same in version 2, with one more point and two more borders for protection.
 BASE_OF_SECOND = {
     "version": 2,
     "sections": [
@@ -41,7 +41,7 @@ BASE_OF_SECOND = {
         {**BASE["routes"][1], "protecting_points": [{"point": "q", "position": "minus"}],
          "protecting_boards": ["m1"]}]}
 
-# For each kind of object the base in which it stands, where, and the place that a fault in it has.
+# for each kind of object: its base, its path there, and the place of its faults
 OBJECTS = {
     "document": (BASE, [], "document"),
     "linear": (BASE, ["sections", 2], "sections[2]"),
@@ -54,28 +54,28 @@ OBJECTS = {
 
 
 def at(value, path):
-    """The part of a value that a path leads to."""
+    """Returns the part of a value at a path."""
     for step in path:
         value = value[step]
     return value
 
 
 def put(value, path, part):
-    """A copy of a value with another part at the end of a path."""
+    """Returns a copy of a value with another part at a path."""
     value = copy.deepcopy(value)
     at(value, path[:-1])[path[-1]] = part
     return value
 
 
 def without(value, path):
-    """A copy of a value without the member at the end of a path."""
+    """Returns a copy of a value without the member at a path."""
     value = copy.deepcopy(value)
     del at(value, path[:-1])[path[-1]]
     return value
 
 
 def member_case(name, value, line, status, why):
-    """A case of `check` over a value."""
+    """Returns a case of `check` over a value."""
     case = Case(name, "members.table")
     case.why = why
     case.words = ["check"]
@@ -86,12 +86,12 @@ def member_case(name, value, line, status, why):
 
 
 def refused(name, value, place, why):
-    """A case whose answer is that a member isn't of its form."""
+    """Returns a case that refuses a member's form."""
     return member_case(name, value, f"refused F3 {place}", 5, why)
 
 
 def wrong_values(allowed, texts):
-    """What a member may not be, each with a word that says what it is."""
+    """Yields wrong values of a member, each with a word for it."""
     for kind, sample in SAMPLES.items():
         if kind not in allowed:
             yield kind, sample
@@ -101,7 +101,7 @@ def wrong_values(allowed, texts):
 
 
 def wrong_entries(base, path, entry_kind, place):
-    """Arrays with an entry of a wrong kind, and the place of the object that entry has or is of."""
+    """Yields arrays with an entry of a wrong kind, and the place of the entry's object."""
     right = at(base, path)
     for kind, sample in SAMPLES.items():
         if kind == entry_kind:
@@ -114,7 +114,7 @@ def wrong_entries(base, path, entry_kind, place):
 
 
 def object_cases(kind, rows):
-    """The cases of one kind of object."""
+    """Yields the cases of one kind of object."""
     base, where, place = OBJECTS[kind]
     for label, sample in SAMPLES.items():
         yield refused(f"{kind}: unknown member with {label}",
@@ -137,7 +137,7 @@ def object_cases(kind, rows):
 
 
 def read_rows(text):
-    """The table's rows, by kind of object."""
+    """Returns the table's rows, by kind of object."""
     rows = {}
     for line in text.splitlines():
         if line.strip() and not line.startswith("#"):
@@ -149,7 +149,7 @@ def read_rows(text):
 
 
 def member_cases():
-    """All cases of the table, and the base itself, which is right."""
+    """Returns all cases of the table, and the correct base."""
     rows = read_rows((CASES / "members.table").read_text(encoding="utf-8"))
     cases = [member_case("the base is right", BASE, "clean", 0,
                          "two routes over a point, with a board at each border"),

@@ -33,7 +33,7 @@ CERTIFIES = ("verify", "demo")
 
 
 def entry_of(case, line):
-    """A refusal's line as its rule's number and its places."""
+    """Returns a refusal line's rule number and places."""
     match = REFUSED.fullmatch(line)
     if not match or match[1] not in RULES:
         raise CaseError(f"{case.where}: {case.name}: no refusal: {line!r}")
@@ -47,7 +47,8 @@ def entry_of(case, line):
 
 
 def check_refusals(case):
-    """A list of refusals has one stage and is in order; only check prints more than one line."""
+    """Checks that refusals have one stage and are in order, and that only check prints several
+    lines."""
     lines = case.stdout.decode().splitlines()
     entries = [entry_of(case, line) for line in lines]
     if any(not before < after for before, after in zip(entries, entries[1:])):
@@ -59,7 +60,8 @@ def check_refusals(case):
 
 
 def check_answer(case):
-    """A verdict is one that verify has, and a formula and a certificate belong to their commands."""
+    """Checks that verdicts are verify's, and that formulas and certificates belong to their
+    commands."""
     for verdict in case.verdicts:
         if not first_lines.VERDICT.fullmatch(verdict):
             raise CaseError(f"{case.where}: {case.name}: no verdict: {verdict!r}")
@@ -72,12 +74,12 @@ def check_answer(case):
 
 
 def is_printed(text):
-    """Whether a text is a configuration as the program prints it."""
+    """Returns whether a text is a configuration as the program prints it."""
     return text == configurations.printed(json.loads(text))
 
 
 def check_report(case):
-    """What is printed is a report of the status, and what has a report is printed."""
+    """Checks that output is a report of its status, and every report is output."""
     if any(command in case.words for command in PRINTS_CONFIGURATIONS) and case.status == 0:
         if not is_printed(case.stdout):
             raise CaseError(f"{case.where}: {case.name}: not as a configuration is printed")
@@ -89,7 +91,7 @@ def check_report(case):
 
 
 def check_case(case):
-    """A case's status is one that the program has, and its output is one of that status."""
+    """Checks that the program has the case's status, and the output fits."""
     check_answer(case)
     if case.stdout is None:
         return
@@ -102,7 +104,7 @@ def check_case(case):
 
 
 def check(cases):
-    """Checks all cases and examples; answers a line that counts them, and how many that are together."""
+    """Checks all cases and examples. Returns a line with their counts, and the total."""
     seen = set()
     for case in cases:
         check_case(case)

@@ -1,5 +1,5 @@
-"""Pairs of configurations, and what is told of them: some by hand, and some by chance, of which what was
-changed is known.
+"""Pairs of configurations and their reported differences: hand-written ones, and random ones with
+known changes.
 """
 
 import copy
@@ -21,25 +21,25 @@ PROTECTED_LINES = [
 
 
 def with_(value, change):
-    """A configuration with a change: a function that is handed its sections and routes."""
+    """Returns a configuration after a change of its sections and routes."""
     value = copy.deepcopy(value)
     change(value["sections"], value["routes"])
     return value
 
 
 def station(change):
-    """The station with a change."""
+    """Returns the station with a change."""
     return with_(STATION_VALUE, change)
 
 
 def second(value):
-    """The same in version 2."""
+    """Returns the same in version 2."""
     return {**value, "version": 2, "routes": [{**route, "protecting_points": [], "protecting_boards": []}
                                               for route in value["routes"]]}
 
 
 def upside_down(sections, routes):
-    """The other order of all that has none."""
+    """Reverses every order that has no meaning."""
     sections.reverse()
     routes.reverse()
     for route in routes:
@@ -48,21 +48,21 @@ def upside_down(sections, routes):
 
 
 def without_r8(_, routes):
-    """Drops the last route in all lists."""
+    """Removes the last route from all lists."""
     routes.pop()
     for route in routes:
         route["conflicts"] = [name for name in route["conflicts"] if name != "r8"]
 
 
 def all_of_r1(_, routes):
-    """Changes all entries of a route but its name."""
+    """Changes all entries of a route except its name."""
     routes[0].update(source="m5", destination=None, path=["p2", "t1", "p1"], overlap=["b2"],
                      points=[{"point": "p1", "position": "minus"}, {"point": "p2", "position": "plus"}],
                      conflicts=["r2", "r3", "r5"])
 
 
 def inserted(sections, _):
-    """A section between b1 and p1, to which the board is moved."""
+    """Inserts a section between b1 and p1, and moves the board to it."""
     sections[0].update(up="n", board_up=None)
     sections[1].update(stem="n")
     sections.insert(1, {"name": "n", "kind": "linear", "down": "b1", "up": "p1", "board_down": None,
@@ -70,7 +70,7 @@ def inserted(sections, _):
 
 
 def in_line(names):
-    """Linear sections in a line, with a board on the one before the last."""
+    """Returns a line of linear sections, with a board on the last but one."""
     names = names.split()
     sections = [{"name": name, "kind": "linear", "down": down, "up": up, "board_down": None, "board_up": None}
                 for down, name, up in zip([None, *names], names, [*names[1:], None])]
@@ -79,7 +79,7 @@ def in_line(names):
 
 
 def made_one(sections, routes):
-    """One section between the points in place of two."""
+    """Replaces the two sections between the points by one."""
     sections[2:4] = [{"name": "T", "kind": "linear", "down": "p1", "up": "p2", "board_down": "m4",
                       "board_up": "m5"}]
     for point in (sections[1], sections[3]):
@@ -89,12 +89,12 @@ def made_one(sections, routes):
 
 
 def to_point(sections, _):
-    """A linear section becomes a point."""
+    """Changes a linear section to a point."""
     sections[2] = {"name": "t1", "kind": "point", "faces": "up", "stem": "p1", "plus": "p2", "minus": "b2"}
 
 
 def moved_aside(sections, routes):
-    """All sections have other names but b2, and all boards."""
+    """Renames all boards, and all sections except b2."""
     value = put(json.dumps({"version": 1, "sections": sections, "routes": routes}), ALL_OTHER)
     sections[:], routes[:] = value["sections"], value["routes"]
 
@@ -104,7 +104,7 @@ ALL_OTHER = {"b1": "B1", "p1": "W1", "t1": "G1", "t2": "G2", "p2": "W2", "m1": "
 
 
 def cases():
-    """Of each case its name, the old configuration, the new one, and the lines that are told."""
+    """Yields each case's name, old and new configuration, and reported lines."""
     old = STATION_VALUE
     yield "the same", old, old, [SAME]
     yield "upside down", old, station(upside_down), [OTHER_ORDER]
@@ -196,7 +196,7 @@ def cases():
 
 
 def network_cases():
-    """Of each case its name, the table, and what is told of it beside its network's own."""
+    """Yields each case's name, its table, and the lines reported beside its network's."""
     yield "the network's table", STATION_VALUE, ["the same: each way has its route"]
     yield "upside down", station(upside_down), ["the same: each way has its route"]
     yield "other names", put(STATION, {"r1": "g3", "r2": "g0"}), ["the same: each way has its route"]
@@ -221,17 +221,17 @@ def network_cases():
         "route r3: conflicts with r1", "route r4: conflicts with r1", "route r6: conflicts with r1"]
 
 
-# -- by chance
+# -- random
 
 def table(seed):
-    """A network by chance with its routes; None where it has no table."""
+    """Returns a random network with its routes, or `None` if it has no table."""
     value, _ = random_networks.network(seed)
     routes = route_tables.routes(value)
     return None if isinstance(routes, str) or not routes else {**value, "version": 2, "routes": routes}
 
 
 def shuffled(value, chance):
-    """The same in another order."""
+    """Returns the same in another order."""
     def mix(sections, routes):
         for list_ in (sections, routes, *(route[member] for route in routes
                                           for member in ("conflicts", "points"))):
@@ -240,12 +240,12 @@ def shuffled(value, chance):
 
 
 def lines(old, new):
-    """What is told."""
+    """Returns the reported lines."""
     return comparing.Comparison(old, new).lines()
 
 
 def chance_faults(seed):
-    """What is told otherwise than it was done, over the network of a seed."""
+    """Yields wrong reports of changes over a seed's network."""
     value, chance = table(seed), random.Random(seed)
     if value is None:
         return
@@ -258,7 +258,7 @@ def chance_faults(seed):
 
 
 def name_faults(value, mixed, chance):
-    """Some have other names: some of the sections, and any boards and routes."""
+    """Yields wrong reports after renaming some sections, boards and routes."""
     sections = [one["name"] for one in value["sections"]]
     boards = [one[side] for one in value["sections"] for side in ("board_down", "board_up") if one.get(side)]
     routes = [one["name"] for one in value["routes"]]
@@ -274,7 +274,7 @@ def name_faults(value, mixed, chance):
 
 
 def drop_faults(value, mixed, chance):
-    """Some routes are dropped."""
+    """Yields wrong reports after dropping routes."""
     dropped = chance.sample([one["name"] for one in value["routes"]],
                             chance.randint(1, len(value["routes"])))
     new = {**mixed, "routes": [{**route, "conflicts": [name for name in route["conflicts"]
@@ -286,7 +286,7 @@ def drop_faults(value, mixed, chance):
 
 
 def entry_faults(value, mixed, chance):
-    """One entry is another."""
+    """Yields wrong reports after changing one entry."""
     route = chance.choice(mixed["routes"])
     for member, new, line in (
             ("destination", "z9", "destination {old}, now z9"),

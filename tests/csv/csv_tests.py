@@ -24,8 +24,8 @@ from tests.csv.round_trips import call_faults, joined, office_faults, plants, ra
 from irvtools.paths import TOP
 from tests.support.harness import test_case
 
-ALONE = 60              # random configurations that go through LibreOffice as files of their own
-# `./irv` of a session, with the program that is tried in place of the one that the launcher would build
+ALONE = 60              # random configurations that go through LibreOffice in files of their own
+# a session's `./irv`, with the tested program, not the launcher's
 IRV = """#!/usr/bin/env bash
 case ${{1-}} in
     --csv | --html) exec "{top}/tools/${{1#--}}" --program "{program}" "${{@:2}}" ;;
@@ -37,21 +37,21 @@ esac
 # -- round trips
 
 def check_round_trips(_, __):
-    """From configurations to sheets and back nothing changes: examples, stations, 500 by chance."""
+    """Configurations survive CSV and back: examples, stations, 500 random ones."""
     read = {name: json.loads(given) for name, given in plants().items()}
     for name, value in {**read, **randoms()}.items():
         yield from (f"{name}: {fault}" for fault in trip_faults(value))
 
 
 def check_round_trips_by_calls(program, _):
-    """The same by calls, with files; the program says the same of what comes back."""
+    """Calls with files give the same, and the program's answers do not change."""
     for name, given in plants().items():
         yield from call_faults(program, name, given)
 
 
 def check_office(_, is_long):
-    """Through LibreOffice, as text, in its own form and in that of Excel, in several languages, the sheets
-    come back."""
+    """The sheets survive LibreOffice, as text, in its own format and in Excel's, in several
+    languages."""
     program = libreoffice.find()
     if program is None:
         raise SkipTest("LibreOffice is not installed (Debian's package libreoffice-calc)")
@@ -63,10 +63,10 @@ def check_office(_, is_long):
         yield from (f"{way}: {fault}" for fault in office_faults(program, {**all_, **alone}, way))
 
 
-# -- what is written and read, by hand
+# -- hand-written input and output
 
 def check_spelled(program, _):
-    """Sheets that were written by hand, also as spreadsheets write them, and what they say."""
+    """Hand-written sheets, also as spreadsheets write them, give their configurations."""
     for name, sheets, value, is_own in handwritten_tables.cases():
         with tempfile.TemporaryDirectory(prefix="irv-sheet-") as room:
             Path(room, "given").mkdir()
@@ -87,14 +87,14 @@ def check_spelled(program, _):
 
 
 def check_configuration(program, _):
-    """The text of a configuration has a line for each section and each route."""
+    """A configuration's text has one line per section and route."""
     done = call(program, ["--rename", "a=a"], refusal_cases.CONF.encode())
     if done.stdout.decode() != refusal_cases.CONF:
         yield done.stdout.decode() + done.stderr.decode()
 
 
 def check_refusals(program, _):
-    """Each refusal is told, and nothing is written."""
+    """Each refusal is reported, and nothing is written."""
     for case in refusal_cases.cases():
         yield from refusal_faults(program, *case)
     for words, why in refusal_cases.USAGES:
@@ -106,7 +106,7 @@ def check_refusals(program, _):
 
 
 def check_full_output(program, _):
-    """Where standard output takes nothing, that is told."""
+    """A full standard output is reported."""
     with open("/dev/full", "wb") as full:
         done = subprocess.run([TOP / "tools/csv", "--named"], input=refusal_cases.CONF.encode(), stdout=full,
                               stderr=subprocess.PIPE, check=False)
@@ -116,7 +116,7 @@ def check_full_output(program, _):
 
 
 def check_full_disk(program, _):
-    """Where the second sheet can't be written whole, neither is left, and no folder."""
+    """If the second sheet cannot be written whole, no sheet and no directory remains."""
     with tempfile.TemporaryDirectory(prefix="irv-sheet-") as room:
         done = subprocess.run(["bash", "-c", f"ulimit -f 1; exec '{TOP}/tools/csv' --out new"], cwd=room,
                               input=configurations.made("stations", "4"), capture_output=True, check=False)
@@ -127,7 +127,7 @@ def check_full_disk(program, _):
 
 
 def check_help(program, _):
-    """--help prints how it is called."""
+    """`--help` prints the usage."""
     done = subprocess.run([TOP / "tools/csv", "--help"], capture_output=True, check=False)
     if done.returncode or done.stderr or b"--with-network NEW" not in done.stdout:
         yield f"{done.returncode} {done.stdout!r}"
@@ -136,7 +136,7 @@ def check_help(program, _):
 # -- changes and comparisons
 
 def check_changes(program, _):
-    """Other names and dropped routes go through all lists."""
+    """Renamed and dropped routes are changed in all lists."""
     for words, given, value in editing_cases.cases():
         done = call(program, words, json.dumps(given).encode(), TOP / "tests/csv")
         if done.returncode or json.loads(done.stdout) != value:
@@ -144,7 +144,7 @@ def check_changes(program, _):
 
 
 def check_compare(program, _):
-    """What two configurations have otherwise is told, entry by entry, as worked out by hand."""
+    """Each different entry of two configurations is reported, as derived by hand."""
     for name, old, new, wanted in comparison_cases.cases():
         yield from (f"{name}: {fault}" for fault in compare_faults(program, old, new, wanted))
     for name, new, wanted in comparison_cases.network_cases():
@@ -152,14 +152,14 @@ def check_compare(program, _):
 
 
 def check_compare_chance(_, is_long):
-    """Over networks by chance: another order, other names, dropped routes and changed entries are told as
-    what was done, and nothing else."""
+    """Over random networks exactly the changes are reported: another order, other names, dropped
+    routes and changed entries."""
     for seed in range(400 if is_long else 40):
         yield from (f"network {seed}: {fault}" for fault in comparison_cases.chance_faults(seed))
 
 
 def check_large_pages(_, __):
-    """A page with many differences has pictures of the first, and cuts what is too long; names are text."""
+    """A page with many differences shows the first ones, and cuts long text. Names are text."""
     names = [f"{n:0>32}" for n in range(256)]
     wide = json.loads(configurations.made("routes", "256", "listed"))
     for route, name in zip(wide["routes"], names):
@@ -174,13 +174,13 @@ def check_large_pages(_, __):
 
 
 def check_page(_, __):
-    """The sheet on the page of a configuration says what routes.csv says."""
+    """The sheet on a configuration's page equals routes.csv."""
     for name, given in {**plants(), **{name: json.dumps(one) for name, one in randoms().items()}}.items():
         yield from (f"{name}: {fault}" for fault in report_table.page_faults(given))
 
 
 def check_browser(program, _):
-    """The page of a comparison in a browser."""
+    """The comparison page works in a browser."""
     found = browser.find()
     if found is None:
         raise SkipTest("no browser is installed (Debian's package chromium)")
@@ -196,7 +196,7 @@ def check_browser(program, _):
 
 
 def check_session(program, _):
-    """What docs/guides/csv.md shows is what is printed."""
+    """The output in docs/guides/csv.md is the actual one."""
     with tempfile.TemporaryDirectory(prefix="irv-sheet-") as room:
         irv = Path(room, "irv")
         irv.write_text(IRV.format(top=TOP, program=program), encoding="utf-8")

@@ -1,4 +1,4 @@
-"""Other names and dropped routes: of each case the words, the configuration, and what comes of it."""
+"""Renamed and dropped routes: each case's arguments, configuration and result."""
 
 import json
 from pathlib import Path
@@ -10,19 +10,19 @@ STATION = (EXAMPLES / "station.json").read_text(encoding="utf-8")
 THROAT = (EXAMPLES / "terminus-throat.json").read_text(encoding="utf-8")
 PROTECTED = (EXAMPLES / "station-protected.json").read_text(encoding="utf-8")
 
-# the conflicts of the station's routes without r1 and r8, by hand
+# hand-derived conflicts of the station's routes without r1 and r8
 WITHOUT_R1_R8 = {"r2": ["r6", "r7"], "r3": ["r4", "r5", "r6"], "r4": ["r3", "r5", "r6"],
                  "r5": ["r3", "r4", "r6"], "r6": ["r2", "r3", "r4", "r5"], "r7": ["r2"]}
 NAMED = {"r1": "m1-m3", "r2": "m1-m5", "r3": "m3-b2", "r4": "m5-b2", "r5": "m2-m4", "r6": "m2-m6",
          "r7": "m4-b1", "r8": "m6-b1"}
 
-# a section, a board and a route of one name
+# a section, a board and a route with the same name
 SHARED = other('"name": "r1"', '"name": "a"').replace('"m1"', '"a"')
 
 
 def put(text, names):
-    """A configuration in which names that stand for one thing alone are others: none of them is a part
-    of the text elsewhere in quotation marks. All at once."""
+    """Returns a configuration with all these names replaced at once. Each denotes one thing, and no
+    other quoted text has it."""
     for number, old in enumerate(names):
         text = text.replace(f'"{old}"', f'"\0{number}"')
     for number, new in enumerate(names.values()):
@@ -31,14 +31,14 @@ def put(text, names):
 
 
 def with_routes(routes):
-    """The two sections, with these routes: of each name, source, destination, path and conflicts."""
+    """Returns the two sections with routes given by name, source, destination, path and conflicts."""
     return {**json.loads(CONF), "routes": [
         {"name": name, "source": source, "destination": destination, "path": path, "overlap": [],
          "points": [], "conflicts": conflicts} for name, source, destination, path, conflicts in routes]}
 
 
 def without_r1_r8():
-    """The station without two routes."""
+    """Returns the station without two routes."""
     value = json.loads(STATION)
     value["routes"] = [{**route, "conflicts": WITHOUT_R1_R8[route["name"]]} for route in value["routes"]
                        if route["name"] in WITHOUT_R1_R8]
@@ -46,7 +46,7 @@ def without_r1_r8():
 
 
 def of_list():
-    """The station after the changes of changes.list."""
+    """Returns the station after the changes of changes.list."""
     value = put(STATION, {"r1": "x", "t1": "T1"})
     value["routes"].pop()
     for route in value["routes"]:
@@ -55,7 +55,7 @@ def of_list():
 
 
 def cases():
-    """The cases."""
+    """Yields the cases."""
     station = json.loads(STATION)
     for names in ({"r1": "x"}, {"r1": "r2", "r2": "r1"}, {"r1": "r2", "r2": "r3", "r3": "r1"}, {"t1": "T1"},
                   {"m3": "S3"}, {"p1": "W1", "b2": "b-2", "m1": "1"}, {"r8": "r8"}):
@@ -71,7 +71,7 @@ def cases():
     yield ["--list", "changes.list"], station, of_list()
     yield (["--list", "changes.list", "--rename", "r2=y"], station,
            json.loads(json.dumps(of_list()).replace('"r2"', '"y"')))
-    # of things with one name the one that is meant
+    # the meant one of several things with one name
     shared = json.loads(SHARED)
     for kind, place in (("route", ("routes", 0, "name")), ("section", ("sections", 0, "name"))):
         wanted = json.loads(SHARED)
@@ -95,7 +95,7 @@ def cases():
     yield (["--named", "--drop", "m1-m2-a"],
            with_routes([("a", "m1", "m2", ["b"], ["b"]), ("b", "m1", "m2", ["a"], ["a"])]),
            with_routes([("m1-m2-b", "m1", "m2", ["b"], [])]))
-    # routes over the same sections, and names that others have, get a number
+    # routes over the same sections, and names already used, get a number
     yield (["--named"], with_routes([("g0", "m1", "m2", ["b"], ["g1"]), ("g1", "m1", "m2", ["b"], ["g0"]),
                                      ("g2", "m1", "m2-1", ["b"], [])]),
            with_routes([("m1-m2-2", "m1", "m2", ["b"], ["m1-m2-3"]), ("m1-m2-3", "m1", "m2", ["b"], ["m1-m2-2"]),
@@ -109,7 +109,7 @@ def cases():
 
 
 def alternatives():
-    """A network whose routes g0 and g1 lead over a point that only one of them has, and g2 over both."""
+    """Returns a network whose routes g0 and g1 each have a point of their own, and g2 both."""
     points = [{"name": name, "kind": "point", "faces": "up", "stem": "a", "plus": "b", "minus": "a"}
               for name in ("p1", "p2")]
     value = with_routes([("g0", "m1", "m2", ["a", "p1"], ["g1"]), ("g1", "m1", "m2", ["b", "p2"], ["g2"]),

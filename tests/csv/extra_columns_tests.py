@@ -1,4 +1,4 @@
-"""Tests of comments and labels in CSV files, of files of spreadsheets, and of the control table."""
+"""Tests of comments and labels in CSV files, spreadsheet files, and the control table."""
 
 import csv
 import io
@@ -31,14 +31,14 @@ HOW = "; save the table of sections as sections.csv and that of routes as routes
 
 
 def lay_out(room, sections=SECTIONS, routes=ROUTES):
-    """Writes both CSV files into the directory `two` of a room."""
+    """Writes both CSV files into a room's directory `two`."""
     Path(room, "two").mkdir()
     Path(room, "two/sections.csv").write_text(sections, encoding="utf-8")
     Path(room, "two/routes.csv").write_text(routes, encoding="utf-8")
 
 
 def columns_of(path):
-    """Returns the columns of a CSV file, by their headings, without apostrophes before labels."""
+    """Returns a CSV file's columns by heading, without apostrophes before labels."""
     head, *rows = csv.reader(io.StringIO(path.read_text(encoding="utf-8"), newline=""))
     return {heading: [row[place] for row in rows] for place, heading in enumerate(head)}
 
@@ -57,7 +57,7 @@ def kept_faults(folder, routes=2):
 
 
 def check_kept(program, _):
-    """Comments and labels go through reading, writing, renaming, dropping and filling as they are."""
+    """Reading, writing, renaming, dropping and filling keep comments and labels."""
     for words in (["--in", "two", "--out", "new"], ["--in", "two", "--named", "--out", "new"],
                   ["--in", "two", "--rename", "b=c", "--drop", "r2", "--out", "new"],
                   ["--in", "two", "--fill", "conflicts,points", "--out", "new"],
@@ -75,7 +75,7 @@ def check_kept(program, _):
 
 
 def check_json(program, _):
-    """The configuration is the same as without comments and labels."""
+    """Comments and labels do not change the configuration."""
     with tempfile.TemporaryDirectory(prefix="irv-extra-") as room:
         lay_out(room)
         done = call(program, ["--in", "two"], b"", room)
@@ -88,7 +88,7 @@ def check_json(program, _):
 
 
 def check_compared(program, _):
-    """A comparison names comments and labels that differ, if both have the column."""
+    """A comparison names different comments and labels if both have the column."""
     with tempfile.TemporaryDirectory(prefix="irv-extra-") as room:
         lay_out(room)
         other = Path(room, "other")
@@ -107,7 +107,7 @@ def check_compared(program, _):
 
 
 def check_headings(program, _):
-    """A comment or label that occurs twice is refused."""
+    """A duplicate comment or label is refused."""
     for old, new, column in (("#km,", "#KM,#km,", "B"), ("label,# ", "label,label,# ", "M"),
                              ("kind", "Label,kind", "M")):
         with tempfile.TemporaryDirectory(prefix="irv-extra-") as room:
@@ -118,10 +118,10 @@ def check_headings(program, _):
                 yield f"{new}: {done.stderr}"
 
 
-# -- files of spreadsheets
+# -- spreadsheet files
 
 def check_spreadsheets(program, _):
-    """Files of spreadsheets are refused with what to do instead, wherever they are given."""
+    """Spreadsheet files are refused everywhere, with what to do instead."""
     data = b"PK\x03\x04" + bytes(90)
     own, not_csv = "this is a spreadsheet's own file", "is a spreadsheet's own file, not CSV"
     for files, words, begin in [
@@ -141,7 +141,7 @@ def check_spreadsheets(program, _):
 
 
 def check_real_spreadsheets(program, _):
-    """The files that LibreOffice writes are refused too."""
+    """LibreOffice's own files are refused too."""
     office = libreoffice.find()
     if office is None:
         raise SkipTest("LibreOffice is not installed (Debian's package libreoffice-calc)")
@@ -164,7 +164,7 @@ BAY_ROW = ["VA2-NU2", "VA2", "NU2", "inner", "W2 W3 W6", "", "E3 E2 B2", "E3 E2"
 
 
 def check_control_table(program, _):
-    """The control table by hand: of the protected station, and of the station with a bay."""
+    """The control tables of the protected station and the bay station equal hand-derived ones."""
     with tempfile.TemporaryDirectory(prefix="irv-extra-") as room:
         done = call(program, ["--control-table", "out", STATION], b"", room)
         head, *rows = csv.reader(io.StringIO(Path(room, "out.csv").read_text(encoding="utf-8")))
@@ -189,7 +189,7 @@ def check_control_table(program, _):
 
 
 def check_unlisted(program, _):
-    """Conflicts that no rule demands, and those that are missing, are marked; a wrong name is refused."""
+    """Conflicts that no rule demands, and missing ones, are marked. A wrong name is refused."""
     value = json.loads(STATION.read_text(encoding="utf-8"))
     value["routes"][0]["conflicts"].remove("r2")
     value["routes"][1]["conflicts"].append("r3")
@@ -205,7 +205,7 @@ def check_unlisted(program, _):
 
 
 def check_labels(program, _):
-    """The page of the control table has the labels of routes beside their names."""
+    """The control table's page has labels beside route names."""
     with tempfile.TemporaryDirectory(prefix="irv-extra-") as room:
         lay_out(room)
         call(program, ["--control-table", "out", "two"], b"", room)
@@ -217,8 +217,8 @@ def check_labels(program, _):
 
 
 def check_labels_in_pages(program, _):
-    """The report and the simulator show labels beside names; without --labels, or with CSV files that
-    cannot be read, they don't."""
+    """Report and simulator show labels beside names, unless `--labels` is missing or the CSV files
+    cannot be read."""
     with tempfile.TemporaryDirectory(prefix="irv-extra-") as room:
         lay_out(room)
         given = call(program, ["--in", "two"], b"", room).stdout

@@ -28,13 +28,13 @@ PAIR = re.compile(r"refused (C[568]) routes\[([0-9]+)\] routes\[([0-9]+)\]")
 
 
 def check(program, value):
-    """Returns the lines that `check` prints of a configuration."""
+    """Returns the lines that `check` prints about a configuration."""
     done = subprocess.run([program, "check"], input=json.dumps(value).encode(), capture_output=True, check=False)
     return done.stdout.decode().splitlines()
 
 
 def without_derived(value):
-    """Returns a configuration whose routes list neither points nor conflicts."""
+    """Returns a configuration without listed points and conflicts."""
     return {**value, "routes": [{**route, "points": [], "conflicts": []} for route in value["routes"]]}
 
 
@@ -46,7 +46,7 @@ def pairs_of(value):
 
 
 def without_pairs(value, pairs):
-    """Returns a configuration without both entries of each of these pairs."""
+    """Returns a configuration without both entries of these pairs."""
     value = copy.deepcopy(value)
     names = [route["name"] for route in value["routes"]]
     for i, j in itertools.chain(pairs, [(j, i) for i, j in pairs]):
@@ -55,7 +55,7 @@ def without_pairs(value, pairs):
 
 
 def result_faults(program, old, found):
-    """Yields what is wrong with a filled table."""
+    """Yields the faults of a filled table."""
     lines = check(program, found.value)
     wrong = [line for line in lines if line.startswith(("refused C5", "refused C6", "refused C8"))]
     yield from wrong[:3]
@@ -74,8 +74,8 @@ def result_faults(program, old, found):
 
 
 def pair_faults(program, old, new, alone):
-    """Yields the derived pairs without which `check` does not answer C6 or C8: all at once, and of some
-    each alone."""
+    """Yields the derived pairs without which `check` does not answer C6 or C8: all at once, some
+    individually."""
     derived = sorted(pairs_of(new) - {(min(pair), max(pair)) for pair in typed_pairs(old)})
     refused = refused_pairs(check(program, without_pairs(new, derived)))
     yield from (f"pair {pair} is missing, and check does not say so" for pair in derived
@@ -98,8 +98,8 @@ def refused_pairs(lines):
 
 
 def check_bay_station(program, _):
-    """The typed station is refused; filled, it is the one of tests/plants, and clean; without any one pair
-    of its conflicts it is refused."""
+    """The typed station is refused. Filled, it is the clean one of tests/plants, but refused
+    without any one pair of conflicts."""
     value = reading.read_directory(TYPED)
     kept = json.loads(BAY.read_text(encoding="utf-8"))
     found = filling.filled(value, BOTH)
@@ -115,7 +115,7 @@ def check_bay_station(program, _):
 
 
 def check_plants(program, _):
-    """Over examples, plants and generated stations: without conflicts and points, and filled again."""
+    """Examples, plants and generated stations are filled correctly without conflicts and points."""
     count = 0
     for name, given in plants().items():
         value = without_derived(json.loads(given))
@@ -134,7 +134,7 @@ def check_plants(program, _):
 
 
 def check_random(program, _):
-    """Over 500 random tables with random overlaps, protection, points and conflicts."""
+    """500 random tables are filled correctly."""
     decided = wrong = 0
     for seed, value in random_tables.tables(RANDOM):
         chance = random.Random(seed)
@@ -150,7 +150,7 @@ def check_random(program, _):
 
 
 def check_demanded(program, _):
-    """What no rule demands is what `check` accepts without."""
+    """`check` accepts a table without undemanded entries, and exactly these are reported."""
     for seed, value in random_tables.tables(60):
         found = filling.filled(value, BOTH, True)
         plant = Plant(found.value)
@@ -183,7 +183,8 @@ linear e p . E ."""
 
 
 def check_by_hand(_, __):
-    """Positions of points by hand: on the path, on the overlap, at its end, wrong ones, and a gap."""
+    """Point positions equal hand-derived ones: on the path, on the overlap, at its end, wrong ones,
+    and a gap."""
     decide = "route r: its overlap "
     for network, route, points, decisions, wrong in [
             (LADDER, "from A to B path p b overlap c", "p+", [], []),
@@ -208,7 +209,7 @@ def check_by_hand(_, __):
 
 
 def check_order(_, __):
-    """Entries are added in the order of the table, if what is listed is in that order; else behind it."""
+    """Entries are added in table order if the listed ones are in that order, otherwise after them."""
     station = json.loads((TOP / "examples/station.json").read_text(encoding="utf-8"))
     whole = station["routes"][0]["conflicts"]
     for listed, wanted in ((["r5"], whole), (["r8", "r5"], ["r8", "r5", "r2", "r7"]), ([], whole)):
@@ -221,8 +222,8 @@ def check_order(_, __):
 # -- calls
 
 def check_calls(program, _):
-    """The result goes to standard output, to a new directory, or over what was read; the comparison, the
-    decisions and the answer of check are printed."""
+    """The result goes to standard output, a new directory, or over the input. The comparison, the
+    decisions and check's answer are printed."""
     given = BAY.read_bytes()
     bare = json.dumps(without_derived(json.loads(given))).encode()
     with tempfile.TemporaryDirectory(prefix="irv-fill-") as room:
@@ -250,7 +251,7 @@ def check_calls(program, _):
 
 
 def check_refused(program, _):
-    """If F, N, R, C1 or C2 is broken, the lines of check are printed, and nothing is written."""
+    """If F, N, R, C1 or C2 is broken, check's lines are printed, and nothing is written."""
     cases = {"four-sections.json": ["refused C1 routes[0]", "refused C2 routes[0]"]}
     station = json.loads((TOP / "examples/station.json").read_text(encoding="utf-8"))
     station["routes"][0]["conflicts"].append("nothing")

@@ -1,10 +1,10 @@
-"""Sheets that were written by hand, and the configurations that they say."""
+"""Hand-written sheets and their configurations."""
 
 import json
 
 from tests.csv.refusal_cases import CONF, ROUTES, SECTIONS
 
-# as tools/csv writes it: what a spreadsheet would change has an apostrophe
+# as tools/csv writes it: text that a spreadsheet would change has an apostrophe
 CHANGED = {
     "sections.csv": b"name,kind,down,up,board down,board up,stem,plus,minus,faces\r\n"
                     b"'007,linear,,'1-2,,TRUE1,,,,\r\n"
@@ -33,7 +33,7 @@ CHANGED_SAYS = {
          "conflicts": ["false"], "protecting_points": [{"point": "W-", "position": "plus"}],
          "protecting_boards": []}]}
 
-# The two sections and routes of refusals.py as spreadsheets and people write them.
+# The two sections and routes of refusal_cases.py as spreadsheets and people write them.
 MARK = b"\xef\xbb\xbf"
 SEMICOLONS = {"sections.csv": MARK + SECTIONS.replace(",", ";").replace("\n", "\r\n").encode(),
               "routes.csv": MARK + ROUTES.replace(",", ";").replace("\n", "\r\n").encode()}
@@ -42,7 +42,7 @@ LONE_RETURNS = {"sections.csv": SECTIONS.replace("\n", "\r").encode(),
 ALL_QUOTED = {"sections.csv": "".join(",".join(f'"{cell}"' for cell in line.split(",")) + "\n"
                                       for line in SECTIONS.splitlines()).encode(),
               "routes.csv": ROUTES.strip().encode()}
-# other columns first, headings in capitals, rows that end early or late, and rows and columns of nothing
+# reordered columns, capital headings, rows that end early or late, and empty rows and columns
 LOOSE = {"sections.csv": b"Faces,NAME, board  up,Kind,,Minus,Plus,Stem,Board Down,Down,Up\n"
                          b",,,,,,,,,,\n"
                          b",a, m1 ,linear,,,,,,,b,,,\n"
@@ -66,7 +66,7 @@ NO_ROUTES = {"sections.csv": SECTIONS.replace("\n", "\r\n").encode(),
 
 
 def cases():
-    """Of each case its name, the sheets, what they say, and whether they are as tools/csv writes them."""
+    """Yields each case's name, its sheets, its configuration, and whether tools/csv writes them so."""
     two = json.loads(CONF)
     own = {"sections.csv": SECTIONS.replace("\n", "\r\n").encode(),
            "routes.csv": ROUTES.replace("\n", "\r\n").encode()}

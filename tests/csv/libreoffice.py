@@ -1,4 +1,4 @@
-"""Sheets through LibreOffice, where it is there: opened, and saved again."""
+"""Opens and saves sheets with LibreOffice, if installed."""
 
 import shutil
 import subprocess
@@ -6,14 +6,14 @@ import tempfile
 from pathlib import Path
 
 SECONDS = 300
-# How a sheet is saved as text: with commas (44) or semicolons (59), in UTF-8 (76); and how it is opened: in a
-# language, where dates, truth values and the like are looked for in each cell, as Excel does it.
+# text format for saving: commas (44) or semicolons (59), in UTF-8 (76). For opening: a language, in
+# which each cell may be a date, a truth value and so on, as in Excel.
 COMMAS = "csv:Text - txt - csv (StarCalc):44,34,76,1"
 SEMICOLONS = "csv:Text - txt - csv (StarCalc):59,34,76,1"
 OPENED = "Text - txt - csv (StarCalc):44,34,76,1,,{},false,true"
 AMERICAN, BRITISH, GERMAN, FRENCH = 1033, 2057, 1031, 1036
 POLISH, DUTCH, SPANISH, ITALIAN = 1045, 1043, 3082, 1040
-# each way: the language, the form in which it is kept between, or None, and how it is saved
+# each way: the language, the intermediate format or None, and the text format
 WAYS = {"text": (AMERICAN, None, SEMICOLONS), "LibreOffice": (BRITISH, "ods", COMMAS),
         "Excel": (GERMAN, "xlsx", SEMICOLONS)}
 LONG_WAYS = {**WAYS, **{str(language): (language, None, COMMAS)
@@ -21,12 +21,12 @@ LONG_WAYS = {**WAYS, **{str(language): (language, None, COMMAS)
 
 
 def find():
-    """The program, or None."""
+    """Returns the program, or `None`."""
     return shutil.which("soffice")
 
 
 def convert(office, room, files, form, opened=None):
-    """Converts files into another form, in a folder of the room; answers the folder."""
+    """Converts files into another format in a directory of the room, and returns it."""
     out = Path(tempfile.mkdtemp(dir=room))
     how = [] if opened is None else [f"--infilter={OPENED.format(opened)}"]
     subprocess.run([office, f"-env:UserInstallation=file://{room}/profile", "--headless", *how,
@@ -37,7 +37,7 @@ def convert(office, room, files, form, opened=None):
 
 
 def saved(office, texts, way):
-    """The bytes of sheets after LibreOffice has opened and saved them; of each the name and the bytes."""
+    """Returns the names and bytes of sheets after LibreOffice has opened and saved them."""
     language, between, last = LONG_WAYS[way]
     with tempfile.TemporaryDirectory(prefix="irv-office-") as room:
         given = Path(room, "given")

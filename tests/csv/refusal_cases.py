@@ -1,7 +1,7 @@
-"""What tools/csv refuses: of each case the words, the files, standard input, and what is told.
+"""Refusals of tools/csv: each case's arguments, files, standard input and reported lines.
 
-In a case's folder lie `conf`, a configuration of two sections, and the folder `two` with its sheets. A
-case names other contents of these, or further files; None takes one away.
+A case's directory has `conf`, a configuration of two sections, and the directory `two` with its
+sheets. A case changes or adds files; None removes one.
 """
 
 SECTIONS = """name,kind,down,up,board down,board up,stem,plus,minus,faces
@@ -30,18 +30,18 @@ ROUTE_HEADS = ("name, source, destination, path, overlap, points, conflicts, pro
 
 
 def row(cells, sheet=SECTIONS):
-    """A sheet with one row, on line 2."""
+    """Returns a sheet with one row, on line 2."""
     return sheet.splitlines()[0] + "\n" + cells + "\n"
 
 
 def other(old, new, text=CONF):
-    """A text in which something else stands once."""
+    """Returns a text with one replacement."""
     if text.count(old) != 1:
         raise ValueError(f"{old} stands {text.count(old)} times")
     return text.replace(old, new)
 
 
-# Faults of a sheet: its file, its text, and what is told behind the file's name.
+# faults of a sheet: file, text, and the words after the file name
 SHEET_FAULTS = [
     (S, "", [": nothing stands in it; a line of headings was expected"]),
     (S, ",,\r\n\r\n", [": nothing stands in it; a line of headings was expected"]),
@@ -50,7 +50,7 @@ SHEET_FAULTS = [
     (S, SECTIONS.encode() + b"caf\xe9,linear,,,,,,,,\n",
      [", line 4: the encoding isn't UTF-8, which was expected"]),
     (R, ROUTES + "," * 4194304, [": there are more than 4194304 bytes, which a CSV file may have"]),
-    # the form of the values apart by commas
+    # the CSV format
     (S, other("b,linear,a", 'b,"linear,a', SECTIONS),
      [", line 3, column B: a cell in quotation marks has no end; the mark that closes it was expected"]),
     (S, other("b,linear,a", 'b,"linear"x,a', SECTIONS),
@@ -114,18 +114,18 @@ SHEET_FAULTS = [
      [", line 2, column F (points): “-5.00” is no point with its position; a name with + for plus or - for "
       "minus behind it, as W1+, was expected: a spreadsheet may have made this of a name"]),
     (R, row("r1,m1,,b,,,r2 r*3", ROUTES), [f", line 2, column G (conflicts): “r*3” is no name; {NAME}"]),
-    # a cell with several lines moves the lines below it
+    # a multi-line cell shifts the lines below it
     (R, row('r1,m1,,"b\nc",,,\nr2,m2,,?,,,', ROUTES), [f", line 4, column D (path): “?” is no name; {NAME}"]),
     (R, row("\n".join(["r1,m1,,?,,,"] * 23), ROUTES),
      [f", line {line}, column D (path): “?” is no name; {NAME}" for line in range(2, 22)] + ["and 3 more"]),
 ]
 
-# So many sections that their configuration would be too long.
+# enough sections for an overlong configuration
 LINE = '  {"name": "a", "kind": "linear", "down": null, "up": null, "board_down": null, "board_up": null}'
 MANY = 44000
 LENGTH = len('{"version": 1,\n "sections": [') + MANY * (len(LINE) + 2) - 1 + len('],\n "routes": []}\n')
 
-# What is told of a configuration on standard input, behind `standard input: `.
+# the words about a configuration on standard input, after `standard input: `
 CONF_FAULTS = [
     ("", ["the configuration is empty"]),
     ("{", ["line 1, column 2: Expecting property name enclosed in double quotes. The line is: { ⟵ here: "
@@ -154,7 +154,7 @@ SHARED = other('"name": "r1"', '"name": "a"')
 NO_PATH = other('"path": ["b"]', '"path": []')
 WIDE = CONF.replace('"m1"', f'"{"m" * 31}"')
 
-# Other refusals: words, further files, standard input, and what is told.
+# other refusals: arguments, more files, standard input, and the words
 OTHERS = [
     # changes
     (["--rename", "r1"], {}, CONF, ["--rename: there stands “r1”, and OLD=NEW was expected"]),
@@ -192,7 +192,7 @@ OTHERS = [
     (["--named"], {}, NO_PATH, ["the route r1 has neither a destination nor a path"]),
     (["--named"], {}, WIDE, [f"the route r1 would be called {'m' * 31}-b, which has 33 characters; a name has "
                              "at most 32"]),
-    # where sheets are written
+    # output places
     (["--out", "two"], {}, CONF, ["two/sections.csv: it is there already, and isn't written over",
                                   "two/routes.csv: it is there already, and isn't written over"]),
     (["--out", "two"], {S: None}, CONF, ["two/routes.csv: it is there already, and isn't written over"]),
@@ -220,7 +220,7 @@ OTHERS = [
      ["the network has no table of its own: irv table: not called: [Errno 2] No such file or directory: 'none'"]),
 ]
 
-# Arguments that ask for nothing, and why.
+# arguments that ask for nothing, and the reason
 USAGES = [
     ([], "give --in, --out, --fill, --control-table, --compare or a change"),
     (["--into", "two"], "unrecognized arguments: --into"),
@@ -253,7 +253,7 @@ USAGES = [
 
 
 def cases():
-    """All cases: words, files beside the usual ones, standard input, and the lines that are told."""
+    """Yields all cases: arguments, additional files, standard input, and the reported lines."""
     for file, text, told in SHEET_FAULTS:
         yield IN, {file: text}, "", [line if line.startswith("and ") else file + line for line in told]
     yield IN, {S: row("a,line,,,,,,,,"), R: row("r1,m1,,?,,,", ROUTES)}, "", [

@@ -1,4 +1,4 @@
-"""The sheet of routes that stands on the page of a configuration."""
+"""The sheet of routes on a configuration's page."""
 
 import csv
 import io
@@ -12,11 +12,11 @@ from irvtools.html.report import Report
 from irvtools.model.plant import Plant
 from irvtools.html.control_table import LONGEST_CELL, sheet_part
 
-SHOWN = 90              # characters of a cell that is wrong
+SHOWN = 90              # characters of a wrong cell
 
 
 class Rows(HTMLParser):
-    """The rows of the tables of some markup, each a list of the texts of its cells."""
+    """A parser that collects table rows as lists of cell texts."""
 
     def __init__(self, markup):
         super().__init__(convert_charrefs=True)
@@ -40,7 +40,7 @@ class Rows(HTMLParser):
 
 
 def on_page(value):
-    """The rows of the sheet that stands on a configuration's page."""
+    """Returns the rows of the sheet on a configuration's page."""
     page = Report(SimpleNamespace(program="", name="a plant"), b"")
     page.plant = Plant(value)
     sheet_part(page)
@@ -48,7 +48,7 @@ def on_page(value):
 
 
 def page_faults(given):
-    """What the sheet on the page says otherwise than routes.csv."""
+    """Yields the page sheet's differences from routes.csv."""
     value = json.loads(given)
     found = on_page(value)
     head, *rows = csv.reader(io.StringIO(writing.csv_texts(value)[ROUTES]))
@@ -60,7 +60,7 @@ def page_faults(given):
 
 
 def seen(cell):
-    """A cell of routes.csv as it is seen: without the apostrophe by which it is kept, and not longer than
-    the page has it."""
+    """Returns a cell of routes.csv as displayed: without its protecting apostrophe, cut as on the
+    page."""
     cell = cell.removeprefix("'")
     return cell if len(cell) <= LONGEST_CELL else cell[:LONGEST_CELL] + " … (cut)"

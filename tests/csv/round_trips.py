@@ -1,4 +1,4 @@
-"""The way from configurations to sheets and back: over which, and what differs after it."""
+"""Round trips from configurations to sheets: the configurations, and the differences."""
 
 import json
 import subprocess
@@ -18,7 +18,7 @@ RANDOM = 500
 
 
 def plants():
-    """The configurations of the repository and made stations, by name, as bytes."""
+    """Returns the repository's configurations and generated stations, by name, as bytes."""
     files = [*(TOP / "examples").glob("*.json"), *(TOP / "tests/plants").glob("*.json")]
     found = {path.stem: path.read_bytes() for path in sorted(files)}
     found.update({f"stations {n}": generated.made("stations", str(n)) for n in range(1, 17)})
@@ -27,12 +27,12 @@ def plants():
 
 
 def randoms():
-    """The random configurations, by name."""
+    """Returns the random configurations, by name."""
     return {f"random {seed}": random_configurations.configuration(seed) for seed in range(RANDOM)}
 
 
 def trip_faults(value):
-    """What differs after a way to sheets and back, and from there to sheets again."""
+    """Yields the differences after a trip to sheets, back, and to sheets again."""
     texts = writing.csv_texts(value)
     sections, told = reading.read_sections(texts["sections.csv"])
     version, routes, more = reading.read_routes(texts["routes.csv"])
@@ -47,7 +47,7 @@ def trip_faults(value):
 
 
 def call_faults(program, name, given):
-    """What differs of one configuration."""
+    """Yields one configuration's differences."""
     with tempfile.TemporaryDirectory(prefix="irv-sheet-") as room:
         out = call(program, ["--out", "new"], given, room)
         back = call(program, ["--in=new"], b"", room)
@@ -63,14 +63,14 @@ def call_faults(program, name, given):
 
 
 def joined(values, version):
-    """One configuration with the sections and routes of all of a version."""
+    """Returns one configuration with all sections and routes of a version."""
     chosen = [value for value in values if value["version"] == version]
     return {"version": version, "sections": [one for value in chosen for one in value["sections"]],
             "routes": [one for value in chosen for one in value["routes"]]}
 
 
 def office_faults(program, values, way):
-    """Which of these configurations come back otherwise."""
+    """Yields the configurations that come back changed."""
     texts = {f"{name}-{file.removesuffix('.csv')}": text.encode()
              for name, value in values.items() for file, text in writing.csv_texts(value).items()}
     came = libreoffice.saved(program, texts, way)

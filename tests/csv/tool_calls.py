@@ -1,4 +1,4 @@
-"""Calls of the tool, in this process, and what differs of what they print."""
+"""Calls of the tool in this process, and differences in their output."""
 
 import io
 import json
@@ -13,20 +13,20 @@ from tests.csv import refusal_cases
 
 
 class Done:
-    """What a call printed, and its status."""
+    """A call's output and status."""
 
     def __init__(self, returncode, stdout, stderr):
         self.returncode, self.stdout, self.stderr = returncode, stdout, stderr
 
 
 def call(program, words, given=b"", where="."):
-    """Calls the tool, as its script does."""
+    """Calls the tool as its script does."""
     streams = [io.TextIOWrapper(io.BytesIO(one), encoding="utf-8") for one in (given, b"", b"")]
     before = sys.stdin, sys.stdout, sys.stderr, os.getcwd()
     sys.stdin, sys.stdout, sys.stderr = streams
     os.chdir(where)
     try:
-        # a program that the words name comes first
+        # a program in the arguments comes first
         own = [] if "--program" in words else ["--program", str(program)]
         status = status_of([*map(str, words), *own])
         sys.stderr.flush()
@@ -37,7 +37,7 @@ def call(program, words, given=b"", where="."):
 
 
 def status_of(words):
-    """Calls the tool; returns its exit status, also if its parser ends it."""
+    """Calls the tool. Returns its exit status, also if its parser ends it."""
     try:
         return cli.main(words)
     except SystemExit as end:
@@ -45,7 +45,7 @@ def status_of(words):
 
 
 def lay_out(room, files):
-    """Writes the files of a case."""
+    """Writes a case's files."""
     usual = {"conf": refusal_cases.CONF, refusal_cases.S: refusal_cases.SECTIONS, refusal_cases.R: refusal_cases.ROUTES}
     Path(room, "two").mkdir()
     for name, text in {**usual, **files}.items():
@@ -54,13 +54,13 @@ def lay_out(room, files):
 
 
 def contents(room):
-    """All files of a folder, each with its bytes."""
+    """Returns all files of a directory with their bytes."""
     return {path.relative_to(room): path.read_bytes() if path.is_file() else None
             for path in sorted(Path(room).rglob("*"))}
 
 
 def refusal_faults(program, words, files, given, told):
-    """What differs of one refusal."""
+    """Yields the differences of one refusal."""
     with tempfile.TemporaryDirectory(prefix="irv-sheet-") as room:
         lay_out(room, files)
         before = contents(room)
@@ -74,7 +74,7 @@ def refusal_faults(program, words, files, given, told):
 
 
 def compare_faults(program, old, new, wanted):
-    """What is told otherwise of one pair."""
+    """Yields the wrong reports about one pair."""
     with tempfile.TemporaryDirectory(prefix="irv-sheet-") as room:
         for name, value in (("old", old), ("new", new)):
             Path(room, name).write_text(json.dumps(value), encoding="utf-8")

@@ -1,4 +1,4 @@
-"""Tests of advice: planted mistakes are named, their correct counterparts are not."""
+"""Tests of advice: planted mistakes are named, but not their correct counterparts."""
 
 import json
 import subprocess
@@ -14,7 +14,7 @@ from tests.support.harness import test_case
 
 TOOL = TOP / "tools/explain"
 RANDOM = 200
-FEWEST = 150            # protecting points that these tables have together
+FEWEST = 150            # protecting points in all these tables
 
 
 def example(name):
@@ -26,7 +26,7 @@ BAY, PROTECTED = "tests/plants/bay-station.json", "examples/station-protected.js
 
 
 def with_route(file, name, **members):
-    """Returns a configuration in which a route has other members."""
+    """Returns a configuration with changed members of a route."""
     value = example(file)
     for route in value["routes"]:
         if route["name"] == name:
@@ -35,12 +35,12 @@ def with_route(file, name, **members):
 
 
 def positions(*words):
-    """Returns listed points, of words as W1+."""
+    """Returns listed points from words such as W1+."""
     return [{"point": word[:-1], "position": "plus" if word[-1] == "+" else "minus"} for word in words]
 
 
 def with_overlap_point(word):
-    """Returns the station with a bay in which an overlap lists E4 in a position."""
+    """Returns the station with a bay, with E4 in a position in an overlap's list."""
     points = [one for one in next(route for route in example(BAY)["routes"] if route["name"] == "VA1-NU1")["points"]
               if one["point"] != "E4"]
     return with_route(BAY, "VA1-NU1", points=points + positions(word))
@@ -49,7 +49,7 @@ def with_overlap_point(word):
 # -- mistakes
 
 def check_mistakes(_, __):
-    """Each planted mistake is the only one, with its sentence; its counterpart has none."""
+    """Each planted mistake is found alone, with its sentence. Its counterpart has none."""
     here = "Route {} has the protecting points {}, "
     idle = "and no vehicle comes over them into its path or overlap without passing a board."
     for name, wrong, right, sentence in [
@@ -80,7 +80,7 @@ def check_far_end(_, __):
 
 
 def check_random(_, __):
-    """200 random correct tables give no mistake; one with a position exchanged gives one."""
+    """200 random correct tables have no mistake, and one exchanged position is one."""
     tables = protecting = exchanged = named = 0
     for seed in count():
         value = correct_tables.table(seed)
@@ -126,12 +126,12 @@ route two from C to E path q e {}"""
 
 
 def table(text, *words):
-    """Returns a configuration in short form, with words put in."""
+    """Returns a configuration in short form with inserted words."""
     return json.loads(configurations.plant_text(text.format(*words).splitlines()))
 
 
 def check_notes(_, __):
-    """Each note has an example that it names, and a counterpart for which it is silent."""
+    """Each note has an example and a silent counterpart."""
     locked = "points p=plus protecting_points z=plus", "points q=minus protecting_points z=minus"
     for name, noted, silent, sentence in [
             ("open leg", table(OPEN, "."), table(OPEN, "A"),
@@ -158,7 +158,7 @@ def check_notes(_, __):
 # -- calls
 
 def check_calls(program, _):
-    """Advice is printed on standard error, by route, mistakes first; the answer stays the program's."""
+    """Advice is on standard error, by route, mistakes first. The answer is the program's."""
     value = with_route(BAY, "ND1-NA1", protecting_points=positions("W3-", "E1+"))
     for given, lines in [
             (value, ["mistake: Route ND1-NA1 has the protecting points W3-,",
@@ -179,7 +179,7 @@ def check_calls(program, _):
 
 
 def check_groups(_, __):
-    """Groups with mistakes come first, what is about all routes last."""
+    """Groups with mistakes come first, and those about all routes last."""
     value = example("examples/terminus-throat.json")
     value["routes"][-1]["protecting_points"] = positions("P1+")
     groups = [(name, group[0].kind) for name, group in by_route(Plant(value))]

@@ -1,5 +1,5 @@
-"""Random tables without mistakes: overlaps whose points lead along them, and protecting points that lead a
-vehicle away. Whether one does is found by running vehicles forwards, by names, and not as the tool does it."""
+"""Random tables without mistakes: overlap points lead along the overlap, and protecting points lead
+vehicles away. Unlike the tool, it runs vehicles forwards, by names, to test this."""
 
 import random
 
@@ -9,7 +9,7 @@ from tests.support.random_tables import MOST_ROUTES, overlap
 
 
 def table(seed):
-    """Returns the table of a seed, or `None` if its network has no routes, too many, or no protection."""
+    """Returns a seed's table, or `None` if its network has no routes, too many, or no protection."""
     value, _ = random_networks.network(seed)
     routes = route_tables.routes(value)
     if isinstance(routes, str) or not 0 < len(routes) <= MOST_ROUTES:
@@ -27,7 +27,7 @@ def table(seed):
 
 
 def protections(value):
-    """Returns how many protecting points a table has."""
+    """Returns the number of a table's protecting points."""
     return sum(len(route["protecting_points"]) for route in value["routes"])
 
 
@@ -49,8 +49,8 @@ def points_beside(value, route):
 
 
 def leads_away(network, route, point, leg):
-    """Returns whether a vehicle that meets a point facing comes into path or overlap, before any board,
-    over its other leg and not over this one."""
+    """Returns whether a vehicle that meets a point facing reaches path or overlap, before any
+    board, only over its other leg."""
     section = network.sections[point]
     other = "minus" if leg == "plus" else "plus"
     return comes_in(network, route, section[other], section["faces"], set()) \
@@ -58,8 +58,8 @@ def leads_away(network, route, point, leg):
 
 
 def comes_in(network, route, name, direction, known):
-    """Returns whether a vehicle that comes to a section in a direction can come into path or overlap before
-    any board."""
+    """Returns whether a vehicle that enters a section in a direction can reach path or overlap
+    before any board."""
     if name in route["path"] + route["overlap"]:
         return True
     if name in known or network.board(name, direction) is not None:

@@ -1,4 +1,4 @@
-"""Tests of `--explain`: each refusal gets sentences that name what it is about, and its place."""
+"""Tests of `--explain`: each refusal gets sentences with its subject and place."""
 
 import contextlib
 import json
@@ -25,18 +25,18 @@ from tests.support.harness import test_case
 PLACE = re.compile(r"(sections|boards|routes)\[([0-9]+)\]")
 REFUSAL = re.compile(rb"refused |rejected |not a run at ")
 DOCUMENTED = re.compile(r"\b([FNRCG][1-8])\b")      # in the first two cells of a row
-LONG = 1 << 20          # bytes of a file that takes too long for a test of each case
+LONG = 1 << 20          # bytes of a file that is too slow to test in each case
 
 
 def refused_cases():
-    """Returns the cases of tests/cases whose answer is a refusal, a rejection or `not a run`."""
+    """Returns the cases of tests/cases with a refusal, a rejection or `not a run`."""
     return [case for cases in case_tests.cases_by_file().values() for case in cases
             if case.stdout is not None and REFUSAL.match(case.stdout) and case.conf is not None
             and not case.closed and case.words]
 
 
 def told_of(program, case):
-    """Returns the lines of a case's answer, and what is told of it."""
+    """Returns the lines of a case's answer and their explanation."""
     with tempfile.TemporaryDirectory(prefix="irv-explain-") as room:
         case_tests.lay_out(program, case, Path(room))
         output = programs.call(program, case.words, case.conf, room)[0].decode()
@@ -46,7 +46,7 @@ def told_of(program, case):
 
 @contextlib.contextmanager
 def inside(room):
-    """Makes a directory the current one for a while."""
+    """Makes a directory temporarily the current one."""
     before = os.getcwd()
     os.chdir(room)
     try:
@@ -56,7 +56,7 @@ def inside(room):
 
 
 def names_in(value, place):
-    """Returns the names of which one has to be in the sentences about a place."""
+    """Returns the names of which sentences about a place must have one."""
     list_, number = PLACE.fullmatch(place).groups()
     if list_ == "boards":
         plant = explain.Plant(value)
@@ -67,7 +67,7 @@ def names_in(value, place):
 
 
 def refusal_faults(lines, told, value):
-    """Yields the refusals that have no sentence of their own with the names of their places."""
+    """Yields the refusals without a sentence of their own that names their places."""
     for line in lines:
         rule, places = line.split(" ")[1], PLACE.findall(line)
         own = [one for one in told if f": {rule}: " in one]
@@ -81,7 +81,7 @@ def refusal_faults(lines, told, value):
 
 
 def case_faults(program, case):
-    """Yields what is wrong with what is told of a case."""
+    """Yields the faults of a case's explanation."""
     lines, told = told_of(program, case)
     if not told:
         yield f"{lines[:2]}: nothing is told"
@@ -97,7 +97,7 @@ def case_faults(program, case):
 
 
 def json_or_none(given):
-    """Returns the value of a configuration, or `None` if it is not JSON."""
+    """Returns a configuration's value, or `None` if it is not JSON."""
     try:
         return json.loads(given)
     except (ValueError, RecursionError):
@@ -105,7 +105,7 @@ def json_or_none(given):
 
 
 def check_cases(program, _):
-    """Each refusal, rejection and `not a run` of tests/cases gets a sentence that names what it is about."""
+    """Each refusal, rejection and `not a run` of tests/cases gets a sentence about its subject."""
     cases = refused_cases()
     for case in cases:
         yield from (f"{case.where}: {case.name}: {fault}" for fault in case_faults(program, case))
@@ -114,7 +114,7 @@ def check_cases(program, _):
 
 
 def check_rules(_, __):
-    """Each rule of the reference has its sentences and occurs in tests/cases; so does each event."""
+    """Each rule and event of the reference has sentences and occurs in tests/cases."""
     pages = [(TOP / f"docs/reference/{name}.md").read_text(encoding="utf-8") for name in ("model", "formats")]
     documented = {rule for page in pages for line in page.splitlines() if line.startswith("| ")
                   for rule in DOCUMENTED.findall(" ".join(line.split(" | ")[:2]))}
@@ -134,14 +134,14 @@ def check_rules(_, __):
 
 
 def event_of(case):
-    """Returns the word of the event that is not enabled in a case."""
+    """Returns the word of a case's event that is not enabled."""
     lines = case.files[file_of(case.words)].decode().split("\n")
     begin = lines.index("events") if "events" in lines else 1
     return lines[begin + int(case.stdout.split()[-1])].split(" ")[0]
 
 
 def check_new_rule(_, __):
-    """A rule without words is told as one, so that the test of cases fails."""
+    """A rule without words is reported as one, so the test of cases fails."""
     plant = explain.plant_of((TOP / "examples/station.json").read_bytes())
     kept = broken_rules.EXPLAINED.pop("C4")
     try:
@@ -157,7 +157,7 @@ def check_new_rule(_, __):
 # -- places
 
 def check_json_places(_, __):
-    """Line and column lead to the entry, however the text is laid out."""
+    """Line and column lead to the entry in any layout."""
     for number, path in enumerate(sorted((TOP / "examples").glob("*.json"))):
         value = json.loads(path.read_bytes())
         for text in (path.read_text(encoding="utf-8"), json.dumps(value, indent=number % 4),
@@ -177,7 +177,7 @@ def check_json_places(_, __):
 
 
 def check_csv_places(program, _):
-    """For CSV files the file, the line and the column are told, also behind empty rows and other columns."""
+    """For CSV files, file, line and column are printed, also after empty rows and other columns."""
     value = json.loads((TOP / "examples/platforms-wrong-position.json").read_bytes())
     with tempfile.TemporaryDirectory(prefix="irv-explain-") as room:
         writing.write_directory(value, Path(room, "two"))
@@ -213,7 +213,7 @@ def check_passed_through(program, _):
 
 
 def check_own_faults(program, _):
-    """What cannot be called or read is told, with status 125."""
+    """Unusable calls and unreadable files are reported with status 125."""
     clean = (TOP / "examples/station.json").read_bytes()
     for words, given, stderr, status in [
             (["check", "--program", "none"], clean,
@@ -235,7 +235,7 @@ def check_own_faults(program, _):
 
 
 def check_verdicts(program, _):
-    """The last line is the verdict of what check or verify answered; other commands have none."""
+    """The last line is the verdict on check's or verify's answer, and only theirs."""
     wrong = (TOP / "examples/platforms-wrong-position.json").read_bytes()
     clean = (TOP / "examples/station.json").read_bytes()
     for words, given, word in [

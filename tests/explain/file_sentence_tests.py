@@ -1,4 +1,4 @@
-"""Tests of the sentences about certificates, refutations, runs and scenarios, by hand."""
+"""Tests of hand-derived sentences about certificates, refutations, runs and scenarios."""
 
 from irvtools.explain import proof_texts
 from irvtools.paths import TOP
@@ -23,7 +23,7 @@ end
 
 
 def check_certificates(_, __):
-    """Why a line of a certificate is bad, by hand."""
+    """Each bad certificate line has its hand-derived reason."""
     lines = CERTIFICATE.split(b"\n")
     for number, new, wanted in [
             (1, b"irv", "it has to be “irv certificate 3”"), (2, b"safe 0", "it has to be “safe K” with K"),
@@ -47,7 +47,7 @@ def check_certificates(_, __):
 
 
 def check_refutations(_, __):
-    """Why an item of a refutation is bad, by hand."""
+    """Each bad refutation item has its hand-derived reason."""
     for text, number, variables, wanted in [
             (b"", 1, 2, "The text has 0 items"), (b"3 0", 1, 2, "“3” is not a literal with a variable from 1 to 2"),
             (b"c x\n1 0\n\n2", 2, 2, "Item 2, on line 4, is “2”, and no 0 ends it"),
@@ -58,7 +58,7 @@ def check_refutations(_, __):
 
 
 def check_runs(program, _):
-    """Why a run is none, and why a text is rejected, by hand."""
+    """Each text that is rejected or not a run has its hand-derived reason."""
     given = (TOP / "examples/line-with-boards.json").read_bytes()
     for words, text, wanted in [
             (["replay", "--run", "f"], "run 1\nstart\nenter a\nenter a\nend\n", ["irv: f, line 4: Event 2, enter a, "]),

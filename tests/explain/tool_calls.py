@@ -16,7 +16,7 @@ def run(program, words, given, room="."):
 
 
 def told(program, words, given, files):
-    """Returns what the tool prints on standard error before the verdict, over files in its directory."""
+    """Returns the tool's standard error before the verdict, over files in its directory."""
     with tempfile.TemporaryDirectory(prefix="irv-explain-") as room:
         for name, text in files.items():
             Path(room, name).write_text(text, encoding="utf-8")

@@ -1,5 +1,5 @@
-"""Tests of the page's advice: each sentence over the smallest plant of which it is true, and over
-one of which it isn't. They are derived by hand."""
+"""Tests of the page's advice, derived by hand: each sentence over the smallest plant to which it
+applies and one to which it does not."""
 
 from irvtools.html.advice_section import advice_part
 from irvtools.rules.flank_protection import guards
@@ -33,7 +33,7 @@ LINE = """linear a . b . m1
 R1 = "route r1 from m1 to . path p t points p=plus"
 BARE_FORK = FORK.replace("u p . m3", "u p . .")
 
-# a plant, what is said of it, and what isn't
+# a plant, sentences in its advice, and sentences not in it
 ADVICE = [
     # ways into a path over a point
     (BARE_FORK + R1, ["In one place a vehicle could run into a route's path over points.",
@@ -114,7 +114,7 @@ ADVICE = [
 
 
 def check_advice(program, _):
-    """Each piece of advice is given if it is so, and only then."""
+    """Each piece of advice is given exactly when it applies."""
     for text, wanted, unwanted in ADVICE:
         said = part_of(program, text, advice_part, [])
         yield from (f"{text}: {one!r} isn't in {said}" for one in wanted if one not in said)
@@ -127,8 +127,8 @@ def check_advice(program, _):
 
 
 def check_advice_asks(program, _):
-    """If table gives no routes the page says so; a flank is walked back through each section
-    once."""
+    """If the table has no routes, the page says so. A flank is walked back once through each
+    section."""
     endless = "\n".join(["linear s0 . s1 . m1"] + [f"linear s{i} s{i - 1} s{i + 1} . ." for i in
                                                   range(1, 34)] + ["linear s34 s33 . m2 ."])
     said = part_of(program, endless, advice_part, [])

@@ -1,4 +1,4 @@
-"""Tests of the page of a comparison: which routes it draws, and that it can be read on a phone."""
+"""Tests of the comparison page: the routes it draws, and reading it on a phone."""
 
 import copy
 import json
@@ -12,7 +12,7 @@ from tests.support.harness import test_case
 
 
 def changed(member, value):
-    """A station, and the same with another entry of its first route."""
+    """Returns a station, and the same with another entry in its first route."""
     old = json.loads(plants()["station"])
     new = copy.deepcopy(old)
     new["routes"][0][member] = value
@@ -20,17 +20,17 @@ def changed(member, value):
 
 
 def compared(old, new):
-    """The page of a comparison."""
+    """Returns the page of a comparison."""
     return Picture(comparing.Comparison(old, new), "old", "new").page()
 
 
 def drawn(old, new):
-    """How many plans a comparison has besides those of both networks."""
+    """Returns how many plans a comparison has besides those of both networks."""
     return compared(old, new).count('<svg class="plan"') - 2
 
 
 def check_drawn_routes(_, __):
-    """Routes are drawn only if their path, overlap or points differ, or the network does."""
+    """Routes are drawn only if their path, overlap or points differ, or the network."""
     old, new = changed("conflicts", [])
     other = copy.deepcopy(new)
     other["sections"][0]["board_up"], other["routes"][0]["source"] = "m1x", "m1x"

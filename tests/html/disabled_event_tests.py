@@ -1,5 +1,5 @@
-"""Tests of the unmet demands of events, and of what trains and routes wait for. The sentences are
-derived by hand from the table of docs/reference/model.md."""
+"""Tests of events' unmet demands, and of what trains and routes wait for, derived by hand from
+docs/reference/model.md."""
 
 import json
 import random
@@ -18,7 +18,7 @@ from tests.support.harness import test_case
 MANY = 10
 SET_IN1 = "mark in1, allocate in1, lock in1"
 
-# over examples/platforms.json: the events before, an event that isn't enabled then, and why
+# in examples/platforms.json: earlier events, an event that they do not enable, and the reason
 PLATFORMS = [
     ("mark in1", "mark in1", "route in1 is marked, not free"),
     ("", "allocate in1", "route in1 is free, not marked"),
@@ -59,7 +59,7 @@ PLATFORMS = [
     ("enter pl1, mark out1, allocate out1, lock out1, head pl1, head w1", "head line",
      "the network ends at section line")]
 
-# what waits for what, over the same
+# the same plant: events, and what waits for what
 WAITING = [
     ("", []),
     ("enter pl1, mark in1", [
@@ -79,7 +79,7 @@ WAITING = [
 
 
 def reached(plant, words):
-    """The state after some events."""
+    """Returns the state after some events."""
     run = [read_event(plant, word) for word in words.split(", ") if word]
     place, state = first_refused(plant, None, run)
     if place is not None:
@@ -88,7 +88,7 @@ def reached(plant, words):
 
 
 def check_demands(_, is_long):
-    """An event has an unmet demand exactly if the model of events refuses it."""
+    """An event has an unmet demand if and only if the event model refuses it."""
     chance, refused = random.Random(53), set()
     for name in ("line", "station-protected", "facing-point-wrong", "four-sections"):
         plant = Plant(json.loads(plants()[name]))
@@ -107,7 +107,7 @@ def check_demands(_, is_long):
 
 
 def check_demand_words(_, __):
-    """Why an event isn't enabled, by names, and what trains and routes wait for."""
+    """The page says why events are not enabled, and what trains and routes wait for."""
     plant = Plant(json.loads((TOP / "examples/platforms.json").read_text()))
     for before, event, wanted in PLATFORMS:
         state = reached(plant, before)
@@ -124,7 +124,8 @@ def check_demand_words(_, __):
 
 
 def protected_faults():
-    """What protecting boards hold back, over station-protected, where m2 and m4 protect r1."""
+    """Yields the faults in sentences about protecting boards, in station-protected: m2 and m4
+    protect r1."""
     plant = Plant(json.loads((TOP / "examples/station-protected.json").read_text()))
     r1 = plant.route_named["r1"]
     other = next(r for r, route in enumerate(plant.routes)

@@ -1,6 +1,4 @@
-"""Trials of the two models of events that the page has: the one by which it draws, and the one over
-sets of bits by which it hunts.
-"""
+"""Tests of the page's two event models: the drawing model, and the bit-set model of the search."""
 
 import concurrent.futures
 import json
@@ -15,31 +13,30 @@ from tests.support.random_runs import a_run, a_walk, all_events, is_enabled, mud
 from irvtools.model.bitset_events import HAZARD, Facts, Simulation
 from irvtools.model.state import State, read_event, read_run, run_text
 from irvtools.search.route_uses import is_use, uses
-from tests.support.harness import test_case
+from tests.support.harness import Counted, test_case
 
 THREADS = 4
 MANY = 10               # times as much under --long
-AT_END = 60             # events that are tried at the end of a run
+AT_END = 60             # events that are tested at the end of a run
 # the plants of version 2 with protecting boards and points
 PROTECTED = ("line", "station-protected")
-# two lines, and routes that are wrong: r3 leads from the one onto the other, r4 from the other onto the
-# one, and r1 has the board of the other line as its protection, which no conflict says
+# two lines with wrong routes: r3 and r4 lead to the other line, and r1 has its board as protection,
+# which no conflict lists
 CROSSED = ["linear a . b . aU", "linear b a . . .", "linear c . d . cU", "linear d c . . .",
            "route r1 from aU to . path b protecting_boards cU", "route r2 from cU to . path d",
            "route r3 from aU to . path d", "route r4 from cU to . path b"]
-# a train of the other line is sensed on the path of r3, and closes its source before a train passed it
+# a train of the other line is sensed on r3's path and closes r3's source before any train passes it
 ANOTHER_SENSED = ("mark r3,allocate r3,lock r3,mark r4,allocate r4,lock r4,enter a,enter c,head c,"
                   "sense r3")
-# what keeps a route that is allocated from being locked: each has to come up, alone
+# what keeps an allocated route from being locked: each cause has to occur alone
 CAUSES = ("a point", "a protecting point", "a protecting board", "the source protects")
 
 
 def model_faults(program, name, given, count, seed, met):
-    """Where the model and replay differ, over random runs of one plant. `met` takes the words of
-    events, with whether they were enabled, and the causes that alone kept a route from being
-    locked."""
+    """Yields the differences of the drawing model and replay over random runs of a plant. `met`
+    collects event words with whether they were enabled, and each cause that alone prevented a lock."""
     plant, chance = Plant(json.loads(given)), random.Random(f"{name} {seed}")
-    irv, known = Program(program, given), all_events(plant)
+    irv, known, compared = Program(program, given), all_events(plant), 0
     for _ in range(count):
         run, reached = a_run(plant, chance)
         pairs = [(run_text(plant, run), replay_line(plant, events.hazard(plant, reached)))]
@@ -54,12 +51,14 @@ def model_faults(program, name, given, count, seed, met):
                 met.add((refused[0], False))
             met.update((word, True) for word, _ in run)
         pairs += locking(plant, muddled(plant, reached, chance), chance, met)
+        compared += len(pairs)
         yield from (f"{name}: {fault}" for fault in pair_faults(plant, irv, pairs))
+    return compared
 
 
 def locking(plant, state, chance, met):
-    """The lock of a route that has protection, or whose source protects another, from a state in
-    which at most one cause keeps it from being locked: as a pair of a run's text and the answer."""
+    """Yields the lock of a route that has protection, or whose source protects another, with at
+    most one cause against it: a run's text and the expected answer."""
     protecting = {b for route in plant.routes for b in route.protecting_boards}
     routes = [r for r, route in enumerate(plant.routes) if route.protecting_boards
               or route.protecting_points or route.source in protecting]
@@ -76,7 +75,7 @@ def locking(plant, state, chance, met):
 
 
 def allocated(plant, state, r):
-    """Makes a state one in which nothing keeps a route from being locked."""
+    """Changes a state so that nothing keeps a route from being locked."""
     route = plant.routes[r]
     state.mode[r], state.seen[r], state.rel[r] = "allocating", 0, 0
     for x, lie in route.wanted:
@@ -89,7 +88,8 @@ def allocated(plant, state, r):
 
 
 def hinder(plant, state, r, cause, chance):
-    """Changes a state so that a cause keeps a route from being locked; answers whether it can."""
+    """Changes a state so that a cause keeps a route from being locked, if it can. Returns whether
+    it does."""
     route = plant.routes[r]
     guards = [o for o, other in enumerate(plant.routes) if route.source in other.protecting_boards]
     things = dict(zip(CAUSES, (route.points, route.protecting_points, route.protecting_boards, guards)))
@@ -107,7 +107,7 @@ def hinder(plant, state, r, cause, chance):
 
 
 def pair_faults(plant, irv, pairs):
-    """Where replay answers otherwise than it should, of pairs of a run's text and the answer."""
+    """Yields replay's wrong answers to `pairs` of a run's text and the expected answer."""
     for text, wanted in pairs:
         first, list_ = read_run(plant, text)
         if run_text(plant, list_, first) != text:
@@ -118,24 +118,22 @@ def pair_faults(plant, irv, pairs):
 
 
 def check_model(program, is_long):
-    """The model of events agrees with replay over random runs and random states."""
-    count, met = 16 * (MANY if is_long else 1), set()
+    """The event model agrees with replay over random runs and random states."""
+    count, met, chosen = 16 * (MANY if is_long else 1), set(), plants()
+    compared = {name: Counted(model_faults(program, name, given, count * (2 if name in PROTECTED else 1),
+                                           1, met)) for name, given in chosen.items()}
     with concurrent.futures.ThreadPoolExecutor(THREADS) as pool:
-        chosen = plants()
-        for faults in pool.map(
-                lambda name: list(model_faults(program, name, chosen[name],
-                                               count * (2 if name in PROTECTED else 1), 1, met)),
-                chosen):
+        for faults in pool.map(list, compared.values()):
             yield from faults[:3]
     yield from (f"{word} was never {'enabled' if enabled else 'refused'}" for word in events.EVENTS
                 for enabled in (True, False) if (word, enabled) not in met)
     yield from (f"{cause} alone never kept a route from being locked" for cause in CAUSES
                 if (cause, "hinders") not in met)
+    return sum(each.checks for each in compared.values())
 
 
 def check_simulation(_, is_long):
-    """The model by which the hunt runs agrees with the one by which the page draws, event by
-    event."""
+    """The search's model agrees with the drawing model, event by event."""
     chance, met, count = random.Random(7), set(), 12 * (MANY if is_long else 1)
     for name, given in plants().items():
         plant = Plant(json.loads(given))
@@ -151,25 +149,24 @@ def check_simulation(_, is_long):
 
 
 def crossed():
-    """The plant of two lines that are crossed by routes."""
+    """Returns the plant of two lines that are crossed by routes."""
     return Plant(json.loads(configurations.plant_text(CROSSED)))
 
 
 def run_of(plant, words):
-    """A run, from its events with commas between them."""
+    """Returns a run from its events, separated by commas."""
     return [read_event(plant, word) for word in words.split(",")]
 
 
 def sides(plant, runs, chance, met, others=6):
-    """Where the two models differ, over some runs into which other events are thrown."""
+    """Yields the differences of the two models over runs with inserted events."""
     facts, known = Facts(plant), all_events(plant)
     for run in runs:
         yield from side_by_side(plant, Simulation(facts), run, known, chance, met, others)
 
 
 def side_by_side(plant, simulation, run, known, chance, met, others):
-    """Where the two models differ over a run, and in some of the events that are enabled at its
-    end."""
+    """Yields the differences of the two models over a run, and in random events after it."""
     state = State(plant)
     for wanted in run:
         for event in [*chance.sample(known, others), wanted]:
@@ -185,7 +182,7 @@ def side_by_side(plant, simulation, run, known, chance, met, others):
 
 
 def difference(plant, state, simulation, event, met):
-    """How the two models differ in an event that is done in both, and whether it makes a hazard."""
+    """Does an event in both models. Returns their difference or `None`, and whether to end the run."""
     word, number = event
     enabled, done = events.apply(plant, state, event), simulation.by_word()[word](number)
     met.add((word, enabled))
@@ -199,7 +196,7 @@ def difference(plant, state, simulation, event, met):
 
 
 def check_is_use(_, __):
-    """A route isn't used by a train that passes its source where another train is sensed on its
+    """A train does not use a route if it passes the source while another train is sensed on the
     path."""
     plant = crossed()
     words = ANOTHER_SENSED.replace("sense", "head a,sense") + ",finish r3"
@@ -210,6 +207,7 @@ def check_is_use(_, __):
 
 def check_after_use(program, _):
     """After each route's whole use, the model and replay agree on which routes can be set next."""
+    compared = 0
     for name in PROTECTED:
         given = plants()[name]
         plant, irv = Plant(json.loads(given)), Program(program, given)
@@ -222,7 +220,9 @@ def check_after_use(program, _):
                     is_set = events.apply(plant, after, ("allocate", other))
                     pairs.append((run_text(plant, [*run, ("mark", other), ("allocate", other)]),
                                   "no hazard" if is_set else f"not a run at {len(run) + 2}"))
+            compared += len(pairs)
             yield from (f"{name}: {fault}" for fault in pair_faults(plant, irv, pairs))
+    return compared
 
 
 EventModelTests = test_case("EventModelTests", [check_model, check_simulation, check_is_use, check_after_use])

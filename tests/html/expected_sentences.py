@@ -1,8 +1,8 @@
-"""What the page must say of each rule, over small configurations that break it: those of the cases
-of tests/cases, by file and name. The words are derived by hand from the configuration."""
+"""The page's expected words about each rule, derived by hand from the configurations of tests/cases
+that break it, by file and name."""
 
 SENTENCES = [
-    # file, case, line of check, words that must be in the sentences; how many, if not one
+    # file, case, line of check, words in the sentences, and number of sentences if not one
     ("form", "one byte more than is read", "refused F1 document", ["4194305 bytes", "4194304"]),
     ("form", "a configuration without its last brace", "refused F2 document", ["Line 8, column 1"]),
     ("form", "version 3", "refused F4 document", ["3", "1 or 2"]),
@@ -63,7 +63,7 @@ SENTENCES = [
     ("columns", "C8 broken", "refused C8 routes[0] routes[1]",
      ["r2 begins at m4", "protecting board of route r1", "r1 does not list r2"])]
 
-# of faults in the line of `fifteen_section_line.py`: a line of check, and all that the page says of it
+# faults in the line of `fifteen_section_line.py`: a line of check, and the page's words about it
 LINE_SENTENCES = [
     ("facing-point-wrong", "refused C3 routes[2]",
      "Route S3_S7 lists points PA in position plus, which leads to U3, but its path leads over L1: "
@@ -102,9 +102,9 @@ LINE_SENTENCES = [
      "as a "
      "conflict; it should.")]
 
-# refusals for which the report finds no words
+# refusals without words in the report
 WORDLESS = set()
 
-# the rules of the columns on which safety depends, and the others
+# the column rules on which safety depends, and the others
 RESTING = {"C1", "C2", "C3", "C7"}
 NOT_RESTING = {"C4", "C5", "C6", "C8"}

@@ -1,5 +1,5 @@
-"""Tests of runs and scenarios that the caller gives: what the page says of them. The sentences are
-derived by hand over examples/platforms.json, examples/station.json and two-sections.json."""
+"""Tests of the page's words about given runs and scenarios, derived by hand over
+examples/platforms.json, examples/station.json and two-sections.json."""
 
 import json
 import tempfile
@@ -15,7 +15,7 @@ from irvtools.html.options import Refused
 from tests.support.harness import test_case
 
 RUNS = [
-    # plant, the run's events, what the page has to say, and what it has to print
+    # plant, run events, expected words on the page, expected output
     ("two-sections", "enter a, enter b, head a",
      ["Run ", "hazard two b", "3. head a", "Two trains are in section b: a collision."],
      ".run: hazard two b"),
@@ -48,7 +48,7 @@ SCENES = [
      ["3 of 3 commands acted; 6 events", "hazard two c steps=9",
       "Two trains are in section c: a collision."], ".run: hazard two c steps=9")]
 
-# over platforms: a text, the first bad line, and what is said of it
+# over platforms: a text, its first bad line, and the words about it
 BAD = [
     ("run 1\nstart\nmark r9\nend\n", 3, "Line 3 is “mark r9”: route “r9” does not exist."),
     ("run 1\nstart\nthrow line\nend\n", 3,
@@ -70,12 +70,12 @@ BAD = [
 
 
 def text_of(head, words):
-    """The text of a run or a scenario."""
+    """Returns the text of a run or a scenario."""
     return "".join(f"{line}\n" for line in (*head, *words.split(", "), "end"))
 
 
 def check_given_runs(program, _):
-    """A run that is given is drawn up to its hazard or to the event that isn't enabled, and why."""
+    """A given run is drawn up to its hazard or its first disabled event, with the reason."""
     for name, words, wanted, line in RUNS:
         said, printed = shown_by(program, plants()[name], text_of(("run 1", "start"), words))
         yield from (f"{words}: {one!r} isn't on the page" for one in wanted if one not in said)
@@ -84,7 +84,7 @@ def check_given_runs(program, _):
 
 
 def check_given_scenes(program, _):
-    """A scenario is drawn with each command where it acts, and what waits where it is stuck."""
+    """A scenario shows when each command acts, and what waits if it is stuck."""
     for name, words, wanted, line in SCENES:
         said, printed = shown_by(program, plants()[name], text_of(("drive 1",), words))
         yield from (f"{words}: {one!r} isn't on the page" for one in wanted if one not in said)
@@ -93,8 +93,7 @@ def check_given_scenes(program, _):
 
 
 def check_bad_lines(program, _):
-    """Of a text with a bad line the page says which and why; replay and drive name the same
-    line."""
+    """The page names a text's bad line and the reason. Replay and drive name the same line."""
     given = plants()["platforms"]
     plant = Plant(json.loads(given))
     with tempfile.TemporaryDirectory(prefix="irv-page-bad-") as room:
@@ -114,8 +113,8 @@ def check_bad_lines(program, _):
 
 
 def check_given_files(program, _):
-    """What is neither a run nor a scenario is refused; names are text; a plant that is none has no
-    run."""
+    """A file that is neither a run nor a scenario is refused. Names are text. An invalid plant has
+    no run."""
     with tempfile.TemporaryDirectory(prefix="irv-page-files-") as room:
         file = Path(room, "<i>&.run")
         for data in (b"", b"run 2\nstart\nend\n", b"\xff\xfe", b"run 1\r\nstart\r\nend\r\n"):
@@ -143,7 +142,7 @@ def check_given_files(program, _):
 
 
 def check_long_run(program, _):
-    """Of a run that is longer than is drawn the last events are drawn, and the page says so."""
+    """The page draws only the last events of an overlong run, and says so."""
     words = ", ".join(["mark in1, cancel in1"] * 300 + ["enter line"])
     said, printed = shown_by(program, plants()["platforms"], text_of(("run 1", "start"), words))
     for wanted in ("Left out: the frames of the first 201 events.", "400. enter line"):

@@ -1,5 +1,4 @@
-"""Trials of the invariant by the page's reading of its families, which is another than the
-program's."""
+"""Tests of the invariant with the page's own reading of its families."""
 
 import json
 import random
@@ -26,24 +25,24 @@ from tests.support.harness import test_case
 
 MANY = 10               # times as much under --long
 AT_ONCE = 4
-NETWORKS = 120          # by chance
-SMALL = (6000, 20000)   # bytes of a configuration that is tried, in the gate and under --long
-LEFT_BY = ("V4", "V7", "V8", "hazard")      # what the last state behind `not inductive` breaks first
+NETWORKS = 120          # random
+SMALL = (6000, 20000)   # most bytes of a tested configuration, in CI and under --long
+LEFT_BY = ("V4", "V7", "V8", "hazard")      # what the last state of `not inductive` breaks first
 LEAST_OF_EACH = 1
 STRICT = ("line", "station", "station-protected", "platforms", "terminus-throat", "line-with-boards",
           "stations 3")
 
 
 def near(plant, state, rnd):
-    """A state a little apart from one."""
+    """Returns a state that differs a little from `state`."""
     return rnd.choice(list(smaller(plant, state)) or [state]) if rnd.random() < 0.7 \
         else muddled(plant, state, rnd)
 
 
 def check_families(program, is_long):
-    """The page's reading of the invariant fits what irv answers of safe and of wrong tables."""
-    # on tables that are safe at 1 each state that is reached meets it, and each event leads from a
-    # state that meets it to another; on wrong tables verify's run leaves it with its last event
+    """The page's reading of the invariant fits irv's answers about safe and wrong tables."""
+    # If a table is safe at 1, each reached state meets the invariant, and no event leads out of it.
+    # On wrong tables verify's run leaves it with its last event.
     rnd, met = random.Random(4), 0
     for name in STRICT:
         plant = Plant(json.loads(plants()[name]))
@@ -66,7 +65,7 @@ def check_families(program, is_long):
 
 
 def check_family_states(_, __):
-    """Each condition of a family: a state of the line that breaks just that, worked out by hand."""
+    """Each hand-derived state of the line breaks exactly its families."""
     plant = Plant(fifteen_section_line.right())
     for wanted, changes in invariant_states.STATES:
         state = invariant_states.made(plant, changes)
@@ -78,19 +77,19 @@ def check_family_states(_, __):
 
 
 def asked(program, given, depth=1):
-    """What verify answers under free columns."""
+    """Returns verify's answer with free columns."""
     with tempfile.TemporaryDirectory(prefix="irv-page-test-") as room:
         words = ["verify", "--columns", "free", "--depth", str(depth), "--cert", str(Path(room, "cert"))]
         return Program(program, given).ask(words, 60)
 
 
 def run_of(plant, answer):
-    """The first state and the events of the run that verify shows."""
+    """Returns the first state and the events of verify's run."""
     return read_run(plant, answer.output.partition("\n")[2])
 
 
 def leaving_faults(program, name):
-    """What is wrong with the page's reading of a run that leaves the invariant at its end."""
+    """Yields the faults in the page's reading of a run that finally leaves the invariant."""
     given = json.dumps(fifteen_section_line.with_fault(name)).encode()
     plant, answer = Plant(json.loads(given)), asked(program, given)
     state, run = run_of(plant, answer)
@@ -102,12 +101,11 @@ def leaving_faults(program, name):
         yield f"{name}: {answer.said}: the run's event doesn't lead out, by the page's reading"
 
 
-# -- what verify shows behind `not inductive`
+# -- verify's run behind `not inductive`
 
 def configurations(is_long):
-    """The configurations of examples/ and of the cases, those with a planted fault, and tables by
-    chance in which something was changed: by name, as bytes. Large ones are left out but where what
-    takes long is wanted."""
+    """Returns by name the configurations of examples/ and of the cases, those with a planted fault,
+    and random changed tables, as bytes. Large ones need `is_long`."""
     found = plants()
     for file in sorted(case_files.CASES.glob("*.cases")):
         for case in case_files.read_case_file(file):
@@ -118,8 +116,8 @@ def configurations(is_long):
 
 
 def changed_tables(seed):
-    """The table of a network by chance, with protection, in which something was changed; none where
-    it has no routes."""
+    """Yields a random network's table with protection and one fault, or nothing if it has no
+    routes."""
     network, _ = random_networks.network(seed)
     if isinstance(route_tables.routes(network), str):
         return
@@ -131,8 +129,8 @@ def changed_tables(seed):
 
 
 def shown_faults(plant, answer, left):
-    """What is wrong with the run that verify shows behind `not inductive`. `left` counts what its
-    last state breaks first."""
+    """Yields the faults in verify's run behind `not inductive`. `left` counts what its last state
+    breaks first."""
     state, run = run_of(plant, answer)
     reached = events.replayed(plant, run, state)
     if reached is None or [invariant.meets(plant, one) for one in reached] != [True] * len(run) + [False]:
@@ -143,7 +141,7 @@ def shown_faults(plant, answer, left):
 
 
 def check_not_inductive(program, is_long):
-    """Of the states behind `not inductive` all meet the invariant but the last, which doesn't."""
+    """In the run behind `not inductive` only the last state breaks the invariant."""
     left, found = Counter(), configurations(is_long)
     with ThreadPoolExecutor(AT_ONCE) as pool:
         for depth in (1, 2, 3) if is_long else (1,):

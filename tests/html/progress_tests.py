@@ -1,5 +1,4 @@
-"""Tests of what a report says while it is made, of the certificate beside it, of its subject, and
-of what is left if it is interrupted."""
+"""Tests of a report's progress, its certificate, its subject, and the files after an interruption."""
 
 import json
 import os
@@ -16,17 +15,17 @@ from tests.support.html_reports import plain
 from tests.support.report_plants import plants
 from tests.support.harness import test_case
 
-BEGUN = 60              # seconds within which verify has to be called
+BEGUN = 60              # seconds within which verify has to start
 
 
 def made(program, given, directory, *words, **how):
-    """Makes a report in a directory; what came of it."""
+    """Makes a report in a directory. Returns the finished process."""
     return subprocess.run([TOP / "tools/html", "out.html", "--program", program, *words], input=given,
                           cwd=directory, capture_output=True, check=False, **how)
 
 
 def said_on_terminal(program, given, directory):
-    """What a report says on standard error if that is a terminal."""
+    """Returns a report's standard error on a terminal."""
     ours, theirs = pty.openpty()
     try:
         subprocess.run([TOP / "tools/html", "out.html", "--program", program, "--search-seconds", "1"],
@@ -46,7 +45,7 @@ def said_on_terminal(program, given, directory):
 
 
 def check_progress(program, _):
-    """On a terminal the report says what it is doing; elsewhere nothing is added to its errors."""
+    """On a terminal the report shows what it is doing. Elsewhere it adds nothing to its errors."""
     given = plants()["line-with-boards"]
     with tempfile.TemporaryDirectory(prefix="irv-test-") as directory:
         said = said_on_terminal(program, given, directory)
@@ -59,8 +58,8 @@ def check_progress(program, _):
 
 
 def check_certificate(program, _):
-    """A certificate that is left is named with its size, printed and on the report; --no-cert
-    leaves none."""
+    """The output and the report name a remaining certificate with its size. `--no-cert` leaves
+    none."""
     given = plants()["line-with-boards"]
     with tempfile.TemporaryDirectory(prefix="irv-test-") as directory:
         done = made(program, given, directory)
@@ -83,7 +82,7 @@ def check_certificate(program, _):
 
 
 def check_subject(program, _):
-    """Title, project, issue and author are on the report, as text."""
+    """Title, project, issue and author are on the report as text."""
     words = {"title": "Lines & <b>boards</b>", "project": "North", "issue": "2.1 draft", "author": "A. N. Other"}
     with tempfile.TemporaryDirectory(prefix="irv-test-") as directory:
         given = plants()["line-with-boards"]
@@ -97,7 +96,7 @@ def check_subject(program, _):
 
 
 def is_begun(file):
-    """Returns whether a file comes into being before the time is over."""
+    """Returns whether a file appears in time."""
     end = time.monotonic() + BEGUN
     while not file.exists() and time.monotonic() < end:
         time.sleep(0.05)
@@ -105,8 +104,7 @@ def is_begun(file):
 
 
 def check_interrupted(_, __):
-    """A report that a signal ends leaves no file: no report, no part of a certificate, nothing
-    temporary."""
+    """A report ended by a signal leaves no file: no report, partial certificate or temporary file."""
     given = json.dumps(fifteen_section_line.right()).encode()
     for number in (signal.SIGINT, signal.SIGTERM, signal.SIGHUP):
         with tempfile.TemporaryDirectory(prefix="irv-test-") as directory:
@@ -135,7 +133,7 @@ def check_interrupted(_, __):
 
 
 def sane():
-    """Gives a process the handling of signals that a shell gives it."""
+    """Resets a process's signal handling to a shell's."""
     for number in (signal.SIGINT, signal.SIGTERM, signal.SIGHUP):
         signal.signal(number, signal.SIG_DFL)
 

@@ -1,6 +1,5 @@
-"""Tests of whether a report can be read: the verdict first, a run in few screens, signs without
-colours, a phone, the dark and paper. What depends on the layout is measured in a browser without a
-screen."""
+"""Tests of a report's readability: the verdict first, short runs, signs without colour, phone, dark
+mode and paper. Layout is measured in a headless browser."""
 
 import hashlib
 import json
@@ -25,7 +24,7 @@ TEXTS = ("ink", "quiet", "good", "warn", "bad", "board", "focus")
 GROUNDS = ("ground", "soft", "own", "answer", "good-ground", "warn-ground", "bad-ground")
 EVENTS = 53
 PHONE, DESK = (390, 844), (1400, 1000)
-MOST_HEIGHT = 13000     # pixels of a report with a run of 53 events, on a desk
+MOST_HEIGHT = 13000     # pixels of a report with a run of 53 events, on a desktop
 WRONG = "platforms-wrong-position"
 
 SUMMARY = """(() => {
@@ -46,8 +45,8 @@ SUMMARY = """(() => {
 
 
 def check_contrast(_, __):
-    """The colours of states differ by 3 to 1 from one another and from the ground, and texts stand
-    out by 4.5 to 1, in the light and in the dark."""
+    """Colours of states differ by 3 to 1 from one another and the background, and texts by 4.5 to
+    1, in light and dark mode."""
     for name, colours in (("light", signs.LIGHT), ("dark", signs.DARK)):
         for states in signs.STATES:
             for place, one in enumerate(states):
@@ -68,7 +67,7 @@ def check_contrast(_, __):
 
 
 def long_run():
-    """A configuration, and a run of 53 events that ends in a hazard."""
+    """Returns a configuration, and a run of 53 events to a hazard."""
     given = plants()[WRONG]
     plant = Plant(json.loads(given))
     run = RandomSearch(plant, 1).for_hazard(600, 6000)
@@ -80,7 +79,7 @@ def long_run():
 
 
 def with_run(program):
-    """The report of a run of 53 events, and how many it has."""
+    """Returns the report of a run of 53 events, and their number."""
     given, text, count = long_run()
     with tempfile.TemporaryDirectory(prefix="irv-test-") as directory:
         file = Path(directory, "long.run")
@@ -93,12 +92,12 @@ class ReadingTests(Test):
     """Tests that need no program."""
 
     def test_contrast(self):
-        """Colours of states and of texts can be told apart."""
+        """Colours of states and texts differ enough."""
         self.see(check_contrast(None, None))
 
 
 def in_browser(check):
-    """A test with a browser, if there is one."""
+    """Returns a test with a browser, if there is one."""
     def checked(program, is_long):
         found = browser.find()
         if found is None:
@@ -114,9 +113,9 @@ def in_browser(check):
 
 @in_browser
 def check_long_run(program, running):
-    """A run of 53 events: the hazard is one click away and near the top, each frame has an id,
-    every link leads somewhere, what moves no train is folded, and frames lie side by side on a
-    desk."""
+    """In a run of 53 events the hazard is near the top and one click away. Each frame has an id,
+    and each link a target. Events that move no train are folded, and frames are side by side on a
+    desktop."""
     text, count = with_run(program)
     found = shown_at(running, text, SUMMARY, *DESK)
     if found["hazard"] is None or found["hazard"] > 2 * DESK[1] or found["height"] > MOST_HEIGHT:
@@ -136,7 +135,7 @@ def check_long_run(program, running):
 
 @in_browser
 def check_small_and_dark(program, running):
-    """On a phone the report is as wide as the screen, and in the dark its ground is dark."""
+    """On a phone the report is as wide as the screen. Dark mode has a dark background."""
     text, _ = with_run(program)
     found = shown_at(running, text, SUMMARY, *PHONE)
     if found["width"] > PHONE[0]:
@@ -149,7 +148,7 @@ def check_small_and_dark(program, running):
 
 
 def proved(program, directory):
-    """A copy of a program with a note as the build leaves it."""
+    """Returns a copy of a program, with a build note."""
     copy = Path(directory, "irv")
     shutil.copy(program, copy)
     total = hashlib.sha256(copy.read_bytes()).hexdigest()
@@ -160,8 +159,8 @@ def proved(program, directory):
 
 @in_browser
 def check_verdict_first(program, running):
-    """A good and a bad report differ at first sight: the verdict is the first line, large and
-    coloured. Only the proved program has a green one."""
+    """Good and bad reports differ at first sight: the verdict is the first line, large and
+    coloured. Only the proved program gets green."""
     colours, given = {}, plants()
     with tempfile.TemporaryDirectory(prefix="irv-test-") as directory:
         for name, asked, data in (("good", proved(program, directory), given["station"]),
@@ -182,8 +181,8 @@ def check_verdict_first(program, running):
 
 @in_browser
 def check_signs(program, running):
-    """In the pictures of a run locked and used sections have letters, closed and open boards other
-    shapes, and trains arrows and numbers."""
+    """In pictures of a run, locked and used sections have letters, closed and open boards differ in
+    shape, and trains have arrows and numbers."""
     given = plants()["station"]
     run = "run 1\nstart\n" + "".join(f"{line}\n" for line in (
         "enter b1", "mark r1", "allocate r1", "lock r1", "head b1", "sense r1", "enter b2", "end"))
@@ -209,7 +208,7 @@ def check_signs(program, running):
 
 @in_browser
 def check_paper(program, running):
-    """On paper no heading is the last line of a sheet; one that is would be seen."""
+    """On paper no heading ends a sheet, and the test would see one."""
     for text in (with_run(program)[0], page(program, plants()[WRONG], "--verify-seconds", "5")[0]):
         yield from paper.orphans(running, text)
     style = ("@page{size:A4;margin:11mm}body{font-size:12px}h2{font-size:12.5pt;margin:0;break-after:auto}"

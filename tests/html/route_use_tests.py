@@ -1,4 +1,4 @@
-"""Trials of the states that are shrunk, and of the runs that use routes."""
+"""Tests of shrunk states, and of runs that use routes."""
 
 import json
 import random
@@ -17,7 +17,7 @@ from tests.support.harness import test_case
 
 
 def check_shrink(_, __):
-    """A state is shrunk as far as it goes, and still leads out of the invariant."""
+    """A state is shrunk as far as possible, and still leads out of the invariant."""
     plant = Plant(fifteen_section_line.with_fault("path-ends-early"))
     chance, tried = random.Random(5), 0
     for _ in range(300):
@@ -41,7 +41,7 @@ def check_shrink(_, __):
 
 
 def check_uses(program, _):
-    """Each route of tables that break no rule is used whole by a train, as replay answers."""
+    """A train uses each route of tables that break no rule as a whole, as replay confirms."""
     document = json.loads((TOP / "examples/four-sections.json").read_text())
     document["sections"][3]["board_down"] = None
     plant = Plant(document)

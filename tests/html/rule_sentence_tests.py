@@ -12,11 +12,11 @@ from irvtools.model.plant import Plant
 from tests.html.expected_sentences import LINE_SENTENCES, NOT_RESTING, RESTING, SENTENCES, WORDLESS
 from tests.support.harness import test_case
 
-PARTLY = {"C2": broken_rules.IDLE_END, "C3": broken_rules.IDLE_OVERLAP}    # if safety depends on another part of it
+PARTLY = {"C2": broken_rules.IDLE_END, "C3": broken_rules.IDLE_OVERLAP}    # for another part of the rule
 
 
 def cases():
-    """The cases of check, by file and name."""
+    """Returns the cases of check, by file and name."""
     found = {}
     for name in ("form", "network", "routes", "columns"):
         for case in case_files.read_case_file(case_files.CASES / f"{name}.cases"):
@@ -27,7 +27,7 @@ def cases():
 
 
 def words_of(given, refusal):
-    """The sentences for a line of check, with what is said of safety."""
+    """Returns the sentences for a line of check, and the one about safety."""
     _, rule, place, *_ = refusal.split(" ")
     if rule[0] == "F":
         return schema_rules.faults(rule, place, given), ""
@@ -59,7 +59,7 @@ def check_sentences(_, __):
 
 
 def check_all_refusals(_, __):
-    """Every refusal of the cases of check has a sentence, and says whether safety depends on it."""
+    """Every refusal in the cases of check has a sentence, and says whether safety depends on it."""
     for (file, name), case in cases().items():
         for refusal in case.stdout.decode().splitlines():
             if not refusal.startswith("refused "):

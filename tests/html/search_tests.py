@@ -1,4 +1,4 @@
-"""Tests of the search: what it finds, what it must not find, and that its processes end."""
+"""Tests of the search: found and impossible hazards, and the end of its processes."""
 
 import json
 import os
@@ -21,8 +21,8 @@ from irvtools.model.state import ROUTE_WORDS
 from irvtools.paths import TOP
 from tests.support.harness import test_case
 
-ENDED = 60              # seconds after which a process that has to end is left over
-# what starts this in the background may have it ignore SIGINT, which goes on to what is called
+ENDED = 60              # seconds after which an ended search has left a process behind
+# a parent in the background may ignore SIGINT, which its children inherit
 PARENT = """
 import signal
 signal.signal(signal.SIGINT, signal.default_int_handler)
@@ -37,9 +37,8 @@ searchers.wait(600)
 
 
 def left_out(plant, run):
-    """The places of a run at which an event can be left out, with those that aren't enabled without
-    it: by the model that draws. Rears of trains, which are added for credible lengths, don't
-    count."""
+    """Yields the places of events that can be left out of a run, with those that are then not
+    enabled, by the drawing model. Rears of trains, added for credible lengths, do not count."""
     for place in range(len(run)):
         if run[place][0] == "tail":
             continue
@@ -50,7 +49,7 @@ def left_out(plant, run):
 
 
 def run_faults(plant, run):
-    """What is wrong with a run that was found."""
+    """Yields the faults of a found run."""
     states = events.replayed(plant, run)
     if states is None or events.hazard(plant, states[-1]) is None:
         yield "what was found is no run to a hazard"
@@ -59,8 +58,8 @@ def run_faults(plant, run):
 
 
 def check_search(_, is_long):
-    """The search finds a hazard on a table with a fault that makes one possible, and no event of
-    what it found can be left out, except that the rear of a train follows."""
+    """The search finds each possible hazard of a faulty table. No event of its run can be left out,
+    except a train's rear."""
     for name, (_, is_possible, _) in fifteen_section_line.FAULTS.items():
         if not is_possible:
             continue
@@ -74,8 +73,8 @@ def check_search(_, is_long):
 
 
 def check_search_cancel(_, __):
-    """A hazard that needs a route to be cancelled after it was allocated is found."""
-    # h commands P to minus, and no train can come to its source; f doesn't list P
+    """The search finds a hazard that needs the cancellation of an allocated route."""
+    # h commands P to minus, and no train can reach its source; f does not list P
     plant = Plant(json.loads(configurations.plant_text([
         "linear a . P . aU", "point P up a b c", "linear b P . bD .", "linear c P d cD .",
         "linear d c . dD .", "route f from aU to . path P b",
@@ -91,8 +90,8 @@ def check_search_cancel(_, __):
 
 
 def check_search_far(_, __):
-    """A hazard ten routes away from where trains come in is found within some runs: in the middle
-    of nine stations in a row, a route lists a point wrongly."""
+    """A hazard ten routes away from the borders is found within some runs: amid nine stations a
+    route lists a point wrongly."""
     document = json.loads(configurations.made("stations", "9"))
     fifteen_section_line.lists(document, "s5r2", "p5", "plus")
     plant = Plant(document)
@@ -105,7 +104,7 @@ def check_search_far(_, __):
 
 
 def check_search_right(_, is_long):
-    """The search finds nothing on tables that break no rule, or one on which safety doesn't
+    """The search finds nothing in tables that break no rule, or one on which safety does not
     depend."""
     found = {"line": fifteen_section_line.right(), "stations": json.loads(configurations.made("stations", "3")),
              "throat": json.loads((TOP / "examples/terminus-throat.json").read_text())}
@@ -119,7 +118,7 @@ def check_search_right(_, is_long):
 
 
 def check_shortening(_, __):
-    """Events that do nothing for the hazard are left out of a run, wherever they stand."""
+    """Events that do not contribute to the hazard are removed from a run anywhere."""
     plant = Plant(fifteen_section_line.with_fault("facing-point-wrong"))
     run = RandomSearch(plant, 2).for_hazard(600)
     routes = {number for word, number in run if word in ROUTE_WORDS}
@@ -139,13 +138,13 @@ def check_shortening(_, __):
 
 
 def longest_train(plant, run):
-    """The most sections that a train has in a run."""
+    """Returns the most sections that a train has in a run."""
     return max(len(body) for state in events.replayed(plant, run) for _, body in state.trains)
 
 
 def check_credible_trains(_, __):
-    """In a run that was found the rear of each train follows its front: no train has more than
-    three sections, though trains pass more."""
+    """In a found run each train's rear follows its front: no train covers more than three sections,
+    though trains pass more."""
     moves = 0
     for name in ("facing-point-wrong", "border-without-board", "path-ends-early"):
         plant = Plant(fifteen_section_line.with_fault(name))
@@ -159,8 +158,8 @@ def check_credible_trains(_, __):
 
 
 def check_parallel_search(_, __):
-    """Parallel searches find what one finds, and end with the first run, with their time, and if
-    they are stopped."""
+    """Parallel searches find what one finds. They end with the first run, at their time limit, and
+    if stopped."""
     plant = Plant(fifteen_section_line.with_fault("facing-point-wrong"))
     with Searchers(plant, count=3) as searchers:
         searchers.start(600)
@@ -185,7 +184,7 @@ def check_parallel_search(_, __):
 
 
 def check_processes_end(_, __):
-    """The processes of a search end with the one that started them, however that ends."""
+    """The processes of a search end with their parent, however it ends."""
     where = {**os.environ, "PYTHONPATH": f"{TOP}:{TOP / 'tools'}"}
     for number in (signal.SIGINT, signal.SIGTERM, signal.SIGKILL):
         parent = subprocess.Popen([sys.executable, "-B", "-c", PARENT], env=where,
@@ -203,7 +202,7 @@ def check_processes_end(_, __):
 
 
 def alive(pids):
-    """Those of some processes that haven't ended."""
+    """Returns those processes that have not ended."""
     found = []
     for pid in pids:
         try:

@@ -1,5 +1,4 @@
-"""Tests of what the report says first, of what it says that safety depends on, and of the arguments
-and files that it refuses."""
+"""Tests of a report's first lines, its sentences on safety, and its refused arguments and files."""
 
 import json
 import os
@@ -35,20 +34,20 @@ WORDS = (
     ("x.html", "--no-cert", "--cert", "y.cert"), ("x.html", "--title", ""), ("x.html", "--author", "a\nb"),
     ("x.html", "--issue", "x" * 201), ("told",), ("/dev/stdout",), ("x.html", "--cert", "told"), ("no/folder.html",))
 
-# a plant that breaks a rule, the line of check, the first sentence, and what is said of safety
+# a plant that breaks a rule, the line of check, the first sentence, and the one about safety
 RESTING = [
-    # C2: the path's last section has no board, and the line goes on
+    # C2: the path's last section has no board, and the line continues
     ("linear a . b . m1\nlinear b a c . .\nlinear c b . m2 .\nroute r1 from m1 to . path b",
      "refused C2 routes[0]", None, broken_rules.RESTS),
-    # C2: the destination alone; a board inside the path alone
+    # C2: only the destination; only a board inside the path
     ("linear a . b . m1\nlinear b a . m2 .\nroute r1 from m1 to m2 path b",
      "refused C2 routes[0]", None, broken_rules.IDLE_END),
     ("linear a . b . m1\nlinear b a c . m3\nlinear c b . m2 .\nroute r1 from m1 to . path b c",
      "refused C2 routes[0]", None, broken_rules.IDLE_END),
-    # C2 by a board inside the path, and its last section is plain too
+    # C2 by a board inside the path, whose last section is plain too
     ("linear a . b . m1\nlinear b a c . m3\nlinear c b d . .\nlinear d c . m2 .\n"
      "route r1 from m1 to . path b c", "refused C2 routes[0]", None, broken_rules.RESTS),
-    # C1: the source is a board of the other direction; the path the other way round; both
+    # C1: the source is a board of the other direction; the path is reversed; both
     ("linear a . b . m1\nlinear b a c m4 m3\nlinear c b . m2 .\nroute r1 from m4 to . path c",
      "refused C1 routes[0]",
      "Route r1 is in the wrong direction: its entry board m4 is for trains that run down, but its "
@@ -78,7 +77,7 @@ RESTING = [
 
 
 def check_resting(program, _):
-    """Safety is said to depend on a rule only if it does, and a wrong direction comes first."""
+    """Safety is said to depend on a rule only if it does. A wrong direction comes first."""
     for text, refusal, first, safety in RESTING:
         plant, given = plant_of(text)
         done = subprocess.run([program, "check"], input=given, capture_output=True, check=False)
@@ -93,15 +92,15 @@ def check_resting(program, _):
 
 
 def first_lines(text):
-    """The verdict's line of a report, and the lines below it."""
+    """Returns a report's verdict, and the lines below it."""
     verdict = plain(text.partition('id="verdict"')[2].partition(">")[2].partition("</p>")[0])
     return [verdict, *(plain(item) for item in
                        text.partition('<ul class="sum">')[2].partition("</ul>")[0].split("</li>") if item)]
 
 
 def expected_lines(given):
-    """Configurations by name with arguments, the begin of each of the first lines, and of what is
-    printed."""
+    """Returns named configurations with arguments, the beginnings of the first lines, and of the
+    output."""
     bare = json.dumps({**json.loads(given["line-with-boards"]), "routes": []}).encode()
     idle = json.dumps(fifteen_section_line.with_fault("conflict-missing")).encode()
     return (
@@ -142,8 +141,8 @@ def expected_lines(given):
 
 
 def check_first_lines(program, _):
-    """The verdict is the report's first line and the first that is printed. The lines below it say
-    what was answered. A timeout is said below the verdict and doesn't change it."""
+    """The verdict is the first line of report and output. The answers are below it, with any
+    timeout, which does not change the verdict."""
     for name, data, words, firsts, printed in expected_lines(plants()):
         text, said = page(program, data, "--verify-seconds", "600", *words) \
             if "--verify-seconds" not in words else page(program, data, *words)
@@ -157,8 +156,8 @@ def check_first_lines(program, _):
 
 
 def check_side_by_side(_, __):
-    """A hazard that is hunted ends a verify that takes long; one that verify finds first comes
-    first; a hunt isn't begun where check says clean."""
+    """A hazard found by the search ends a slow verify. The page stops if replay disagrees. No
+    search starts if check answers clean."""
     wrong = json.dumps(fifteen_section_line.with_fault("border-without-board")).encode()
     refused = {"says": "refused C7 sections[8]\n", "status": 5}
     with tempfile.TemporaryDirectory(prefix="irv-fake-") as room:
@@ -185,13 +184,13 @@ def check_side_by_side(_, __):
             yield f"a clean table: {said}"
 
 
-# what says on a page how long something took
+# a duration on a page
 TIME = re.compile(r"[0-9] s\b|after [0-9]+ seconds")
 
 
 def check_times(program, _):
-    """A report says how long the answers and the search took. With --without-times neither it nor
-    what is printed does, and it says the rest."""
+    """A report gives the times of the answers and the search. With `--without-times` neither it nor
+    the output does, but the rest stays."""
     wrong = json.dumps(fifteen_section_line.with_fault("border-without-board")).encode()
     with tempfile.TemporaryDirectory(prefix="irv-fake-") as room:
         slow = fake_program.program(room, {"check": {"says": "refused C7 "
@@ -212,8 +211,8 @@ def check_times(program, _):
                             f"there" for part in parts if part not in plain(text))
 
 
-# lines of check with rules without a sentence, because no rule has the number 0: whether a search begins
-# there, what is said of safety
+# lines of check about the missing rule 0, which has no sentence: whether a search begins, and the
+# words about safety
 UNHEARD = [("refused C0 "
             "routes[0]", True, broken_rules.UNKNOWN), ("refused C0 routes[0] "
                                                        "routes[1]", True, broken_rules.UNKNOWN),
@@ -226,7 +225,7 @@ UNHEARD = [("refused C0 "
 
 
 def check_unheard_rules(_, __):
-    """A rule without a sentence is shown as broken, with its line, and the report goes on."""
+    """A rule without a sentence is shown as broken, with its line, and the report continues."""
     wrong = json.dumps(fifteen_section_line.with_fault("conflict-missing")).encode()
     plant = Plant(json.loads(wrong))
     for refusal, is_suspect, safety in UNHEARD:
@@ -250,7 +249,7 @@ def check_unheard_rules(_, __):
 
 
 def refused_by(program, room, words):
-    """What is wrong where the page takes these words."""
+    """Returns the fault if the page accepts these arguments, otherwise `None`."""
     with open(Path(room, "conf.json"), "rb") as given, open(Path(room, "told"), "ab") as told:
         done = subprocess.run([TOP / "tools/html", "--program", program, *words], cwd=room, stdin=given,
                               stdout=told, stderr=subprocess.PIPE, check=False)
@@ -260,13 +259,13 @@ def refused_by(program, room, words):
 
 
 def files_in(room):
-    """The files of a folder, with their bytes."""
+    """Returns the files of a directory, with their bytes."""
     return {file: file.read_bytes() for file in Path(room).iterdir() if file.is_file()}
 
 
 def check_refused_words(program, _):
-    """Arguments that neither the report nor verify knows, and files that would be written over one
-    another, end with status 125 and change nothing."""
+    """Arguments unknown to report and verify, and files that would overwrite one another, end with
+    status 125 and change nothing."""
     with tempfile.TemporaryDirectory(prefix="irv-page-words-") as room:
         conf = Path(room, "conf.json")
         conf.write_bytes(plants()["line-with-boards"])

@@ -1,4 +1,4 @@
-"""Tests of the track plan: its names and letters, and that a plant has one plan."""
+"""Tests of the track plan's names and letters, and of its uniqueness."""
 
 import json
 import tempfile
@@ -19,7 +19,7 @@ LEAST_GAP = 3           # between names of one line
 
 
 def texts_of(drawing):
-    """The names in each strip: name, left, right, line."""
+    """Yields each strip with its names: name, left, right, line."""
     labels = list(drawing.labels())
     for strip in drawing.strips:
         shown = []
@@ -31,7 +31,7 @@ def texts_of(drawing):
 
 
 def letter_faults(name, drawing):
-    """Letters of sections that lie on a name or on one another."""
+    """Yields the letters of sections that touch a name or one another."""
     names = [(text, low, high, y) for _, text, low, high, y in drawing.labels()]
     letters = [("a letter", x - CHARACTER / 2, x + CHARACTER / 2, y)
                for x, y in map(drawing.letter_place, range(len(drawing.plant.sections)))]
@@ -42,8 +42,7 @@ def letter_faults(name, drawing):
 
 
 def plan_faults(name, drawing):
-    """Names that touch each other or leave their strip; names that are nowhere; letters on
-    names."""
+    """Yields names that touch or leave their strip, missing names, and letters on names."""
     everywhere = set()
     yield from letter_faults(name, drawing)
     for (left, _, width, _), shown in texts_of(drawing):
@@ -59,7 +58,7 @@ def plan_faults(name, drawing):
 
 
 def check_plans(_, is_long):
-    """Plans: no name touches another or is cut, and a plant has one plan."""
+    """No name in a plan touches another or is cut, and a plant has one plan."""
     found = plants()
     for count in (1, 2, 5, 16, *((51,) if is_long else ())):
         found[f"stations {count}"] = configurations.made("stations", str(count))
@@ -83,8 +82,8 @@ def check_broken_plans(_, __):
 
 
 def check_hollow_boards(program, _):
-    """Boards that an import placed by a rule are drawn hollow in the plan, and the report says so.
-    A file that has no notes of an import is refused."""
+    """Boards that an import placed by a rule are drawn hollow, and the report says so. A file
+    without import notes is refused."""
     given = plants()["line-with-boards"]
     entries = [{"kind": "board", "name": "m1", "by": "rule"}, {"kind": "board", "name": "m2", "by": "data"},
                {"kind": "cut", "name": "m2"}]

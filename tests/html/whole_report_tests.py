@@ -1,5 +1,5 @@
-"""Tests of whole reports: their form, their options and files, what they say if the program answers
-nothing or what isn't so, and how they look in a browser and on paper."""
+"""Tests of whole reports: form, options and files, faulty programs, and the look in a browser and
+on paper."""
 
 import json
 import re
@@ -22,11 +22,11 @@ from tests.support.report_plants import plants
 from irvtools.html.run_frames import MOST_PICTURED
 from tests.support.harness import LongTest, test_case
 
-TAKES_LONG = True       # the runner starts it first
+TAKES_LONG = True
 
 MOST_SHEETS = 6         # of paper for a station
 SHEET = '<div class="wide"><h2 id="table">'
-# words of the page, and those of verify that they give; the last is the file of the certificate
+# arguments of the page, and those of verify that result; the last is the certificate's file
 WORDS = (
     (("a.html",), "--columns strict --cert a.cert"),
     (("b.html", "--cert", "c.cert"), "--columns strict --cert c.cert"),
@@ -49,7 +49,7 @@ def check_premises(_, __):
 
 
 def check_pages(program, is_long):
-    """Pages are well-formed, open nothing from elsewhere, and say what irv answered."""
+    """Pages are well-formed, open nothing from elsewhere, and show irv's answers."""
     chosen = ["two-sections", "line-with-boards", "platforms-wrong-position", "facing-point-wrong"]
     found = plants()
     for name in (found if is_long else chosen):
@@ -64,8 +64,7 @@ def check_pages(program, is_long):
 
 
 def check_unreadable(program, _):
-    """A configuration that isn't JSON, or has another form, makes a page too, and names are
-    text."""
+    """A configuration that is not JSON, or has another schema, also makes a page. Names are text."""
     name = '<img src=x onerror=alert(1)>&"'
     wrong = fifteen_section_line.right()
     wrong["sections"][0]["name"] = name
@@ -83,7 +82,8 @@ def check_unreadable(program, _):
 
 
 def check_words(program, _):
-    """The words of the page, the file of the certificate, and what the page tells of files."""
+    """The page passes verify's arguments on and shows the files' checksums. Wrong arguments are
+    refused."""
     given = plants()["line-with-boards"]
     with tempfile.TemporaryDirectory(prefix="irv-page-test-") as room:
         def called(*words):
@@ -105,7 +105,7 @@ def check_words(program, _):
 
 
 def check_fakes(_, __):
-    """A program that is slow, silent, or says what isn't so: the page says it in a plain word."""
+    """The page says in plain words if a program is slow, silent or wrong."""
     given = json.dumps(fifteen_section_line.right()).encode()
     clean = {"says": "clean\n"}
     unsafe = {"says": "unsafe steps=1 hazard=two U1\nrun 1\nstart\nenter U1\nend\n", "status": 1}
@@ -130,7 +130,7 @@ def check_fakes(_, __):
 
 
 def check_browser(program, is_long):
-    """In a browser: nothing on its console, names lie in their frames and not on each other."""
+    """In a browser the console is empty, and names lie in their frames and apart."""
     found = browser.find()
     if found is None:
         raise SkipTest("no browser is installed (Debian's package chromium)")
@@ -144,9 +144,9 @@ def check_browser(program, is_long):
 
 
 def paper_faults(found, program):
-    """What is wrong with a station's page on paper: its plan, rules, verdict, run to a hazard and
-    safety case take more than six pages, the table of routes isn't on pages of its own in their
-    width, or a run that uses a route is printed."""
+    """Yields the faults of a station's page on paper. Plan, rules, verdict, run to a hazard and
+    safety case take at most six pages. The table of routes has its own landscape pages. Runs that
+    use a route are not printed."""
     text, _ = page(program, plants()["facing-point-wrong"], "--verify-seconds", "5")
     begin, _, rest = text.partition('<h2 id="routes">')
     sheet, _, end = rest.partition(SHEET)[2].partition('<h2 id="safety-case">')
@@ -165,7 +165,7 @@ def paper_faults(found, program):
 
 
 def check_largest(program, _):
-    """The page of a configuration of 4 MB and 256 sections comes within a minute, under 30 MB."""
+    """The page of 4 MB and 256 sections takes at most a minute and 30 MB."""
     begin = time.monotonic()
     text, said = page(program, largest_configuration.given())
     seconds = time.monotonic() - begin

@@ -1,1 +1,1 @@
-"""Tests of `irv --import` on small maps and layouts that are made here."""
+"""Tests of `irv --import` on small maps and layouts."""

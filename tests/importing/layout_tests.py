@@ -6,8 +6,8 @@ from tests.importing.map_tests import differences
 from tests.importing.small_maps import boards, imported, routes_of, section
 from tests.support.harness import test_case
 
-# track 1 leads east into the turnout 2, which has track 3 straight on and track 4 to its side; each
-# is 100 inches long. The turnout lies at 100,0 and is 10 inches long.
+# track 1 leads east into turnout 2, with track 3 straight on and track 4 to its side, each 100
+# inches long; the turnout is at 100,0 and 10 inches long
 LAYOUT = """VERSION 10 3.0.0
 SCALE HO
 STRAIGHT 1 0 0 0 0 HO 2
@@ -38,13 +38,13 @@ TURNTABLE = """TURNTABLE 5 0 0 0 0 HO 2 0 0 5 0
 \tT 3 210.0 0.0 270.0
 \tEND
 """
-# edges a and b lead to the junction n, c away from it; -a, -b, -c are their other direction
+# edges a and b lead to junction n, c away; -a, -b, -c are their reverses
 EDGES = {"a": ("w", "n", "0,0 100,0"), "b": ("s", "n", "0,-20 100,0"),
          "c": ("n", "e", "100,0 200,0")}
 
 
 def net(edges=None, kind="rail_signal", connections=None):
-    """Returns the text of a network of SUMO."""
+    """Returns the text of a SUMO network."""
     lines = ["<net version='1.9'>"]
     for key, (start, end, shape) in (EDGES if edges is None else edges).items():
         back = " ".join(reversed(shape.split()))
@@ -59,7 +59,7 @@ def net(edges=None, kind="rail_signal", connections=None):
 
 
 def check_turnout(program, _):
-    """A layout's turnout has the plus leg of its path Normal, and its lengths are scaled."""
+    """A layout turnout's path Normal is its plus leg. Lengths are scaled."""
     with tempfile.TemporaryDirectory(prefix="irv-import-") as room:
         found, notes = imported(program, room, LAYOUT, name="a.xtc")
         turned, _ = imported(program, room, LAYOUT.replace('"Normal"', '"X"').replace(
@@ -72,13 +72,13 @@ def check_turnout(program, _):
     point = section(turned, "p2")
     yield from differences("turned", (point["plus"], point["minus"]), ("t4", "t3"))
     metres = {one["name"]: one["text"] for one in notes["entries"] if one["kind"] == "section"}
-    # 100 inches and the turnout's own inch, by 87.1, are 223 m
+    # 101 inches, with the turnout's own, times 87.1 are 223 m
     yield from differences("metres", (metres["t1"], metres["t3"]), ("223 m", "223 m"))
     yield from differences("attribution", notes["attribution"], None)
 
 
 def check_turntable(program, _):
-    """Tracks end at a turntable, and the notes say so."""
+    """Tracks end at a turntable, as the notes say."""
     data = LAYOUT.replace("\tE 210.0 0.0 90.0", "\tT 5 210.0 0.0 90.0").replace(
         "STRAIGHT 3", TURNTABLE + "STRAIGHT 3")
     with tempfile.TemporaryDirectory(prefix="irv-import-") as room:
@@ -91,7 +91,7 @@ def check_turntable(program, _):
 
 
 def check_layout_refused(program, _):
-    """What is wrong in a layout is named with its line."""
+    """A layout's faults are named with their lines."""
     six = LAYOUT.replace("\tT 4 110.0 2.0 80.0", "\tT 4 110.0 2.0 80.0\n" + "\tE 1 1 1\n" * 3)
     cases = [("six ends", six, ["line 7", "track 2", "6 ends"]),
              ("no number", LAYOUT.replace("100.0 0.0 90.0", "100.0 x 90.0"), ["line 5", '"x"']),
@@ -129,7 +129,7 @@ def check_net(program, _):
 
 
 def check_net_refused(program, _):
-    """What is wrong in a network is named with its line."""
+    """A network's faults are named with their lines."""
     triangle = {"a": ("w", "n", "0,0 100,0"), "b": ("s", "n", "0,-20 100,0"),
                 "c": ("n", "e", "100,0 200,0")}
     ways = (("a", "c"), ("b", "c"), ("a", "-b"))

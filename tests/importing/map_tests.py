@@ -1,4 +1,4 @@
-"""Tests of the import of OpenStreetMap: what becomes of a small map, derived by hand."""
+"""Tests of the import of small OpenStreetMap maps, derived by hand."""
 
 import bz2
 import gzip
@@ -23,7 +23,7 @@ def differences(what, found, expected):
 
 
 def check_loop(program, _):
-    """A passing loop has its sections, points, directions and boards."""
+    """A passing loop gets its sections, points, directions and boards."""
     with tempfile.TemporaryDirectory(prefix="irv-import-") as room:
         found, notes = imported(program, room, osm())
     if found is None:
@@ -47,7 +47,7 @@ def check_loop(program, _):
 
 
 def check_notes(program, _):
-    """The notes are read again, with the boards that no data has; another file is refused."""
+    """The notes can be read again, with the boards that no data has. Another file is refused."""
     nodes = {**LOOP_NODES, "7": (0.0, 0.002)}
     ways = {**LOOP_WAYS, "10": ["1", "7", "2"]}
     tags = {**SWITCHES, "7": {**MARKER, "railway:signal:direction": "forward", "ref": "N1"}}
@@ -71,7 +71,7 @@ def check_notes(program, _):
 
 
 def check_files(program, _):
-    """A file that cannot be read or written is named, and nothing is left behind."""
+    """An unreadable or unwritable file is named, and nothing is left."""
     cases = [("none.osm", (), "cannot read none.osm: no such file"),
              ("room.osm", (), "cannot read room.osm: not a regular file"),
              ("map.png", (), "map.png: the name has to end with .osm, .net.xml, .xtc"),
@@ -100,7 +100,7 @@ def check_files(program, _):
 
 
 def check_compressed(program, _):
-    """A compressed map gives the same configuration, whatever the order of its ways."""
+    """A compressed map gives the same configuration in any order of ways."""
     turned = osm(ways={key: LOOP_WAYS[key][::-1] for key in LOOP_WAYS})
     with tempfile.TemporaryDirectory(prefix="irv-import-") as room:
         plain, _ = imported(program, room, osm())
@@ -112,7 +112,7 @@ def check_compressed(program, _):
 
 
 def check_signals(program, _):
-    """Signals become boards in their direction; signals beside the track don't."""
+    """Signals become boards in their direction, except those beside the track."""
     nodes = {**LOOP_NODES, "7": (0.0, 0.002), "8": (0.0, 0.014), "9": (0.001, 0.0)}
     ways = {**LOOP_WAYS, "10": ["1", "7", "2"], "13": ["3", "8", "4"]}
     tags = {**SWITCHES, "7": {**MARKER, "railway:signal:direction": "forward", "ref": "N1"},
@@ -136,7 +136,7 @@ def check_signals(program, _):
 
 
 def check_names(program, _):
-    """Names come from the data if the form allows them and they are unused."""
+    """Names come from the data if the schema allows them and they are unused."""
     tags = {"2": {"railway": "switch", "ref": "W1", "railway:turnout_side": "right"},
             "3": {"railway": "switch", "ref": "W1"}}
     way_tags = {"11": {"railway:track_ref": "2"}, "12": {"railway:track_ref": "3 a"}}
@@ -147,18 +147,18 @@ def check_names(program, _):
         return
     yield from differences("names", [one["name"] for one in found["sections"]],
                            ["t10", "2", "t12", "t13", "W1", "p3"])
-    # the loop leaves to the left (north), so a switch that diverges right has the loop as plus
+    # the loop leaves to the left (north), so for a switch that diverges right it is plus
     yield from differences("W1", section(found, "W1"), {
         "name": "W1", "kind": "point", "faces": "up", "stem": "t10", "plus": "t12", "minus": "2"})
 
 
 def check_near(program, _):
-    """Only tracks near a place are imported, and the ends of the area are noted."""
+    """Only tracks near a place are imported, and the area's ends are noted."""
     with tempfile.TemporaryDirectory(prefix="irv-import-") as room:
         found, notes = imported(program, room, osm(), "--near=-0.00001,0.004,300")
         nothing, message = imported(program, room, osm(), "--near", "10,10,300")
-        # node 7, between 1 and 2, is outside: the track that leaves the area there and comes back
-        # has two ends there
+        # node 7, between 1 and 2, is outside: a track that leaves the area there and returns has
+        # two ends
         around, around_notes = imported(
             program, room, osm({**LOOP_NODES, "7": (0.0012, 0.002)},
                                {**LOOP_WAYS, "10": ["1", "7", "2"]}), "--near=-0.008,0.002,950")
@@ -181,7 +181,7 @@ def check_near(program, _):
 
 
 def check_crossing(program, _):
-    """A crossing becomes two points stem to stem, and the notes name the ways that it lacks."""
+    """A crossing becomes two points stem to stem, with the missing ways in the notes."""
     nodes = {"1": (-0.001, 0.0), "2": (0.001, 0.0), "3": (0.0, 0.003), "4": (-0.001, 0.006),
              "5": (0.001, 0.006)}
     ways = {"10": ["1", "3", "5"], "11": ["2", "3", "4"]}
@@ -198,7 +198,7 @@ def check_crossing(program, _):
                            [("p3", "p3_2"), ("p3_2", "p3")])
     text = next(one["text"] for one in notes["entries"] if one["kind"] == "crossing")
     yield from differences("routes that the notes drop", text.count(" with "), 2)
-    for one in points:              # the two missing ways are those that turn
+    for one in points:              # the two missing ways turn
         if one["name"] == "p3":
             leg = {one["plus"]: "plus", one["minus"]: "minus"}
         else:
@@ -213,7 +213,7 @@ def check_crossing(program, _):
 
 
 def check_refused(program, _):
-    """What cannot be imported is named, with its id, and nothing is written."""
+    """A map's fault is named with its id, and nothing is written."""
     loop = {**LOOP_NODES, "7": (0.001, 0.018)}
     star = {"1": (0, 0), "2": (0, 0.01), "3": (0, -0.01), "4": (0.01, 0), "5": (0.01, 0.01),
             "6": (-0.01, 0.01)}
@@ -250,7 +250,7 @@ def check_refused(program, _):
 
 
 def check_cut(program, _):
-    """A reversing loop is imported once its track is cut, or with --cut-loops; the cut is noted."""
+    """A reversing loop is imported if its track is cut, or with --cut-loops. The cut is noted."""
     data = osm({**LOOP_NODES, "7": (0.001, 0.018)}, {**LOOP_WAYS, "14": ["4", "7", "3"]})
     with tempfile.TemporaryDirectory(prefix="irv-import-") as room:
         for words in (("--cut", "way 14"), ("--cut", "14"), ("--cut-loops",)):
@@ -262,7 +262,7 @@ def check_cut(program, _):
 
 
 def check_existing(program, _):
-    """Files that exist are not overwritten."""
+    """Existing files are not overwritten."""
     for taken in ("out.json", "out.notes.json"):
         with tempfile.TemporaryDirectory(prefix="irv-import-") as room:
             Path(room, "map.osm").write_text(osm(), encoding="utf-8")

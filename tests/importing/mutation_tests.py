@@ -1,4 +1,4 @@
-"""Tests of the import over mutated maps: no crash, no access beyond the input, and its limits."""
+"""Tests of importing mutated maps: no crash, no other access, and limits."""
 
 import bz2
 import gzip
@@ -27,7 +27,7 @@ REMOTE = "<!DOCTYPE osm SYSTEM 'http://192.0.2.1/osm.dtd'>"
 
 
 def station(count):
-    """Returns the text of a map of some passing loops in a row."""
+    """Returns the map of some passing loops in a row."""
     nodes, ways, tags = {}, {}, {}
     for number in range(count):
         for key, (lat, lon) in LOOP_NODES.items():
@@ -41,7 +41,7 @@ def station(count):
 
 
 def cut_way(text, chance):
-    """Takes a node out of a way, or a way out of the map."""
+    """Removes a node from a way, or a way from the map."""
     lines = text.split("\n")
     place = chance.choice([n for n, line in enumerate(lines) if line.startswith("<way")])
     if chance.random() < 0.3:
@@ -59,7 +59,7 @@ def doubled(text, chance):
 
 
 def joined(text, chance):
-    """Lets a way pass another node."""
+    """Leads a way over another node."""
     nodes = re.findall(r"<node id='(\d+)'", text)
     places = [found.start() for found in re.finditer("<nd ", text)]
     place = chance.choice(places)
@@ -67,7 +67,7 @@ def joined(text, chance):
 
 
 def any_tags(text, chance):
-    """Gives an object tags of any characters."""
+    """Gives an object tags with any characters."""
     place = chance.choice([found.start() for found in re.finditer("<tag ", text)])
     value = "".join(chance.choice("aZ0&;\t é€\U0001f682\u202e=\"<") for _ in range(40))
     value = re.sub("[&<'\"]", lambda found: f"&#{ord(found[0])};", value)
@@ -84,14 +84,14 @@ def any_bytes(text, chance):
 
 
 def other_objects(text, chance):
-    """Adds 10 MB of objects that are no tracks."""
+    """Adds 10 MB of objects other than tracks."""
     pad = "".join(f"<node id='{10 ** 6 + n}' lat='1' lon='1'><tag k='a' v='b'/></node>\n"
                   for n in range(150_000 + chance.randrange(20_000)))
     return text.replace("<node", pad + "<node", 1)
 
 
 def entities(text, chance):
-    """Declares entities: a bomb, an external file or a document type on a server."""
+    """Declares entities: a bomb, an external file or a server's document type."""
     kind = chance.choice((BOMB, EXTERNAL, REMOTE))
     used = text.replace("v='rail'", "v='&j;'" if kind == BOMB else "v='&x;'", 1)
     return used.replace("<osm", kind + "<osm", 1)
@@ -116,7 +116,7 @@ MUTATIONS = (cut_way, doubled, joined, any_tags, any_bytes, entities, truncated,
 
 
 def mutants(count):
-    """Yields mutated maps, each with its mutation's name and the name of its file."""
+    """Yields mutated maps, each with the names of its mutation and file."""
     chance = random.Random(SEED)
     texts = {".osm": station(3), ".net.xml": net(), ".xtc": LAYOUT}
     for number in range(count):
@@ -130,7 +130,7 @@ def mutants(count):
 
 
 def watched(program, room, name):
-    """Imports a file under watch. Returns what was seen and the error output."""
+    """Imports a file under watch. Returns the record and the error output."""
     result = Path(room, "seen.json")
     done = subprocess.run([sys.executable, str(WATCHED), str(result), str(Path(room, name)),
                            "--out", str(Path(room, "out.json")), "--program", str(program)],
@@ -141,7 +141,7 @@ def watched(program, room, name):
 
 
 def faults_of(program, room, name, data):
-    """Yields what is wrong with the import of one file."""
+    """Yields the faults of one file's import."""
     for path in Path(room).iterdir():
         path.unlink()
     Path(room, name).write_bytes(data)
@@ -170,7 +170,7 @@ def faults_of(program, room, name, data):
 
 
 def check_mutants(program, is_long):
-    """Mutated maps are imported or refused with a place, within 10 s and 500 MiB; nothing else is
+    """Mutated maps are imported or refused with a place, within 10 s and 500 MiB. Nothing else is
     read."""
     with tempfile.TemporaryDirectory(prefix="irv-import-") as room:
         for what, name, data in mutants(LONG_MUTANTS if is_long else MUTANTS):
@@ -178,7 +178,7 @@ def check_mutants(program, is_long):
 
 
 def check_bombs(program, _):
-    """Files that grow without end are refused within the limits."""
+    """Files of unlimited growth are refused within the limits."""
     head = b"<osm version='0.6'>"
     bombs = {"a.osm.bz2": bz2.compress(head + b" " * (200 << 20)),
              "b.osm.gz": gzip.compress(head + b"<node/>" * (8 << 20), 1),
@@ -193,7 +193,7 @@ def check_bombs(program, _):
 
 
 def check_worst(program, _):
-    """The largest map of unknown objects that is read at all stays within the limits."""
+    """The largest readable map of unknown objects stays within the limits."""
     ways = "".join(f"<way id='{9 * 10 ** 6 + n}'><nd ref='1'/><nd ref='2'/><tag k='a' v='b'/></way>"
                    for n in range(550_000))
     text = osm(after=ways)

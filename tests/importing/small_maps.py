@@ -1,4 +1,4 @@
-"""Small maps and layouts, and calls of the import over them."""
+"""Small maps and layouts, and calls of the import."""
 
 import json
 import subprocess
@@ -9,8 +9,8 @@ from irvtools.paths import TOOLS
 
 SECONDS = 60
 
-# a passing loop between two single tracks: switches 2 and 3, ends 1 and 4; metres are about
-# 0.001 degrees east = 111 m at the equator
+# a passing loop between two single tracks: switches 2 and 3, ends 1 and 4; 0.001 degrees are about
+# 111 m here
 LOOP_NODES = {"1": (0.0, 0.000), "2": (0.0, 0.004), "3": (0.0, 0.012), "4": (0.0, 0.016),
               "5": (0.0003, 0.006), "6": (0.0003, 0.010)}
 LOOP_WAYS = {"10": ["1", "2"], "11": ["2", "3"], "12": ["2", "5", "6", "3"], "13": ["3", "4"]}
@@ -18,7 +18,7 @@ SWITCHES = {"2": {"railway": "switch"}, "3": {"railway": "switch"}}
 
 
 def osm(nodes=None, ways=None, tags=None, way_tags=None, before="", after=""):
-    """Returns the text of a map: places of nodes, nodes of ways, tags of nodes and of ways."""
+    """Returns a map's text from places of nodes, nodes of ways, and tags of both."""
     nodes, ways = nodes or LOOP_NODES, ways or LOOP_WAYS
     tags, way_tags = SWITCHES if tags is None else tags, way_tags or {}
     lines = ["<?xml version='1.0' encoding='UTF-8'?>", before + "<osm version='0.6'>"]
@@ -42,7 +42,7 @@ def call(program, room, name, *words):
 
 
 def imported(program, room, data, *words, name="map.osm"):
-    """Imports data. Returns the configuration and the notes, or None and the message."""
+    """Imports data. Returns the configuration and the notes, or `None` and the message."""
     for path in Path(room).iterdir():
         path.unlink()
     Path(room, name).write_bytes(data if isinstance(data, bytes) else data.encode())
@@ -68,7 +68,7 @@ def boards(configuration):
 
 
 def routes_of(program, configuration):
-    """Returns the routes that `irv table` finds, or what it answers instead."""
+    """Returns the routes that `irv table` finds, or its other answer."""
     done = subprocess.run([str(program), "table"], input=json.dumps(configuration).encode(),
                           capture_output=True, timeout=SECONDS, check=False)
     return json.loads(done.stdout)["routes"] if done.returncode == 0 else done.stdout.decode()

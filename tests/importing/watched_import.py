@@ -13,7 +13,7 @@ OPENED, OTHER = set(), set()
 
 
 def watch(event, arguments):
-    """Records files that are opened, programs that are called, and what reaches the network."""
+    """Records opened files, called programs and network access."""
     if event == "open" and isinstance(arguments[0], (str, bytes)):
         OPENED.add(arguments[0] if isinstance(arguments[0], str) else arguments[0].decode())
     elif event == "subprocess.Popen":
@@ -23,7 +23,7 @@ def watch(event, arguments):
 
 
 def main(result, words):
-    """Imports, and writes what was seen."""
+    """Imports, and writes the record."""
     from irvtools.importing import cli
     begin = time.process_time()
     sys.addaudithook(watch)

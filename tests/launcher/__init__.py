@@ -1,1 +1,1 @@
-"""Tests of the launcher, in small copies of the repository with a pretended toolchain."""
+"""Tests of the launcher, in small copies of the repository with fake toolchains."""

@@ -1,4 +1,4 @@
-"""Tests of building: when the launcher builds, what is proved, and what it prints meanwhile."""
+"""Tests of building: its triggers, its proofs and its output."""
 
 import hashlib
 import os
@@ -15,13 +15,12 @@ PROVING = "low beside middle high irv : ci"
 
 
 def has_built(calls):
-    """Returns whether these calls of the toolchain built the program."""
+    """Returns whether these toolchain calls built the program."""
     return any(line.endswith(": ci") for line in calls)
 
 
 def builds_once(top):
-    """The first call proves the program and its dependencies, and no other crate; the next only
-    runs."""
+    """The first call proves only the program and its dependencies. The next only runs."""
     first = call(top, "check", data=b"in")
     again = call(top, "check", data=b"in")
     return ((first[0], first[2], first[3]) == (b"check\nin", 6, [PROVING])
@@ -29,8 +28,7 @@ def builds_once(top):
 
 
 def builds_in_a_directory_of_its_own(top):
-    """The proof runs over a copy without mutants and without what was made of the crates; nothing
-    of the copy is left."""
+    """The proof runs over a temporary copy without mutants and build products, and removes it."""
     (top / "look").write_text("")
     for name in ("specs/Lib.antt", "must-fail/a.edit", "mutants/b.edit", "out/rlib/low.rlib"):
         (top / "crates/low" / name).parent.mkdir(parents=True, exist_ok=True)
@@ -46,7 +44,7 @@ def builds_in_a_directory_of_its_own(top):
 
 
 def builds_twice_at_once(top):
-    """Two calls that build at the same time both end well."""
+    """Two builds at the same time both succeed."""
     (top / "slow").write_text("")
     with ThreadPoolExecutor(2) as pool:
         ended = list(pool.map(lambda _: call(top, "--build")[2], range(2)))
@@ -54,16 +52,15 @@ def builds_twice_at_once(top):
 
 
 def builds_alone(top):
-    """`--build` builds and prints nothing to standard output; built already, it does nothing."""
+    """`--build` builds without standard output. If the program is built, it does nothing."""
     output, _, status, calls = call(top, "--build")
     again = call(top, "--build")
     return (output, status, calls) == (b"", 0, [PROVING]) and again == (b"", b"", 0, [])
 
 
 def builds_what_changed(top):
-    """The program is built again if a source has other contents, another name, or is gone, if
-    crates.txt gives a crate other dependencies, and if the program is not the one that was
-    built."""
+    """The program is built again if a source is changed, renamed or removed, if crates.txt changes
+    a crate's dependencies, or if it is another program."""
     call(top, "--build")
     low, irv = top / "crates/low/specs", top / "crates/irv/out/irv"
     low.mkdir()
@@ -83,8 +80,7 @@ def builds_what_changed(top):
 
 
 def builds_nothing_for_the_rest(top):
-    """No build starts for a source that is only newer, a mutant, a crate of tests, and what a crate
-    keeps in out/."""
+    """No build starts for a source that is only newer, a mutant, a test crate, or a file in out/."""
     call(top, "--build")
     later = time.time() + 1000
     for path in (top / "crates").rglob("*.rt"):
@@ -100,7 +96,7 @@ def builds_nothing_for_the_rest(top):
 
 
 def builds_again_after_an_edit(top):
-    """If a source is edited during a build, no program answers, and the next call builds again."""
+    """If a source changes during a build, no program answers, and the next call builds again."""
     (top / "edit").write_text("")
     edited = call(top, "check")
     (top / "edit").unlink()
@@ -113,7 +109,7 @@ def builds_again_after_an_edit(top):
 
 def notes_what_it_built(top):
     """The note has the checksums of sources and program, the toolchain and the date. `--version`
-    prints the same, and another date in the note changes no checksum."""
+    prints them. Another date changes no checksum."""
     call(top, "--build")
     program = top / "crates/irv/out/irv"
     note = dict(line.split(" ", 1) for line in
@@ -128,7 +124,7 @@ def notes_what_it_built(top):
 
 
 def builds_after_ci(top):
-    """What `rt ci` alone has built is not called: `--build` builds, and writes the note."""
+    """A program that only `rt ci` has built is not called: `--build` builds and writes the note."""
     subprocess.run([top / "bin/rt", "ci"], cwd=top, stdout=subprocess.DEVNULL, check=True)
     program = top / "crates/irv/out/irv"
     made = program.read_bytes()
@@ -138,8 +134,8 @@ def builds_after_ci(top):
 
 
 def fails_without_proof(top):
-    """If a crate is not proved, the status is 125, no program is made, and what was printed of that
-    crate is printed, and of no other."""
+    """If a crate is not proved, the status is 125 and no program is made. Only that crate's output
+    is printed."""
     (top / "unproved").write_text("middle")
     output, errors, status, calls = call(top, "check")
     return ((output, status, calls) == (b"", 125, [PROVING])
@@ -150,7 +146,7 @@ def fails_without_proof(top):
 
 
 def prints_a_fault_at_once(top):
-    """A proof that fails is printed while others go on."""
+    """A failed proof is printed while others run."""
     for name, text in (("unproved", "middle"), ("patient", "")):
         (top / name).write_text(text)
     with subprocess.Popen([top / "tools/prove_program.py"], cwd=top, env=environment(top),
@@ -163,8 +159,7 @@ def prints_a_fault_at_once(top):
 
 
 def puts_nothing_that_is_refused(top):
-    """A program that `rt ci` refuses is not put in its place, and what was printed last is
-    printed."""
+    """A program that `rt ci` refuses is not installed, and the last output is printed."""
     (top / "otherwise").write_text("")
     status, printed, _ = proving(top)
     return ((status, printed.splitlines()[-1]) == (1, b"rt: irv wrote something else")
@@ -179,14 +174,14 @@ def proving(top, *words):
 
 
 def refuses_other_arguments(top):
-    """With wrong arguments the builder prints how it is called, and proves nothing."""
+    """With wrong arguments the builder prints its usage and proves nothing."""
     status, output, errors = proving(top, "irv")
     return ((status, output) == (2, b"") and errors.startswith(b"usage: prove_program ")
             and not (top / "calls").exists() and b"--anew" in proving(top, "--help")[1])
 
 
 def refuses_an_absent_crate(top):
-    """A crate without directory is refused before anything is proved."""
+    """A crate without directory is refused before any proof."""
     shutil.rmtree(top / "crates/middle")
     return proving(top) == (1, b"", b"prove_program: cannot read crates/middle, which crates.txt "
                                     b"names: no such directory\n")

@@ -11,9 +11,8 @@ from tests.launcher.repository_copy import call, comes_to_be, copy_tests, enviro
 
 
 def keeps_what_is_read(top):
-    """A certificate that would be written over the file that standard input or output is, by
-    whatever name, is refused before anything is built; a device, another file or another command is
-    not."""
+    """A certificate that would overwrite the file of standard input or output, by any name, is
+    refused before a build. A device, another file or another command is not."""
     conf, told = top / "conf", top / "told"
     conf.write_text("in")
     (top / "link").symlink_to(conf)
@@ -42,14 +41,14 @@ def keeps_what_is_read(top):
 
 
 def hint(command):
-    """Returns the line that a terminal shows after a rejection."""
+    """Returns a terminal's line after a rejection."""
     return f"irv: ./irv {command} --explain says in sentences what is wrong and where\r\n"
 
 
 def on_a_terminal(top, *words, output=None, script="irv", reads_it=False):
-    """Calls the launcher, or another script of the copy, on a terminal. Returns what had come there
-    when it ended, and the status. Standard output is the terminal too unless a file is given, and
-    standard input is if `reads_it`; then the terminal gives it the end of input."""
+    """Calls a script of the copy, by default the launcher, on a terminal. Returns the terminal's
+    text and the status. Standard output is the terminal unless `output` is a file. Standard input
+    is the terminal, at its end, if `reads_it`."""
     ours, theirs = pty.openpty()
     os.set_blocking(ours, False)
     if reads_it:
@@ -63,14 +62,14 @@ def on_a_terminal(top, *words, output=None, script="irv", reads_it=False):
         while piece := os.read(ours, 4096):
             shown += piece
     except OSError:
-        pass  # no more has come
+        pass  # end of the terminal's output
     os.close(theirs)
     os.close(ours)
     return shown.decode(), status
 
 
 def left_on_screen(shown):
-    """Returns the lines that are on a terminal's screen at the end."""
+    """Returns the lines on a terminal's screen at the end."""
     lines, column = [""], 0
     for part in re.findall(r"\r|\n|\x1b\[K|[^\r\n\x1b]+", shown):
         if part == "\r":
@@ -87,15 +86,14 @@ def left_on_screen(shown):
 
 
 def shows_that_it_works(top):
-    """On a terminal a call of more than two seconds shows that it works, and at its end only the
-    answer is there. If standard output is a file, it has only the answer. A short call shows
-    nothing."""
+    """On a terminal a call of over two seconds shows progress, but at its end only the answer. A
+    file gets only the answer. A short call shows no progress."""
     call(top, "--build")
     short = on_a_terminal(top, "check")
     slow = on_a_terminal(top, "slow")
     with open(top / "told", "wb") as told:
         beside = on_a_terminal(top, "slow", output=told)
-    # what comes late comes before the end too
+    # late output also comes before the end
     (top / "slow-cat").rename(top / "bin/cat")
     fault = on_a_terminal(top, "fault")
     ends = [(re.findall("working for ([0-9]+)", shown)[:1], left_on_screen(shown), status)
@@ -109,7 +107,7 @@ def shows_that_it_works(top):
 
 
 def ends_with_the_launcher(top):
-    """If the launcher is killed, the program ends too, and what waits for its output goes on."""
+    """If the launcher is killed, the program ends too, and readers of its output continue."""
     call(top, "--build")
     with subprocess.Popen([top / "irv", "slow"], cwd=top, env=environment(top),
                           stdin=subprocess.DEVNULL, stdout=subprocess.PIPE) as called:
@@ -120,7 +118,7 @@ def ends_with_the_launcher(top):
 
 
 def reports_a_signal(top):
-    """The status shows that a signal ended the program, as in a shell; and a signal to the launcher
+    """The status shows a signal that ended the program, as in a shell. A signal to the launcher
     ends the program."""
     call(top, "--build")
     shell = subprocess.run(["bash", "-c", f"{top}/irv killed; exit $?"], stdin=subprocess.DEVNULL,
@@ -140,8 +138,8 @@ def reports_a_signal(top):
 
 
 def announces_a_terminal(top):
-    """If a configuration is expected from a terminal, the launcher says so, and says nothing for a
-    command that reads none."""
+    """The launcher announces that it expects a configuration from a terminal, if the command reads
+    one."""
     call(top, "--build")
     line = ("irv: check reads its configuration from standard input, which is this terminal: add < "
             "FILE, or type it and press Ctrl-D\r\n")

@@ -13,8 +13,7 @@ PATH=/bin:/usr/bin exec sha256sum "$@"
 
 
 def sums(top, *words):
-    """Calls the launcher. Returns how often it read the contents of files, and the calls of the
-    toolchain."""
+    """Calls the launcher. Returns how often it read file contents, and the toolchain calls."""
     (top / "summed").write_text("")
     _, _, _, calls = call(top, *words)
     return len((top / "summed").read_text().splitlines()), calls
@@ -29,13 +28,13 @@ def settled(top):
 
 
 def reads_once(top):
-    """If nothing changed, no contents are read again."""
+    """Without changes no contents are read again."""
     first = settled(top)
     return first[0] > 0 and first[1] == [] and sums(top, "check") == (0, [])
 
 
 def change_unseen_by_time(path, text):
-    """Gives a file other contents of the same length, and keeps its time of change."""
+    """Changes a file's contents, but not its length and modification time."""
     times = path.stat()
     assert len(text) == times.st_size
     path.write_text(text)
@@ -43,8 +42,8 @@ def change_unseen_by_time(path, text):
 
 
 def sees_a_change(top):
-    """Other contents of the same length, name and time of change are seen. So are a new file in a
-    new directory, a removed file, another line of crates.txt, and another program."""
+    """The launcher detects changed contents of the same length, name and time. It also detects a
+    file in a new directory, a removed file, a changed line of crates.txt and another program."""
     source, program = top / "crates/low/src/main.rt", top / "crates/irv/out/irv"
     source.write_text("// one")
     settled(top)
@@ -66,7 +65,7 @@ def sees_a_change(top):
 
 
 def caches_nothing_young(top):
-    """Nothing is cached of a file that is younger than a second."""
+    """A file younger than a second is not cached."""
     settled(top)
     later = time.time() + 1000
     os.utime(top / "crates/low/src/main.rt", (later, later))
@@ -74,7 +73,7 @@ def caches_nothing_young(top):
 
 
 def works_without_cache(top):
-    """If nothing can be cached, or the cache is broken, the answers are the same."""
+    """If caching fails or the cache is broken, the answers are the same."""
     call(top, "--build")
     for text in ("", "x", "\n\n\n\n", "irv low\na\nb\nc\n"):
         (top / "out/checksums").unlink(missing_ok=True)

@@ -1,5 +1,4 @@
-"""Tests of the line that the launcher adds after a refusal of the arguments, a fault or a
-rejection."""
+"""Tests of the launcher's line after refused arguments, a fault or a rejection."""
 
 import os
 import subprocess
@@ -11,8 +10,8 @@ OWN = "irv: its own line"
 
 
 def printed(top, status, words, before="", **streams):
-    """Calls the launcher with a program that ends with this status. Returns the status and the
-    lines of standard error. `before` is what a shell does to the streams."""
+    """Calls the launcher with a program that ends with `status`. Returns the status and the lines
+    of standard error. `before` changes the streams in a shell."""
     (top / "ends").write_text(f"{status}\n")
     command = ["bash", "-c", f'exec "$0" "$@" {before}', top / "irv", *words]
     done = subprocess.run(command, cwd=top, env=environment(top), stderr=subprocess.PIPE,
@@ -21,8 +20,7 @@ def printed(top, status, words, before="", **streams):
 
 
 def all_print(top, status, cases):
-    """Returns whether each case, arguments and what is done to the streams, has its line after the
-    program's."""
+    """Returns whether each case of arguments and stream changes has its line after the program's."""
     call(top, "--build")
     (top / "directory").mkdir()
     (top / "file").write_text("")
@@ -30,7 +28,7 @@ def all_print(top, status, cases):
     return seen == [(status, [OWN, f"irv: {line}"]) for _, _, line in cases]
 
 
-# wrong arguments, and the line about them
+# wrong arguments and their line
 WRONG = (
     (["chekc"], "'chekc' is not a command: ./irv --help lists the commands"),
     ([""], "'' is not a command: ./irv --help lists the commands"),
@@ -71,8 +69,8 @@ def names_what_is_wrong(top):
 
 
 def refuses_without_a_build(top):
-    """If the program is not built, the launcher refuses wrong arguments as the program does, with
-    status 7, and starts no build; so it does with `--unproved`."""
+    """Without a build the launcher refuses wrong arguments as the program does, with status 7, and
+    builds nothing. The same holds with `--unproved`."""
     for words, line in WRONG:
         for first in ([], ["--unproved"]):
             answer = call(top, *first, *words)
@@ -82,7 +80,7 @@ def refuses_without_a_build(top):
 
 
 def accepts_what_is_right(top):
-    """Arguments that the program accepts are not refused: the program is built for them."""
+    """Arguments that the program accepts are not refused, but start a build."""
     right = (["verify", "--cert="], ["--depth=007", "verify", "--cert", "-", "--conflicts", "+7"],
              ["verify", "--cert=--cert", "--columns=free"], ["--run=--help", "replay"],
              ["export", "--query", "step", "--number=16"],
@@ -104,7 +102,7 @@ def names_bytes_that_are_not_text(top):
 
 
 def names_what_is_read(top):
-    """After a read fault a line names what cannot be read, and why, as far as that can be seen."""
+    """After a read fault a line names the unreadable file and, if known, the cause."""
     read = "cannot read standard input"
     cases = [
         (["replay", "--run", "none"], "", "cannot read none: no such file"),
@@ -126,8 +124,7 @@ def names_what_is_read(top):
 
 
 def names_what_is_written(top):
-    """After a write fault a line names what cannot be written, and why, as far as that can be
-    seen."""
+    """After a write fault a line names the unwritable file and, if known, the cause."""
     output, cert = "cannot write standard output", "cannot write the certificate to"
     cases = [
         (["verify", "--cert", "directory"], "", f"{cert} 'directory': it is a directory"),
@@ -145,8 +142,8 @@ def names_what_is_written(top):
 
 
 def names_the_other_command(top):
-    """After a rejected scenario that was given to replay a line names drive, and the other way
-    round. A file of the right kind, or another file, gets no line."""
+    """If replay rejects a scenario, a line names drive, and vice versa. A file of the right kind,
+    or another file, gets no line."""
     for name, text in (("s.scene", "drive 1\nend\n"), ("r.run", "run 1\nstart\n"), ("x", "driver")):
         (top / name).write_text(text)
     scene = "irv: s.scene: this is a scenario: use drive"

@@ -1,4 +1,4 @@
-"""Tests of help: that each form is printed at once, and what is in it."""
+"""Tests of help: each form is printed at once and complete."""
 
 import re
 
@@ -8,12 +8,12 @@ from tests.launcher.repository_copy import TOOLS, call, copy_tests, write_script
 
 COMMANDS = [entry.name for entry in command_table.of_kind("command")]
 LAUNCHER = [entry.name for entry in command_table.of_kind("launcher")]
-# stands in for a command that may not be called
+# replaces a command that must not be called
 CALLED = '#!/bin/sh\necho "called: $0 $*" >>@TOP@/calls\nexit 1\n'
 
 
 def forms():
-    """Returns the arguments of each form of help, with the line that its text begins with."""
+    """Returns the arguments of each form of help, with its first line."""
     first = "irv, a verifier for railway interlockings"
     found = [(["--help"], first), (["-h"], first), (["chekc", "--help"], first)]
     for name in COMMANDS:
@@ -30,8 +30,8 @@ def forms():
 
 
 def helps_with_nothing_there(top):
-    """With nothing built, and neither `rt` nor Python nor any program but bash on the path, each
-    form of help is printed, with status 0."""
+    """Each form of help is printed with status 0, even without a build and with only bash on the
+    path."""
     path = top / "only-bash"
     path.mkdir()
     (path / "bash").symlink_to("/bin/bash")
@@ -43,8 +43,8 @@ def helps_with_nothing_there(top):
 
 
 def calls_nothing_for_help(top):
-    """Neither `rt` nor Python nor a tool is called for any form of help, though each is on the
-    path; and what is at the program's place is not called."""
+    """No form of help calls `rt`, Python, a tool or the file at the program's place, though each
+    exists."""
     places = ["bin/rt", "bin/python3", "crates/irv/out/irv", "tests/run",
               *(f"tools/{name}" for name in TOOLS.values())]
     write_scripts(top, dict.fromkeys(places, CALLED))
@@ -54,14 +54,14 @@ def calls_nothing_for_help(top):
 
 def prints_usage_for_no_arguments(top):
     """Without arguments the launcher prints `irv: usage` and the help to standard error, with
-    status 7, and builds nothing; so it does after `--unproved`."""
+    status 7, and builds nothing, also after `--unproved`."""
     text = call(top, "--help")[0]
     wanted = b"", b"irv: usage\n" + text, 7, []
     return call(top) == wanted and call(top, "--unproved") == wanted
 
 
 def asks_for_help_only_before_the_end(top):
-    """Behind `--`, and as the value of an option, `--help` and `-h` are passed on."""
+    """After `--`, and as an option's value, `--help` and `-h` are passed on."""
     call(top, "--build")
     passed = (["check", "--", "--help"], ["check", "--", "-h"], ["replay", "--run", "--help"],
               ["replay", "--run=--help"], ["verify", "--cert", "-h"])
@@ -74,8 +74,8 @@ def asks_for_help_only_before_the_end(top):
 
 
 def lists_everything(top):
-    """`--help` has a sentence for each command and each option of the launcher, each option with
-    its default, each exit status, and two examples."""
+    """`--help` has a sentence for each command and each launcher option, with its default, each
+    exit status, and two examples."""
     text = call(top, "--help")[0].decode()
     words = " ".join(text.split())
     options, statuses = command_table.of_kind("option"), command_table.of_kind("status")
@@ -93,8 +93,7 @@ def lists_everything(top):
 
 
 def lists_what_a_command_takes(top):
-    """The help of a command has how it is called, exactly its options, and each answer with its
-    status."""
+    """A command's help has its usage, exactly its options, and each answer with its status."""
     for command in command_table.of_kind("command"):
         text = call(top, command.name, "--help")[0].decode()
         options = re.findall(r"^  (--[a-z]+) ", text, re.M)
@@ -108,8 +107,7 @@ def lists_what_a_command_takes(top):
 
 
 def lists_what_a_tool_takes(top):
-    """The help of an option of the launcher has how it is called, and exactly its tool's
-    options."""
+    """The help of a launcher option has its usage and exactly its tool's options."""
     for entry in command_table.of_kind("launcher")[:-1]:
         text = call(top, entry.name, "--help")[0].decode()
         calls = [f"./irv {entry.name} {usage}".strip() for usage in entry.fields["usage"]]

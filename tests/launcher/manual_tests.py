@@ -19,8 +19,8 @@ def described(part):
 
 
 def has_a_manual(_):
-    """The manual page has the call of each command, what it prints, each option and each exit
-    status of the program, and nothing of the launcher."""
+    """The manual page has each command's call and output, and each option and exit status of the
+    program, but nothing of the launcher."""
     page = described("page").replace("\\-", "-")
     statuses = [status for status in command_table.of_kind("status") if status.name != "125"]
     commands, options = command_table.of_kind("command"), command_table.of_kind("option")
@@ -44,7 +44,7 @@ def is_right_troff(_):
 
 
 def completes(top):
-    """The completions know the commands, the options of each, and their values."""
+    """The completions know the commands, their options and the values."""
     (top / "irv.bash").write_text(described("completions"))
     (top / "a.cert").write_text("")
 
@@ -66,7 +66,7 @@ def completes(top):
 
 
 def page_of_table():
-    """Returns a commands page with all that the table asks for."""
+    """Returns a commands page with everything that the table requires."""
     calls = [f"./{command_table.usage(command)}" for command in command_table.of_kind("command")]
     launcher = [f"| `{entry.name} ARGUMENTS` | text |"
                 for entry in command_table.of_kind("launcher")]
@@ -77,8 +77,8 @@ def page_of_table():
 
 
 def finds_each_fault_of_a_page(_):
-    """The check accepts a page made of the table. It names each line that is missing, each default
-    or range that differs, and an option that the table does not have."""
+    """The check accepts a page made from the table. It names each missing line, wrong default or
+    range, and unknown option."""
     page = page_of_table()
     if command_table.page_faults(page):
         return False
@@ -95,8 +95,7 @@ def finds_each_fault_of_a_page(_):
 
 
 def is_the_table_of_the_commands_page(_):
-    """docs/reference/commands.md has the calls, options, statuses and launcher options of the
-    table."""
+    """docs/reference/commands.md has the table's calls, options, statuses and launcher options."""
     page = TOP / "docs/reference/commands.md"
     faults = command_table.page_faults(page.read_text(encoding="utf-8"))
     assert not faults, faults

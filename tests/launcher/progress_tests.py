@@ -1,5 +1,4 @@
-"""Tests of the progress of a proof: how many crates are proved, and about how much longer it
-takes."""
+"""Tests of a proof's progress: the number of proved crates and the estimated remaining time."""
 
 import re
 import subprocess
@@ -11,8 +10,7 @@ from tests.launcher.repository_copy import call, copy_tests
 
 
 def prints_each_crate(top):
-    """A build whose standard error is not a terminal prints a line for each crate, the program
-    last."""
+    """Without a terminal as standard error a build prints a line per crate, the program last."""
     printed = call(top, "--build")[1].decode().splitlines()
     lines = [re.fullmatch(r"irv: (\w+): (\d) of 5 crates proved in \d+ \w+(, about \d+ \w+ more)?",
                           line) for line in printed[1:]]
@@ -23,7 +21,7 @@ def prints_each_crate(top):
 
 
 def renews_a_line(top):
-    """On a terminal there is one line, which is renewed, and is removed at the end."""
+    """On a terminal one line is renewed, and removed at the end."""
     (top / "slow").write_text("")
     shown, status = on_a_terminal(top, script="tools/prove_program.py")
     counts = re.findall(r"\r\x1b\[Kirv: (\d) of 5 crates proved in", shown)
@@ -32,7 +30,7 @@ def renews_a_line(top):
 
 
 class Clock:
-    """A clock that stands still unless it is set."""
+    """A clock that changes only when it is set."""
 
     def __init__(self):
         self.now = 1000.0
@@ -42,22 +40,22 @@ class Clock:
 
 
 def estimates(top):
-    """The remaining time is the longest chain, or the shared seconds if they are more, at the pace
-    of the finished proofs."""
+    """The remaining time is the longest chain or, if longer, the shared seconds, at the finished
+    proofs' pace."""
     clock = Clock()
     seconds = {"low": 100.0, "left": 40.0, "right": 300.0, "top": 60.0}
     crates = {"low": set(), "left": {"low"}, "right": {"low"}, "top": {"low", "left", "right"}}
     two = progress.Progress(crates, 2, seconds, clock)
     one = progress.Progress(crates, 1, seconds, clock)
-    # the chain low, right, top; and all of them one after the other
+    # the chain low, right, top; and the sum of all
     first = two.remaining(), one.remaining()
     two.begin("low")
     clock.now += 50
-    # half of it is done in its time
+    # half of it is done on time
     second = two.remaining()
     clock.now += 150
     took = two.end("low")
-    # 100 listed seconds took 200, and a tenth of 460 is trusted to take as long as it is listed
+    # 100 listed seconds took 200; a tenth of 460 is assumed to take the listed time
     third = two.remaining(), two.sentence()
     slow = 360 * (200 + 46) / (100 + 46)
     return (first == (460.0, 500.0) and second == 410.0 and took == 200
@@ -66,7 +64,7 @@ def estimates(top):
 
 
 def counts_no_pace_of_cached_proofs(_):
-    """A crate that an earlier run proved is finished, and the others take as long as before."""
+    """A crate that an earlier run proved is finished. The others take as long as before."""
     clock = Clock()
     crates = {"low": set(), "left": {"low"}, "right": {"low"}}
     kept = progress.Progress(crates, 1, {"low": 100.0, "left": 40.0, "right": 60.0}, clock)
@@ -77,8 +75,8 @@ def counts_no_pace_of_cached_proofs(_):
 
 
 def sees_running_proofs(top):
-    """The running proofs are seen by the processes of the prover: not by other processes, by its
-    tests, or by proofs in another directory."""
+    """Running proofs are detected by the prover's processes, but not by other processes, its tests,
+    or proofs in another directory."""
     here = (top / "crates").resolve()
     shown = {"1": ("rattle", here / "low", b"rattle\0build\0--lib"),
              "2": ("rattle", here / "middle", b"rattle\0build\0--test\0--lib"),
@@ -97,7 +95,7 @@ def sees_running_proofs(top):
 
 
 def passes_ci_on(top):
-    """What CI prints is passed on as it is, and after each proved crate the progress is printed."""
+    """CI's output is passed on unchanged, with the progress after each proved crate."""
     given = (b"== low\nrt: low proved\nrt: low: its tests are proved\nrt: nothing proved\n"
              b"rt: middle is kept: an earlier run on this machine proved the same files\nrt: ok\n")
     done = subprocess.run([top / "tools/progress.py"], cwd=top, input=given, stdout=subprocess.PIPE,
@@ -110,8 +108,7 @@ def passes_ci_on(top):
 
 
 def renews_the_list(top):
-    """The list is written by what was noted of proofs; a crate of which nothing was noted keeps its
-    seconds."""
+    """The list is written from the recorded proofs. A crate without a record keeps its seconds."""
     (top / "tools/crate_seconds.txt").write_text("# old\nlow 7\naside 9\n")
     (top / "out").mkdir()
     (top / "out/seconds").write_text("low 31.4\nirv 12.6\n")
@@ -124,7 +121,7 @@ def renews_the_list(top):
 
 
 def shows_how_it_is_called(top):
-    """`--help` prints each option; a wrong argument is refused, and nothing is read."""
+    """`--help` prints each option. A wrong argument is refused, and nothing is read."""
     answers = [subprocess.run([top / "tools/progress.py", word], stdin=subprocess.DEVNULL,
                               stdout=subprocess.PIPE, stderr=subprocess.PIPE, check=False)
                for word in ("--help", "--anew")]

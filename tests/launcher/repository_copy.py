@@ -1,4 +1,4 @@
-"""A small copy of the repository, with a pretended toolchain and pretended tools."""
+"""A small copy of the repository with a fake toolchain and fake tools."""
 
 import os
 import shutil
@@ -63,8 +63,7 @@ case $1 in
 esac
 """
 
-# the compiler of the pretended toolchain: it gives the module as text, and compiles one with checks
-# or one without them
+# the fake toolchain's compiler: prints the module as text, and compiles one with or without checks
 CLANG = r"""#!/usr/bin/env bash
 while [ $# -gt 0 ]; do
     case $1 in
@@ -147,13 +146,13 @@ sleep 0.5
 PATH=/bin:/usr/bin exec cat "$@"
 """
 
-# a pretended tool, and the pretended runner of the tests
+# a fake tool, and the fake test runner
 TOOL = r"""#!/usr/bin/env bash
 echo "$(basename "$0"): $*" >> "$(dirname "$0")/../calls"
 exit 3
 """
 
-# what the launcher may call, and the pretended toolchain with it
+# commands that the launcher and the fake toolchain may call
 COMMANDS = ("basename bash cat chmod cmp cp cut date df dirname env find flock git grep head iconv"
             " install ls mkdir mktemp mv nice python3 readlink rm rt sed seq setpriv sha256sum"
             " sleep sort tail touch tr xargs").split()
@@ -167,11 +166,11 @@ low:
 middle: low
 """
 
-# the tools by the options of the launcher that call them
+# the tools by the launcher options that call them
 TOOLS = {"--html": "html", "--simulate": "simulate", "--csv": "csv", "--batch": "batch",
          "--package": "package", "--verify-package": "verify_package", "--import": "import",
          "--sumo": "sumo", "--search": "search", "--release": "release", "--explain": "explain"}
-# what of tools/ is copied: what the launcher itself uses
+# the launcher's own part of tools/, which is copied
 COPIED = ("launcher", "irvtools/launcher", "irvtools/__init__.py", "irvtools/paths.py",
           "irvtools/mutants/__init__.py", "irvtools/mutants/crates.py", "progress.py",
           "prove_program.py", "crate_seconds.txt")
@@ -202,7 +201,7 @@ def copy(source, target):
 
 
 def write_scripts(top, scripts):
-    """Writes scripts by their places in the copy."""
+    """Writes scripts to their places in the copy."""
     for place, text in scripts.items():
         path = top / place
         path.parent.mkdir(parents=True, exist_ok=True)
@@ -211,20 +210,20 @@ def write_scripts(top, scripts):
 
 
 def give_kit(top):
-    """Gives the pretended toolchain what makes the faster unproved build."""
+    """Gives the fake toolchain what the faster unproved build needs."""
     write_scripts(top, {"kit/bin/rt": RT, "kit/bin/rtlib.py": "", "kit/bin/rattle-link": LINK,
                         "kit/toolchain/bin/clang": CLANG, "kit/c/libos_c.a": "",
                         "kit/c/liblibc_c.a": ""})
 
 
 def environment(top):
-    """Returns an environment with the pretended `rt`, in which temporary files are in the copy."""
+    """Returns an environment with the fake `rt` and with temporary files in the copy."""
     return dict(os.environ, PATH=f"{top}/bin:{os.environ['PATH']}", TERM="xterm", TMPDIR=str(top))
 
 
 def call(top, *words, data=b"", path=None):
-    """Calls the launcher of the copy. Returns standard output, standard error, the status, and the
-    calls of pretended commands."""
+    """Calls the copy's launcher. Returns standard output, standard error, the status and the calls
+    of fake commands."""
     calls = top / "calls"
     calls.write_text("")
     given = environment(top) if path is None else dict(os.environ, PATH=str(path))
@@ -234,7 +233,7 @@ def call(top, *words, data=b"", path=None):
 
 
 def path_without(top, *names):
-    """Returns a directory with all commands that the launcher may call, but these."""
+    """Returns a directory with all commands that the launcher may call, except `names`."""
     directory = top / f"path-without-{'-'.join(names)}"
     directory.mkdir()
     for name in COMMANDS:
@@ -244,7 +243,7 @@ def path_without(top, *names):
 
 
 def comes_to_be(holds):
-    """Waits until something holds, for five minutes. Returns whether it does."""
+    """Waits up to five minutes until `holds` is true. Returns whether it is."""
     for _ in range(3000):
         if holds():
             return True
@@ -253,8 +252,8 @@ def comes_to_be(holds):
 
 
 def copy_tests(name: str, trials: Iterable[Callable[[Path], object]]) -> type:
-    """Returns a test case class with a method for each function, which takes the directory of a new
-    copy and returns whether it saw what its docstring says."""
+    """Returns a test case class with a method per function, which takes the directory of a new copy
+    and returns whether its docstring holds."""
     def method(trial):
         def test(self):
             with tempfile.TemporaryDirectory(prefix="irv-launcher-") as directory:

@@ -8,8 +8,8 @@ NOT_ASKED = (["check", "--", "--explain"], ["check"])
 
 
 def hands_on_what_asks(top):
-    """A command with `--explain` or `--advise` is answered by the tool, with the program and all
-    arguments; one without them, or with them behind `--`, by the program."""
+    """The tool answers a command with `--explain` or `--advise`, given the program and all
+    arguments. The program answers one without them, or after `--`."""
     call(top, "--build")
     program = (top / "crates/irv/out/irv").resolve()
     for words in ASKED:

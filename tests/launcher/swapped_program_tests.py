@@ -1,7 +1,7 @@
-"""Tests of programs that were not proved and are at the program's place: none of them is called.
+"""Tests of unproved programs at the program's place: none is called.
 
-Four programs are tried: a script that prints `clean`, the unproved build, the proved program with
-one byte changed, and a program of other sources. The note of the last build is left beside each.
+There are four programs: a script that prints `clean`, the unproved build, the proved program with a
+changed byte, and a program of other sources. Each has the last build's note beside it.
 """
 
 import shutil
@@ -13,8 +13,8 @@ from tests.launcher.unproved_tests import is_cached
 SCRIPT = """#!/bin/sh
 echo clean
 """
-# each option of the launcher that needs the program, with arguments
-# the word by which an option of the launcher comes to need the program, if another one than --csv's
+# an option's argument that makes it need the program, if not `--with-network`; the calls that need
+# it
 NEEDS_PROGRAM = {"--verify-package": "--with-program"}
 NEED_PROGRAM = [["check"], ["verify", "--cert", "c"], ["--build"], ["--install", "there"],
                 *([option, NEEDS_PROGRAM.get(option, "--with-network"), "x"] for option in TOOLS)]
@@ -49,16 +49,15 @@ def put_changed(top):
 
 
 def put_other(top):
-    """Puts a program of other sources, with the note of its own build."""
+    """Puts a program of other sources, with its own build note."""
     (top / "crates/low/src/main.rt").write_text("// other")
     call(top, "--build")
     (top / "crates/low/src/main.rt").write_text("")
 
 
 def is_refused(top, put):
-    """Returns whether a program that `put` puts at the place answers nothing: if the build fails,
-    each call ends with status 125 and calls no tool; otherwise the program is built again and
-    answers."""
+    """Returns whether the program placed by `put` answers nothing. If the build fails, each call
+    ends with status 125 and calls no tool. Otherwise the new build answers."""
     genuine = (top / "program").read_bytes()
     put(top)
     swapped = place(top).read_bytes()
@@ -78,8 +77,7 @@ def is_refused(top, put):
 
 
 def is_out_of_reach(top, swapped):
-    """Returns whether `--csv`, which needs no program here, and `--test` are handed another
-    file."""
+    """Returns whether `--csv`, which needs no program here, and `--test` get another file."""
     give_kit(top)
     lines = [call(top, *words)[3][-1] for words in (["--csv", "--in", "d"], ["--test"])]
     handed = [line.split(" ")[2] for line in lines]
@@ -88,8 +86,8 @@ def is_out_of_reach(top, swapped):
 
 
 def is_not_told(top):
-    """Returns whether `--version` does not take it for the program, `--help` prints help, and
-    `--unproved` answers by the unproved build."""
+    """Returns whether `--version` does not accept the program, `--help` prints help, and
+    `--unproved` uses the unproved build."""
     version = call(top, "--version")[0].decode().splitlines()
     helped, answered = call(top, "--help"), call(top, "--unproved", "check")
     return ("program not built of these sources" in version
@@ -110,7 +108,7 @@ def calls_no_unproved_build(top):
 
 
 def calls_no_changed_program(top):
-    """The proved program with one byte changed is not called."""
+    """The proved program with one changed byte is not called."""
     return is_refused(top, put_changed)
 
 
@@ -120,8 +118,7 @@ def calls_no_other_program(top):
 
 
 def calls_no_program_without_note(top):
-    """Without the note, or with one of an unknown form, no program is called, not even the right
-    one."""
+    """Without a note, or with one in an unknown format, not even the right program is called."""
     call(top, "--build")
     note = place(top).with_name("irv.built")
     right = note.read_text()
@@ -136,8 +133,7 @@ def calls_no_program_without_note(top):
 
 
 def adopts_nothing(top):
-    """`--adopt` and `--sources` are refused as unknown arguments, whether the program is built or
-    not."""
+    """`--adopt` and `--sources` are refused as unknown arguments, with or without a built program."""
     for _ in range(2):
         for words in (["--adopt", "0" * 64], ["--sources"]):
             output, errors, status, calls = call(top, *words)

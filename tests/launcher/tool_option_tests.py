@@ -1,4 +1,4 @@
-"""Tests of the options of the launcher that call a tool, and of `--test`."""
+"""Tests of the launcher options that call a tool, and of `--test`."""
 
 import re
 import subprocess
@@ -12,8 +12,8 @@ from tests.launcher.unproved_tests import is_cached
 
 
 def calls_each_tool(top):
-    """Each option passes its arguments on to its tool, with the program, which is built before. The
-    tool's status is the answer."""
+    """Each option builds the program and passes it and the arguments to its tool, whose status is
+    the answer."""
     program = top.resolve() / "crates/irv/out/irv"
     is_first = True
     for option, tool in TOOLS.items():
@@ -27,7 +27,7 @@ def calls_each_tool(top):
 
 
 def names_a_missing_tool(top):
-    """A tool that does not exist is named with status 125, and nothing is built."""
+    """A missing tool is named with status 125, and nothing is built."""
     for option, tool in TOOLS.items():
         (top / "tools" / tool).unlink()
         line = f"irv: tools/{tool}, which {option} calls, does not exist\n"
@@ -39,8 +39,8 @@ def names_a_missing_tool(top):
 
 
 def builds_for_csv_if_asked(top):
-    """`--csv` builds only for `--with-network`, also if that is shortened. Otherwise the tool gets
-    a name where no program is, unless the program is built."""
+    """`--csv` builds only for `--with-network`, also if shortened. Otherwise the tool gets the
+    built program or a file name that does not exist."""
     program = top.resolve() / "crates/irv/out/irv"
     plain = call(top, "--csv", "--in", "a b")
     words = ("--with-network", "--w")
@@ -65,15 +65,14 @@ def takes_no_other_program(top):
 
 
 def passes_similar_options_on(top):
-    """An option that only begins like `--program` is passed on."""
+    """An option that only starts like `--program` is passed on."""
     call(top, "--build")
     calls = [call(top, "--html", "p.html", *words)[3] for words in (["--progress"], ["--p-x=y"])]
     return [line[0].split(" p.html ")[1] for line in calls] == ["--progress", "--p-x=y"]
 
 
 def tests_the_proved_program(top):
-    """`--test` runs the tests over the program if it is built of these sources, and builds
-    nothing."""
+    """`--test` tests the program if it is built of these sources, and builds nothing."""
     call(top, "--build")
     program = top.resolve() / "crates/irv/out/irv"
     answers = [call(top, "--test", *words) for words in ([], ["html", "csv"])]
@@ -82,8 +81,8 @@ def tests_the_proved_program(top):
 
 
 def tests_the_unproved_build(top):
-    """Otherwise `--test` makes the unproved build, once, runs the tests over it, and says that
-    nothing is proved by this."""
+    """Otherwise `--test` makes the unproved build once, tests it, and says that this proves
+    nothing."""
     give_kit(top)
     (top / "crates/irv/out").mkdir()
     (top / "crates/irv/out/irv").write_text("#!/bin/sh\n")
@@ -100,8 +99,8 @@ def tests_the_unproved_build(top):
 
 
 def tests_nothing_without_a_build(top):
-    """If the unproved build cannot be made, or a source is edited meanwhile, `--test` says so with
-    status 125, and runs no test."""
+    """If the unproved build fails, or a source changes meanwhile, `--test` says so with status 125
+    and runs no test."""
     give_kit(top)
     lines = []
     for name in ("broken", "unmade", "edit"):
@@ -117,8 +116,7 @@ def tests_nothing_without_a_build(top):
 
 
 def options_of_tool(tool):
-    """Returns the options that a tool's own help lists, each with its value and its default or
-    `None`."""
+    """Returns the options of a tool's own help, with values and defaults or `None`."""
     text = subprocess.run(["python3", TOP / "tools" / tool, "--help"], stdin=subprocess.DEVNULL,
                           stdout=subprocess.PIPE, check=True).stdout.decode()
     listed = re.split(r"\n  (?=-)", text.partition("\noption")[2])[1:]
@@ -145,8 +143,7 @@ def options_of_table(entry):
 
 
 def lists_the_options_of_each_tool(_):
-    """The table has the options of each tool, with the values and defaults that the tool's help
-    has."""
+    """The table has each tool's options, with the values and defaults of the tool's help."""
     tools = [entry for entry in command_table.of_kind("launcher") if entry.value("tool")]
     faults = []
     for entry in tools:

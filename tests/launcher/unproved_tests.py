@@ -10,8 +10,8 @@ BEHIND = "irv: a faster unproved build is made in the background, and cached for
 
 
 def answers_without_proof(top):
-    """With `--unproved` nothing is proved. Arguments, input, output and status are passed on, and
-    the file of a run or a certificate is the one in the caller's directory."""
+    """`--unproved` proves nothing. It passes on arguments, input, output and status, and uses files
+    of the caller's directory."""
     output, errors, status, calls = call(top, "--unproved", "replay", "--run", "a.run", data=b"in")
     here = top.resolve()
     named = [call(top, "--unproved", *words)[0].decode() for words in
@@ -30,27 +30,26 @@ def answers_without_proof(top):
 
 
 def fails_if_the_build_fails(top):
-    """If the unproved build fails too, the status is 125, and what the toolchain printed is
-    printed."""
+    """If the unproved build fails too, the status is 125, and the toolchain's output is printed."""
     (top / "broken").write_text("")
     output, errors, status, _ = call(top, "--unproved", "check")
     return (output, status) == (b"", 125) and b"no such word" in errors
 
 
 def is_cached(top):
-    """Waits until the faster build is made. Returns whether it is."""
+    """Waits for the faster build. Returns whether it is there."""
     return comes_to_be(lambda: (top / "out/unproved/irv-unproved.built").exists()
                        and not list(top.glob("irv-making.*")))
 
 
 def builds_of(calls):
-    """Returns those of the toolchain's calls that build."""
+    """Returns the toolchain calls that build."""
     return [line for line in calls if not line.endswith((": version", ": doc"))]
 
 
 def caches_the_faster_build(top):
-    """The first `--unproved` is answered by the quick build, and the faster one is made in the
-    background; the next is answered by that, in the caller's directory, and builds nothing."""
+    """The quick build answers the first `--unproved`, while the faster one is built. The next call
+    uses that, in the caller's directory, without a build."""
     give_kit(top)
     first = call(top, "--unproved", "check", data=b"in")
     made = is_cached(top)
@@ -69,8 +68,7 @@ def removes_the_checks(top):
 
 
 def builds_anew_after_a_change(top):
-    """The cached build is not called once a source changed, nor if it is not the program that was
-    made."""
+    """The cached build is not called after a source changed, or if it is another program."""
     give_kit(top)
     call(top, "--unproved", "check")
     first, program = is_cached(top), top / "out/unproved/irv-unproved"
@@ -84,7 +82,7 @@ def builds_anew_after_a_change(top):
 
 
 def is_never_the_proved_one(top):
-    """Only `--unproved` and `--test` call the unproved build: a command, `--build`, `--install` and
+    """Only `--unproved` and `--test` call the unproved build. A command, `--build`, `--install` and
     `--html` prove first, and `--version` prints both."""
     give_kit(top)
     call(top, "--unproved", "check")
@@ -104,8 +102,7 @@ def is_never_the_proved_one(top):
 
 
 def builds_one_at_a_time(top):
-    """Of calls at the same time one makes the builds; the others wait for it, and are answered by
-    what it cached."""
+    """If several calls come at once, one builds. The others wait and use what it cached."""
     give_kit(top)
     with ThreadPoolExecutor(3) as pool:
         answers = list(pool.map(lambda _: call(top, "--unproved", "check"), range(3)))
@@ -124,8 +121,8 @@ def caches_nothing_edited(top):
 
 
 def works_without_the_faster_build(top):
-    """If the faster build fails, each `--unproved` is answered by the quick one. The cause is in
-    the log, and nothing else is left."""
+    """If the faster build fails, the quick one answers each `--unproved`. Only a log with the cause
+    remains."""
     give_kit(top)
     (top / "unmade").write_text("")
     outputs, log = [], top / "out/making.log"
@@ -139,8 +136,7 @@ def works_without_the_faster_build(top):
 
 
 def leaves_no_link(top):
-    """No link is in the repository while the faster build is made, nor afterwards: CI refuses
-    links."""
+    """The faster build never leaves a link in the repository: CI refuses links."""
     give_kit(top)
     (top / "unmade").write_text("")
     call(top, "--unproved", "check")

@@ -1,7 +1,7 @@
 """Tests that the launcher reads arguments as the program does.
 
-The launcher names a wrong argument if and only if the program answers `irv: usage`. Tried are
-hand-written arguments and random ones, with an empty standard input.
+The launcher names a wrong argument if and only if the program answers `irv: usage`. The arguments
+are hand-written or random, without input.
 """
 
 import random
@@ -15,7 +15,7 @@ from tests.support.harness import ProgramTest
 USAGE = 7
 RANDOM_CASES = 1500
 SEPARATOR = "\x1f"
-# reads cases, one a line, and prints for each the sentence about what is wrong, or an empty line
+# reads one case a line, and prints each fault's sentence or an empty line
 READER = r"""
 top=$1
 no_answer() { echo "$1" >&2; exit 125; }
@@ -45,8 +45,7 @@ OTHERS = ("--", "-", "-x", "--html", "--help=", "--=x", "--col", "--columns", "x
 
 
 def random_words(draw):
-    """Returns random arguments: mostly a command with some of its options, and then a few
-    changes."""
+    """Returns random arguments: mostly a command with options, then some changes."""
     command = draw.choice(command_table.of_kind("command")).name
     words = [command] if draw.random() < 0.95 else []
     for option in command_table.of_kind("option"):
@@ -62,7 +61,7 @@ def random_words(draw):
     return words
 
 
-# arguments in which a reader could be wrong
+# arguments that are easy to misread
 WRITTEN = (
     [], ["check"], ["check", "--"], ["--", "check"], ["check", "--", "x"], ["--", "--", "check"],
     ["check", "-"], ["-"], ["verify", "--cert", "--"], ["verify", "--cert=--"],
@@ -79,17 +78,17 @@ WRITTEN = (
 
 
 class UsageTests(ProgramTest):
-    """The launcher's reading of arguments beside the program's."""
+    """A comparison of the launcher's and the program's reading of arguments."""
 
     def read_by_launcher(self, cases):
-        """Returns for each case what the launcher finds wrong."""
+        """Returns for each case the fault that the launcher finds."""
         lines = "".join("".join(word + SEPARATOR for word in words) + "\n" for words in cases)
         done = subprocess.run(["bash", "-c", READER, "bash", str(TOP)], input=lines.encode(),
                               stdout=subprocess.PIPE, check=True)
         return done.stdout.decode().split("\n")[:-1]
 
     def status_of(self, words, directory):
-        """Returns the program's exit status for arguments, with an empty standard input."""
+        """Returns the program's exit status for arguments without input."""
         done = subprocess.run([self.program, *words], cwd=directory, stdin=subprocess.DEVNULL,
                               stdout=subprocess.DEVNULL, stderr=subprocess.DEVNULL, timeout=60)
         return done.returncode

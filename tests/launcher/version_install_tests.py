@@ -10,8 +10,8 @@ from tests.launcher.repository_copy import call, copy_tests, environment, lay_ou
 
 
 def names_what_is_missing(top):
-    """Without `rt` or Python a build and a first call end with a sentence that names it, and status
-    125. A built program answers without either, and so do help and version."""
+    """Without `rt` or Python a build and a first call name it and end with status 125. A built
+    program, help and version need neither."""
     calls = [("--build",), ("--unproved", "check"), ("check",), ("--html", "p.html"), ("--test",)]
     paths = {name: path_without(top, name) for name in ("rt", "python3")}
     for name, path in paths.items():
@@ -27,8 +27,8 @@ def names_what_is_missing(top):
 
 
 def prints_its_version(top):
-    """`--version` prints the version, the commit, the toolchain, the checksum of the sources, and
-    that of the program if it is built of these sources; it builds nothing."""
+    """`--version` prints the version, the commit, the toolchain and the sources' checksum, and the
+    program's if it is built of these sources. It builds nothing."""
     def printed():
         output, errors, status, calls = call(top, "--version")
         lines = dict(line.split(" ", 1) for line in output.decode().splitlines())
@@ -58,8 +58,7 @@ def prints_its_version(top):
 
 
 def fails_if_output_fails(top):
-    """If what the launcher prints by itself cannot be written, it says so with status 125, and
-    builds nothing."""
+    """If the launcher cannot write its own output, it says so with status 125, without a build."""
     seen = []
     for words in (["--help"], ["--version"], ["check", "--help"], ["--html", "-h"]):
         (top / "calls").write_text("")
@@ -72,8 +71,7 @@ def fails_if_output_fails(top):
 
 
 def prints_no_other_commit(top):
-    """In a directory of another repository `--version` prints no commit, since that one is not of
-    these sources."""
+    """In another repository's directory `--version` prints no commit: it is not of these sources."""
     outer = top / "outer"
     outer.mkdir()
     (outer / "file").write_text("")
@@ -87,8 +85,7 @@ def prints_no_other_commit(top):
 
 
 def give_licences(top):
-    """Gives the pretended toolchain libraries, two of which have a licence and are in the
-    program."""
+    """Gives the fake toolchain libraries, of which two in the program have a licence."""
     for name, needs in (("serde_json", "json"), ("json", "std"), ("std", ""), ("clap", "")):
         (top / f"kit/rlibs/{name}.rlib").mkdir(parents=True)
         (top / f"kit/rlibs/{name}.rlib/format").write_text(f"crate {name}\ndep {needs}\n")
@@ -98,9 +95,8 @@ def give_licences(top):
 
 
 def installs(top):
-    """`--install` copies the program, which runs elsewhere by itself, with the licences of the
-    libraries in it and of their dependencies. A second call makes the same bytes; so does one
-    without `rt`."""
+    """`--install` copies the program, which then runs alone, with the licences of its libraries and
+    their dependencies. A second call, even without `rt`, makes the same bytes."""
     give_licences(top)
     with tempfile.TemporaryDirectory(prefix="irv-installed-") as elsewhere:
         place = Path(elsewhere) / "new/bin"
@@ -133,7 +129,7 @@ def installs_its_version(top):
 
 
 def names_missing_licences(top):
-    """If the toolchain's libraries are not found, `--install` says so with status 125, and copies
+    """If the toolchain's libraries are missing, `--install` says so with status 125, and copies
     nothing."""
     output, errors, status, _ = call(top, "--install", top / "there")
     return ((output, status) == (b"", 125) and not (top / "there").exists()
@@ -141,8 +137,8 @@ def names_missing_licences(top):
 
 
 def refuses_wrong_counts(top):
-    """`--install`, `--build` and `--version` with too few or too many arguments end with status 125
-    and a line that shows the call, and build nothing."""
+    """With too few or too many arguments, `--install`, `--build` and `--version` print a usage line
+    with status 125, and build nothing."""
     cases = {("--install",): "./irv --install DIRECTORY",
              ("--install", "a", "b"): "./irv --install DIRECTORY",
              ("--build", "a"): "./irv --build", ("--version", "a"): "./irv --version"}

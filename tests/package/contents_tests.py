@@ -1,4 +1,4 @@
-"""Tests of packages: their result, their parts, and what repeating them finds."""
+"""Tests of packages: their result and parts, and the findings of repetition."""
 
 import html
 import re
@@ -12,16 +12,16 @@ from tests.support.package_calls import (
     INDEX, TOP, changed, differing, example, flip, made, renew_sums, repeat, text_of_page,
 )
 
-# two trains meet in a plant of two sections without a route and without a board at one border
+# two trains meet in a plant of two sections without routes, with a border without a board
 MEET = TOP / "examples/two-trains-meet.run"
 CROSSING = TOP / "examples/station-crossing.scene"
-# what repeat.sh finds if it is changed, even if the checksums are made anew
+# files in which repeat.sh finds a change even with new checksums
 ANSWERS = ("configuration.json", "verify.cert", "program/irv", "answers/verify.txt", "answers/audit-outside.txt")
 
 
 def faults_of_form(directory):
-    """What each package has to have: checksums of all files, a page whose links lead somewhere,
-    assumptions and application conditions, and answers that come again."""
+    """Yields missing parts of every package: checksums of all files, links with targets,
+    assumptions, application conditions, and repeatable answers."""
     named = [line[66:] for line in (directory / "SHA256SUMS").read_text().splitlines()]
     here = sorted(path.relative_to(directory).as_posix() for path in directory.rglob("*")
                   if path.is_file() and path.name != "SHA256SUMS")
@@ -45,7 +45,8 @@ def faults_of_form(directory):
 
 
 def check_safe(program, _):
-    """A safe table: the answers, the certificate, its checkers, and no difference when repeated."""
+    """A safe table's package has the answers, the certificate and its checkers, and repeats without
+    differences."""
     given = example("platforms.json")
     with made(program, given) as (directory, said):
         if said != "safe k=1":
@@ -81,8 +82,8 @@ def without_conflicts(value):
 
 
 def check_deviations(program, _):
-    """A table that breaks C6 fourteen times, on which safety does not depend: each is shown, and
-    how the table is safe with it."""
+    """For a table that breaks C6 fourteen times, without effect on safety, the package shows each
+    break and why the table is safe."""
     given = changed(example("station.json"), without_conflicts)
     scene = ("--run", CROSSING, "--run", CROSSING, "--solver-seconds", "0")
     with made(program, given, *scene) as (directory, said):
@@ -105,7 +106,7 @@ def check_deviations(program, _):
 
 
 def check_deviations_alone(program, _):
-    """A table that breaks only C6 is safe by that alone, also if verify gives up."""
+    """A table that breaks only C6 is safe by that alone, even if verify gives up."""
     given = changed(example("station.json"), without_conflicts)
     with made(program, given, "--conflicts", "0", "--search-seconds", "0") as (directory, said):
         if said != "with deviations, and safe with them, without a certificate: spent conflicts=0":
@@ -119,8 +120,7 @@ def check_deviations_alone(program, _):
 
 
 def check_unsafe(program, _):
-    """A table that is not safe: the deviation, that safety depends on it, and the run that shows
-    it."""
+    """An unsafe table's package shows the deviation, its effect on safety, and the run."""
     with made(program, example("platforms-wrong-position.json"), "--depth", "8") as (directory, said):
         if said != "with deviations, under free columns: not safe: hazard two pl1, by verify.run":
             yield said
@@ -143,8 +143,7 @@ def check_unsafe(program, _):
 
 
 def check_not_shown(program, _):
-    """If verify finds neither, and no run is searched for, the package says that nothing is
-    shown."""
+    """If verify finds neither, and no run is sought, the package says that nothing is shown."""
     words = ("--search-seconds", "0", "--depth", "1")
     with made(program, example("platforms-wrong-position.json"), *words) as (directory, said):
         wanted = "with deviations, under free columns: not shown to be safe: not inductive "
@@ -159,8 +158,7 @@ def check_not_shown(program, _):
 
 
 def check_run_is_kept(program, _):
-    """A given run is replayed, and a hazard to which it leads is attributed to it, not to the
-    search."""
+    """A given run is replayed, and its hazard is attributed to it, not to the search."""
     with made(program, example("two-sections.json"), "--run", MEET, "--search-seconds", "0", "--depth", "2") \
             as (directory, said):
         answer = (directory / "answers/replay-1.txt").read_text() if directory.exists() else ""
@@ -169,7 +167,7 @@ def check_run_is_kept(program, _):
 
 
 def check_no_plant(program, _):
-    """A configuration without a plant gets a package that says so, and only its rules are asked."""
+    """The package of a configuration without a plant says so, and checks only rules."""
     def twice(value):
         value["sections"].append(value["sections"][0])
     for given, rule in ((changed(example("platforms.json"), twice), "refused N1 sections["),
@@ -184,8 +182,8 @@ def check_no_plant(program, _):
 
 
 def check_changes(program, _):
-    """repeat.sh finds each changed, missing and new file by the checksums. It finds a changed
-    configuration, certificate, answer and program also if the checksums are made anew."""
+    """repeat.sh finds each changed, missing and new file by checksum. With new checksums it still
+    finds a changed configuration, certificate, answer or program."""
     with made(program, example("line-with-boards.json"), "--solver-seconds", "0") as (directory, said):
         if said != "safe k=1":
             yield said
@@ -205,7 +203,7 @@ def check_changes(program, _):
 
 
 def hidden(directory, name):
-    """What is not found of a change in one file."""
+    """Yields the undetected changes in one file."""
     file = directory / name
     kept, sums = file.read_bytes(), (directory / "SHA256SUMS").read_bytes()
     flip(file)
@@ -221,8 +219,7 @@ def hidden(directory, name):
 
 
 def check_moved(program, _):
-    """A package is repeated from a copy elsewhere, by a program that is named, and changes
-    nothing."""
+    """A copied package can be repeated with a named program, and does not change."""
     with made(program, example("line-with-boards.json"), "--solver-seconds", "0") as (directory, _):
         copy = directory.parent / "a copy with spaces"
         subprocess.run(["cp", "-r", directory, copy], check=True)
@@ -233,7 +230,7 @@ def check_moved(program, _):
 
 
 def check_made_again(program, _):
-    """A package that is made again, in another directory, is the same byte for byte."""
+    """A package made again elsewhere has the same bytes."""
     for name, words in (("platforms.json", ()), ("two-sections.json", ("--run", MEET, "--search-seconds", "0"))):
         with made(program, example(name), *words) as (one, _), made(program, example(name), *words) as (other, _):
             done = subprocess.run(["diff", "-rq", one, other], capture_output=True, check=False)
@@ -242,7 +239,7 @@ def check_made_again(program, _):
 
 
 def check_about(program, _):
-    """The title, the project, the issue and the author are on the page and on the report, as texts."""
+    """The page and the report have title, project, issue and author as text."""
     words = ("--title", "Line <A>", "--project", "P & Q", "--issue", "2", "--author", "M. \"X\"")
     with made(program, example("two-sections.json"), "--search-seconds", "0", *words) as (directory, _):
         text, page = text_of_page(directory), (directory / INDEX).read_text()

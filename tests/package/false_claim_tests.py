@@ -1,5 +1,5 @@
-"""Tests of what a package must not claim: with fake programs, notes of other builds, names of all
-kinds, and checksums that are none."""
+"""Tests of claims that a package must not make: fake programs, notes of other builds, unusual names
+and invalid checksums."""
 
 import hashlib
 import os
@@ -27,8 +27,8 @@ def fake_at(room, program, command, does):
 
 
 def check_contradiction(program, _):
-    """If a checker rejects the certificate, or a scenario ends in a hazard with a table that is
-    said to be safe, the package says that one of them is wrong, and not that the table is safe."""
+    """If a checker rejects the certificate, or a scenario ends in a hazard although the table is
+    said to be safe, the package reports a contradiction, not safety."""
     scene = TOP / "examples/station-crossing.scene"
     for command, does, wanted in (
             ("audit", "echo 'rejected line 1'; exit 6",
@@ -45,7 +45,7 @@ def check_contradiction(program, _):
 
 
 def check_no_answer(program, _):
-    """If check gives no answer, no package is made. If verify gives none, the package says why."""
+    """Without check's answer no package is made. Without verify's the package says why."""
     given = example("line-with-boards.json")
     with place() as directory:
         fake = fake_at(directory.parent, program, "check", "kill -9 $$")
@@ -59,9 +59,8 @@ def check_no_answer(program, _):
 
 
 def check_names(program, _):
-    """Names with quotes, blanks, markup, a dash at the beginning, a line feed and bytes that are
-    not UTF-8 are shown as they are, and a package in such a directory is repeated, whatever CDPATH
-    is."""
+    """Names with quotes, blanks, markup, a first dash, a line feed or bytes that are not UTF-8 are
+    shown. A package in such a directory can be repeated with any CDPATH."""
     with place() as directory:
         room = directory.parent
         given, run = os.fsencode(room) + b"/" + NAME, os.fsencode(room) + b"/" + RUN
@@ -85,8 +84,8 @@ def check_names(program, _):
 
 
 def check_notes(program, _):
-    """A note of a proof counts only for the program beside which it is, that of the unproved build
-    for none, and a program of other sources gets no version."""
+    """A proof note counts only for the program beside it, and the unproved build's note never. A
+    program of other sources gets no version."""
     given, total = example("line-with-boards.json"), hashlib.sha256(program.read_bytes()).hexdigest()
     unknown = ("not known to be proved", "commit unknown; ", "sources unknown")
     with place() as directory:
@@ -104,7 +103,7 @@ def check_notes(program, _):
 
 
 def check_wrong_checksums(program, _):
-    """A checksum that is none, and a new symbolic link, are found."""
+    """An invalid checksum and a new symbolic link are found."""
     with made(program, example("line-with-boards.json"), "--solver-seconds", "0") as (directory, _):
         sums = directory / "SHA256SUMS"
         lines = sums.read_text().splitlines()

@@ -1,4 +1,4 @@
-"""Tests of what tools/package says on a terminal, and what an interrupted call leaves."""
+"""Tests of tools/package's terminal output, and of interrupted calls."""
 
 import os
 import pty
@@ -11,7 +11,7 @@ from pathlib import Path
 from tests.support.harness import test_case
 from tests.support.package_calls import TOP, example
 
-SECONDS = 60            # for a call to come as far as it is waited for
+SECONDS = 60            # for a call to reach the awaited point
 # a program whose verify leaves a temporary file, writes its process number, and takes long
 SLOW = """#!/bin/sh
 case $1 in verify) mktemp > /dev/null; echo $$ > '{room}/begun'; exec sleep 300 ;; esac
@@ -20,7 +20,7 @@ exec '{program}' "$@"
 
 
 def waits(condition):
-    """Returns whether a condition holds within some time."""
+    """Returns whether a condition becomes true in time."""
     end = time.monotonic() + SECONDS
     while not condition() and time.monotonic() < end:
         time.sleep(0.1)
@@ -28,8 +28,8 @@ def waits(condition):
 
 
 def check_interrupted(program, _):
-    """A call that is ended by a signal says so, with status 125. It leaves no directory, none of
-    its temporary files or of those of the tools that it calls, and no process."""
+    """A call ended by a signal says so, with status 125. It leaves no directory, no process, and no
+    temporary file of its own or its tools."""
     for number in (signal.SIGINT, signal.SIGTERM, signal.SIGHUP):
         with tempfile.TemporaryDirectory(prefix="irv-test-package-") as name:
             room = Path(name)
@@ -59,14 +59,13 @@ def check_interrupted(program, _):
 
 
 def unblock():
-    """Has the signals end a process, also if the caller ignores them."""
+    """Makes the signals end a process, even if the caller ignores them."""
     for number in (signal.SIGINT, signal.SIGTERM, signal.SIGHUP):
         signal.signal(number, signal.SIG_DFL)
 
 
 def check_terminal(program, _):
-    """On a terminal the call says which step it does now; elsewhere it says nothing on standard
-    error."""
+    """On a terminal the call shows its current step. Elsewhere standard error is empty."""
     with tempfile.TemporaryDirectory(prefix="irv-test-package-") as name:
         words = [TOP / "tools/package", Path(name) / "one", "--program", program, "--search-seconds", "0"]
         done = subprocess.run(words, input=example("two-sections.json"), capture_output=True, check=False)

@@ -1,5 +1,5 @@
-"""Tests of tools/verify_package: what it finds in a package that was changed, with the checksums
-made anew or not, alone and with a release or another program beside it."""
+"""Tests of the changes that tools/verify_package finds in a package, with old or new checksums,
+alone and with a release or another program."""
 
 import bz2
 import gzip
@@ -20,7 +20,7 @@ from irvtools.package.verify_package import FAILED, Judge
 from tests.support.harness import test_case
 from tests.support.package_calls import TOP, call, changed, example, flip, judged, made, place, renew_sums
 
-# a part of each kind, with a file or answer that the judge names if the checksums are made anew
+# a part of each kind, and the file or answer that the judge names despite new checksums
 CHANGES = {
     "configuration.json": "answers/", "answers/verify.txt": "answers/verify.txt",
     "answers/check-strict.txt": "answers/check-strict.txt", "verify.cert": "verify.cert",
@@ -35,7 +35,7 @@ SHORT = ("--solver-seconds", "0")
 
 @contextmanager
 def package(program, name="line-with-boards.json"):
-    """Gives a package of an example."""
+    """Yields a package of an example."""
     with made(program, example(name), *SHORT) as (directory, said):
         assert said.startswith("safe k="), said
         yield directory
@@ -43,7 +43,7 @@ def package(program, name="line-with-boards.json"):
 
 @contextmanager
 def kept(directory):
-    """Gives a copy of a package, which is removed."""
+    """Yields a temporary copy of a package."""
     copy = directory.with_name("copy")
     shutil.copytree(directory, copy)
     try:
@@ -53,8 +53,7 @@ def kept(directory):
 
 
 def write_release(room, directory):
-    """Writes what the judge reads of a release: version, sources, licences and program of a
-    package."""
+    """Writes the judge's part of a release: a package's version, sources, licences and program."""
     release = room / "release"
     release.mkdir()
     shutil.copy(directory / "version.txt", release)
@@ -66,9 +65,8 @@ def write_release(room, directory):
 
 
 def check_good(program, _):
-    """A package as it was made passes, by the tool and by the single file of a release in an empty
-    environment, from an empty directory. Both print the checksum of SHA256SUMS, and change
-    nothing."""
+    """An unchanged package passes, by the tool and by a release's single file in an empty
+    environment and directory. Both print the checksum of SHA256SUMS, and change nothing."""
     with package(program, "station.json") as directory:
         before = sorted((path.as_posix(), path.stat().st_mtime_ns) for path in directory.rglob("*"))
         total = hashlib.sha256((directory / "SHA256SUMS").read_bytes()).hexdigest()
@@ -87,8 +85,7 @@ def check_good(program, _):
 
 
 def check_kinds(program, _):
-    """Packages of tables with deviations, with a run to a hazard, without a verdict and without a
-    plant pass."""
+    """Packages with deviations, with a run to a hazard, without a verdict or without a plant pass."""
     meet = ("--run", TOP / "examples/two-trains-meet.run")
     for name, words in (("platforms-wrong-position.json", ("--depth", "8")),
                         ("platforms-wrong-position.json", ("--depth", "1", "--search-seconds", "0")),
@@ -104,7 +101,7 @@ def check_kinds(program, _):
 
 
 def check_links(program, _):
-    """Each link of a package that was copied to another place leads to something there."""
+    """Each link of a copied package has a target there."""
     with package(program, "station.json") as directory, kept(directory) as copy:
         shutil.rmtree(directory)
         failures, _, _ = judged(copy)
@@ -116,8 +113,8 @@ def check_links(program, _):
 
 
 def check_changes(program, _):
-    """A change of each kind of file is found by the checksums, and if they are made anew by another
-    check, which names the file or what is made again from it."""
+    """Checksums find a change of each kind of file. With new ones another check finds it, and names
+    the file or its product."""
     with package(program) as directory:
         for name, wanted in CHANGES.items():
             with kept(directory) as copy:
@@ -132,8 +129,7 @@ def check_changes(program, _):
 
 
 def check_added_and_missing(program, _):
-    """A new and a missing file, a symbolic link and a dead link are found, also with new
-    checksums."""
+    """A new or missing file, a symbolic link and a dead link are found, even with new checksums."""
     with package(program) as directory:
         for wanted, change in (
                 ("note.txt: not a part", lambda copy: (copy / "note.txt").write_text("x")),
@@ -152,7 +148,7 @@ def check_added_and_missing(program, _):
 
 
 def drop_call(copy, name):
-    """Removes a call from the record of a package, with its answer."""
+    """Removes a call and its answer from a package's record."""
     record = json.loads((copy / "calls.json").read_text())
     record["calls"] = [it for it in record["calls"] if it["name"] != name]
     (copy / "calls.json").write_text(json.dumps(record, indent=1) + "\n")
@@ -160,20 +156,20 @@ def drop_call(copy, name):
 
 
 def free_columns(copy):
-    """Has the first call of a package made with free columns."""
+    """Gives the first call of a package free columns."""
     text = (copy / "calls.json").read_text()
     (copy / "calls.json").write_text(text.replace('"strict"', '"free"', 1))
 
 
 def other_command(copy):
-    """Has a call of a package made by another command."""
+    """Gives a call of a package another command."""
     text = (copy / "calls.json").read_text()
     (copy / "calls.json").write_text(text.replace('"program/irv"', '"true"', 1))
 
 
 def check_record(program, _):
-    """A record without a call that such a package has, with other columns, or with a command that
-    is not the package's own is found, and that command is not called."""
+    """A record with a missing call, other columns or a foreign command is found, and that command
+    is not called."""
     with package(program) as directory:
         for wanted, change in (("no call audit-outside", lambda copy: drop_call(copy, "audit-outside")),
                                ("no call check-strict with strict columns", free_columns),
@@ -188,7 +184,7 @@ def check_record(program, _):
 
 
 def everything_anew(copy):
-    """Changes a document in the sources of a package too, and makes all that depends on it anew."""
+    """Changes a document, also in a package's sources, and renews all that depends on it."""
     files = files_of(bz2.decompress((copy / "sources.tar.bz2").read_bytes()))
     name = "docs/reference/model.md"
     files[name] = files[name][0], files[name][1] + b"\nOther words.\n"
@@ -208,8 +204,8 @@ def everything_anew(copy):
 
 
 def check_release(program, _):
-    """A change of a document with all that depends on it made anew is found only by a release of
-    that version, and so are another program and another toolchain in the version file."""
+    """If everything that depends on a changed document is renewed, only a release of that version
+    finds it. The same holds for another program or toolchain in the version file."""
     with package(program) as directory:
         release = write_release(directory.parent, directory)
         failures, lines, status = judged(directory, "--release", release)
@@ -233,7 +229,7 @@ def check_release(program, _):
 
 
 def check_release_beside(program, _):
-    """The single file in a release compares with that release if none is named."""
+    """The single file in a release compares with that release by default."""
     with package(program) as directory:
         release = write_release(directory.parent, directory)
         (release / "verify_package.py").write_text(script())
@@ -250,8 +246,7 @@ exec '{program}' "$@"
 
 
 def check_other_program(program, _):
-    """A package that was made with a program that lies passes by that program, and another program
-    finds each lie."""
+    """A lying program's package passes by itself, but another program finds each lie."""
     given = changed(example("platforms-wrong-position.json"), lambda value: None)
     with place() as directory:
         liar = directory.parent / "liar"
@@ -266,7 +261,7 @@ def check_other_program(program, _):
 
 
 def check_refusals(program, _):
-    """What is not a package, no release and no program is refused with status 125."""
+    """Anything but a package, release or program is refused with status 125."""
     with package(program) as directory:
         empty = directory.parent / "empty"
         empty.mkdir()

@@ -1,4 +1,4 @@
-"""The test of a large package, which takes many minutes."""
+"""A test of a large package, which takes many minutes."""
 
 import subprocess
 import time
@@ -9,13 +9,13 @@ from tests.support.harness import LongTest, test_case
 
 PLANT = TOP / "tests/plants/bs.json"
 CHANGED = ("configuration.json", "verify.cert", "answers/verify.txt", "program/irv")
-# rup takes minutes over what another solver writes of step 1
+# rup takes minutes over another solver's proof of step 1
 WORDS = ("--solver-seconds", "0")
 
 
 def first_difference(directory):
-    """Returns the first difference that the script of a package prints, and ends it, because the
-    rest takes minutes."""
+    """Returns the first difference that a package's script prints, and ends the script, which would
+    take minutes."""
     repeating = subprocess.Popen([directory / "repeat.sh"], stdout=subprocess.PIPE, stderr=subprocess.DEVNULL,
                                  text=True, cwd="/", start_new_session=True)
     try:
@@ -26,8 +26,8 @@ def first_difference(directory):
 
 
 def check_large(program, _):
-    """A line of two stations with crossovers, with a certificate of 90 MB: its package is repeated
-    without a difference, and each changed byte is found."""
+    """The package of a line of two stations with crossovers, with a 90 MB certificate, repeats
+    without a difference. Each changed byte is found."""
     begin = time.monotonic()
     with made(program, PLANT.read_bytes(), *WORDS) as (directory, said):
         print(f"    {said}, after {time.monotonic() - begin:.0f} s", flush=True)

@@ -1,5 +1,4 @@
-"""Tests of what packages quote: assumptions and application conditions, and what is known of the
-program."""
+"""Tests of quotations in packages: assumptions, application conditions and facts about the program."""
 
 import os
 import tempfile
@@ -35,7 +34,7 @@ that each train stops.
 
 
 def check_items(_, __):
-    """Each item of the page is read with its statement and its lines; other entries are not."""
+    """Each item of the page, and no other entry, is read with its statement and lines."""
     found = provenance.items_in(DOCUMENT)
     wanted = [("AS-01", "configuration", "The sections are those of the railway.", "the author."),
               ("SRAC-01", "closed boards", "The train operator shall ensure that each train stops.", None)]
@@ -47,8 +46,8 @@ def check_items(_, __):
 
 
 def check_page(_, __):
-    """Each assumption and condition of the true page has a statement; each condition says `shall`,
-    and has a duty holder and how it is discharged. Without a page there are none."""
+    """Each assumption and condition of the real page has a statement. Each condition says `shall`,
+    and has a duty holder and a discharge. Without a page there are none."""
     assumptions, conditions = provenance.items("AS"), provenance.items("SRAC")
     if len(assumptions) < 9 or len(conditions) < 18:
         yield f"{len(assumptions)} assumptions, {len(conditions)} conditions"
@@ -60,8 +59,7 @@ def check_page(_, __):
 
 
 def check_version_file(_, __):
-    """For the report of a package its version file says whether the program is known to be proved,
-    and of which commit and toolchain it is."""
+    """A package's report takes the program's proof, commit and toolchain from its version file."""
     lines = "commit c\ntoolchain kit 1\nsources s\nprogram sha256 p\n"
     with tempfile.TemporaryDirectory(prefix="irv-test-package-") as room:
         file = Path(room, "version.txt")

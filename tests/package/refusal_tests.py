@@ -1,4 +1,4 @@
-"""Tests of packages that are refused: why, and that nothing is changed."""
+"""Tests of refused packages: the reason, and no changes."""
 
 import subprocess
 import tempfile
@@ -9,7 +9,7 @@ from tests.support.harness import test_case
 
 
 def refusals(room):
-    """Arguments that are refused, each with a part of the reason."""
+    """Returns refused arguments, each with a part of the reason."""
     (room / "full").mkdir()
     (room / "full/old").write_text("kept")
     (room / "file").write_text("kept")
@@ -36,7 +36,7 @@ def refusals(room):
 
 
 def state_of(room):
-    """All names below a directory, with the contents of the files."""
+    """Returns all names below a directory, with the files' contents."""
     return {path.relative_to(room).as_posix(): path.read_bytes() if path.is_file() else None
             for path in room.rglob("*")}
 
@@ -56,14 +56,14 @@ def check_refusals(program, _):
 
 
 def call_in(room, program, words):
-    """Calls the tool in a directory, with these arguments."""
+    """Calls the tool in a directory."""
     own = [] if "--program" in words else ["--program", program]
     return subprocess.run([TOP / "tools/package", *words, *own], input=example("two-sections.json"), cwd=room,
                           capture_output=True, check=False)
 
 
 def check_empty_directory(program, _):
-    """An empty directory is taken."""
+    """An empty directory is accepted."""
     with tempfile.TemporaryDirectory(prefix="irv-test-package-") as name:
         directory = Path(name) / "empty"
         directory.mkdir()

@@ -1,3 +1,3 @@
-"""Tests over real track layouts: those of Debian's packages, if they are installed or fetched.
+"""Tests over real track layouts of Debian's packages, if installed or fetched.
 
-No data is copied into the repository. `corpus.list` has what is expected of each file."""
+The repository has no copy of the data. `corpus.list` has each file's expected result."""

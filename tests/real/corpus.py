@@ -1,9 +1,8 @@
-"""The files of the corpus, and the plants that are made of them.
+"""The files of the corpus, and the plants made from them.
 
-`corpus.list` has a line for each import, with tabs between: the file's name, the first 12 digits of
-its SHA-256, the options, and either the counts or a part of the message. The counts are those that
-were seen when the list was written. A file of another version is passed over, and so is one that
-does not exist.
+`corpus.list` has a tab-separated line per import: the file's name, the first 12 digits of its
+SHA-256, the options, and either the counts or a part of the message. The counts were recorded when
+the list was written. Missing files and those of another version are skipped.
 """
 
 import hashlib
@@ -24,7 +23,7 @@ COUNTS = ("sections", "points", "boards", "routes")
 
 
 class Entry:
-    """A line of the list: a file, the options of its import, and what is expected."""
+    """A line of the list: a file, its import options, and its expected result."""
 
     def __init__(self, line):
         self.name, self.checksum, options, self.expected = line.split("\t")
@@ -33,26 +32,26 @@ class Entry:
 
     @property
     def is_there(self):
-        """Returns whether the file exists and has the contents that the list knows."""
+        """Returns whether the file exists with the listed contents."""
         return self.path.is_file() and self.checksum == \
             hashlib.sha256(self.path.read_bytes()).hexdigest()[:12]
 
     @property
     def is_small(self):
-        """Returns whether the file is read in about two seconds and has a table of few routes."""
+        """Returns whether the file is read in about two seconds and has few routes."""
         routes = self.expected.rpartition(", ")[2].partition(" ")[0]
         return self.path.stat().st_size < SMALL_BYTES and \
             not (self.is_plant and (not routes.isdigit() or int(routes) > SMALL_ROUTES))
 
     @property
     def is_plant(self):
-        """Returns whether the file is expected to be imported."""
+        """Returns whether the file should be imported."""
         return self.expected[0].isdigit()
 
 
 def entries(suffix, is_long, least=1):
-    """Returns the lines of files with a suffix that are there, unless `is_long` only the small
-    ones. Skips the test if too few are there."""
+    """Returns the lines of existing files with a suffix; only small ones unless `is_long`. Skips
+    the test if too few exist."""
     found = [Entry(line) for line in Path(__file__).with_name("corpus.list").read_text(
         encoding="utf-8").splitlines() if line and not line.startswith("#")]
     wanted = [one for one in found if suffix in one.name]
@@ -65,7 +64,7 @@ def entries(suffix, is_long, least=1):
 
 
 def imported(program, entry, room):
-    """Imports a file. Returns the configuration and an empty message, or None and the message."""
+    """Imports a file. Returns the configuration and an empty message, or `None` and the message."""
     out = Path(room, "plant.json")
     done = subprocess.run([sys.executable, str(TOOLS / "import"), str(entry.path), "--out",
                            str(out), "--program", str(program), *entry.options],
@@ -79,14 +78,14 @@ def imported(program, entry, room):
 
 
 def asked(program, command, configuration, *words):
-    """Returns what the program answers, and its status."""
+    """Returns the program's answer and its status."""
     done = subprocess.run([str(program), command, *words], input=json.dumps(configuration).encode(),
                           capture_output=True, timeout=SECONDS, check=False)
     return done.stdout.decode(), done.returncode
 
 
 def table_of(program, entry, room):
-    """Returns the table of a file's network, or None if there is none."""
+    """Returns the table of a file's network, or `None`."""
     configuration, _ = imported(program, entry, room)
     if configuration is None:
         return None
@@ -95,7 +94,7 @@ def table_of(program, entry, room):
 
 
 def counts(program, configuration):
-    """Returns the counts of an import as the list has them."""
+    """Returns the counts of an import as in the list."""
     sections = configuration["sections"]
     points = sum(one["kind"] == "point" for one in sections)
     boards = sum(bool(one.get(f"board_{side}")) for one in sections for side in ("down", "up"))

@@ -1,5 +1,5 @@
-"""Tests over the corpus: counts of each import, clean tables, a second reader, SUMO's driveways,
-and faults that are planted and found."""
+"""Tests over the corpus: import counts, clean tables, a second reader, SUMO's driveways, and
+planted faults."""
 
 import bz2
 import copy
@@ -29,7 +29,7 @@ LEGS = {"plus": "minus", "minus": "plus"}
 
 
 def check_imports(program, is_long):
-    """Each file of the corpus gives the counts of the list, or its message; its table is clean."""
+    """Each file of the corpus gives the listed counts or message. Its table is clean."""
     found = entries(".", is_long)
     with tempfile.TemporaryDirectory(prefix="irv-real-") as room:
         for entry in found:
@@ -48,7 +48,7 @@ def check_imports(program, is_long):
 
 
 def check_loops(program, _):
-    """A layout with a reversing loop is refused, by its track, unless loops are cut."""
+    """A layout with a reversing loop is refused at its track, unless cut."""
     with tempfile.TemporaryDirectory(prefix="irv-real-") as room:
         for entry in entries(".xtc", True):
             if "--cut-loops" in entry.options:
@@ -71,7 +71,7 @@ def beyond(by_name, start, first):
 
 
 def joins_of(configuration):
-    """Returns for each point its far ends: over its stem, and over its legs without their order."""
+    """Returns each point's far ends: over its stem, and over its legs without order."""
     by_name = {one["name"]: one for one in configuration["sections"]}
     return {name: (beyond(by_name, name, one["stem"]),
                    tuple(sorted(beyond(by_name, name, one[leg]) for leg in ("plus", "minus"))))
@@ -79,7 +79,7 @@ def joins_of(configuration):
 
 
 def by_netconvert(program, entry, room):
-    """Returns the configuration that is read from what netconvert makes of a map."""
+    """Returns the configuration read from netconvert's network of a map."""
     text = bz2.decompress(entry.path.read_bytes()).decode("utf-8")
     Path(room, "map.osm").write_text(text, encoding="utf-8")
     simulation.call(["netconvert", "--osm-files", "map.osm", "-o", "map.net.xml",
@@ -98,7 +98,7 @@ def by_netconvert(program, entry, room):
 
 
 def check_second_reader(program, is_long):
-    """netconvert reads the same points of a map, joined in the same way."""
+    """netconvert finds a map's same points, joined in the same way."""
     if simulation.missing():
         raise SkipTest(f"{simulation.missing()} is not installed (Debian's package sumo)")
     checked = 0
@@ -118,8 +118,7 @@ def check_second_reader(program, is_long):
 
 
 def check_driveways(program, is_long):
-    """SUMO finds the routes of each table and no other way, and agrees about conflicts; all trains
-    arrive."""
+    """SUMO finds exactly the routes of each table, and agrees about conflicts. All trains arrive."""
     if simulation.missing():
         raise SkipTest(f"{simulation.missing()} is not installed (Debian's package sumo)")
     with tempfile.TemporaryDirectory(prefix="irv-real-") as room:
@@ -140,7 +139,7 @@ def check_driveways(program, is_long):
 
 
 def planted(tables, count):
-    """Yields tables in which one listed point of one route is turned, with the route's number."""
+    """Yields tables with one listed point of one route turned, and the route's number."""
     chance = random.Random(SEED)
     for _ in range(count):
         name = chance.choice(sorted(tables))
@@ -152,7 +151,7 @@ def planted(tables, count):
 
 
 def check_planted(program, is_long):
-    """One turned point of one route is named by `check`, and random search finds a hazard."""
+    """`check` names one turned point of one route, and random search finds a hazard."""
     with tempfile.TemporaryDirectory(prefix="irv-real-") as room:
         tables = {}
         for entry in entries(".", is_long):

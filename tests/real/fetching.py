@@ -1,4 +1,4 @@
-"""Fetches maps out of Debian's source packages josm and osm2pgsql, by apt-get."""
+"""Fetches maps from Debian's source packages josm and osm2pgsql with apt-get."""
 
 import shutil
 import subprocess
@@ -12,7 +12,7 @@ from tests.real.corpus import MAPS
 
 PACKAGES = ("josm", "osm2pgsql")
 SECONDS = 1200
-# the ends of the names of the files in the archives, and the names here
+# the ends of the archives' file names, and the names here
 WANTED = {"nodist/data/neubrandenburg.osm.bz2": "neubrandenburg.osm.bz2",
           "nodist/data/overpass-download.osm.bz2": "overpass-download.osm.bz2",
           "test/data/regress/18863/data.osm.bz2": "josm-18863.osm.bz2",
@@ -20,7 +20,7 @@ WANTED = {"nodist/data/neubrandenburg.osm.bz2": "neubrandenburg.osm.bz2",
 
 
 def fetched(room):
-    """Downloads the source packages into a directory, with a list of sources of its own."""
+    """Downloads the source packages into a directory, with its own source list."""
     room = Path(room)
     (room / "lists/partial").mkdir(parents=True)
     suite = subprocess.run(["sh", "-c", ". /etc/os-release; echo $VERSION_CODENAME"],
@@ -36,7 +36,7 @@ def fetched(room):
 
 
 def unpacked(room, directory):
-    """Copies the maps out of the archives; returns their names."""
+    """Copies the maps from the archives. Returns their names."""
     found = []
     for archive in sorted(Path(room).glob("*.orig.tar.*")):
         with tarfile.open(archive) as members:
@@ -52,7 +52,7 @@ def unpacked(room, directory):
 
 
 def main(words):
-    """Fetches the maps; returns the exit status."""
+    """Fetches the maps. Returns the exit status."""
     line = Parser("tests/fetch_maps", "Fetches the maps of tests/real out of Debian's source "
                   f"packages {' and '.join(PACKAGES)} (59 MB), by apt-get.\nThe maps are data of "
                   "OpenStreetMap: © OpenStreetMap contributors, ODbL 1.0.", 2,

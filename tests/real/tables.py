@@ -1,4 +1,4 @@
-"""Writes ten tables of the corpus as files, for measurements of `verify`."""
+"""Writes ten tables of the corpus as files, to measure `verify`."""
 
 import json
 import sys
@@ -11,7 +11,7 @@ from irvtools.paths import TOP
 from tests.real.corpus import entries, table_of
 
 DIRECTORY = TOP / "out/tables"
-# the name of each table: a file and the options of its import, from the sparse to the dense
+# each table's name: a file and its import options, from sparse to dense
 TABLES = {"rhine-line": ("josm-18863.osm.bz2", []), "liechtenstein": ("liechtenstein.osm.bz2", []),
           "overpass": ("overpass-download.osm.bz2", []), "stonega": ("stonega.xtc", []),
           "katoxing": ("katoxing.xtc", ["--cut-loops"]),
@@ -22,7 +22,7 @@ TABLES = {"rhine-line": ("josm-18863.osm.bz2", []), "liechtenstein": ("liechtens
 
 
 def main(words):
-    """Writes the tables; returns the exit status."""
+    """Writes the tables. Returns the exit status."""
     line = Parser("tests/write_tables", "Writes ten tables of the corpus of tests/real, for "
                   "tools/benchmark and tools/update_performance.", 2,
                   "tests/write_tables [DIRECTORY] [--program FILE]")

@@ -12,19 +12,29 @@ from irvtools.package.single_file import script
 from irvtools.package.source_archive import files_here
 from irvtools.package.source_checksums import sum_of_sources
 from irvtools.paths import TOP
-from irvtools.release.ci_log import TREE, checks_of
+from irvtools.release import agreement
+from irvtools.release.ci_log import TREE, Unread, checks_of, tests_in
 from tests.release.small_repository import LOG, called, git, release, repository
+from tests.support import runner
 from tests.support.harness import test_case
 
-MARK = "irv-reproducible-build"         # by which tests/reproducible_build knows its directory
+MARK = "irv-reproducible-build"         # marks the directory of tests/reproducible_build
 RECORD = (
     "# Validation record of irv 1.2.3 (generated", "| toolchain | `kit 1` |", "| commit | `", "| tree | `",
     "| `tests/run --without-program` | 3 | 1 | Runs the tests, and what \\| is. |",
     "| `rt ci` | 40 | 0 | ",
     "| `tests/run --with-program` | 600 | 1 | Runs the tests, and what \\| is. |",
     "| `tools/mutants` | 5 | 0 | Tries mutants. |", "| `tests/run docs` | 2 | 3 | 0 |",
-    "| `tests/run html` | 1 | 600 | 0 |", "| `tests/run schema` | 0 | 0 | 1 |",
+    "| `tests/run html` | 3 | 3690 | 0 |", "| `tests/run schema` | 0 | 0 | 1 |",
     "- `schema.examples`: python3-jsonschema is not installed\n",
+    "| `audit` | `deviations.clean_tables` (60) | 60 |\n",
+    "`audit.platforms` (283), `audit.station` (283) | 1089 |\n", " (C) | none in CI | 0 |\n",
+    "`lrat.terminus_throat` (6) | 41 |\n", "| CaDiCaL, MiniSat, PicoSAT | none in CI | 0 |\n",
+    "`simulate.model.model` (200), `simulate.model.order` (1) | 4291 |\n",
+    "| `strict_check` and the certificate of `verify` | `deviations.clean_tables` (60) | 60 |\n",
+    " (C): no test of CI compares it. `tests/fuzz_audit` does so outside CI; no log of that was given.\n",
+    ": no test of CI compares it. `tests/solvers`, `tests/fuzz_rup` do so outside CI; the extra logs have `tests/solvers`.",
+    "models of the events: `simulate.browser.browser_model` was skipped: no browser is installed\n",
     "| `low` | 1 | 2 |\n| all | 1 | 2 |", "5, as CI counted them and as the prover lists them",
     "- `libc::close`\n- `libc::open`\n- `libc::read`\n- `libc::write`\n- `os::c::errno`\n",
     "| `serde_json` | serde_json 1.2.3 | LICENSE-APACHE, LICENSE-MIT |",
@@ -35,13 +45,14 @@ RECORD = (
 
 
 def check_release(_, __):
-    """A release has the program, manual page, completions and licences, what CI printed, command by
-    command, the axioms by name, the libraries with versions and licences, the extra logs, the judge
-    of packages, and the sources as an archive. Made twice it is the same, byte for byte."""
+    """A release has the program, manual page, completions, licences, CI's output by command, the
+    axioms by name and the extra logs. It has the libraries with versions and licences, the judge of
+    packages, and the sources' archive. Made twice, it has the same bytes."""
     with repository() as top:
         logs = {"long.log": "$ tests/html P --long\nmuch\n9 passed, 0 failed\n",
                 "-seeded.log": "$ tests/first P --seed 3\nmuch\n8 passed, 0 failed\n",
-                "own.log": "$ tests/first P\n8 passed, 0 failed\n"}
+                "own.log": "$ tests/first P\n8 passed, 0 failed\n",
+                "solvers.log": "$ tests/solvers\n9 passed, 0 failed\n"}
         words = []
         for name, text in logs.items():
             (top.parent / name).write_text(text)
@@ -69,7 +80,7 @@ def check_release(_, __):
 
 
 def faults_of_files(made, said):
-    """What is missing of the files of a release, and of what was printed."""
+    """Yields what is missing in a release's files and output."""
     wanted = {"irv", "irv.licences", "irv.1", "irv.bash", "verify_package.py", "record.md", "ci.log", "version.txt",
               "sources.tar.gz", "CHANGELOG.md", "qualification.md", "traceability.md", "releases.md", "SHA256SUMS"}
     if wanted - {path.name for path in made.iterdir()}:
@@ -96,14 +107,13 @@ def changed(place, old, new):
 
 
 def commit_more(top):
-    """Commits something else after CI."""
+    """Commits another change after CI."""
     (top / "VERSION").write_text("1.2.4\n")
     git(top, "commit", "-q", "-a", "-m", "m")
 
 
 def changes():
-    """Returns what is changed before a release is made, by a part of the reason why it is refused
-    then."""
+    """Returns the changes before a release, by a part of the reason for its refusal."""
     edited = ", and not all is committed"
     return {
         "CI did not pass: tests/run --with-program": changed("gate.log", "600 passed, 0", "600 passed, 1"),
@@ -127,14 +137,18 @@ def changes():
         "or others": changed("listed", "libc::read ", "libc::rand "),
         "did not find the program proved over": changed("listed", "logic=proved", "logic=not-proved"),
         "crates/low/out has no library": lambda top: (top / "crates/low/out/rlib/low.rlib").rmdir(),
+        "no result of the test deviations.clean_tables": changed("gate.log", "deviations.clean_tables", "deviations.all"),
+        "no result of the test lrat.station,": changed("gate.log", "passed lrat.station (", "passed lrat.stop ("),
         "is not an empty directory": lambda top: (top.parent / "made").write_text("kept"),
         "No such file": lambda top: (top.parent / "gate.log").unlink()}
 
 
 def check_release_refused(_, __):
-    """A release is refused, and no directory made, if the log is of a failed CI run, not whole or
-    of another tree, if the axioms differ from those that CI counted, if the checkout is changed, if
-    the program is of other sources, or if the directory is not empty."""
+    """A release is refused, without a directory, if:
+
+    - the log is of a failed CI run, incomplete or of another tree;
+    - the axioms differ from those that CI counted;
+    - the checkout is changed, the program has other sources, or the directory is not empty."""
     for why, change in changes().items():
         with repository() as top:
             change(top)
@@ -147,7 +161,7 @@ def check_release_refused(_, __):
 
 
 def can_hide():
-    """Returns whether the cache can be hidden here from a build; skips the test if not."""
+    """Returns whether the cache can be hidden from a build; otherwise skips the test."""
     words = ["unshare", *(() if os.geteuid() == 0 else ("--user", "--map-root-user")), "--mount",
              "mount", "-t", "tmpfs", "tmpfs", tempfile.gettempdir()]
     can = shutil.which(words[0]) and subprocess.run(words, capture_output=True, check=False).returncode == 0
@@ -157,8 +171,8 @@ def can_hide():
 
 
 def check_same_bytes(_, __):
-    """tests/reproducible_build finds if two builds have the same bytes. It builds where the cache
-    is hidden, and refuses a directory that has other files."""
+    """tests/reproducible_build compares the bytes of two builds. It hides the cache, and refuses a
+    directory with other files."""
     if not can_hide():
         return
     with repository() as top:
@@ -187,9 +201,8 @@ def check_same_bytes(_, __):
 
 
 def check_given_build(_, __):
-    """tests/reproducible_build takes a build of CI for one of its two if CI passed over this tree,
-    from nothing, and the note beside the program has these sources and bytes; otherwise it refuses
-    it."""
+    """tests/reproducible_build accepts a CI build as one of its two if CI passed over this tree,
+    from nothing, and the program's note has these sources and bytes. Otherwise it refuses."""
     if not can_hide():
         return
     with repository() as top:
@@ -220,15 +233,14 @@ def check_given_build(_, __):
 
 
 def same_bytes(top, room, *words):
-    """Returns what tests/reproducible_build of the small repository prints."""
+    """Returns the output of the small repository's tests/reproducible_build."""
     done = called(top, top / "tests/reproducible_build", room, *words)
     done.stdout, done.stderr = done.stdout.decode(), done.stderr.decode()
     return done
 
 
 def check_ci(_, __):
-    """A release reads the log of the true .ci/run: its commands that count, and its lines on the
-    tree."""
+    """A release reads the real .ci/run's log: its counted commands, and its lines about the tree."""
     text = (TOP / ".ci/run").read_text(encoding="utf-8")
     wanted = ["tests/run --without-program", "rt ci", "tests/run --with-program", "tools/mutants"]
     if checks_of(text) != wanted:
@@ -240,6 +252,38 @@ def check_ci(_, __):
         yield f"{printed}"
 
 
+def check_agreement(_, __):
+    """The qualification page and agreement.py name the same independent checks with the same tests, which
+    exist. A row or a name that is missing or changed is found on the page, in the tests and in a log."""
+    page = (TOP / agreement.PAGE).read_text(encoding="utf-8")
+    tests = {runner.name_of(test) for test in runner.all_tests()}
+    suites = {path.relative_to(TOP).as_posix() for path in (TOP / "tests").iterdir()}
+    yield from agreement.differences(page, tests, suites)
+    for one in agreement.CHECKS:
+        row = next((line for line in page.splitlines(True) if line.startswith(f"| {one.check} | ")), "")
+        changes = [(page.replace(row, ""), tests, suites), (page.replace(row, row + row), tests, suites)]
+        for name in (*one.tests, *one.extra):
+            cell = row.rpartition(" | ")[2]
+            changes += [(page.replace(row, row.replace(cell, cell.replace(f"`{name}`", other))), tests, suites)
+                        for other in ("", f"`{name}_2`")]
+            changes.append((page, tests - {name}, suites - {name}))
+        yield from (f"{one.check}: a change is not found" for change in changes
+                    if not list(agreement.differences(*change)))
+    yield from log_faults()
+
+
+def log_faults():
+    """Yields each named test whose line in the log can be missing or renamed, and still be counted."""
+    for name in sorted({name for one in agreement.CHECKS for name in one.tests}):
+        for other in (LOG.replace(f" {name} (", " another ("), LOG.replace(f" {name} (", f" {name}_2 (")):
+            try:
+                list(agreement.section(tests_in(other), []))
+                yield f"{name} is not in the log, and nothing is said"
+            except Unread as fault:
+                if f"the test {name}," not in str(fault):
+                    yield str(fault)
+
+
 ReleaseTests = test_case("ReleaseTests", (
-    check_release, check_release_refused, check_same_bytes, check_given_build, check_ci,
+    check_release, check_release_refused, check_same_bytes, check_given_build, check_ci, check_agreement,
 ))

@@ -1,5 +1,4 @@
-"""A small repository with a fake CI, a fake toolchain and a fake program, of which a release is
-made."""
+"""A small repository with a fake CI, toolchain and program, to make releases from."""
 
 import hashlib
 import os
@@ -40,6 +39,24 @@ logic=proved functions=6 axioms=5 sum=0
 rt: ok; every proof and must-fail edit was done in this run
 40 passed, 0 failed
 passed html.advice.asks (600 checks, 12.5 s): Advice is asked for.
+passed audit.line_with_boards (523 checks, 1.0 s)
+passed audit.platforms (283 checks, 1.0 s)
+passed audit.station (283 checks, 1.0 s)
+passed deviations.clean_tables (60 checks, 1.0 s): If check finds a table clean, verify finds it safe.
+passed html.event_model.after_use (90 checks, 1.0 s)
+passed html.event_model.model (3000 checks, 1.0 s)
+passed lrat.line_with_boards (5 checks, 1.0 s)
+passed lrat.platforms (5 checks, 1.0 s)
+passed lrat.station (5 checks, 1.0 s)
+passed lrat.station_protected (5 checks, 1.0 s)
+passed lrat.stations_1 (5 checks, 1.0 s)
+passed lrat.stations_2 (5 checks, 1.0 s)
+passed lrat.stations_4 (5 checks, 1.0 s)
+passed lrat.terminus_throat (6 checks, 1.0 s)
+passed pipelines.drives (1000 checks, 1.0 s)
+passed simulate.model.model (200 checks, 1.0 s)
+passed simulate.model.order (1.0 s)
+skipped simulate.browser.browser_model (0.0 s): no browser is installed
 skipped package.large_package.large (0.0 s): takes long; --long runs it
 600 passed, 0 failed, 1 skipped
 5 passed, 0 failed
@@ -65,7 +82,7 @@ LICENCES = """
 RT = """#!/bin/sh
 case $1 in doc) echo '{room}/kit/START-HERE.md' ;; version) echo 'kit 1' ;; esac
 """
-# a launcher whose build is its own place if the sources say so, and what is cached
+# a launcher whose build is the sources, the cache and, if the sources have text, its own place
 LAUNCHER = """#!/bin/sh
 case $1 in
     --build) mkdir -p crates/irv/out
@@ -75,7 +92,7 @@ case $1 in
     --install) echo page > "$2/irv.1"; echo completions > "$2/irv.bash" ;;
 esac
 """
-# a prover that lists the axioms if it is asked for them, over the library that CI built
+# a prover that lists the axioms on request, over the library built by CI
 PROVER = """#!/bin/sh
 case " $* " in *" --allow-holes "*) echo holes=0 ;; *" --list-axioms "*) cat '{room}/listed' ;; esac
 """
@@ -91,13 +108,13 @@ FILES = {".ci/run": CI, "VERSION": "1.2.3\n", "CHANGELOG.md": "c\n", ".gitignore
 
 
 def git(top, *words):
-    """Calls git in the repository; returns what it prints."""
+    """Calls git in the repository. Returns its output."""
     return subprocess.run(["git", "-c", "user.name=n", "-c", "user.email=e", "-C", top, *words], check=True,
                           capture_output=True).stdout.decode().strip()
 
 
 def lay_out(top):
-    """Writes the repository, and commits it."""
+    """Writes the repository and commits it."""
     for place, text in FILES.items():
         (top / place).parent.mkdir(parents=True, exist_ok=True)
         (top / place).write_text(text)
@@ -112,7 +129,7 @@ def lay_out(top):
 
 
 def build(top):
-    """Writes what CI leaves: the program with the files beside it, and the library."""
+    """Writes what CI leaves: the program with its neighbours and the library."""
     program = top / "crates/irv/out/irv"
     program.parent.mkdir()
     program.write_bytes(b"program")
@@ -139,8 +156,7 @@ def give_toolchain(room):
 
 @contextmanager
 def repository():
-    """Gives the repository, in a directory whose name has a blank, with the log of its CI beside
-    it."""
+    """Yields the repository, in a directory with a blank in its name, beside its CI log."""
     with tempfile.TemporaryDirectory(prefix="irv release-") as name:
         top = Path(name) / "the top"
         lay_out(top)
@@ -151,7 +167,7 @@ def repository():
 
 
 def called(top, *words):
-    """Returns what came of a call with the fake toolchain on the path."""
+    """Returns the result of a call with the fake toolchain on the path."""
     environment = {**os.environ, "PATH": f"{top.parent}/bin:{os.environ['PATH']}"}
     return subprocess.run(words, capture_output=True, check=False, cwd=top.parent, env=environment)
 

@@ -1,5 +1,5 @@
-"""Tests of the simulator in a browser without a screen: without a mouse, without colours, at other
-sizes, and of the largest plants."""
+"""Tests of the simulator in a headless browser: without mouse, without colours, at other sizes, and
+with the largest plants."""
 
 import json
 import time
@@ -12,7 +12,7 @@ from tests.support.harness import test_case
 
 @in_browser
 def check_browser_keys(program, running, _):
-    """By keys alone: to the plan, from sign to sign, a train in, a route set, back and forth."""
+    """Keys alone reach the plan and its signs, enter a train, set a route, and undo and redo."""
     with Shown(program, running, model_checks.plants()["station"]) as shown:
         one = shown.page
         for _ in range(40):
@@ -60,7 +60,7 @@ def check_browser_keys(program, running, _):
 
 
 def names_of(one):
-    """What a screen reader is told: roles with names."""
+    """Returns a screen reader's roles and names."""
     one.call("Accessibility.enable")
     nodes = one.call("Accessibility.getFullAXTree")["nodes"]
     return [(node.get("role", {}).get("value"), node.get("name", {}).get("value", ""))
@@ -72,7 +72,7 @@ CONTROLS = ("button", "textbox", "searchbox", "radio", "checkbox", "listbox", "l
 
 @in_browser
 def check_browser_reader(program, running, _):
-    """Names for a screen reader: of each sign of the plan, and of each control."""
+    """Each plan sign and control has a name for a screen reader."""
     with Shown(program, running, model_checks.plants()["station-protected"]) as shown:
         shown.press("entry", "b1")
         shown.page.ask("game.askLine('mark r2')")
@@ -90,8 +90,8 @@ def check_browser_reader(program, running, _):
         yield from faults("live", [(live, "alert,status,status")])
 
 
-FINGER = 24             # the least of a sign that a finger meets
-MOST_WORK = 50          # milliseconds in which an event is shown
+FINGER = 24             # the least size of a touch target
+MOST_WORK = 50          # milliseconds to show an event
 SIZES = {"a desk": (1400, 1000, False), "400 percent": (350, 250, False), "a tablet": (820, 1180, True),
          "a telephone": (390, 800, True)}
 
@@ -125,7 +125,7 @@ def check_browser_sizes(program, running, _):
             yield from faults("a touch", [(shown.text("place"), "1 of 1")])
 
 
-# the texts that stand out too little from what is behind them
+# the texts with too little contrast to their background
 CONTRAST = """(() => {
   const value = (colour) => colour.match(/[\\d.]+/g).map(Number);
   const part = (v) => (v <= 0.03928 ? v / 12.92 : ((v + 0.055) / 1.055) ** 2.4);
@@ -148,7 +148,7 @@ CONTRAST = """(() => {
   }
   return [...new Set(low)].slice(0, 6);
 })()"""
-# of a board that is open and of one that is closed, what is drawn
+# the drawings of an open and a closed board
 SHAPES = """["open", "closed"].map((kind) => [...document.querySelector(`.board.${kind}`).children]
   .filter((one) => getComputedStyle(one).display !== "none" && !one.matches(".hit, .target"))
   .map((one) => one.tagName).join("+"))"""
@@ -159,8 +159,8 @@ IN_USE = ("enter b1", "mark r1", "allocate "
 
 @in_browser
 def check_browser_dark(program, running, _):
-    """In the dark as in the light each text stands out from its ground, and what differs by colour
-    differs by shape too."""
+    """In light and dark mode each text has enough contrast. Colour differences are also shape
+    differences."""
     for scheme in ("light", "dark"):
         with Shown(program, running, model_checks.plants()["station"], prefers_color_scheme=scheme) as shown:
             shown.click("input[value=none]")
@@ -176,8 +176,8 @@ def check_browser_dark(program, running, _):
 
 @in_browser
 def check_browser_largest(program, running, is_long):
-    """Of 256 sections and 256 routes an event is shown after no more than 50 ms of work of the
-    page, and a route is found by a search; with --long the times are printed."""
+    """With 256 sections and 256 routes an event is shown within 50 ms of the page's work, and
+    search finds a route. With `--long` the times are printed."""
     for name, given in largest().items():
         with Shown(program, running, given) as shown:
             one = shown.page
@@ -194,7 +194,7 @@ def check_browser_largest(program, running, is_long):
             yield from (f"{name}: {fault}" for fault in one.faults())
 
 
-# the lines of a train that comes in at a border, and of a route that is set for it
+# the lines of a train that enters at a border, and of a route set for it
 FIRST = """(() => {
   const border = game.plant.borders.find((x) => game.plant.board(x, game.plant.inward[x]) !== undefined);
   const { name } = game.plant.routes[game.plant.routesFrom[game.plant.board(border, game.plant.inward[border])][0]];
@@ -202,7 +202,7 @@ FIRST = """(() => {
   return [`enter ${game.plant.name(border)}`, `mark ${name}`, `allocate ${name}`, `lock ${name}`,
     `head ${game.plant.name(border)}`, `sense ${name}`];
 })()"""
-# an event, and the picture after it
+# an event, and the next picture
 SHOW = """(async () => {
   const begin = performance.now();
   game.askLine(LINE);
@@ -212,8 +212,8 @@ SHOW = """(async () => {
 
 
 def times(one):
-    """Some events, each with the milliseconds until it is shown: on the clock, and of the page's
-    thread."""
+    """Returns some events, each with the wall-clock milliseconds until it is shown, and the page
+    thread's."""
     one.measure()
     for words in one.ask(FIRST):
         before = one.busy()

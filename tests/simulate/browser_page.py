@@ -1,4 +1,4 @@
-"""A page in a browser without a screen, as a trial plays it."""
+"""A page in a headless browser, as a test plays it."""
 
 import json
 import subprocess
@@ -11,11 +11,11 @@ from tests.support import browser
 from tests.support import devtools
 from tests.simulate.page_tests import page
 
-SECONDS = 10            # to wait for what comes by itself
+SECONDS = 10            # to wait for automatic effects
 
 
 class Shown:
-    """A page of a plant in a browser, with a folder for what it saves."""
+    """A plant's page in a browser, with a directory for saved files."""
 
     def __init__(self, program, running, given, fragment="", **size):
         self.room = tempfile.TemporaryDirectory(prefix="irv-shown-")
@@ -36,24 +36,24 @@ class Shown:
         self.room.cleanup()
 
     def click(self, *selectors):
-        """Clicks, one after the other."""
+        """Clicks elements in order."""
         for selector in selectors:
             self.page.click(selector)
             self.clicks += 1
 
     def sign(self, kind, name):
-        """The selector of a sign of the plan by its name."""
+        """Returns the selector of a named sign of the plan."""
         number = self.page.ask(
             f"({{board: game.plant.named.board, section: game.plant.named.section, entry: "
             f"game.plant.named.section}})[{json.dumps(kind)}].get({json.dumps(name)})")
         return f"[data-kind={kind}][data-number='{number}']"
 
     def press(self, kind, name):
-        """Clicks on a sign of the plan."""
+        """Clicks a sign of the plan."""
         self.click(self.sign(kind, name))
 
     def button(self, words):
-        """Clicks on a button that can be seen, by its words."""
+        """Clicks a visible button by its words."""
         is_there = self.page.ask(
             f"(() => {{ const one = [...document.querySelectorAll('button')].find((one) => "
             f"one.textContent === "
@@ -66,11 +66,11 @@ class Shown:
         self.page.ask("document.querySelector('[data-wanted]')?.removeAttribute('data-wanted')")
 
     def text(self, id_):
-        """The text of an element."""
+        """Returns an element's text."""
         return self.page.ask(f"document.getElementById({json.dumps(id_)}).textContent")
 
     def saved(self, id_, end):
-        """Clicks on a button that saves a file; the file, once it is there."""
+        """Clicks a button that saves a file. Returns the saved file, or `None`."""
         self.click(f"#{id_}")
         stop = time.monotonic() + SECONDS
         while time.monotonic() < stop:
@@ -91,23 +91,23 @@ class Shown:
             time.sleep(0.02)
 
     def answer(self, command, file):
-        """What the program answers to a file."""
+        """Returns the program's answer to a file."""
         done = subprocess.run([self.program, command, "--columns", "free", "--run", file], input=self.given,
                               capture_output=True, check=False)
         return done.stdout.decode()
 
 
-RUNNING = []            # the one browser of all trials, once it was needed
+RUNNING = []            # the shared browser of all tests, on demand
 
 
 def close():
-    """Ends the browser, where one runs."""
+    """Ends the running browser, if any."""
     for running in RUNNING:
         running.close()
 
 
 def in_browser(trial):
-    """A trial that takes a browser, where there is one."""
+    """Returns a test that takes a browser, and is skipped without one."""
     def tried(program, is_long):
         found = browser.find()
         if found is None:
@@ -115,13 +115,14 @@ def in_browser(trial):
         if not RUNNING:
             RUNNING.append(devtools.Browser(found))
         try:
-            yield from trial(program, RUNNING[0], is_long)
+            return (yield from trial(program, RUNNING[0], is_long))
         except devtools.Trouble as fault:
             yield str(fault)
+            return None
     tried.__name__, tried.__doc__ = trial.__name__, trial.__doc__
     return tried
 
 
 def faults(what, pairs):
-    """The pairs of what is and what should be that differ."""
+    """Returns the faults of pairs of actual and expected values that differ."""
     return [f"{what}: {is_!r}, and not {wanted!r}" for is_, wanted in pairs if is_ != wanted]

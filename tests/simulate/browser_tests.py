@@ -1,4 +1,4 @@
-"""Tests of the simulator in a browser without a screen: its model, and runs by clicks."""
+"""Tests of the simulator in a headless browser: its model, and runs by clicks."""
 
 import json
 import subprocess
@@ -12,12 +12,12 @@ from tests.support.harness import test_case
 
 SCRIPT = Path(__file__).resolve().parent / "model_checks.js"
 SHORT, LONG = (150, 3), (6000, 40)      # events and drives of each plant
-FEW = ("two-sections", "station-protected", "trailing-point-wrong")     # without --long these alone
+FEW = ("two-sections", "station-protected", "trailing-point-wrong")     # only these without --long
 
 
 @in_browser
 def check_browser_model(program, running, is_long):
-    """In the browser: the model agrees with replay, drive and the other model over random runs."""
+    """In the browser the model agrees with replay, drive and the other model."""
     count = model_checks.Count()
     script = SCRIPT.read_text(encoding="utf-8")
 
@@ -32,12 +32,12 @@ def check_browser_model(program, running, is_long):
         yield from count.left_out()
         if count.events < 100000:
             yield f"only {count.events} events"
+    return count.compared()
 
 
 @in_browser
 def check_browser_crossing(program, running, _):
-    """Two trains cross in a passing loop, by clicks; what is saved is answered by replay and
-    drive."""
+    """Two trains cross in a passing loop by clicks. Replay and drive answer the saved files."""
     with Shown(program, running, model_checks.plants()["station"]) as shown:
         shown.press("entry", "b1")
         shown.press("entry", "b2")
@@ -56,8 +56,7 @@ def check_browser_crossing(program, running, _):
 
 @in_browser
 def check_browser_refused(program, running, _):
-    """A route that waits and an event that isn't enabled: both with their reasons; trains that
-    block each other."""
+    """A waiting route and a disabled event show their reasons, and deadlocked trains are reported."""
     with Shown(program, running, model_checks.plants()["station"]) as shown:
         shown.press("entry", "b1")
         shown.press("board", "m1")
@@ -93,8 +92,8 @@ def check_browser_refused(program, running, _):
 
 @in_browser
 def check_browser_collision(program, running, _):
-    """A collision on a wrong table, by hand in under twenty clicks; saved, answered by replay,
-    loaded, and continued from an earlier event."""
+    """A collision on a wrong table takes under twenty clicks. It is saved, replayed, loaded, and
+    continued from an earlier event."""
     with Shown(program, running, model_checks.plants()["platforms-wrong-position"]) as shown:
         shown.press("entry", "pl1")
         shown.press("entry", "line")
@@ -123,8 +122,8 @@ def check_browser_collision(program, running, _):
 
 @in_browser
 def check_browser_queue(program, running, _):
-    """A request that can't lock yet is announced as one that stays, and it is said when it locks;
-    the signs of a route's path, overlap and protecting points differ."""
+    """A request that cannot lock yet is announced as persistent, and its locking is announced. The
+    signs of a route's path, overlap and protecting points differ."""
     with Shown(program, running, model_checks.plants()["station"]) as shown:
         for line in ("enter b1", "mark r1", "mark r3", "mark r2"):
             shown.page.ask(f"game.askLine({line!r})")
@@ -157,8 +156,7 @@ def check_browser_queue(program, running, _):
 
 @in_browser
 def check_browser_reload(program, running, _):
-    """A reload keeps the run and the place; a run that the address can't keep makes the browser
-    ask."""
+    """A reload keeps the run and the place. If the address cannot keep the run, the browser asks."""
     with Shown(program, running, model_checks.plants()["station"]) as shown:
         for line in ("enter b1", "mark r1", "mark r3"):
             shown.page.ask(f"game.askLine({line!r})")
@@ -192,8 +190,8 @@ BAD_TEXTS = [
 
 @in_browser
 def check_browser_texts(program, running, _):
-    """Runs of verify and of a state, scenarios and links are loaded; other texts are refused, and
-    change nothing."""
+    """Runs of verify and of a state, scenarios and links are loaded. Other texts are refused
+    without a change."""
     given = model_checks.plants()["station"]
     state = (TOP / "examples/point-thrown-under-train.run").read_text()
     with Shown(program, running, given, "#run.1~start~enter.b1~end~") as shown:
@@ -228,8 +226,8 @@ def check_browser_texts(program, running, _):
 
 @in_browser
 def check_browser_events(program, running, _):
-    """Without automatic events each event is asked for by its button; a train moves on step by
-    step, or runs as far as its boards allow."""
+    """Without automatic events each event has its button. A train moves step by step, or as far as
+    its boards allow."""
     with Shown(program, running, model_checks.plants()["station"]) as shown:
         shown.click("input[value=none]")
         shown.press("entry", "b1")

@@ -1,13 +1,13 @@
-"""What the simulator says if something isn't enabled, waits or is blocked: each sentence derived by
-hand from the table of docs/reference/model.md.
+"""The simulator's sentences about disabled, waiting and blocked things, derived by hand from
+docs/reference/model.md.
 
-Each entry of REFUSED is a plant, the events before (with commas between them; after `drive` the
-automatic events follow each), the event, and the sentence. """
+Each entry of REFUSED has a plant, the earlier events, the event, and the sentence. Commas separate
+the events; after `drive` the automatic events follow each."""
 
-CROSSING = "drive enter b1, mark r1, enter b2, mark r6"    # trains in t1 and t2, which run up and down
+CROSSING = "drive enter b1, mark r1, enter b2, mark r6"    # trains in t1 and t2, up and down
 
 REFUSED = [
-    # of routes
+    # routes
     ("station", "mark r1", "mark r1", "r1 cannot be requested: r1 is marked, not free."),
     ("station", "", "allocate r1", "r1 cannot be allocated: r1 is free, not marked."),
     ("station", "mark r1, allocate r1, mark r2", "allocate r2",
@@ -34,12 +34,12 @@ REFUSED = [
      "yet."),
     ("station", "mark r1, allocate r1, lock r1", "cancel r1",
      "r1 cannot be cancelled: r1 is locked, not marked or allocating."),
-    # what protects a route: r1 has m2 and m4 as protecting boards, and p2 as a protecting point to minus
+    # protection: r1 has m2 and m4 as protecting boards, and p2 as a protecting point to minus
     ("station-protected", "mark r5, allocate r5, lock r5, mark r1", "allocate r1",
      "r1 cannot be allocated: its conflict r5 is locked; t1 is locked by r5; p2 is locked by r5."),
     ("station-protected", "mark r1, allocate r1", "lock r1",
      "r1 cannot be locked: points p2 are in position plus and do not move to minus yet."),
-    # of points and trains
+    # points and trains
     ("station", "", "throw p1", "Points p1 cannot be thrown: points p1 are in position plus, as "
                                 "commanded."),
     ("station", "", "settle p1", "Points p1 cannot settle: points p1 are not moving: they are in "
@@ -58,12 +58,12 @@ REFUSED = [
                      "a", "head b", "No train can move on from b: the network ends there."),
     ("two-sections", "enter a, head a", "leave b",
      "No train can leave the area at b: train 1 has other sections besides b."),
-    # after a hazard nothing
+    # nothing after a hazard
     ("two-sections", "enter a, enter b, head a", "tail a",
      "No rear of a train can leave a: the run has ended in a hazard (hazard two b)."),
 ]
 
-# the plant, the events, and what is said of each route that waits
+# the plant, the events, and the sentences about waiting routes
 WAITING = [
     ("station", "drive mark r1", {"r1": ["no train is at board m1 yet"]}),
     ("station", "mark r1, allocate r1, lock r1, enter "
@@ -79,8 +79,8 @@ WAITING = [
      {"r1": ["train 1 has not left p1 yet"]}),
 ]
 
-# The plant, the events, and the trains that block each other. In the passing loop two trains that wait in its
-# tracks and run up can't leave while one waits at b2 and runs down, nor can that one enter.
+# The plant, the events, and the deadlocked trains. In the passing loop two waiting up trains cannot
+# leave while a down train waits at b2, nor can that one enter.
 BLOCKED = [
     ("station", CROSSING, []),
     ("station", "drive enter b1, mark r1, enter b1, mark r2, enter b2",
@@ -90,7 +90,7 @@ BLOCKED = [
       "Train 3 waits at board m2: r5 needs t1, which train 1 occupies; r6 needs t2, which train 2 "
       "occupies."]),
     ("station", "drive enter b1, mark r1, enter b2", []),
-    # one that stands behind the three is blocked with them
+    # a train behind the three is blocked with them
     ("station", "drive enter b1, mark r1, enter b1, mark r2, enter b2, enter b1",
      ["Train 1, Train 2, Train 3, Train 4 block each other: none of them can ever move on.",
       "Train 1 waits at board m3: r3 needs b2, which train 3 occupies.",
@@ -99,17 +99,17 @@ BLOCKED = [
       "occupies.",
       "Train 4 waits at board m1: r1 needs t1, which train 1 occupies; r2 needs t2, which train 2 "
       "occupies."]),
-    # the tails of trains 1 and 3 still stand on the points that others need, and may leave them
+    # the rears of trains 1 and 3 are on points that others need, but may leave them
     ("station", "enter b1, mark r2, allocate r2, throw p1, settle p1, lock r2, head b1, sense r2, "
                 "tail b1, "
                 "head p1, enter b1, enter b2, mark r5, allocate r5, lock r5, head b2, sense r5, "
                 "tail b2, "
                 "head p2", []),
-    # two trains face each other on a line with boards: each has one route, over the other's section
+    # two trains face each other on a line: each route leads over the other's section
     ("line-with-boards", "enter a, enter b",
      ["Train 1, Train 2 block each other: none of them can ever move on.",
       "Train 1 waits at board m1: r1 needs b, which train 2 occupies.",
       "Train 2 waits at board m2: r2 needs a, which train 1 occupies."]),
-    # a route that was allocated before the train came may yet be locked: nothing is said
+    # a route allocated before the train came may still be locked: nothing is said
     ("line-with-boards", "enter a, mark r1, allocate r1", []),
 ]

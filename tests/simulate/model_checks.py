@@ -1,5 +1,5 @@
-"""What the page's model says of random runs, beside `irv replay`, `irv drive` and the other model
-of events, that of irvtools/model/events.py."""
+"""Compares the page's model with `irv replay`, `irv drive` and the event model of
+irvtools/model/events.py, over random runs."""
 
 import json
 import subprocess
@@ -23,7 +23,7 @@ AT_ONCE = 2
 
 
 def plants():
-    """Plants that break no rule of the network and of the table, by name, as bytes."""
+    """Returns plants that break no rule N or R, by name, as bytes."""
     found = {path.stem: path.read_bytes() for path in sorted((TOP / "examples").glob("*.json"))}
     found["line"] = json.dumps(fifteen_section_line.right()).encode()
     found.update({name: json.dumps(fifteen_section_line.with_fault(name)).encode() for name in FAULTS})
@@ -32,7 +32,7 @@ def plants():
 
 
 def all_events(plant):
-    """Every event that a run text may have."""
+    """Yields every event that a run text may have."""
     for word in events.EVENTS:
         things = range(len(plant.routes)) if word in ROUTE_WORDS else \
             plant.points if word in ("throw", "settle") else range(len(plant.sections))
@@ -40,7 +40,7 @@ def all_events(plant):
 
 
 def enabled_lines(plant, state):
-    """The lines of all events that are enabled, by the other model."""
+    """Returns the lines of all events that the other model enables."""
     if events.hazard(plant, state):
         return []
     return [event_line(plant, event) for event in all_events(plant)
@@ -48,8 +48,8 @@ def enabled_lines(plant, state):
 
 
 def other_model_faults(plant, run):
-    """Where the other model differs: in an event of a run, in the state at its end, or in what is
-    enabled there."""
+    """Yields the other model's differences in a run's events, its last state, or what is enabled
+    there."""
     state = State(plant)
     for words in run["first"] or []:
         read_state_line(plant, state, words.split(" "))
@@ -64,7 +64,7 @@ def other_model_faults(plant, run):
 
 
 def replay_faults(irv, run):
-    """Where `irv replay` says something else than the page's model."""
+    """Yields the differences of `irv replay` from the page's model."""
     pairs = [(run["text"], run["says"]), (run["rest"], run["says"])]
     if run["refused"]:
         pairs.append((run["refused"][1], f"not a run at {len(run['events']) + 1}"))
@@ -75,7 +75,7 @@ def replay_faults(irv, run):
 
 
 def drive_faults(program, given, drives):
-    """Where `irv drive` prints something else than the page's model says."""
+    """Yields the differences of `irv drive` from the page's model."""
     with tempfile.TemporaryDirectory(prefix="irv-play-") as room:
         for number, one in enumerate(drives):
             file = Path(room, f"scene{number}")
@@ -87,7 +87,7 @@ def drive_faults(program, given, drives):
 
 
 class Count:
-    """What a battery has tried."""
+    """The counts of an extra test suite."""
 
     def __init__(self):
         self.runs = self.events = self.refused = self.drives = 0
@@ -106,8 +106,12 @@ class Count:
         self.drives += len(drives)
         self.rests |= {one["says"].split(" ")[0] for one in drives}
 
+    def compared(self):
+        """Returns how many texts both the page and the program answered: runs, refused events and drives."""
+        return self.runs + self.refused + self.drives
+
     def left_out(self):
-        """What should have come up, and didn't."""
+        """Yields what should have occurred, but did not."""
         yield from (f"{word} was never done" for word in events.EVENTS if word not in self.enabled)
         yield from (f"{word} was never "
                     f"refused" for word in events.EVENTS if word not in self.not_enabled)
@@ -122,9 +126,9 @@ class Count:
 
 
 def faults(program, ask, size, count, names=None):
-    """Where the page's model differs from the program and from the other model, over each plant, or
-    those of some names: `size` has the events and the drives of each; `ask` takes a plant's name,
-    the plant and an expression."""
+    """Yields the differences of the page's model from the program and the other model, over each
+    plant or `names`. `size` has the events and drives of each; `ask` takes a name, the plant and an
+    expression."""
     most_events, most_drives = size
     for seed, (name, given) in enumerate(plants().items(), 1):
         if names and name not in names:

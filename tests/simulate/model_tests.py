@@ -1,4 +1,4 @@
-"""Trials of the page's model, in a script engine."""
+"""Tests of the page's model in a script engine."""
 
 import json
 from pathlib import Path
@@ -14,37 +14,38 @@ from irvtools.model.plant import Plant
 from tests.support.harness import test_case
 
 SCRIPT = Path(__file__).resolve().parent / "model_checks.js"
-EVENTS, DRIVES = 60, 2          # of each plant, in the gate
+EVENTS, DRIVES = 60, 2          # of each plant, in CI
 CASES = ("events", "states", "runtext", "drive")
 BLOCKADES = {"station": 40, "line-with-boards": 10, "line": 15, "stations "
                                                                 "2": 10, "path-ends-early": 15}
 MOST_OF_BLOCKADE = 150          # events of a run
-LONG = 45                       # events, more than lie between the states that a play keeps
+LONG = 45                       # more events than between two states that a play keeps
 
 
 def asks(name, plant, expression):
-    """The value of an expression over a plant, by the engine."""
+    """Returns an expression's value over a plant in the engine."""
     return script_engine.Engine(script_engine.find(), plant, SCRIPT.read_text(encoding="utf-8")).ask(expression)
 
 
 def is_there():
-    """Returns true if there is a script engine, otherwise skips the test."""
+    """Returns true if there is a script engine. Skips the test otherwise."""
     if script_engine.find() is None:
         raise SkipTest(f"no script engine is installed ({', '.join(script_engine.NAMES)})")
     return True
 
 
 def check_model(program, _):
-    """The model agrees with replay, drive and the other model of events, over random runs."""
+    """The model agrees with replay, drive and the other event model over random runs."""
     if not is_there():
-        return
+        return None
     count = model_checks.Count()
     yield from model_checks.faults(program, asks, (EVENTS, DRIVES), count)
     yield from count.left_out()
+    return count.compared()
 
 
 def replay_cases():
-    """The cases of replay and drive that have an answer: name, plant's bytes, command, text and
+    """Returns the replay and drive cases with an answer: name, plant's bytes, command, text and
     line."""
     for file in CASES:
         for case in case_files.read_case_file(case_files.CASES / f"{file}.cases"):
@@ -56,7 +57,7 @@ def replay_cases():
 
 
 def check_cases(_, __):
-    """The model answers the cases of replay and drive in tests/cases as they expect."""
+    """The model answers the replay and drive cases of tests/cases as they expect."""
     if not is_there():
         return
     found, plants = list(replay_cases()), {}
@@ -75,8 +76,8 @@ def check_cases(_, __):
         yield f"only {len(found)} cases"
 
 
-# When the first train has come to c2, both other routes are allocated at once: the train at X could go on
-# before the point of the other route is thrown.
+# When the first train reaches c2, both other routes are allocated at once: the train at X could go
+# on before the other route's point is thrown.
 ORDER = """linear c1 . c2 . C
 linear c2 c1 . . .
 linear x1 . x2 . X
@@ -92,8 +93,7 @@ SCENE = "drive 1\nmark r\nenter x1\nenter y1\nmark a\nmark b\nenter c1\nend\n"
 
 
 def check_order(program, _):
-    """What the plant does by itself comes in the order of drive, also where trains and points could
-    move at once."""
+    """Automatic events come in drive's order, also if trains and points could move at once."""
     if not is_there():
         return
     given = configurations.plant_text(ORDER.splitlines())
@@ -105,13 +105,12 @@ def check_order(program, _):
 
 
 def examples():
-    """The plants by name."""
+    """Returns the plants by name."""
     return {name: Plant(json.loads(given)) for name, given in model_checks.plants().items()}
 
 
 def check_reasons(_, __):
-    """What isn't possible, waits or is blocked is said with its reason, as it was worked out by
-    hand."""
+    """Impossible, waiting and blocked things have their hand-derived reasons."""
     if not is_there():
         return
     asked = [(name, f"refusalOf(plant, {script_engine.as_text(before)}, "
@@ -131,8 +130,7 @@ def check_reasons(_, __):
 
 
 def check_back_and_forth(_, __):
-    """A play that goes back and forth, and on from there, is in the state to which its events
-    lead."""
+    """A play that goes back, forth and on is in the state of its events."""
     if not is_there():
         return
     for name in ("station", "stations 2"):
@@ -142,7 +140,8 @@ def check_back_and_forth(_, __):
             yield f"{name}: {said}"
 
 
-# r1 was allocated before the other train came where it leads: it may be locked, and the first train goes on
+# r1 was allocated before the other train reached its path: it may be locked, and the first train
+# goes on
 BEGUN = """run 1
 state
 route r1 allocating 0 0
@@ -159,8 +158,7 @@ end
 
 
 def check_begun(_, __):
-    """Where a route that is allocated already may let a train go on, nothing is said of
-    blocking."""
+    """If an allocated route may let a train go on, no blocking is reported."""
     if not is_there():
         return
     plant = examples()["line-with-boards"]
@@ -171,7 +169,7 @@ def check_begun(_, __):
 
 
 def check_blockades(_, is_long):
-    """Trains that are said to block each other never go on, whatever else happens."""
+    """Trains that are reported as deadlocked never go on."""
     if not is_there():
         return
     plants, said = examples(), 0

@@ -1,4 +1,4 @@
-"""Tests of the simulator as it is written, and of `--compare`; no browser is needed."""
+"""Tests of the simulator's text and of `--compare`, without a browser."""
 
 import json
 import subprocess
@@ -24,14 +24,14 @@ markup_check.ALLOWED |= {"header", "main", "section", "footer", "noscript", "but
 
 
 def call(program, given, *words, room=None):
-    """Calls tools/simulate; its status, and what it printed."""
+    """Calls tools/simulate. Returns its status and output."""
     done = subprocess.run([TOP / "tools/simulate", *words, "--program", program], input=given, cwd=room,
                           capture_output=True, check=False)
     return done.returncode, done.stdout.decode() + done.stderr.decode()
 
 
 def page(program, given):
-    """The page of a configuration, and what was printed."""
+    """Returns the page of a configuration, and the output."""
     with tempfile.TemporaryDirectory(prefix="irv-play-") as room:
         status, said = call(program, given, "page.html", room=room)
         out = Path(room, "page.html")
@@ -39,13 +39,13 @@ def page(program, given):
 
 
 def largest():
-    """Configurations of 256 sections and 256 routes, by name: one line, and stations with a
+    """Returns named configurations of 256 sections and 256 routes: one line, and stations with a
     siding."""
     return {"one line": configurations.made("largest"), "stations": configurations.document(*largest_configuration.stations())}
 
 
 def check_pages(program, _):
-    """Pages are well-formed, open nothing from elsewhere, and are small, also the largest."""
+    """Pages are well-formed, open nothing from elsewhere, and are small, even the largest."""
     for name, given in {**model_checks.plants(), **largest()}.items():
         text, said = page(program, given)
         yield from (f"{name}: {fault}" for fault in markup_check.faults(text))
@@ -56,7 +56,7 @@ def check_pages(program, _):
 
 
 def check_no_plants(program, _):
-    """What isn't a plant makes a page that says why, and names are text."""
+    """A page about an invalid plant says why. Names are text."""
     wrong, unknown, two = fifteen_section_line.right(), fifteen_section_line.right(), fifteen_section_line.right()
     wrong["sections"][0]["name"] = NAME
     unknown["routes"][0]["path"] = ["nowhere"]
@@ -74,7 +74,7 @@ def check_no_plants(program, _):
 
 
 def check_no_answer(_, __):
-    """If the program gives no answer the page doesn't say that the configuration isn't a plant."""
+    """Without the program's answer the page does not call the configuration invalid."""
     with tempfile.TemporaryDirectory(prefix="irv-fake-") as room:
         text, said = page(fake_program.program(room, {"check": {"status": 139}}), model_checks.plants()["station"])
         yield from markup_check.faults(text)
@@ -83,7 +83,7 @@ def check_no_answer(_, __):
 
 
 def check_names(program, _):
-    """The name of the file is text too, and a table that breaks rules of the columns is told so."""
+    """The file's name is text too. A table that breaks column rules is reported as such."""
     given = json.dumps(fifteen_section_line.with_fault("facing-point-wrong")).encode()
     with tempfile.TemporaryDirectory(prefix="irv-play-") as room:
         file = Path(room, "</title><script>alert(1)<!--PLANT-->.json".replace("/", "_"))
@@ -98,8 +98,8 @@ def check_names(program, _):
 
 
 def check_words(program, _):
-    """Wrong words, a page over its own configuration, and no program: status 125, and nothing is
-    written."""
+    """Wrong arguments, a page over its own configuration, or a missing program end with status 125
+    and no output."""
     given = model_checks.plants()["station"]
     with tempfile.TemporaryDirectory(prefix="irv-play-") as room:
         conf_ = Path(room, "conf.json")
@@ -118,13 +118,13 @@ def check_words(program, _):
 
 
 def played(given, says, refused, run, columns="free"):
-    """A file as the page saves it."""
+    """Returns a file as saved by the page."""
     head = f"played 1\nconfiguration {figures_sum(given)}\ncolumns {columns}\nsays {says}\n"
     return head + "".join(f"refused {line_}\n" for line_ in refused) + run
 
 
 def figures_sum(given):
-    """The sha256 of a configuration, as another program than the page takes it."""
+    """Returns a configuration's SHA-256, computed by another program."""
     done = subprocess.run(["sha256sum"], input=given, capture_output=True, check=True)
     return done.stdout.decode().split(" ")[0]
 
@@ -134,7 +134,7 @@ SCENE = "drive 1\nenter b1\nmark r1\nend\n"
 
 
 def check_check(program, _):
-    """--compare asks replay and drive, and says if the simulator doesn't agree with them."""
+    """--compare asks replay and drive, and reports disagreement of the simulator."""
     two, station = model_checks.plants()["two-sections"], model_checks.plants()["station"]
     answers = [(two, played(two, "hazard two b", ["1 enter a", "0 leave b"], RUN), 0,
                 "hazard two b; the simulator says the same"),
@@ -167,8 +167,7 @@ def check_check(program, _):
 
 
 def check_no_engine(program, _):
-    """Without a script engine --compare answers too, and says that the simulator is not
-    compared."""
+    """Without a script engine --compare answers, and says that the simulator is not compared."""
     with tempfile.TemporaryDirectory(prefix="irv-play-") as room:
         Path(room, "file").write_text(RUN, encoding="utf-8")
         python = Path(room, "python3")

@@ -1,1 +1,1 @@
-"""Tests of `irv --sumo`: the export, and what its comparison names."""
+"""Tests of `irv --sumo`: the export, and its comparison."""

@@ -27,14 +27,14 @@ def need_sumo():
 
 
 def answer(program, given, *words):
-    """Returns what the program prints for a configuration."""
+    """Returns the program's output for a configuration."""
     done = subprocess.run([str(program), *words], input=given, capture_output=True, timeout=SECONDS,
                           check=True)
     return done.stdout
 
 
 def tables(program):
-    """Returns three tables by name: those of two networks of examples and of a generated line."""
+    """Returns three tables by name: of two example networks and a generated line."""
     given = {name: (EXAMPLES / f"{name}.json").read_bytes()
              for name in ("station-without-routes", "terminus-throat")}
     given["two stations"] = answer(program, b"", "make", "--stations", "2")
@@ -51,8 +51,7 @@ def exported(program, room, configuration, *words):
 
 
 def conflict_dropped(table):
-    """Drops the conflict of the first route with its first one, on both sides; returns the lines
-    that name it."""
+    """Drops the first route's first conflict on both sides. Returns the naming lines."""
     one = next(route for route in table["routes"] if route["conflicts"])
     other = next(route for route in table["routes"] if route["name"] == one["conflicts"][0])
     one["conflicts"].remove(other["name"])
@@ -62,7 +61,7 @@ def conflict_dropped(table):
 
 
 def path_shortened(table):
-    """Drops the last section of the longest path; returns the lines that name it."""
+    """Drops the longest path's last section. Returns the naming lines."""
     route = max(table["routes"], key=lambda one: len(one["path"]))
     whole = " ".join(route["path"])
     route["path"].pop()
@@ -73,7 +72,7 @@ def path_shortened(table):
 
 
 def route_missing(table):
-    """Drops the last route; returns the line that names it."""
+    """Drops the last route. Returns the naming line."""
     route = table["routes"].pop()
     for one in table["routes"]:
         one["conflicts"] = [name for name in one["conflicts"] if name != route["name"]]
@@ -82,7 +81,7 @@ def route_missing(table):
 
 
 def conflict_invented(table):
-    """Lists two routes as conflicts that share nothing and run apart; returns the line."""
+    """Lists as conflicts two separate routes that share nothing. Returns the line."""
     for one in table["routes"]:
         for other in table["routes"]:
             if other["source"] != one["source"] and \
@@ -119,7 +118,7 @@ def check_planted(program, _):
         yield "no conflict could be invented"
 
 
-# routes from me to a and to b begin alike, over p1 and x; trains of the other direction use x later
+# the routes from me to a and to b begin alike, over p1 and x; down trains use x later
 FORK = document([linear("e", "p1", ".", "me", "."), point("p1", "down", "e", "x", "y"),
                  linear("x", "p2", "p1", ".", "."), point("p2", "down", "x", "a", "b"),
                  linear("a", "p3", "p2", "da", "ma"), linear("b", "p3", "p2", "db", "mb"),
@@ -138,7 +137,7 @@ def check_begin_alike(program, _):
 
 
 def check_not_connected(program, _):
-    """A route whose path is not connected has no train, and is named."""
+    """A route with an unconnected path has no train, and is named."""
     need_sumo()
     with tempfile.TemporaryDirectory(prefix="irv-sumo-") as room:
         table = json.loads((EXAMPLES / "station.json").read_bytes())
@@ -151,7 +150,7 @@ def check_not_connected(program, _):
 
 
 def check_arrivals(program, _):
-    """Two trains that pass on two tracks arrive; two that meet head on on one track are named."""
+    """Two trains that pass on two tracks arrive. Two that meet head on are named."""
     need_sumo()
     table = json.loads((EXAMPLES / "station.json").read_bytes())
     with tempfile.TemporaryDirectory(prefix="irv-sumo-") as room:
@@ -169,7 +168,7 @@ def check_arrivals(program, _):
 
 
 def check_export(program, _):
-    """Without --compare no SUMO is needed, and each section has an edge in each direction."""
+    """Without --compare no SUMO is needed, and each section has an edge per direction."""
     with tempfile.TemporaryDirectory(prefix="irv-sumo-") as room:
         table = json.loads((EXAMPLES / "station.json").read_bytes())
         status, lines, errors = exported(program, room, table)
@@ -193,7 +192,7 @@ def check_export(program, _):
 
 
 def check_scenario(program, _):
-    """The trains of a scenario take their requested routes, and arrive."""
+    """A scenario's trains take their requested routes, and arrive."""
     scene = str(EXAMPLES / "station-crossing.scene")
     with tempfile.TemporaryDirectory(prefix="irv-sumo-") as room:
         table = json.loads((EXAMPLES / "station.json").read_bytes())
@@ -212,7 +211,7 @@ def check_scenario(program, _):
 
 
 def check_refused(program, _):
-    """A rejected configuration and a directory with contents are refused; nothing is written."""
+    """A rejected configuration and a non-empty directory are refused, and nothing is written."""
     with tempfile.TemporaryDirectory(prefix="irv-sumo-") as room:
         for given, said in (({"version": 2}, "refused F3 document"), (None, "is not empty")):
             directory = Path(tempfile.mkdtemp(dir=room))
@@ -229,7 +228,7 @@ def check_refused(program, _):
 
 
 def check_failing_sumo(program, _):
-    """If SUMO is missing or fails, the call says so, with status 125, and no file is left."""
+    """If SUMO is missing or fails, the call says so, with status 125, and leaves no file."""
     table = json.loads((EXAMPLES / "station.json").read_bytes())
     with tempfile.TemporaryDirectory(prefix="irv-sumo-") as room:
         empty, fake = Path(room, "empty"), Path(room, "fake")
@@ -252,7 +251,7 @@ def check_failing_sumo(program, _):
 
 
 def check_ways(program, _):
-    """The ways that trains are made for are the routes that `irv table` finds."""
+    """Trains are made for the routes that `irv table` finds."""
     for name, table in tables(program).items():
         network = Network(table)
         found = sorted(network.ways())

@@ -1,4 +1,4 @@
-"""Certificates that verify wrote, and the program's own audits of changes of them."""
+"""Certificates written by verify, and the program's audits of changed ones."""
 
 from __future__ import annotations
 
@@ -17,14 +17,13 @@ SHOWN_BYTES = 120
 
 
 class AuditError(Exception):
-    """verify wrote no certificate; the message says what it answered."""
+    """verify wrote no certificate; the message has its answer."""
 
 
 class Audit:
     """A configuration with its certificate, and a directory for files.
 
-    If `judge` is the path of the compiled checker, that gives the expected answers, otherwise
-    certificate.py."""
+    The compiled checker `judge` gives the expected answers, or else certificate.py."""
 
     def __init__(self, program, conf: bytes, directory: Path, judge: Path | None = None) -> None:
         self.program, self.conf, self.directory = program, conf, directory
@@ -43,21 +42,21 @@ class Audit:
                               stdout=subprocess.PIPE, stderr=subprocess.PIPE)
 
     def expected(self, text: bytes) -> str:
-        """Returns what certificate.py answers to a text."""
+        """Returns certificate.py's answer to a text."""
         return certificate_changes.answer(self.certificate, text, self.formula_of)
 
     def file_of(self, text: bytes, number: int = 0) -> Path:
-        """Writes a text to the file of this number of this thread; returns its path."""
+        """Writes a text to this thread's file of this number. Returns its path."""
         path = self.directory / f"changed-{os.getpid()}-{threading.get_ident()}-{number}"
         path.write_bytes(text)
         return path
 
     def answer(self, text: bytes) -> str:
-        """Returns what the program answers to a text."""
+        """Returns the program's answer to a text."""
         return self.answer_to(self.file_of(text))
 
     def answer_to(self, path: Path) -> str:
-        """Returns the line that the program answers to a file, or what came instead."""
+        """Returns the program's line about a file, or what came instead."""
         with open(self.directory / "plant", "rb") as given, open(path.with_name(f"{path.name}-errors"), "w+b") as log:
             done = subprocess.run([str(self.program), "audit", "--cert", str(path)], stdin=given,
                                   stdout=subprocess.PIPE, stderr=log)
@@ -69,14 +68,14 @@ class Audit:
         return said[:-1]
 
     def compared(self, texts: Iterable[bytes]) -> Iterator[tuple[str, str]]:
-        """Yields for each text the expected answer and that of the program."""
+        """Yields for each text the expected answer and the program's."""
         texts = list(texts)
         paths = [self.file_of(text, number) for number, text in enumerate(texts)]
         expected = self.compiled.audited(paths) if self.compiled else map(self.expected, texts)
         return zip(expected, map(self.answer_to, paths))
 
     def fault(self, text: bytes, expected: str, got: str) -> str:
-        """Returns a sentence about a wrong answer, with what was changed."""
+        """Returns a sentence about a wrong answer and its change."""
         known = certificate_changes.known_lines(self.certificate, text)
         lines = text.split(b"\n")[known:known + 2]
         before = self.certificate.split(b"\n")[known:known + 2]

@@ -1,5 +1,4 @@
-"""A page in a browser without a screen, where there is one: what its console says, and where the
-texts of its plans lie."""
+"""A page in a headless browser: its console, and its plans' text positions."""
 
 import re
 import shutil
@@ -10,7 +9,7 @@ from pathlib import Path
 NAMES = ("chromium", "chromium-browser", "google-chrome", "google-chrome-stable")
 SECONDS = 120
 
-# put at the end of a copy of the page: it writes what is wrong into the document
+# appended to a copy of the page; writes the faults into the document
 MEASURE = """<pre id="measured"></pre><script>
 const wrong = [];
 for (const plan of document.querySelectorAll("svg.plan")) {
@@ -52,12 +51,12 @@ document.getElementById("measured").textContent =
 
 
 def find():
-    """The browser, or None."""
+    """Returns the browser, or `None` if there is none."""
     return next((path for path in map(shutil.which, NAMES) if path), None)
 
 
 def said(browser, file, width=1600):
-    """The document of a file once it is shown, and what was written on the console."""
+    """Returns the document of a displayed file, and its console lines."""
     with tempfile.TemporaryDirectory(prefix="irv-browser-") as room:
         done = subprocess.run(
             [browser, "--headless", "--no-sandbox", "--disable-gpu", f"--user-data-dir={room}",
@@ -69,7 +68,7 @@ def said(browser, file, width=1600):
 
 
 def faults(browser, page):
-    """What is wrong with a page in a browser."""
+    """Yields the faults of a page in a browser."""
     with tempfile.TemporaryDirectory(prefix="irv-page-") as room:
         file = Path(room, "page.html")
         file.write_text(page, encoding="utf-8")
@@ -85,7 +84,7 @@ def faults(browser, page):
 
 
 def sheets(browser, page):
-    """The pages that a page takes on paper, each as its width and its height in points."""
+    """Returns the width and height in points of a page's sheets on paper."""
     with tempfile.TemporaryDirectory(prefix="irv-paper-") as room:
         file, paper = Path(room, "page.html"), Path(room, "page.pdf")
         file.write_text(page, encoding="utf-8")

@@ -19,11 +19,11 @@ KEYS = {"why", "before", "words", "conf", "replace", "replace all", "pad", "file
 
 
 class CaseError(Exception):
-    """A case file that can't be read: the message names the file and the line."""
+    """An unreadable case file: the message names the file and the line."""
 
 
 class Case:
-    """One case: the words and inputs of a call, and the output and status it must give."""
+    """The arguments and inputs of a call, and its expected output and status."""
 
     def __init__(self, name, where):
         self.name = name
@@ -48,7 +48,7 @@ class Case:
         self.assignments = None
 
     def copy(self, name, where):
-        """The same case under another name, to be changed by later keys."""
+        """Returns a copy under another name, for changes by later keys."""
         other = Case(name, where)
         for key, value in vars(self).items():
             if key not in ("name", "where"):
@@ -56,7 +56,7 @@ class Case:
         return other
 
     def wanted_stderr(self):
-        """What standard error must have: the case's own bytes, or the line of its status."""
+        """Returns the expected standard error: the case's own bytes, or the line of its status."""
         if self.stderr is not None:
             return self.stderr
         return STANDARD_ERROR.get(self.status, b"")
@@ -84,7 +84,7 @@ def unescape(text):
 
 
 def block_bytes(lines):
-    """The bytes that a block's lines stand for."""
+    """Returns the bytes that a block's lines denote."""
     out = []
     for line in lines:
         kind, rest = line[:1], line[2:]
@@ -99,7 +99,7 @@ def block_bytes(lines):
 
 
 def split_items(text):
-    """The items of a case file: a key, its value and its block, with the line's number."""
+    """Returns the items of a case file: key, value, block and line number."""
     items = []
     for number, line in enumerate(text.split("\n"), 1):
         if line[:2] in ("| ", "~ ", "* ") or line in ("|", "~"):
@@ -115,7 +115,7 @@ def split_items(text):
 
 
 def given_bytes(value, block):
-    """The bytes of an input: a block, an example, a made one, or nothing."""
+    """Returns the bytes of an input: a block, an example, a generated one, or nothing."""
     if value == "" and block:
         return block_bytes(block)
     if value == "nothing" and not block:
@@ -134,7 +134,7 @@ def given_bytes(value, block):
 
 
 def replaced(data, value, everywhere):
-    """The bytes with one text put for another, which must stand there."""
+    """Returns the bytes with a text replaced, which they must contain."""
     old, arrow, new = value.partition(" => ")
     if not arrow:
         raise ValueError("replace wants OLD => NEW")
@@ -146,14 +146,14 @@ def replaced(data, value, everywhere):
 
 
 def padded(data, size):
-    """The bytes with spaces after them, up to a length."""
+    """Returns the bytes padded with spaces to a length."""
     if len(data) > size:
         raise ValueError(f"{len(data)} bytes are more than {size}")
     return data + b" " * (size - len(data))
 
 
 def assignments_of(value):
-    """How many assignments a formula has to have, or none where it may be any formula."""
+    """Returns how many assignments a formula must have, or `None` for any formula."""
     count, _, word = value.partition(" ")
     if value != "any" and word != ("assignment" if count == "1" else "assignments"):
         raise ValueError(f"neither any nor N assignments: {value}")
@@ -161,7 +161,7 @@ def assignments_of(value):
 
 
 def streams_of(value):
-    """The standard streams of these numbers: 0 is input, 1 output, 2 errors."""
+    """Returns the standard streams of these numbers: 0 is input, 1 output, 2 errors."""
     streams = [int(word) for word in value.split()]
     if not streams or not set(streams) <= {0, 1, 2}:
         raise ValueError(f"no standard streams: {value}")
@@ -169,13 +169,13 @@ def streams_of(value):
 
 
 def sparse_file(value):
-    """The length of a file and the bytes that it begins with; the rest is a hole, which is read as zeros."""
+    """Returns a file's length and first bytes; the rest is a hole, which reads as zeros."""
     size, _, beginning = value.partition(" ")
     return int(size), unescape(beginning)
 
 
 def apply_key(case, key, value, block):
-    """Takes one key of a case file into a case."""
+    """Applies one key of a case file to a case."""
     word, _, rest = key.partition(" ")
     if word == "file" and rest:
         case.files[rest] = given_bytes(value, block)
@@ -222,8 +222,8 @@ def apply_key(case, key, value, block):
 
 
 def finished(case):
-    """The case, refused where it lacks what every case has. A verdict or a formula says itself what
-    the output and the status are."""
+    """Returns the case. Raises `CaseError` if a part is missing. A verdict or a formula implies
+    output and status."""
     parts = ["why", "words", "conf"]
     if case.verdicts or case.has_formula:
         case.stdout, case.status = None, None if case.verdicts else 0
@@ -236,7 +236,7 @@ def finished(case):
 
 
 def read_case_file(path):
-    """The cases of one file; keys before the first case are every case's own."""
+    """Returns the cases of one file. Keys before the first case apply to every case."""
     base = Case("", str(path))
     cases = []
     try:

@@ -1,7 +1,7 @@
-"""Changes of a certificate, and what an audit has to answer to each.
+"""Changes of a certificate, and an audit's expected answer to each.
 
-The expected answers are those of `certificate.audited`, which shares only the formulas with the program. It
-does not derive again the first lines that a change leaves as they are.
+The answers come from `certificate.audited`, which shares only the formulas with the program.
+Unchanged first lines are not derived again.
 """
 
 from __future__ import annotations
@@ -23,19 +23,19 @@ def queries(lines):
 
 
 def other_bytes(text: bytes, place: int, count: int, chance: random.Random) -> Iterator[bytes]:
-    """Yields the text with the byte at `place` changed, in `count` ways."""
+    """Yields the text with the byte at `place` changed in `count` ways."""
     others = [byte for byte in BYTES if byte != text[place]]
     for byte in chance.sample(others, min(count, len(others))):
         yield text[:place] + bytes([byte]) + text[place + 1:]
 
 
 def put(lines: list[bytes], first: int, after: int, *new: bytes) -> bytes:
-    """Returns the text of these lines, with `new` instead of those from `first` to before `after`."""
+    """Returns the lines' text, with `new` for those from `first` to before `after`."""
     return b"".join(line + b"\n" for line in [*lines[:first], *new, *lines[after:]])
 
 
 def number_somewhere(text, chance):
-    """Returns the match of the number at or after a random place of a text."""
+    """Returns the match of the first number at or after a random place."""
     at = chance.randrange(len(text))
     while at > 0 and text[at - 1:at].isdigit():
         at -= 1
@@ -96,7 +96,7 @@ def bytes_changed(text: bytes, chance: random.Random) -> bytes:
 
 
 def at_random(text: bytes, count: int, seed: int) -> Iterator[bytes]:
-    """Yields `count` texts with one or two random changes, the same for the same seed."""
+    """Yields `count` texts with one or two random changes, determined by the seed."""
     chance = random.Random(seed)
     kinds = (bytes_changed, bytes_changed, number_changed, number_changed, word_changed, lines_changed)
     for _ in range(count):
@@ -108,15 +108,15 @@ def at_random(text: bytes, count: int, seed: int) -> Iterator[bytes]:
 
 
 def cuts(text: bytes) -> Iterator[tuple[bytes, str]]:
-    """Yields the text cut at the 100 smallest and greatest lengths, each with its answer: the last line is
-    rejected."""
+    """Yields the text cut at the 100 smallest and greatest lengths, with the answer: the last line
+    is rejected."""
     lengths = [*range(NAMED_CUTS), *range(max(NAMED_CUTS, len(text) - NAMED_CUTS), len(text))]
     for length in lengths:
         yield text[:length], f"rejected line {text[:length].count(10) + 1}"
 
 
 def named(text: bytes) -> Iterator[tuple[bytes, str]]:
-    """Yields changes of a certificate for k = 1 whose answers are plain, with these answers."""
+    """Yields changes of a certificate for k = 1 with their evident answers."""
     lines = text.split(b"\n")[:-1]
     last = queries(lines)[-1]
     second = queries(lines)[1]
@@ -155,5 +155,5 @@ def known_lines(text: bytes, other: bytes) -> int:
 
 
 def answer(text: bytes, other: bytes, formula_of) -> str:
-    """Returns what an audit has to answer to a change of a certificate."""
+    """Returns an audit's expected answer to a changed certificate."""
     return certificate.audited(other, formula_of, known_lines(text, other))

@@ -1,16 +1,16 @@
-"""The lists of files that a change touches, each compared with a witness: one thing of the kind that the list is
-about, and every file that names it. To add another thing of that kind one opens just these files, so the list
-has each of them, by its name or by a directory above it."""
+"""The lists of files that a change touches, each compared with a witness: one thing of the list's
+kind, and all files that name it. Adding such a thing touches just these files, so the list must
+have each, by name or directory."""
 
 import re
 
 MAP = "CONTRIBUTING.md"
 SPAN = re.compile(r"``? ?(.+?) ?``?(?!`)")
-# Where a thing may be named: code, definitions, proofs, tools, tests, documents.
+# code, definitions, proofs, tools, tests and documents, which may name a thing
 SOURCES = ("crates/*/src/**/*.rt", "crates/*/specs/**/*.antt", "crates/*/proofs/**/*.antt", "tools/**/*",
            "tests/**/*", "irv", "*.md", "docs/**/*.md", "examples/*.md")
-# What isn't asked of each list: rt writes the first; tests/cases has what is tried; two are lists of what
-# all files have; and of the last, which are documents, the page says once that they come with each change.
+# Exempt from every list: files written by rt, test cases, JSON, lists of all files, documentation
+# tools, and documents of every change.
 APART = re.compile(r"/declared/|^tests/cases/|__pycache__|/change_lists\.py$|^tests/(?:docs|traceability)\.py$|^tools/irvtools/docs/|\.json$|"
                    r"^tests/(?:duplicates\.list|line_limits\.counts)$|"
                    r"^(?:README|CHANGELOG|CONTRIBUTING)\.md$|^docs/(?:dev/architecture|assurance/proved|assurance/traceability|assurance/definition-list|reference/glossary|DECISIONS)\.md$")
@@ -18,11 +18,11 @@ RULES = "A rule of the network (N), of the table (R), of the columns (C)"
 
 
 def word_of(event):
-    """What names an event: its variant, the calls that end in its name, and its word."""
+    """Returns an event's pattern: its variant, the calls that end in its name, and its word."""
     return rf"\b{event.title()} \(?\w|::{event.title()}\b|_{event}\b|[\"']{event}[\"' ]|\b{event}:"
 
 
-# The heading of a list; the witness; words of which each file that names it has one; and what names it.
+# a list's heading, the witness, words of which each naming file has one, the pattern
 WITNESSES = (
     (RULES, "the rule N8", ("N8",), r"\bN8\b"),
     (RULES, "the rule R8", ("R8",), r"\bR8\b"),
@@ -45,13 +45,13 @@ WITNESSES = (
 
 
 def list_of(page, heading):
-    """Returns the text of a list: the lines below its heading, up to the next one."""
+    """Returns a list's text: the lines from its heading to the next one."""
     found = re.search(rf"^#+ {re.escape(heading)}$\n((?:(?!#).*\n)*)", page, re.M)
     return found[1] if found else None
 
 
 def texts_of(root):
-    """The files in which a thing may be named, by their paths from the top, with their texts."""
+    """Returns the files that may name a thing, by path, with texts."""
     found = {path for pattern in SOURCES for path in root.glob(pattern) if path.is_file()}
     named = {str(path.relative_to(root)): path for path in found}
     return {name: path.read_text(encoding="utf-8", errors="replace")
@@ -59,8 +59,8 @@ def texts_of(root):
 
 
 def named_in(text, places):
-    """The files and directories that a list names; `places` gives for a line what finds them. A directory has a
-    slash, without which it is a crate that is spoken of."""
+    """Returns the files and directories that a list names; `places` gives what finds them in a
+    line. A directory has a slash, otherwise it is a mentioned crate."""
     found = set()
     for line in text.splitlines():
         line_places = places()
@@ -71,8 +71,8 @@ def named_in(text, places):
 
 
 def left_out(root, places):
-    """For each witness its list, what it is, how many files name it, and those of them that the list
-    doesn't have; where there is no such list, none."""
+    """Yields each witness's list, its name, how many files name it, and those missing from the
+    list, or `None` without a list."""
     page, texts = (root / MAP).read_text(encoding="utf-8"), texts_of(root)
     for heading, witness, words, pattern in WITNESSES:
         text = list_of(page, heading)

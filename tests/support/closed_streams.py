@@ -1,8 +1,8 @@
-"""Calls of the program whose standard streams are closed, where no directory can be opened.
+"""Calls of the program with closed standard streams and no directory to open.
 
-A file takes the least descriptor that is free, so a certificate's file could take the place of a
-closed standard stream, and the report would be written into it. The program holds a closed stream
-by a directory. In these calls it can't: nobody may read the root directory.
+A file takes the lowest free descriptor, so a certificate could replace a closed stream and receive
+the report. The program occupies closed streams with a directory. Here it cannot: nobody may read
+the root directory.
 """
 
 import ctypes
@@ -25,14 +25,13 @@ CERTIFICATE = Path("w") / "c"
 
 
 class NotTried(Exception):
-    """This system doesn't let the caller change the root directory, as root or in a namespace."""
+    """The caller cannot change the root directory, as root or in a namespace."""
 
 
 @dataclass(frozen=True)
 class Case:
-    """A call in the jail: its arguments, the streams that are closed, the directory it runs in, and
-    what has to come of it. The certificate is that of a call with open streams, or there is no
-    file."""
+    """A call in the jail: arguments, closed streams, working directory and expected result. The
+    certificate is that of a call with open streams, or missing."""
 
     name: str
     words: str
@@ -61,15 +60,15 @@ CASES = (
 
 
 def libraries_of(program: Path) -> List[Path]:
-    """Returns the shared libraries that a program is loaded with, its loader among them."""
+    """Returns a program's shared libraries and its loader."""
     told = subprocess.run(["ldd", str(program)], stdout=subprocess.PIPE,
                           stderr=subprocess.DEVNULL, check=False).stdout.decode()
     return [Path(it) for it in re.findall(r"(/\S+) \(0x", told)]
 
 
 def make_jail(jail: Path, program: Path) -> None:
-    """Makes a root directory that can be searched and not read, with the program, what it is loaded
-    with, and an empty directory `w`."""
+    """Makes a searchable but unreadable root directory with the program, its libraries and an empty
+    directory `w`."""
     for file in libraries_of(program):
         at = jail / file.relative_to("/")
         at.parent.mkdir(parents=True, exist_ok=True)
@@ -82,8 +81,8 @@ def make_jail(jail: Path, program: Path) -> None:
 
 
 def enter(jail: Path, at: str, closed: Sequence[int]) -> None:
-    """Makes the jail the root directory of this process, as a user who may not read it, and closes
-    the streams. A user other than root does it in a user namespace."""
+    """Makes the jail this process's root directory, as a user who may not read it, and closes the
+    streams. Users other than root do this in a user namespace."""
     if os.geteuid() == 0:
         os.chroot(jail)
         os.chdir(at)
@@ -100,7 +99,7 @@ def enter(jail: Path, at: str, closed: Sequence[int]) -> None:
 
 
 def call(jail: Path, case: Case) -> subprocess.CompletedProcess:
-    """Returns what comes of a case's call in the jail, which reads the plant."""
+    """Returns the result of a case's call in the jail, which reads the plant."""
     with open(PLANT, "rb") as plant:
         try:
             return subprocess.run(
@@ -113,8 +112,7 @@ def call(jail: Path, case: Case) -> subprocess.CompletedProcess:
 
 def faults_of(case: Case, done: subprocess.CompletedProcess, written: Optional[bytes],
               certificate: bytes) -> Iterator[str]:
-    """Yields what is wrong with a call that is done: `written` is what its certificate's file has,
-    or None if there is no file."""
+    """Yields the faults of a finished call. `written` is its certificate file's content, or `None`."""
     pairs = (
         ("status", done.returncode, case.status),
         ("report", done.stdout, case.report),
@@ -127,8 +125,8 @@ def faults_of(case: Case, done: subprocess.CompletedProcess, written: Optional[b
 
 
 def faults(program: Path) -> Iterator[str]:
-    """Yields what is wrong with the calls of the built program. Raises NotTried if no call can be
-    made here."""
+    """Yields the faults of the built program's calls. Raises `NotTried` if no call is possible
+    here."""
     certificate = b""
     for case in CASES:
         with tempfile.TemporaryDirectory() as folder:

@@ -1,5 +1,5 @@
-"""Compares the compiled checkers with certificate.py and rup.py on small texts: hand-written ones, and thousands
-of random changes, the same at each run."""
+"""Compares the compiled checkers with certificate.py and rup.py on small texts: hand-written ones,
+and thousands of repeatable random changes."""
 
 from __future__ import annotations
 
@@ -17,7 +17,7 @@ from tests.support.handwritten_certificates import STEPS_FOR_THREE, STEPS_FOR_TW
 
 SEED = 41
 CHANGES = 600           # of each text
-SMALL_FORMULAS = 150    # random formulas, with ten texts each
+SMALL_FORMULAS = 150    # random formulas, each with ten texts
 AT_ONCE = 4
 GAPS = [b" ", b" ", b" ", b"\n", b"\n", b"\t", b"\r", b"\r\n", b"  ", b"\nc 1 0\n", b"\n c\n"]
 BAD_FORMULAS = ["", "p cnf 1 0", "p cnf 1\n", "p cnf 01 0\n", "p cnf 1 1\n", "p cnf 1 1\n1 0\n0\n",
@@ -58,7 +58,7 @@ def handwritten(formula):
 
 
 def random_hints(clauses, literals, chance):
-    """Returns hints by which a clause follows if the random order of the clauses allows it."""
+    """Returns hints by which a clause follows if the random clause order allows it."""
     true, hints = {-literal for literal in literals}, []
     for number in chance.sample(range(len(clauses)), len(clauses)):
         unset = [literal for literal in clauses[number] if -literal not in true]
@@ -81,7 +81,7 @@ def random_step(clauses, chance):
 
 
 def changed_certificates(formula, steps):
-    """Yields changes of a small certificate, and the certificate with a random step before the last of each query."""
+    """Yields changes of a small certificate, and it with a random step before each query's last."""
     text, chance = whole_of(steps), random.Random(SEED)
     yield from (other for other, _ in (*certificate_changes.named(text), *certificate_changes.cuts(text)))
     yield from certificate_changes.at_random(text, CHANGES, SEED)
@@ -96,7 +96,8 @@ SMALL = ((TWO_VARIABLES, STEPS_FOR_TWO), (THREE_VARIABLES, STEPS_FOR_THREE))
 
 
 def certificate_faults(path: Path, directory: Path) -> tuple[list[str], int]:
-    """Returns the texts about which the compiled checker and certificate.py differ, and how many there were."""
+    """Returns the texts about which the compiled checker and certificate.py differ, and how many
+    there were."""
     faults, answers = [], []
     for number, (formula, steps) in enumerate(SMALL):
         texts = [*handwritten(formula), *changed_certificates(formula, steps)]
@@ -142,7 +143,7 @@ def random_refutations():
 
 
 def random_text(chance, literals):
-    """Returns a text of a few items, most of them well-formed."""
+    """Returns a text of a few items, mostly well-formed."""
     words = []
     for _ in range(chance.randrange(8)):
         words += [b"d"] if chance.randrange(8) == 0 else []
@@ -153,7 +154,8 @@ def random_text(chance, literals):
 
 
 def rup_faults(path: Path, directory: Path) -> tuple[list[str], int]:
-    """Returns the texts about which the compiled checker and rup.py differ, and how many there were."""
+    """Returns the texts about which the compiled checker and rup.py differ, and how many there
+    were."""
     texts = [*handwritten_refutations(), *changed_refutations(), *random_refutations()]
     checker_of = cached(lambda known: compiled.CompiledRupChecker(path, directory, lambda *_: known))
     expected = [rup.answer("step 1", *formula, text) for formula, text in texts]
@@ -167,7 +169,7 @@ def rup_faults(path: Path, directory: Path) -> tuple[list[str], int]:
 # -- both
 
 def cached(make):
-    """Returns `make`, called only once for each argument."""
+    """Returns `make` with one call per argument."""
     made = {}
 
     def one(known):
@@ -185,7 +187,7 @@ def differences(formula, texts, expected, got):
 
 
 def formula_faults(path, directory):
-    """Yields the texts that are not formulas, if Python or the compiled checker takes one as a formula."""
+    """Yields the texts that Python or the compiled checker wrongly accepts as formulas."""
     for text in BAD_FORMULAS:
         try:
             dimacs.read(text.encode())
@@ -201,7 +203,7 @@ def formula_faults(path, directory):
 
 
 def variety_faults(answers, good):
-    """Yields a fault if less than a tenth of the texts is right, or the others fail in less than six ways."""
+    """Yields a fault if under a tenth of the texts is right, or the others fail in under six ways."""
     right = sum(answer.startswith(good) for answer in answers)
     bad = {answer for answer in answers if not answer.startswith(good)}
     if 10 * right < len(answers) or len(bad) < 6:
@@ -211,7 +213,7 @@ def variety_faults(answers, good):
 def compare(name: str, faults_of: Callable[[Path, Path], tuple[list[str], int]]) -> tuple[int, int]:
     """Compiles a checker, compares it with Python and prints the differences.
 
-    Returns how many comparisons that were (none without gcc, otherwise one), and how many failed."""
+    Returns how many comparisons there were (0 without gcc, otherwise 1), and how many failed."""
     with tempfile.TemporaryDirectory(prefix="irv-compiled-") as made:
         path = compiled.compiled(name, Path(made))
         if path is None:

@@ -1,4 +1,4 @@
-"""The contrast of colours, as the guidelines on accessible pages (WCAG) define it."""
+"""The contrast of colours, as defined by the accessibility guidelines WCAG."""
 
 from __future__ import annotations
 
@@ -11,12 +11,12 @@ def channels(colour: str) -> tuple:
 
 
 def of_style(colour: str) -> str:
-    """Returns a colour as `#rrggbb` that a browser gives as `rgb(r, g, b)`."""
+    """Returns a browser's `rgb(r, g, b)` as `#rrggbb`."""
     return "#" + "".join(f"{int(float(part)):02x}" for part in re.findall(r"[\d.]+", colour)[:3])
 
 
 def as_style(colour: str) -> str:
-    """Returns a colour as a browser gives it."""
+    """Returns a colour in a browser's notation."""
     return "rgb({}, {}, {})".format(*channels(colour))
 
 

@@ -1,7 +1,7 @@
-"""A headless browser, driven over a pipe by the protocol of its developer tools.
+"""A headless browser, driven over a pipe by its developer tools' protocol.
 
-It is hand-written because the drivers of Debian need a port and a further program; the pipe needs neither, so tests
-can run in parallel.
+Debian's drivers need a port and a further program. The pipe needs neither, so tests can run in
+parallel.
 """
 
 import base64
@@ -19,7 +19,7 @@ WORDS = ("--headless", "--no-sandbox", "--disable-gpu", "--hide-scrollbars", "--
 
 
 class Trouble(Exception):
-    """What the browser refused, or what didn't come in time."""
+    """A refusal or a timeout of the browser."""
 
 
 class Browser:
@@ -40,7 +40,7 @@ class Browser:
         self.count, self.rest, self.events = 0, b"", []
 
     def close(self):
-        """Ends it."""
+        """Ends the browser."""
         self.process.terminate()
         try:
             self.process.wait(10)
@@ -52,7 +52,7 @@ class Browser:
         self.room.cleanup()
 
     def message(self, end):
-        """The next message of the browser."""
+        """Returns the browser's next message."""
         while b"\0" not in self.rest:
             if not select.select([self.source], [], [], max(0, end - time.monotonic()))[0]:
                 raise Trouble("the browser doesn't answer")
@@ -64,7 +64,7 @@ class Browser:
         return json.loads(one)
 
     def call(self, method, session=None, **given):
-        """Calls the browser, and gives what it answers."""
+        """Calls the browser and returns its answer."""
         self.count += 1
         call = {"id": self.count, "method": method, "params": given}
         if session:
@@ -82,7 +82,7 @@ class Browser:
             self.events.append(message)
 
     def page(self, width=1400, height=1000, **features):
-        """A new page of a size, with media features."""
+        """Returns a new page of a size, with media features."""
         target = self.call("Target.createTarget", url="about:blank")["targetId"]
         session = self.call("Target.attachToTarget", targetId=target, flatten=True)["sessionId"]
         return Page(self, target, session, (width, height), features)
@@ -105,12 +105,12 @@ class Page:
         return self.browser.call(method, self.session, **given)
 
     def resize(self, width, height, touch=False):
-        """Another size, as of a tablet or a page that is shown larger."""
+        """Resizes the page, as on a tablet or when zoomed."""
         self.call("Emulation.setDeviceMetricsOverride", width=width, height=height, deviceScaleFactor=1,
                   mobile=touch)
 
     def open(self, file, fragment=""):
-        """Opens a file, and waits until it is there."""
+        """Opens a file and waits until it is loaded."""
         self.browser.events = []
         url = Path(file).resolve().as_uri() + fragment
         self.call("Page.navigate", url=url)
@@ -121,24 +121,23 @@ class Page:
             time.sleep(0.02)
 
     def ask(self, expression):
-        """The value of an expression on the page."""
+        """Returns the value of an expression on the page."""
         done = self.call("Runtime.evaluate", expression=expression, returnByValue=True, awaitPromise=True)
         if "exceptionDetails" in done:
             raise Trouble(json.dumps(done["exceptionDetails"])[:2000])
         return done["result"].get("value")
 
     def measure(self):
-        """From now on `busy` tells how long the page's thread was at work."""
+        """Starts the measurement for `busy`."""
         self.call("Performance.enable", timeDomain="threadTicks")
 
     def busy(self):
-        """The milliseconds for which the page's thread was at work, other programs beside it left
-        out."""
+        """Returns the CPU milliseconds of the page's thread."""
         found = {one["name"]: one["value"] for one in self.call("Performance.getMetrics")["metrics"]}
         return 1000 * found["TaskDuration"]
 
     def faults(self):
-        """What the page wrote on its console, and what it asked of elsewhere."""
+        """Yields the page's console output and its external requests."""
         for event in self.browser.events:
             kind, given = event.get("method"), event.get("params", {})
             if kind == "Runtime.exceptionThrown":
@@ -150,12 +149,12 @@ class Page:
                 yield f"asks for {given['request']['url']}"
 
     def box(self, selector):
-        """The middle of an element that a selector finds, once it is in view."""
+        """Scrolls the element of a selector into view. Returns its middle."""
         place = self.ask(
             f"(async () => {{ const one = [...document.querySelectorAll({json.dumps(selector)})]"
             ".find((each) => each.getClientRects().length); if (!one) return null;"
             "one.scrollIntoView({block: 'center', inline: 'center'});"
-            # what is shown has to be what was laid out, or the click meets what was there before
+            # waits for the new layout, or the click meets the old one
             "for (let n = 0; n < 2; n += 1) await new Promise((done) => "
             "requestAnimationFrame(done));"
             "const box = (one.querySelector('circle.hit, circle.g') ?? "
@@ -166,13 +165,13 @@ class Page:
         return place
 
     def click(self, selector):
-        """A click of the mouse on the middle of an element."""
+        """Clicks the middle of an element."""
         x, y = self.box(selector)
         for kind in ("mousePressed", "mouseReleased"):
             self.call("Input.dispatchMouseEvent", type=kind, x=x, y=y, button="left", clickCount=1)
 
     def key(self, key, *, modifiers=0):
-        """A key that is pressed and let go."""
+        """Presses and releases a key."""
         text = {"Enter": "\r", " ": " "}.get(key, key if len(key) == 1 and not modifiers else "")
         code = {"Enter": 13, " ": 32, "Tab": 9, "Escape": 27, "ArrowLeft": 37, "ArrowUp": 38,
                 "ArrowRight": 39, "ArrowDown": 40, "Home": 36, "End": 35, "PageUp": 33,
@@ -182,10 +181,10 @@ class Page:
         self.call("Input.dispatchKeyEvent", type="keyUp", **given)
 
     def write(self, words):
-        """Text where the focus is."""
+        """Types text into the focused element."""
         self.call("Input.insertText", text=words)
 
     def picture(self, file):
-        """A picture of what is seen."""
+        """Writes a screenshot to a file."""
         data = self.call("Page.captureScreenshot", format="png")["data"]
         Path(file).write_bytes(base64.b64decode(data))

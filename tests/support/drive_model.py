@@ -1,4 +1,5 @@
-"""An independent implementation of `irv drive --columns free`, by the model of events in `irvtools.model`."""
+"""An independent implementation of `irv drive --columns free`, with the event model of
+`irvtools.model`."""
 
 from irvtools.model.events import EVENTS, hazard
 from irvtools.model.plant import Plant
@@ -10,7 +11,7 @@ STATUS_OF = {DRIVEN: 0, HAZARD: 1, STUCK: 6}
 
 
 def by_itself(plant, state):
-    """Does the first automatic event that is enabled, and returns it, or None if none is."""
+    """Does the first enabled automatic event and returns it, or `None` if there is none."""
     for word in AUTOMATIC:
         numbers = range(len(plant.routes if word in ROUTE_WORDS else plant.sections))
         for number in numbers:
@@ -20,7 +21,7 @@ def by_itself(plant, state):
 
 
 def drive(plant, commands):
-    """Returns the events of a drive, the kind of its end and the words for it."""
+    """Returns a drive's events, the kind of its end and the words for it."""
     state, done, at = State(plant), [], 0
     while True:
         found = hazard(plant, state)
@@ -39,7 +40,7 @@ def drive(plant, commands):
 
 
 def answer(document, lines):
-    """Returns the kind of the end and the whole answer of drive to the lines of these commands."""
+    """Returns the kind of end and drive's whole answer to these commands."""
     plant = Plant(document)
     events, kind, words = drive(plant, [read_event(plant, line) for line in lines])
     return kind, f"{words} steps={len(events)}\n{run_text(plant, events)}"

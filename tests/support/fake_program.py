@@ -1,4 +1,4 @@
-"""A fake program, for what the true one never answers: it answers what a file says."""
+"""A fake program for answers that the real one never gives."""
 
 import json
 import stat
@@ -17,8 +17,8 @@ sys.exit(said.get("status", 0))
 
 
 def program(directory, answers):
-    """Writes a program into a directory that gives each command its answer; returns its path. `writes` is what it
-    writes into the file of --cert before it sleeps."""
+    """Writes a program that gives each command its answer, and returns its path. `writes` goes into
+    the file of `--cert` before it sleeps."""
     file = Path(directory, "fake")
     file.write_text(FAKE, encoding="utf-8")
     file.chmod(file.stat().st_mode | stat.S_IXUSR)

@@ -45,7 +45,7 @@ ROUTES = [
 
 
 def listed_conflicts(routes):
-    """Gives each route the others with which it has a section as its conflicts."""
+    """Lists as conflicts of each route the routes that share a section with it."""
     def locked(one):
         return {*one["path"], *one["overlap"], *(p["point"] for p in one["protecting_points"])}
     for one in routes:
@@ -54,31 +54,32 @@ def listed_conflicts(routes):
 
 
 def right():
-    """The line as it should be."""
+    """Returns the line without a fault."""
     routes = [route(words.split()) for words in ROUTES]
     listed_conflicts(routes)
     return {"version": 2, "sections": copy.deepcopy(SECTIONS), "routes": routes}
 
 
 def of(document, name):
-    """A section or a route by its name."""
+    """Returns a section or a route by its name."""
     return next(one for one in document["sections"] + document["routes"] if one["name"] == name)
 
 
 def lists(document, name, point_name, position):
-    """A route lists a point in another position."""
+    """Lists a route's point in another position."""
     next(one for one in of(document, name)["points"]
          if one["point"] == point_name)["position"] = position
 
 
 def unlisted(document, name, point_name):
-    """A route doesn't list a point."""
+    """Removes a point from a route's list."""
     one = of(document, name)
     one["points"] = [entry for entry in one["points"] if entry["point"] != point_name]
 
 
 def path(document, name, words):
-    """A route has another path, and lists the points of it alone that it listed; conflicts follow."""
+    """Changes a route's path. Keeps its listed points in path and overlap, and updates all
+    conflicts."""
     one = of(document, name)
     one["path"] = words.split()
     one["points"] = [entry for entry in one["points"]
@@ -87,36 +88,36 @@ def path(document, name, words):
 
 
 def bare(document, name, member):
-    """A section has no board there."""
+    """Removes a section's board."""
     of(document, name)[member] = None
 
 
 def passed(document):
-    """A route from S1 leads past S3 to S5."""
+    """Extends the route from S1 past S3 to S5."""
     one = of(document, "S1_S3")
     one["name"], one["destination"], one["overlap"] = "S1_S5", "S5", []
     path(document, "S1_S5", "U2 PA U3")
 
 
 def overlap(document):
-    """The overlap of S1_S3 leaves out PA."""
+    """Leaves PA out of the overlap of S1_S3."""
     one = of(document, "S1_S3")
     one["overlap"], one["points"] = ["U3"], []
     listed_conflicts(document["routes"])
 
 
 def no_conflict(document, name, other):
-    """A route doesn't list another."""
+    """Removes a route from another's conflicts."""
     of(document, name)["conflicts"].remove(other)
 
 
 def no_conflict_at_all(document):
-    """Neither of two routes lists the other."""
+    """Removes two routes from each other's conflicts."""
     no_conflict(document, "S3_S5", "S4_S10")
     no_conflict(document, "S4_S10", "S3_S5")
 
 
-# name: the rule that it breaks, whether it makes a hazard possible, what it changes
+# name: the broken rule, whether a hazard becomes possible, the change
 FAULTS = {
     "facing-point-wrong": ("C3", True, lambda d: lists(d, "S3_S7", "PA", "plus")),
     "trailing-point-wrong": ("C3", True, lambda d: lists(d, "S7_U", "PB", "plus")),
@@ -140,7 +141,7 @@ FAULTS = {
 
 
 def with_fault(name):
-    """The line with a fault."""
+    """Returns the line with a fault."""
     document = right()
     FAULTS[name][2](document)
     return document

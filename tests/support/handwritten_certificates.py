@@ -1,9 +1,9 @@
-"""Hand-written certificates, and what the checker of certificates has to say about each."""
+"""Hand-written certificates, and the checker's expected words about each."""
 
 from irvtools.checkers import certificate
 from irvtools.checkers import dimacs
 
-# each assignment of two, or of three, variables violates a clause; each satisfies the last formula
+# each assignment of two or three variables violates a clause; each satisfies the last formula
 TWO_VARIABLES = (2, [(1, 2), (1, -2), (-1, 2), (-1, -2)])
 THREE_VARIABLES = (3, [(1, 2, 3), (1, 2, -3), (1, -2, 3), (1, -2, -3),
              (-1, 2, 3), (-1, 2, -3), (-1, -2, 3), (-1, -2, -3)])
@@ -20,7 +20,7 @@ def first_step(step):
     return SAFE.replace("step 1 0 1 2 0", step, 1)
 
 
-# the formula of every query, the lines between the first and the last, and a part of the fault
+# every query's formula, the lines between first and last, and a part of the fault
 CERTIFICATES = [
     (TWO_VARIABLES, SAFE, ""),
     (TWO_VARIABLES, SAFE.replace("safe 1", "safe 2"), "not the queries"),
@@ -61,7 +61,7 @@ CERTIFICATES = [
 ]
 
 
-# a whole text, over TWO_VARIABLES for each query, and what an audit answers
+# a whole text, over TWO_VARIABLES for each query, and an audit's answer
 WHOLE = f"irv certificate 3|{SAFE}|end|"
 AUDITED = [
     (WHOLE, "accepted k=1"),
@@ -91,7 +91,7 @@ AUDITED = [
 
 
 def said_of(text, formula):
-    """Returns the fault that the checker finds in a text over one formula, or an empty text."""
+    """Returns the checker's fault in a text over one formula, or an empty text."""
     try:
         certificate.check(text, lambda kind, number: formula)
         return ""
@@ -100,7 +100,7 @@ def said_of(text, formula):
 
 
 def check_all():
-    """Checks all texts, and the counting of assignments; returns how many texts there are."""
+    """Checks all texts, and the counting of assignments. Returns how many texts."""
     for formula, lines, expected in CERTIFICATES:
         said = said_of(f"irv certificate 3|{lines}|end|".replace("|", "\n").encode(), formula)
         if (expected not in said) if expected else said:

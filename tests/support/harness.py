@@ -1,4 +1,4 @@
-"""The classes of tests, the settings of the runner, and functions as test cases."""
+"""Test classes, the runner's settings, and functions as test cases."""
 
 from __future__ import annotations
 
@@ -10,12 +10,12 @@ from typing import Callable, Iterable
 
 from irvtools.paths import PROGRAM
 
-SHOWN = 12              # a failed test shows this many faults
+SHOWN = 12              # faults shown of a failed test
 
 
 @dataclass
 class Settings:
-    """The arguments of the runner: the program, and whether long tests run."""
+    """The runner's arguments: the program, and whether long tests run."""
 
     program: Path = PROGRAM
     is_long: bool = False
@@ -25,13 +25,13 @@ SETTINGS = Settings()
 
 
 class Test(unittest.TestCase):
-    """A test that needs no program. `checks` is how many checks its method made."""
+    """A test that needs no program. `checks` counts its method's checks."""
 
     needs_program = False
     checks = 1
 
     def see(self, faults: Iterable[object], checks: int = 1) -> None:
-        """Fails with these faults if there are any. `checks` is how many checks were made."""
+        """Fails with these faults if there are any. `checks` counts the checks made."""
         found = list(faults)
         self.checks = checks
         if found:
@@ -46,30 +46,43 @@ class ProgramTest(Test):
 
     @property
     def program(self) -> Path:
-        """The program that is tested."""
+        """Returns the tested program."""
         return SETTINGS.program
 
     @property
     def is_long(self) -> bool:
-        """Whether long tests run."""
+        """Returns whether long tests run."""
         return SETTINGS.is_long
 
 
 class LongTest(ProgramTest):
-    """A long test, which runs only with --long."""
+    """A test that runs only with `--long`."""
 
     def setUp(self) -> None:
-        """Skips the test unless --long is given."""
+        """Skips the test without `--long`."""
         if not SETTINGS.is_long:
             self.skipTest("takes long; --long runs it")
 
 
+class Counted:
+    """The faults that a check yields. After their end `checks` is the number that the check returned, or 1."""
+
+    def __init__(self, faults: Iterable[object]) -> None:
+        self.faults, self.checks = faults, 1
+
+    def __iter__(self):
+        returned = yield from self.faults
+        self.checks = 1 if returned is None else returned
+
+
 def test_case(name: str, functions: Iterable[Callable], base: type = ProgramTest) -> type:
     """Returns a test case class with a method for each function `check_..`. Such a function takes the program
-    and whether long tests run, and yields faults."""
+    and whether long tests run, and yields faults. It may return the number of its checks."""
     def method(function):
         def test(self):
-            self.see(function(SETTINGS.program, SETTINGS.is_long))
+            counted = Counted(function(SETTINGS.program, SETTINGS.is_long))
+            found = list(counted)
+            self.see(found, counted.checks)
         test.__doc__ = function.__doc__
         return test
 

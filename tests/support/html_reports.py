@@ -1,4 +1,4 @@
-"""Reports for tests: whole ones, and parts of one."""
+"""Whole and partial reports for tests."""
 
 import json
 import re
@@ -16,7 +16,7 @@ from irvtools.paths import TOP
 
 
 def page(program, given, *words):
-    """A page of a configuration; its text and what was printed."""
+    """Makes a configuration's page. Returns its text and the output."""
     with tempfile.TemporaryDirectory(prefix="irv-page-test-") as room:
         out = Path(room, "page.html")
         done = subprocess.run([TOP / "tools/html", out, "--program", program, *words], input=given,
@@ -26,8 +26,7 @@ def page(program, given, *words):
 
 
 def shown_by(program, given, text, *words):
-    """A page with the run or the scenario of a text; its words without markup, and what was
-    printed."""
+    """Makes a page with a given run or scenario. Returns its words without markup, and the output."""
     with tempfile.TemporaryDirectory(prefix="irv-page-run-") as room:
         file = Path(room, "given.run")
         file.write_text(text)
@@ -36,7 +35,7 @@ def shown_by(program, given, text, *words):
 
 
 def shown_at(running, text, expression, width, height, **features):
-    """The value of an expression on a page that a browser shows in a window of a size."""
+    """Returns an expression's value on a page in a browser window of a size."""
     with tempfile.TemporaryDirectory(prefix="irv-shown-") as room:
         file = Path(room, "page.html")
         file.write_text(text, encoding="utf-8")
@@ -49,19 +48,19 @@ def shown_at(running, text, expression, width, height, **features):
 
 
 def plain(markup):
-    """Markup as a reader sees it, but for its style and its pictures' titles."""
+    """Returns markup as a reader sees it, without style and picture titles."""
     markup = re.sub(r"<style>.*?</style>|<title>.*?</title>", " ", markup, flags=re.S)
     return " ".join(unescape(re.sub(r"<[^>]*>", " ", markup)).split())
 
 
 def plant_of(text):
-    """The plant of a short text, and its bytes."""
+    """Returns the plant of a short text, and its bytes."""
     given = configurations.plant_text([line.strip() for line in text.strip().split("\n")])
     return Plant(json.loads(given)), given
 
 
 def part_of(program, text, part, *more):
-    """What a part of the page says of the plant of a short text, as a reader sees it."""
+    """Returns the words of a part of the page about the plant of a short text."""
     plant, given = plant_of(text)
     made = Report(SimpleNamespace(program=str(program), name="a plant"), given)
     made.plant, made.drawing = plant, Drawing(plant)

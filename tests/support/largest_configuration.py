@@ -1,5 +1,5 @@
-"""A configuration as long as is read, of 256 sections and 256 routes, with names as long as they may
-be: for the page's time and size."""
+"""A configuration of the greatest length that is read, for the page's time and size: 256 sections,
+256 routes, and the longest names."""
 
 import json
 
@@ -12,7 +12,7 @@ SECTIONS = 256
 
 
 def lengthened(value, names):
-    """A value with each name filled up to the most characters."""
+    """Returns a value with each name padded to the greatest length."""
     if isinstance(value, dict):
         return {key: lengthened(one, names) for key, one in value.items()}
     if isinstance(value, list):
@@ -21,20 +21,20 @@ def lengthened(value, names):
 
 
 def siding(count):
-    """A line of its own, with a board at each end."""
+    """Returns a separate line with a board at each end."""
     names = [".", *(f"x{i}" for i in range(count)), "."]
     return [linear(name, down, up, "xD" if up == "." else ".", "xU" if down == "." else ".")
             for down, name, up in zip(names, names[1:], names[2:])]
 
 
 def stations():
-    """The sections and the routes of stations in a row, and of a line beside them."""
+    """Returns the sections and routes of a row of stations, and a line beside them."""
     sections, routes = made_stations(STATIONS)
     return sections + siding(SECTIONS - len(sections)), routes
 
 
 def lengthened_stations():
-    """The same with long names, as a document; each route lists all others as conflicts."""
+    """Returns the same as a document with long names. Each route lists all others as conflicts."""
     sections, routes = stations()
     for route in routes:
         route["conflicts"] = [other["name"] for other in routes if other is not route]
@@ -45,5 +45,5 @@ def lengthened_stations():
 
 
 def given():
-    """Its bytes, filled up with blanks."""
+    """Returns its bytes, padded with blanks."""
     return json.dumps(lengthened_stations()).encode().ljust(MOST_BYTES)

@@ -1,13 +1,13 @@
-"""Run texts for cases that are too long to write out."""
+"""Run texts too long to write out in cases."""
 
 
 def run_text(events):
-    """A run from the start, of these events."""
+    """Returns a run of these events from the initial state."""
     return "".join(f"{line}\n" for line in ["run 1", "start", *events, "end"]).encode()
 
 
 def through(count):
-    """A train that runs up through all of a line of that many sections, and leaves it."""
+    """Returns a train's run up through and out of a line of `count` sections."""
     events = ["enter s0"]
     for i in range(count - 1):
         events += [f"head s{i}", f"tail s{i}"]
@@ -15,7 +15,7 @@ def through(count):
 
 
 def into(count):
-    """The same, into a train that entered at the line's other end."""
+    """Returns the same run into a train that entered at the other end."""
     events = [f"enter s{count - 1}", "enter s0"]
     for i in range(count - 1):
         events += [f"head s{i}", f"tail s{i}"]
@@ -23,7 +23,7 @@ def into(count):
 
 
 def use(count):
-    """Route r0's use, over a path of s1 and so on: 3, 1, three for each section, releases, 1."""
+    """Returns the use of route r0 over a path from s1 on: 3 events, 1, 3 per section, releases, 1."""
     events = ["mark r0", "allocate r0", "lock r0", "enter s0"]
     for i in range(count):
         events += [f"head s{i}", "sense r0", f"tail s{i}"]

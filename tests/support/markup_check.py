@@ -1,9 +1,8 @@
-"""Whether a page is well-formed, has no markup but the page's own, and opens nothing from
-elsewhere."""
+"""Checks that a page is well-formed, has only allowed markup, and opens nothing external."""
 
 from html.parser import HTMLParser
 
-EMPTY = {"meta", "br", "path", "rect", "circle", "use", "line"}     # may have no end
+EMPTY = {"meta", "br", "path", "rect", "circle", "use", "line"}     # may lack an end tag
 ALLOWED = {"nav", "a", "html", "head", "meta", "title", "style", "body", "h1", "h2", "h3", "p", "div", "span", "b", "i",
            "code", "pre", "ul", "li", "table", "thead", "tbody", "tr", "td", "th", "details", "summary", "svg", "g",
            "defs", "use", "path", "rect", "circle", "text"}
@@ -11,7 +10,7 @@ OPENING = {"src", "href", "srcset", "data", "action", "background", "xlink:href"
 
 
 class Checker(HTMLParser):
-    """Collects what is wrong."""
+    """A parser that collects faults."""
 
     def __init__(self):
         super().__init__(convert_charrefs=True)
@@ -32,7 +31,7 @@ class Checker(HTMLParser):
             self.wrong.append(f"</{tag}> at {self.getpos()} ends nothing")
 
     def look(self, tag, attributes):
-        """An element and its attributes."""
+        """Checks an element and its attributes."""
         if tag not in ALLOWED:
             self.wrong.append(f"an element {tag} at {self.getpos()}")
         for name, value in attributes:
@@ -48,7 +47,7 @@ class Checker(HTMLParser):
 
 
 def faults(page):
-    """What is wrong with a page."""
+    """Yields the faults of a page."""
     checker = Checker()
     checker.feed(page)
     checker.close()

@@ -16,22 +16,21 @@ INDEX = "index.html"
 
 
 def call(program, directory, given, *words):
-    """Returns what tools/package answers, with the program that is tested."""
+    """Returns the answer of tools/package with the tested program."""
     return subprocess.run([TOP / "tools/package", directory, *words, "--program", program], input=given,
                           capture_output=True, check=False)
 
 
 @contextmanager
 def place():
-    """Gives the name of a directory that does not exist, in a room that is removed."""
+    """Yields a path that does not exist, in a temporary directory."""
     with tempfile.TemporaryDirectory(prefix="irv-test-package-") as room:
         yield Path(room) / "filed"
 
 
 @contextmanager
 def made(program, given, *words):
-    """Gives a package in a directory that is removed, with the first line of output, without the
-    directory."""
+    """Yields a package in a temporary directory, and the first output line without the directory."""
     with place() as directory:
         done = call(program, directory, given, *words)
         said = done.stdout.decode().partition("\n")[0].removeprefix(f"{directory}: ")
@@ -39,19 +38,19 @@ def made(program, given, *words):
 
 
 def repeat(directory, *words):
-    """Returns the lines that its script prints, and the status."""
+    """Returns the lines of its script, and the status."""
     done = subprocess.run([directory / "repeat.sh", *words], capture_output=True, check=False, cwd="/")
     return done.stdout.decode().splitlines() + done.stderr.decode().splitlines(), done.returncode
 
 
 def differing(directory, *words):
-    """Returns what differs, by its script."""
+    """Returns the differences that its script finds."""
     lines, _ = repeat(directory, *words)
     return [line.removeprefix("differs: ") for line in lines if line.startswith("differs: ")]
 
 
 def judged(directory, *words, judge=(TOP / "tools/verify_package",)):
-    """Returns the failures that the judge prints, the other lines, and the status."""
+    """Returns the judge's failures, the other lines, and the status."""
     done = subprocess.run([*judge, directory, *words], capture_output=True, check=False, cwd="/",
                           env={**os.environ, "PYTHONDONTWRITEBYTECODE": "1"})
     lines = done.stdout.decode().splitlines() + done.stderr.decode().splitlines()
@@ -72,7 +71,7 @@ def changed(given, change):
 
 
 def flip(file):
-    """Changes the last digit or letter of a file, or the middle byte of a binary one."""
+    """Changes a file's last digit or letter, or a binary file's middle byte."""
     data = bytearray(file.read_bytes())
     place = max((place for place, byte in enumerate(data) if chr(byte).isalnum()), default=0) \
         if file.suffix else len(data) // 2
@@ -81,7 +80,7 @@ def flip(file):
 
 
 def renew_sums(directory):
-    """Makes the checksums anew, as someone would who hides a change."""
+    """Renews the checksums, as someone would to hide a change."""
     names = sorted(path.relative_to(directory).as_posix() for path in directory.rglob("*")
                    if path.is_file() and path.name != "SHA256SUMS")
     (directory / "SHA256SUMS").write_text("".join(
@@ -89,6 +88,6 @@ def renew_sums(directory):
 
 
 def text_of_page(directory):
-    """Returns the text of the page, without its markup."""
+    """Returns the page's text without markup."""
     page = (directory / INDEX).read_text(encoding="utf-8")
     return html.unescape(re.sub(r"<[^>]+>", " ", page.partition("</style>")[2]))

@@ -1,5 +1,5 @@
-"""What a browser prints of a page: where the texts of each sheet are, and which headings are the
-last line of a sheet. It reads the PDF that Chromium writes."""
+"""The text positions on a page's printed sheets, and the headings that end a sheet, read from
+Chromium's PDF."""
 
 from __future__ import annotations
 
@@ -15,7 +15,7 @@ TOKEN = re.compile(rb"(?P<q>^q$)|(?P<Q>^Q$)|(?P<cm>^[-0-9. ]+ cm$)|(?P<Tf>^/\w+ 
                    rb"|(?P<Tm>^[-0-9. ]+ Tm$)", re.M)
 HEADINGS = (16.67, 15.0)        # of h2 and h3 on paper, in pixels
 NEAR = 0.2
-BELOW = 6                       # pixels by which another text has to be lower than a heading
+BELOW = 6                       # pixels that another text must be below a heading
 
 
 def times(one: tuple, other: tuple) -> tuple:
@@ -26,8 +26,7 @@ def times(one: tuple, other: tuple) -> tuple:
 
 
 def texts(stream: bytes) -> Iterator[tuple]:
-    """Yields the texts of a sheet: how far down they are, and the size of their letters, in
-    pixels."""
+    """Yields the texts of a sheet: distance from the top and letter size, in pixels."""
     now, kept, size = (1, 0, 0, 1, 0, 0), [], 0.0
     for match in TOKEN.finditer(stream):
         kind, numbers = match.lastgroup, [float(one) for one in re.findall(rb"(?<![\w/])-?[0-9]*\.?[0-9]+",
@@ -58,7 +57,7 @@ def sheets(data: bytes) -> Iterator[list]:
 
 
 def printed(running, text: str) -> bytes:
-    """Returns the PDF that a browser prints of a page."""
+    """Returns a browser's PDF of a page."""
     with tempfile.TemporaryDirectory(prefix="irv-paper-") as directory:
         file = Path(directory, "page.html")
         file.write_text(text, encoding="utf-8")
@@ -70,13 +69,12 @@ def printed(running, text: str) -> bytes:
 
 
 def is_heading(size: float) -> bool:
-    """Returns whether letters of a size are those of a heading."""
+    """Returns whether a letter size is a heading's."""
     return any(abs(size - heading) < NEAR for heading in HEADINGS)
 
 
 def orphans(running, text: str) -> Iterator[str]:
-    """Yields a sentence for each sheet on which a heading is the last line, and if there is no
-    heading."""
+    """Yields a sentence for each sheet that ends with a heading, and if there is no heading."""
     headings = 0
     for number, sheet in enumerate(sheets(printed(running, text)), 1):
         found = [down for down, size in sheet if is_heading(size)]

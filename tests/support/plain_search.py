@@ -1,7 +1,7 @@
-"""An independent random search, which shares only the model of events with `tools/search`.
+"""An independent random search, which shares only the event model with `tools/search`.
 
-It takes random runs over a few random routes and boundary sections, with other weights. It is slow, and does not
-know which routes affect each other. A run that it finds shows that a table is unsafe.
+It runs a few random routes and boundary sections, with other weights. It is slow, and ignores which
+routes affect each other. A run that it finds shows that a table is unsafe.
 """
 
 from __future__ import annotations
@@ -15,11 +15,11 @@ from irvtools.model.state import State
 MOST_EVENTS = 240
 NEXT = {"free": ("mark",), "marked": ("allocate", "cancel"), "allocating": ("lock", "cancel"),
         "locked": ("sense",), "occupied": ("release", "finish", "sense")}
-SELDOM = ("cancel",)    # tried at one turn in ten
+SELDOM = ("cancel",)    # used at one turn in ten
 
 
 def plain_search(plant, seed: int, seconds: float) -> list | None:
-    """Returns a run to a hazard, or None if none was found in so many seconds."""
+    """Returns a run to a hazard, or `None` if none was found in `seconds`."""
     chance, end = random.Random(seed), time.monotonic() + seconds
     while time.monotonic() < end:
         run = a_walk(plant, chance)
@@ -29,7 +29,7 @@ def plain_search(plant, seed: int, seconds: float) -> list | None:
 
 
 def a_walk(plant, chance):
-    """Returns a random run if it ends in a hazard, otherwise None."""
+    """Returns a random run if it ends in a hazard, otherwise `None`."""
     routes = chance.sample(range(len(plant.routes)), min(len(plant.routes), chance.randint(2, 9)))
     borders = chance.sample(list(plant.inward), chance.randint(1, min(len(plant.inward), 4)))
     state, run = State(plant), []

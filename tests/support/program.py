@@ -7,13 +7,12 @@ TIMEOUT_SECONDS = 60
 
 
 class NoAnswer(Exception):
-    """A call that didn't end, or didn't begin: the message says which."""
+    """A call that did not start or end; the message says which."""
 
 
 def call(program, words, conf, directory, memory_mebibytes=None, output_is_full=False, closed=()):
-    """Calls the program in a directory: its output, its standard error, its status. The configuration
-    is bytes, or None if standard input is to be a directory. The standard streams of these numbers
-    are closed."""
+    """Calls the program in a directory. Returns its output, standard error and status. If `conf` is
+    `None`, standard input is a directory. The standard streams `closed` are closed."""
     command = [str(program), *words]
     if closed:
         command = ["sh", "-c", 'exec "$0" "$@"' + "".join(f" {n}>&-" for n in closed), *command]
@@ -39,7 +38,7 @@ def call(program, words, conf, directory, memory_mebibytes=None, output_is_full=
 
 
 def option(words, name, default=None):
-    """The value of an option on a command line, by its last standing there."""
+    """Returns the last value of an option in the arguments."""
     value = default
     for before, word in zip(["", *words], words):
         if before == name:

@@ -1,7 +1,7 @@
-"""Random single faults in a table, and random protection of its routes.
+"""Random single faults in a table, and random route protection.
 
-Each function changes a random place of a document, and returns in words what it changed, or None if it found
-nothing to change.
+Each function changes a random place of a document. It describes the change, or returns `None` if
+there is nothing to change.
 """
 
 import copy
@@ -12,19 +12,19 @@ LEGS = {"plus": "minus", "minus": "plus"}
 
 
 def boards_of(document):
-    """The boards by name, each with its section and direction."""
+    """Returns the boards by name, each with its section and direction."""
     return {section["board_" + side]: (section, side) for section in document["sections"]
             for side in ("down", "up") if section.get("board_" + side)}
 
 
 def a_route(document, chance, wanted=lambda route: True):
-    """Returns a random route that satisfies `wanted`, or None if there is none."""
+    """Returns a random route that satisfies `wanted`, or `None` if there is none."""
     found = [route for route in document["routes"] if wanted(route)]
     return chance.choice(found) if found else None
 
 
 def turned(document, chance):
-    """A listed point is listed in its other position."""
+    """Turns a listed point to its other position."""
     route = a_route(document, chance, lambda one: one["points"])
     if route:
         entry = chance.choice(route["points"])
@@ -33,7 +33,7 @@ def turned(document, chance):
 
 
 def not_listed(document, chance):
-    """A listed point is left out."""
+    """Removes a listed point."""
     route = a_route(document, chance, lambda one: one["points"])
     if route:
         entry = chance.choice(route["points"])
@@ -42,13 +42,13 @@ def not_listed(document, chance):
 
 
 def keep_points(route):
-    """Leaves out listed points that are neither in the path nor in the overlap."""
+    """Removes listed points in neither path nor overlap."""
     route["points"] = [entry for entry in route["points"]
                        if entry["point"] in route["path"] + route["overlap"]]
 
 
 def skipped(document, chance):
-    """A section of the path is left out."""
+    """Removes a section of a path."""
     route = a_route(document, chance, lambda one: len(one["path"]) > 1)
     if route:
         name = route["path"].pop(chance.randrange(len(route["path"])))
@@ -57,7 +57,7 @@ def skipped(document, chance):
 
 
 def cut(document, chance):
-    """The path ends early."""
+    """Ends a path early."""
     route = a_route(document, chance, lambda one: len(one["path"]) > 1)
     if route:
         del route["path"][chance.randrange(1, len(route["path"])):]
@@ -66,7 +66,7 @@ def cut(document, chance):
 
 
 def other_source(document, chance):
-    """A route has another board as its source."""
+    """Gives a route another source."""
     route = a_route(document, chance)
     others = [name for name in boards_of(document)
               if name not in (route["source"], *route["protecting_boards"])]
@@ -76,7 +76,7 @@ def other_source(document, chance):
 
 
 def other_destination(document, chance):
-    """A route has another destination."""
+    """Gives a route another destination."""
     route = a_route(document, chance)
     route["destination"] = chance.choice([name for name in (*boards_of(document), None)
                                           if name != route["destination"]])
@@ -84,7 +84,7 @@ def other_destination(document, chance):
 
 
 def no_conflicts(document, chance):
-    """Some conflicts are left out, on both sides."""
+    """Removes some conflicts on both sides."""
     route = a_route(document, chance, lambda one: one["conflicts"])
     if route:
         gone = chance.sample(route["conflicts"], chance.randint(1, len(route["conflicts"])))
@@ -97,7 +97,7 @@ def no_conflicts(document, chance):
 
 
 def no_protection(document, chance):
-    """A protecting board or point is left out, or the point turned."""
+    """Removes a protecting board or point, or turns the point."""
     route = a_route(document, chance, lambda one: one["protecting_boards"]
                     or one["protecting_points"])
     if route:
@@ -117,7 +117,7 @@ FAULTS = {"turned": turned, "not listed": not_listed, "skipped": skipped, "cut":
 
 
 def with_fault(document, kind, chance):
-    """Returns a document with a fault, and the words about it; None if there is nothing to change."""
+    """Returns a document with a fault and its description, or `None` if nothing can change."""
     document = copy.deepcopy(document)
     words = FAULTS[kind](document, chance)
     return words and (document, words)
@@ -126,7 +126,7 @@ def with_fault(document, kind, chance):
 # -- protection of routes
 
 def with_protection(document, chance):
-    """Returns a document in which some routes have an overlap, protecting boards and protecting points that
+    """Returns a document in which some routes have an overlap, protecting boards and points that
     keep the rules."""
     document = copy.deepcopy(document)
     sections = {section["name"]: section for section in document["sections"]}
@@ -143,7 +143,7 @@ def with_protection(document, chance):
 
 
 def give_overlap(route, sections, boards, chance):
-    """Sometimes gives a route the section after its end as its overlap."""
+    """Sometimes makes the section after a route's end its overlap."""
     way = boards[route["source"]][1]
     last = sections[route["path"][-1]]
     if chance.random() < 0.7 or last["kind"] == "point" or last[way] is None:
@@ -158,7 +158,8 @@ def give_overlap(route, sections, boards, chance):
 
 
 def give_points(route, sections, chance):
-    """Sometimes gives a route the points next to its path, in a position that leads away from it."""
+    """Sometimes makes the points next to a route's path its protecting points, in a position that
+    leads away."""
     used = route["path"] + route["overlap"]
     for name in used:
         for beside in (sections[name].get(end) for end in ("down", "up", "stem", "plus", "minus")):
@@ -172,8 +173,8 @@ def give_points(route, sections, chance):
 
 
 def list_conflicts(routes):
-    """Lists as conflicts the routes that share a section, and those of which one has the other's
-    source among its protecting boards."""
+    """Lists as conflicts the routes that share a section, or of which one has the other's source as
+    a protecting board."""
     def taken(one):
         return {*one["path"], *one["overlap"],
                 *(entry["point"] for entry in one["protecting_points"])}

@@ -1,10 +1,10 @@
 """Random networks that break no rule N, the same at each call.
 
-The generator is hand-written and seeded: a failure has to be repeatable by its seed alone.
+The generator is seeded and hand-written: the seed alone must reproduce a failure.
 
-A network grows from its lower borders: an open end gets a linear section or a point that parts into two
-ends, or two ends come together at a point. Then each end is closed by a border, the sections are put
-into another order, and boards are put where there may be some.
+A network grows from its lower borders. An open end gets a linear section or a point with two
+further ends, or two ends meet at a point. Then borders close the ends, sections are shuffled, and
+boards placed.
 """
 
 import random
@@ -13,46 +13,46 @@ from irvtools.generators import configurations
 
 
 class Growing:
-    """The sections so far, and the ends that are open."""
+    """The sections and the open ends so far."""
 
     def __init__(self, chance):
         self.chance = chance
         self.sections = []
-        self.open = []          # of each open end its section, and the member that it has to fill
+        self.open = []          # each open end's section and the member to fill
 
     def add(self, section, *ends):
-        """A section more, with its open ends."""
+        """Adds a section with its open ends. Returns its name."""
         section["name"] = f"x{len(self.sections)}"
         self.sections.append(section)
         self.open += [(section, end) for end in ends]
         return section["name"]
 
     def border(self):
-        """A section where the network begins."""
+        """Adds a section at which the network begins."""
         self.add(configurations.linear("", ".", ".", ".", "."), "up")
 
     def taken(self, *others):
-        """Returns a random open end of a section other than these, which is closed then."""
+        """Closes and returns a random open end of a section not in `others`."""
         ends = [end for end in self.open if end[0] not in others]
         end = self.chance.choice(ends)
         self.open.remove(end)
         return end
 
     def go_on(self, end):
-        """A linear section behind an end."""
+        """Adds a linear section after an end."""
         before, member = end
         section = configurations.linear("", before["name"], ".", ".", ".")
         before[member] = self.add(section, "up")
 
     def part(self):
-        """A point behind an end, from which two lead on."""
+        """Adds a point with two legs after an end."""
         before, member = self.taken()
         legs = ["plus", "minus"]
         self.chance.shuffle(legs)
         before[member] = self.add(configurations.point("", "up", before["name"], "", ""), *legs)
 
     def join(self):
-        """A point at which two ends come together."""
+        """Joins two ends at a point."""
         one = self.taken()
         if not any(end[0] is not one[0] for end in self.open):
             self.open.append(one)
@@ -62,7 +62,8 @@ class Growing:
         one[0][one[1]] = other[0][other[1]] = self.add(section, "stem")
 
     def close(self):
-        """Where a linear section has an open end, it is a border; any other end gets one."""
+        """Closes each open end: a linear section with a lower neighbour becomes a border, any other
+        end gets one."""
         for end in self.open:
             section, member = end
             if section["kind"] == "point" or section["down"] is None:
@@ -74,8 +75,8 @@ class Growing:
 
 
 def put_boards(sections, chance, share, strict):
-    """Boards where a linear section has a neighbour on that side: at each border for the trains that come
-    in there, where it is strict; otherwise at random."""
+    """Places boards on linear sections, on sides with a neighbour: at random, and if `strict` also
+    at each border for entering trains."""
     for number, section in enumerate(sections):
         if section["kind"] == "point":
             continue
@@ -86,7 +87,7 @@ def put_boards(sections, chance, share, strict):
 
 
 def network(seed):
-    """A configuration without routes, and whether each border has its board."""
+    """Returns a configuration without routes, and whether each border has its board."""
     chance = random.Random(seed)
     growing = Growing(chance)
     for _ in range(chance.choice([1, 1, 2, 3])):

@@ -1,6 +1,4 @@
-"""Random runs and states, for comparing the page's models of events with each other and with
-`irv replay`.
-"""
+"""Random runs and states, to compare the page's event models with each other and with `irv replay`."""
 
 from irvtools.model import events
 from irvtools.search.route_groups import Crew
@@ -11,7 +9,7 @@ from irvtools.search.random_run import Walk
 
 
 def a_walk(plant, chance):
-    """Returns a random run of the random search, up to its first hazard."""
+    """Returns a run of the random search, up to its first hazard."""
     relations = Relations(Facts(plant))
     walk = Walk(relations, chance, Crew(relations, chance, relations.suspects, 3))
     walk.to_hazard(chance.randint(1, 90))
@@ -19,7 +17,7 @@ def a_walk(plant, chance):
 
 
 def a_run(plant, chance):
-    """A part of such a run, as far as the model that draws goes along with it, and its last state."""
+    """Returns a part of such a run that the drawing model accepts, and its last state."""
     walk, run, state = a_walk(plant, chance), [], State(plant)
     for event in walk[:chance.randint(0, len(walk))] if chance.random() < 0.5 else walk:
         if not events.apply(plant, state, event):
@@ -29,7 +27,7 @@ def a_run(plant, chance):
 
 
 def all_events(plant):
-    """Every event that a run text may have."""
+    """Returns every event that a run text may have."""
     things = {word: range(len(plant.sections)) for word in events.EVENTS}
     things.update({word: range(len(plant.routes)) for word in ROUTE_WORDS})
     things.update({word: plant.points for word in ("throw", "settle")})
@@ -37,13 +35,13 @@ def all_events(plant):
 
 
 def is_enabled(plant, state, event):
-    """Whether an event is enabled, by the model."""
+    """Returns whether the model enables an event."""
     return events.hazard(plant, state) is None and events.apply(plant, state.copy(), event)
 
 
 def wandered(plant, state, chance, most):
-    """A run of any events from a state, at most so many, and its last state. Each kind of event that is
-    enabled is as likely as another."""
+    """Returns a run of at most `most` events from a state, and its last state. Each kind of enabled
+    event is equally likely."""
     state, run, known = state.copy(), [], all_events(plant)
     while len(run) < most:
         enabled = [event for event in known if is_enabled(plant, state, event)]
@@ -56,7 +54,7 @@ def wandered(plant, state, chance, most):
 
 
 def muddled(plant, state, chance):
-    """A state with shape that need not be reached: some parts are changed at random."""
+    """Returns a well-formed state with random changes, which need not be reachable."""
     state = state.copy()
     for r, route in enumerate(plant.routes):
         if chance.random() < 0.3:

@@ -1,5 +1,5 @@
-"""Random interlocking tables over random networks, the same for each seed: routes of the network with
-random overlaps, protection, and some entries of points and conflicts."""
+"""Random interlocking tables over random networks, the same for each seed: routes with random
+overlaps, protection, and some point and conflict entries."""
 
 import random
 
@@ -10,7 +10,7 @@ MOST_ROUTES = 40
 
 
 def table(seed):
-    """Returns the table of a seed, or None if its network has no routes or too many."""
+    """Returns a seed's table, or `None` if its network has no routes or too many."""
     value, _ = random_networks.network(seed)
     routes = route_tables.routes(value)
     if isinstance(routes, str) or not 0 < len(routes) <= MOST_ROUTES:
@@ -28,7 +28,7 @@ def table(seed):
 
 
 def tables(count):
-    """Yields so many random tables, each with its seed."""
+    """Yields `count` random tables, each with its seed."""
     seed, found = 0, 0
     while found < count:
         value = table(seed)

@@ -1,16 +1,15 @@
-"""Which definitions public contracts reach, held against files of definitions that say in their first
-line that private contracts or proofs alone cite them.
+"""The definitions that public contracts reach, compared with definition files whose first line says
+that only private contracts or proofs cite them.
 
-A contract is public where others can call its function: `lib.rt` hands on the function, or the type or
-trait whose method it is. It reaches what its clauses name, what that names, and so on, as
-`tools/definitions` looks names up. How a type keeps its values, its private fields and what is kept of
-them, is no part of a contract."""
+A contract is public if others can call its function: `lib.rt` re-exports the function, or the
+method's type or trait. It reaches what its clauses name, what that names, and so on, as
+`tools/definitions` looks names up. A type's representation and private fields do not count."""
 
 import importlib.machinery
 import importlib.util
 import re
 
-# what the first line of a file says that denies it
+# a file's first line that denies public use
 DENIES = re.compile(r"-- .*\b(?:private contracts|proofs alone)\b")
 HANDED_ON = re.compile(r"^pub use (?!ilk_)\w+::(?:\{([^}]*)\}|(\w+));", re.M)
 OWNER = re.compile(r"(pub trait|impl)\b(?:<.*?>)? (?:(\w+)[^{]*? for )?&?(\w+)")
@@ -20,7 +19,7 @@ KEPT = re.compile(r" +ghost (?!Value\b)")
 
 
 def tool_of(root):
-    """Returns the lister of definitions of a copy of the repository, as a module."""
+    """Returns the definition lister of a repository copy as a module."""
     file = root / "tools/irvtools/docs/definitions.py"
     loader = importlib.machinery.SourceFileLoader("definitions_of_copy", str(file))
     module = importlib.util.module_from_spec(importlib.util.spec_from_loader(loader.name, loader))
@@ -30,7 +29,7 @@ def tool_of(root):
 
 
 def handed_on(crate):
-    """What a crate hands on of its modules."""
+    """Returns the names that a crate re-exports from its modules."""
     library = crate / "src/lib.rt"
     text = library.read_text(encoding="utf-8") if library.exists() else ""
     return {name for listed, single in HANDED_ON.findall(text)
@@ -38,8 +37,8 @@ def handed_on(crate):
 
 
 def calls(path, public):
-    """The public calls of a file, each with the lines of its clauses; and the types that are seen as
-    values, each with the line that says as which."""
+    """Yields the public calls of a file with their clause lines, and the visible types with the
+    line of their value."""
     owner, is_open, clauses, indent = None, False, None, ""
     for line in path.read_text(encoding="utf-8").split("\n"):
         block, call = OWNER.match(line), CALL.match(line)
@@ -66,7 +65,7 @@ def calls(path, public):
 
 
 def named_in(tool, path, lines):
-    """The definitions that some lines of a file name: each file, and a name there."""
+    """Yields the definitions that some lines of a file name, as file and name."""
     file, here = tool.file_at(path), ".".join(path.relative_to(tool.CRATES).with_suffix("").parts)
     for word in {word for line in lines for word in tool.names_in(line)}:
         named = file.named(here, word)
@@ -76,15 +75,15 @@ def named_in(tool, path, lines):
 
 
 def shown(lines):
-    """Those lines of a declaration that say what others see: no private field of a type."""
+    """Returns the lines of a declaration that others see, without private fields."""
     if not lines or not lines[0].startswith("pub struct"):
         return [line for line in lines if not KEPT.match(line)]
     return [line for line in lines if not re.match(r" +(?!pub |ghost Value)\w", line)]
 
 
 def denied(root):
-    """How many public calls there are; and each file that denies it, with a call that reaches it and what
-    it reaches there, or none."""
+    """Returns the number of public calls, and each denying file with a call and the definition it
+    reaches, or `None`."""
     tool, count, queue = tool_of(root), 0, []
     for crate in sorted((root / "crates").iterdir()):
         public = handed_on(crate)

@@ -1,7 +1,7 @@
-"""Lines of real size for the random search: single and double tracks with passing loops, crossovers, ladders and
-a terminus, drawn from the lower end up, track by track. `irv table` gives them their routes.
+"""Lines of real size for the random search: single and double tracks with passing loops,
+crossovers, ladders and a terminus, built from the lower end up. `irv table` adds their routes.
 
-Tracks are numbered; each has an open end, behind which the next piece goes.
+Each numbered track has an open end for the next piece.
 """
 
 import json
@@ -17,23 +17,23 @@ class Line:
 
     def __init__(self, tracks):
         self.sections, self.boards = [], 0
-        self.ends = []          # of each track the section and the member that want a neighbour
+        self.ends = []          # each track's open section and member
         for _ in range(tracks):
             self.border("up")
 
     def named(self, section, letter):
-        """Adds a section under a name of its own."""
+        """Adds a section under its own name, and returns the name."""
         section["name"] = f"{letter}{len(self.sections)}"
         self.sections.append(section)
         return section["name"]
 
     def board(self):
-        """A name for a board."""
+        """Returns a new board name."""
         self.boards += 1
         return f"B{self.boards}"
 
     def border(self, side):
-        """A track begins, with a board for trains that come in."""
+        """Begins a track, with a board for entering trains."""
         section = linear("", ".", ".", ".", ".")
         section["board_" + side] = self.board()
         self.named(section, "t")
@@ -41,13 +41,13 @@ class Line:
         return section
 
     def join(self, track, name):
-        """Gives the open end of a track its neighbour; answers the name of the section there."""
+        """Connects a track's open end to `name`. Returns the section there."""
         section, member = self.ends[track]
         section[member] = name
         return section["name"]
 
     def plain(self, track, boards=NONE):
-        """A linear section more on a track, with boards for these directions."""
+        """Adds a linear section to a track, with boards for these directions."""
         section = linear("", self.ends[track][0]["name"], ".", ".", ".")
         self.join(track, self.named(section, "t"))
         for side in boards:
@@ -55,7 +55,7 @@ class Line:
         self.ends[track] = section, "up"
 
     def end(self, track):
-        """A track ends at a border, with a board for trains that come in."""
+        """Ends a track at a border, with a board for entering trains."""
         before = self.ends[track][0]["name"]
         section = self.border("down")
         self.ends.pop()
@@ -63,7 +63,7 @@ class Line:
         self.join(track, section["name"])
 
     def part(self, track, leg="plus"):
-        """A point from which a new track leads on; the old one goes on over a leg."""
+        """Adds a point that starts a new track. The old track continues over `leg`."""
         other = "minus" if leg == "plus" else "plus"
         section = point("", "up", self.ends[track][0]["name"], ".", ".")
         self.join(track, self.named(section, "p"))
@@ -72,7 +72,7 @@ class Line:
         return len(self.ends) - 1
 
     def meet(self, track, other, leg="plus"):
-        """A point at which another track, the last one, comes to a track."""
+        """Joins another track to a track at a point."""
         section = point("", "down", ".", ".", ".")
         name = self.named(section, "p")
         section[leg] = self.join(track, name)
@@ -81,7 +81,7 @@ class Line:
         del self.ends[other]
 
     def crossover(self, track, other):
-        """From a track to another, for trains that run up."""
+        """Connects a track to another for up trains."""
         first = point("", "up", self.ends[track][0]["name"], ".", ".")
         second = point("", "down", ".", self.ends[other][0]["name"], ".")
         self.join(track, self.named(first, "p"))
@@ -90,7 +90,7 @@ class Line:
         self.ends[track], self.ends[other] = (first, "plus"), (second, "stem")
 
     def loop(self, track, platforms):
-        """A station with platforms on a track: ladders, and boards in both directions."""
+        """Adds a station with platforms, ladders, and boards in both directions."""
         self.plain(track, BOTH)
         tracks = [track]
         while len(tracks) < platforms:
@@ -103,14 +103,14 @@ class Line:
         self.plain(track, BOTH)
 
     def network(self):
-        """The document without routes; every open end gets a border."""
+        """Returns the document without routes. Every open end gets a border."""
         for track in range(len(self.ends)):
             self.end(track)
         return {"version": 1, "sections": self.sections, "routes": []}
 
 
 def loops():
-    """A single track with three stations of two, three and two platforms."""
+    """Returns a single track with three stations of two, three and two platforms."""
     one = Line(1)
     for platforms in (2, 3, 2):
         one.loop(0, platforms)
@@ -119,7 +119,7 @@ def loops():
 
 
 def double(crossings):
-    """A double track with so many places at which trains cross over, both ways."""
+    """Returns a double track with `crossings` places to cross over, both ways."""
     one = Line(2)
     for number in range(crossings):
         for track in (0, 1):
@@ -134,7 +134,7 @@ def double(crossings):
 
 
 def terminus():
-    """Two tracks into a terminus with five platforms."""
+    """Returns two tracks into a terminus with five platforms."""
     one = Line(2)
     for track in (0, 1):
         one.plain(track, BOTH)
@@ -149,7 +149,7 @@ def terminus():
 
 
 def junction():
-    """A double track, a single one that leaves it, with a loop on each."""
+    """Returns a double track and a single branch with a loop."""
     one = Line(2)
     for track in (0, 1):
         one.plain(track, BOTH)
@@ -166,7 +166,7 @@ def junction():
 
 
 def stations():
-    """Two tracks with a loop on each, and crossovers between and behind them."""
+    """Returns two tracks with loops, and crossovers between and behind them."""
     one = Line(2)
     for _ in range(2):
         for track in (0, 1):
@@ -183,7 +183,7 @@ NETWORKS = {"loops": loops, "double": lambda: double(3), "crossings": lambda: do
 
 
 def with_routes(program, network):
-    """A network with all of its routes, as `irv table` prints it."""
+    """Returns a network with all of its routes, as printed by `irv table`."""
     done = subprocess.run([program, "table"], input=json.dumps(network).encode(),
                           capture_output=True, check=True)
     return json.loads(done.stdout)

@@ -1,4 +1,4 @@
-"""The plants over which the page is tried."""
+"""The plants of the page's tests."""
 
 import json
 from pathlib import Path
@@ -10,7 +10,7 @@ EXAMPLES = sorted((Path(__file__).resolve().parents[2] / "examples").glob("*.jso
 
 
 def plants():
-    """Plants that break no rule of the network and of the table, by name, as bytes."""
+    """Returns named plants as bytes."""
     found = {path.stem: path.read_bytes() for path in EXAMPLES}
     found["line"] = json.dumps(fifteen_section_line.right()).encode()
     found.update({name: json.dumps(fifteen_section_line.with_fault(name)).encode() for name in fifteen_section_line.FAULTS})

@@ -1,8 +1,8 @@
-"""The runner of all tests: finds them, runs them in parallel, and counts what they checked.
+"""The test runner: finds tests, runs them in parallel, and counts their checks.
 
-A test's name is its module below `tests/`, without `_tests`, and its method, as `html.advice.asks`. Each test runs
-in a process of its own. If a module has a `tearDownModule`, its tests share one process and run one after the
-other. Modules with `TAKES_LONG = True` start first."""
+A test's name is its module below `tests/`, without `_tests`, and its method, as in
+`html.advice.asks`. Each test runs in its own process. The tests of a module with `tearDownModule`
+run in turn in one process. Modules with `TAKES_LONG = True` start first."""
 
 from __future__ import annotations
 
@@ -31,7 +31,7 @@ PASSED, FAILED, SKIPPED = "passed", "FAILED", "skipped"
 
 @dataclass
 class Outcome:
-    """The result of a test: its name, whether it passed, how many checks it made, and why it did not pass."""
+    """A test's name, whether it passed, how many checks it made, and why it failed."""
 
     name: str
     result: str
@@ -65,8 +65,7 @@ def flat(suite: unittest.TestSuite) -> Iterator[unittest.TestCase]:
 
 
 def all_tests() -> list[unittest.TestCase]:
-    """Returns all tests, in the order of their modules. A module that cannot be imported is a test that
-    fails."""
+    """Returns all tests in module order. A module that cannot be imported fails as a test."""
     found = []
     for name in test_modules():
         try:
@@ -81,14 +80,14 @@ def all_tests() -> list[unittest.TestCase]:
 
 
 def broken_module(name: str, why: str) -> unittest.TestCase:
-    """Returns a test that fails because its module gives none."""
+    """Returns a failing test for a module that cannot be imported."""
     def test_import(self):
         self.fail(why)
     return type("Broken", (Test,), {"__module__": name, "test_import": test_import})("test_import")
 
 
 def units_of(tests: Iterable[unittest.TestCase]) -> list[list[unittest.TestCase]]:
-    """Returns the tests in units, each of which runs in one process. Those of long modules come first."""
+    """Returns the tests in units, one process each. Those of long modules come first."""
     units, by_module = [], {}
     for test in tests:
         module = sys.modules.get(type(test).__module__)
@@ -102,7 +101,7 @@ def units_of(tests: Iterable[unittest.TestCase]) -> list[list[unittest.TestCase]
 
 
 def takes_long(test: unittest.TestCase) -> bool:
-    """Returns whether a test's module says that it takes long."""
+    """Returns whether a test's module takes long."""
     return getattr(sys.modules.get(type(test).__module__), "TAKES_LONG", False)
 
 
@@ -115,7 +114,7 @@ class Recorder(unittest.TestResult):
         self.begin = time.monotonic()
 
     def startTest(self, test):
-        """Notes when a test begins."""
+        """Notes the start of a test."""
         super().startTest(test)
         self.begin = time.monotonic()
 
@@ -139,26 +138,26 @@ class Recorder(unittest.TestResult):
         self.note(test, FAILED, str(err[1]))
 
     def addError(self, test, err):
-        """Notes a test that crashed as a failure."""
+        """Notes a crashed test as a failure."""
         self.note(test, FAILED, "".join(traceback.format_exception(*err)))
 
     def addSubTest(self, test, subtest, err):
-        """Notes a part of a test that failed or crashed as a failure of the test."""
+        """Notes a failed or crashed part of a test as the test's failure."""
         if err is not None:
             self.note(test, FAILED, f"{subtest._subDescription()}: " + "".join(traceback.format_exception(*err)))
 
 
 def run_unit(unit: list[unittest.TestCase]) -> list[Outcome]:
-    """Runs a unit; returns a result for each of its tests, and those of its set-up and its tear-down."""
+    """Runs a unit. Returns a result for each test, and those of set-up and tear-down."""
     recorder = Recorder()
     unittest.TestSuite(unit).run(recorder)
     return recorder.outcomes + without_result(unit, recorder.outcomes)
 
 
 def without_result(unit: list[unittest.TestCase], outcomes: list[Outcome]) -> list[Outcome]:
-    """Returns a result for each test of a unit that has none among `outcomes`.
+    """Returns a result for each test of a unit without one in `outcomes`.
 
-    It is skipped if the set-up of its class or module was, otherwise it failed."""
+    It is skipped if its class or module set-up was, otherwise failed."""
     known, names = {outcome.name for outcome in outcomes}, {name_of(test) for test in unit}
     skips = [outcome for outcome in outcomes if outcome.name not in names and outcome.result == SKIPPED]
     result, why = (SKIPPED, skips[0].why) if skips else (FAILED, "the test ended without a result")
@@ -168,13 +167,13 @@ def without_result(unit: list[unittest.TestCase], outcomes: list[Outcome]) -> li
 def answer_unit(unit, answer) -> None:
     """Runs a unit in this process, and sends its results."""
     signal.signal(signal.SIGINT, signal.default_int_handler)
-    for number in (signal.SIGHUP, signal.SIGTERM):      # whatever began the tests may ignore them
+    for number in (signal.SIGHUP, signal.SIGTERM):      # the parent may have ignored them
         signal.signal(number, signal.SIG_DFL)
     answer.send(run_unit(unit))
 
 
 def ended(unit, process, answer) -> list[Outcome]:
-    """Returns the results of a unit whose process has answered or ended."""
+    """Returns a unit's results after its process has answered or ended."""
     try:
         outcomes = answer.recv()
     except EOFError:
@@ -187,7 +186,7 @@ def ended(unit, process, answer) -> list[Outcome]:
 
 
 def run_all(tests: Iterable[unittest.TestCase], jobs: int) -> Iterator[Outcome]:
-    """Runs tests, `jobs` units at once; yields the result of each test as soon as it is known."""
+    """Runs tests, `jobs` units at once. Yields each result as soon as it is known."""
     context, waiting, running = multiprocessing.get_context("fork"), units_of(tests), {}
     while waiting or running:
         while waiting and len(running) < jobs:
@@ -203,7 +202,7 @@ def run_all(tests: Iterable[unittest.TestCase], jobs: int) -> Iterator[Outcome]:
 
 
 def show(outcome: Outcome, again: str) -> None:
-    """Prints the result of a test, and for a failure the command that repeats it."""
+    """Prints a test's result, and for a failure the command that repeats it."""
     checks = f"{outcome.checks} checks, " if outcome.checks != 1 else ""
     why = f": {outcome.why}" if outcome.result == SKIPPED else f": {outcome.says}" if outcome.says else ""
     print(f"{outcome.result} {outcome.name} ({checks}{outcome.seconds:.1f} s){why}", flush=True)
@@ -230,12 +229,12 @@ def parser() -> Parser:
 
 
 def is_named(name: str, word: str) -> bool:
-    """Returns whether an argument names a test, by its whole name or its first parts."""
+    """Returns whether an argument names a test, by its whole name or first parts."""
     return name == word or name.startswith(f"{word}.")
 
 
 def chosen(tests, given):
-    """Returns the tests that the arguments name, and those arguments that name no test."""
+    """Returns the tests that the arguments name, and the arguments without a test."""
     unknown = [word for word in given.names if not any(is_named(name_of(test), word) for test in tests)]
     found = [test for test in tests
              if not given.names or any(is_named(name_of(test), word) for word in given.names)]
@@ -245,7 +244,7 @@ def chosen(tests, given):
 
 
 def main(words: list[str]) -> int:
-    """Runs the tests that the arguments name; returns the exit status."""
+    """Runs the tests that the arguments name. Returns the exit status."""
     given = parser().parse_args(words)
     SETTINGS.program, SETTINGS.is_long = given.program.resolve(), given.long
     tests, unknown = chosen(all_tests(), given)
@@ -263,13 +262,13 @@ def main(words: list[str]) -> int:
     again = "tests/run" + ("" if same else f" --program {given.program}") + (" --long" * given.long)
     with tempfile.TemporaryDirectory(prefix="irv-tests-") as room:
         if SETTINGS.program.is_file():
-            # the same bytes without what is beside the program: tests make the notes that they need
+            # only the program, without its neighbours: tests make the notes that they need
             SETTINGS.program = Path(shutil.copy(SETTINGS.program, Path(room, "irv")))
         return run_and_count(tests, given.jobs, again)
 
 
 def run_and_count(tests: list[unittest.TestCase], jobs: int, again: str) -> int:
-    """Runs tests, prints each result and their counts; returns the exit status."""
+    """Runs tests, prints each result and their counts. Returns the exit status."""
     counts = {PASSED: 0, FAILED: 0, SKIPPED: 0}
     for outcome in run_all(tests, jobs):
         show(outcome, again)

@@ -1,4 +1,4 @@
-"""The command lines of the test scripts outside CI, and the line that counts what they found."""
+"""The command lines of test scripts outside CI, and the line with their counts."""
 
 from __future__ import annotations
 
@@ -9,7 +9,7 @@ from irvtools.arguments import Parser, whole_number
 
 
 class ScriptParser(Parser):
-    """The parser of a script `tests/NAME`, with the option that names the program."""
+    """The parser of a script `tests/NAME`, with its program option."""
 
     def __init__(self, name: str, description: str, usage: str = "[OPTIONS]") -> None:
         super().__init__(f"tests/{name}", description, 2, f"tests/{name} {usage}")
@@ -25,7 +25,7 @@ class ScriptParser(Parser):
         self.once(name, text, metavar="N", type=whole_number(least, 10 ** 9), default=default)
 
     def read(self, words: list[str]) -> argparse.Namespace:
-        """Returns the arguments, with the whole path of the program, or ends with what is wrong."""
+        """Returns the arguments with the program's absolute path, or ends with the fault."""
         given = self.parse_args(words)
         given.program = given.program.resolve()
         if not given.program.is_file():
@@ -35,6 +35,6 @@ class ScriptParser(Parser):
 
 
 def counted(checked: int, failed: int) -> int:
-    """Prints how many checks passed and failed; returns the exit status, which is 0 only if none failed."""
+    """Prints how many checks passed and failed. Returns the exit status, 0 if none failed."""
     print(f"{checked - failed} passed, {failed} failed", flush=True)
     return 0 if checked and not failed else 1

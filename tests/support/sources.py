@@ -1,6 +1,6 @@
-"""The contents of the sources: the bodies and contracts of the code, the statements and definitions of
-`.antt` files, and the functions of Python. Each is an `Item`; two are the same if their kinds and their
-texts are, except for white space and the name that they declare."""
+"""The contents of the sources: bodies and contracts of code, statements and definitions of `.antt`
+files, and Python functions. Each is an `Item`. Two are the same if their kinds and texts are, apart
+from white space and the declared name."""
 
 import ast
 import re
@@ -10,7 +10,7 @@ from irvtools.mutants.functions import functions_of
 
 Item = namedtuple("Item", "kind file name text")
 
-# below these lengths equal texts say little
+# shorter equal texts mean little
 LEAST_LINES = 3
 LEAST_SIGNS = {"body": 60, "contract": 60, "statement": 30, "definition": 40, "python": 120}
 
@@ -22,7 +22,7 @@ REMARK = re.compile(r"^ *--")
 
 
 def one_line(text):
-    """Returns the text with one space for each white space."""
+    """Returns the text with single spaces for white space."""
     return " ".join(text.split())
 
 
@@ -32,9 +32,8 @@ def is_long(item):
 
 
 def of_code(file, text):
-    """The bodies of three lines or more of a file of code. And of its functions what they take and answer
-    with their contracts; but not of methods, which two types may have alike, and not of tests, which
-    promise little."""
+    """Yields function bodies of at least three lines, and signatures with contracts. It leaves out
+    contracts of methods, which two types may share, and of tests, which promise little."""
     lines = text.split("\n")
     for function in functions_of(file, text):
         head = without_remarks(lines[function.first:function.body + 1])
@@ -47,13 +46,13 @@ def of_code(file, text):
 
 
 def without_remarks(lines):
-    """Lines of code as one, without remarks that have a line to themselves."""
+    """Returns code lines as one, without comment lines."""
     return one_line(" ".join(line for line in lines if not line.strip().startswith("//")))
 
 
 def blocks(text):
-    """The lines that stand together: one as far in as its block allows, and those that are further in.
-    Each with the parameters of the modules around it."""
+    """Yields each outermost line with its indented lines, and the parameters of the modules around
+    them."""
     modules, block = [], []
     for line in [*text.split("\n"), "end"]:
         if not line.strip() or REMARK.match(line):
@@ -73,8 +72,8 @@ def blocks(text):
 
 
 def declarations(file, text):
-    """The statements of lemmas, and the definitions with their equations. What the prover looks for by
-    the name of one function and one goal is next to each function, and is left out."""
+    """Yields the statements of lemmas, and the definitions with equations. It leaves out what the
+    prover looks up by a function's and a goal's name, which is next to each function."""
     item, equations = None, []
     for modules, block in [*blocks(text), ("", ["end : end"])]:
         whole = one_line(" ".join(block))
@@ -91,7 +90,7 @@ def declarations(file, text):
 
 
 def defined(item, equations):
-    """A definition with its equations, in which its own name doesn't count."""
+    """Returns a definition with its equations, independent of its own name."""
     name = item.name
     own = [it for it in equations if it.startswith(name)]
     text = " ; ".join([item.text, *own])
@@ -99,7 +98,7 @@ def defined(item, equations):
 
 
 def python_bodies(file, text):
-    """The bodies of the functions of Python, with their parameters, without what is said of them."""
+    """Yields the bodies of Python functions with their parameters, without docstrings."""
     lines = text.split("\n")
     for node in ast.walk(ast.parse(text)):
         if isinstance(node, ast.FunctionDef):
@@ -120,7 +119,7 @@ def is_python(path):
 
 
 def texts_of(root):
-    """Returns the texts of the files with code or proofs, by their paths below the top."""
+    """Returns the texts of the files with code or proofs, by path."""
     found = [path for kind in ("src/**/*.rt", "specs/**/*.antt", "proofs/**/*.antt")
              for path in root.glob(f"crates/*/{kind}")]
     found += [path for directory in ("tools", "tests") for path in root.glob(f"{directory}/**/*")

@@ -1,5 +1,4 @@
-"""The pages of tables on which there is a hazard: how long each takes, and whether it shows the
-hazard."""
+"""The pages of tables with a hazard: their time, and whether they show it."""
 
 import statistics
 import time
@@ -11,15 +10,14 @@ MOST_SECONDS = 20
 
 
 class TimedPages:
-    """The seconds of each page that was made, and what is wrong with them; at most so many are
-    made."""
+    """The seconds and faults of at most `most` pages."""
 
     def __init__(self, program, most):
         self.program, self.most = program, most
         self.seconds, self.wrong = [], []
 
     def take(self, name, given):
-        """Makes the page of a table, where there are fewer than are wanted."""
+        """Makes a table's page, unless `most` pages exist."""
         if len(self.seconds) == self.most:
             return
         begin = time.monotonic()
@@ -33,14 +31,14 @@ class TimedPages:
             self.wrong.append(f"{name}: its page took {seconds:.1f} s")
 
     def told(self):
-        """The figures in a line."""
+        """Returns the figures in a line."""
         return (f"pages: {len(self.seconds)}; seconds: median "
                 f"{statistics.median(self.seconds):.1f}, "
                 f"most {max(self.seconds):.1f}")
 
 
 def faults(text, said):
-    """What is wrong with the page of a table with a hazard, and with the line that is printed."""
+    """Yields the faults of a page about a hazard and of the printed line."""
     yield from markup_check.faults(text)
     first = plain(text.partition('id="verdict"')[2].partition(">")[2].partition("</p>")[0])
     if not first.startswith("HAZARD FOUND "):

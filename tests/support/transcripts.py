@@ -1,9 +1,9 @@
-"""Reads the sessions of a document, and runs them: what comes has to be what the document prints.
+"""Reads a document's sessions and runs them: the output must be what the document prints.
 
-A session is a block between lines of three backquotes in which a line begins with `$ `: that is a
-command, and the lines below it, up to the next one, are what it prints, with its errors. A command
-whose line ends with a backslash goes on with the next line. All sessions of one document are run in
-their order by one shell, so that a later one has the files of an earlier one.
+A session is a block between lines of three backquotes with a line that begins with `$ `. Such a
+line is a command. The lines up to the next command are its output, with errors. A command line that
+ends with a backslash continues on the next line. One shell runs a document's sessions in order, so
+later ones have earlier ones' files.
 """
 
 import re
@@ -13,20 +13,20 @@ from dataclasses import dataclass
 
 TIMEOUT_SECONDS = 300
 BLOCK = re.compile(r"^```\w*\n(.*?)^```$", re.S | re.M)
-# which program a tool calls besides
+# the program that a tool also calls
 CALLS = {"tools/verify_with": "cadical"}
 
 
 @dataclass
 class Command:
-    """A command of a document: its text, the lines that it prints, and its line number."""
+    """A document's command, the lines that it prints, and its line number."""
     text: str
     prints: list
     line: int
 
 
 def sessions_of(text):
-    """The sessions of a document: for each the list of its commands."""
+    """Returns the command lists of a document's sessions."""
     found = []
     for block in BLOCK.finditer(text):
         commands, goes_on = [], False
@@ -45,7 +45,7 @@ def sessions_of(text):
 
 
 def absent_program(commands):
-    """The first program that one of these commands calls and that isn't there, if there is one."""
+    """Returns the first program that these commands call and that is missing, or `None`."""
     for command in commands:
         for word in re.findall(r"(?:^|\||;|&&)\s*([\w./-]+)", command.text):
             name = CALLS.get(word, word)
@@ -58,7 +58,7 @@ def absent_program(commands):
 
 
 def printed(commands, directory):
-    """What each of these commands prints, run one after the other by one shell: lists of lines."""
+    """Returns the output lines of each command, all run in order by one shell."""
     mark = "== a command of the document =="
     script = "exec 2>&1\n" + "".join(f"echo {mark!r}\n{command.text}\n" for command in commands)
     done = subprocess.run(["bash", "-c", script], cwd=directory, stdin=subprocess.DEVNULL,
@@ -68,8 +68,8 @@ def printed(commands, directory):
 
 
 def run(text, directory):
-    """Runs the sessions of a document: how many commands printed what they should, what is wrong with
-    the others, and why which sessions were left out."""
+    """Runs a document's sessions. Returns how many commands printed what they should, the others'
+    faults, and which sessions were left out and why."""
     passed, faults, left_out, commands = 0, [], [], []
     for session in sessions_of(text):
         absent = absent_program(session)
@@ -88,6 +88,6 @@ def run(text, directory):
 
 
 def shown(what, lines):
-    """The lines that were wanted, or that came, for a reader."""
+    """Returns the wanted or actual lines for a reader."""
     told = ["nothing, since the shell ended before"] if lines is None else lines or ["nothing"]
     return "".join(f"  {what}: {line}\n" for line in told)

@@ -1,4 +1,4 @@
-"""Command lines of tools: help with defaults, and how wrong arguments end."""
+"""Command lines of tools: help with defaults, and one-line faults."""
 
 from __future__ import annotations
 
@@ -18,7 +18,7 @@ class _Help(argparse.RawDescriptionHelpFormatter):
 
 
 class _Once(argparse.Action):
-    """Stores a value, and refuses an option that is given twice."""
+    """Stores a value, and refuses a repeated option."""
 
     def __call__(self, parser, namespace, values, option_string=None):
         given = vars(namespace).setdefault("given_once", set())
@@ -37,25 +37,25 @@ class Parser(argparse.ArgumentParser):
         self.status = status
 
     def error(self, message: str):
-        """Ends with what is wrong."""
+        """Ends the tool with `message`."""
         self.exit(self.status, f"{self.prog}: {message}; see {self.prog} --help\n")
 
     def once(self, name: str, text: str, **how) -> None:
-        """Adds an option that takes a value and may be given once."""
+        """Adds an option with a value, at most once."""
         self.add_argument(name, action=_Once, help=text, **how)
 
     def flag(self, name: str, text: str) -> None:
-        """Adds an option without a value, which may be given once."""
+        """Adds an option without a value, at most once."""
         self.add_argument(name, action=_Once, nargs=0, default=False, help=text)
 
     def program(self) -> None:
-        """Adds the option that names the program; the launcher gives it first, and the last one counts."""
+        """Adds the option that names the program. The launcher gives it first; the last one counts."""
         self.add_argument("--program", help="the program that is called (crates/irv/out/irv)", type=Path,
                           default=PROGRAM, metavar="FILE")
 
 
 def whole_number(least: int, greatest: int) -> Callable[[str], int]:
-    """Returns what reads a whole number in decimal digits between two bounds."""
+    """Returns a reader of decimal numbers from `least` to `greatest`."""
     def read(word: str) -> int:
         is_number = word.isascii() and word.isdigit() and len(word) < 16
         if not is_number or not least <= int(word) <= greatest:
@@ -66,7 +66,7 @@ def whole_number(least: int, greatest: int) -> Callable[[str], int]:
 
 
 def standard_input(tool: str, status: int, most: int = -1) -> bytes:
-    """Returns the bytes of standard input, at most `most` of them. If they cannot be read, ends the tool with one
+    """Returns at most `most` bytes of standard input. If it is unreadable, ends the tool with one
     line and the exit status `status`."""
     why = "it is closed"
     try:

@@ -1,4 +1,4 @@
-"""The places in the checkout that several tools use."""
+"""Paths in the checkout for several tools."""
 
 from pathlib import Path
 

@@ -1,13 +1,21 @@
-# Reads the arguments of a command as the program reads them, and finds what the program refuses.
-# shellcheck disable=SC2034,SC2154     # the parts of the launcher share their variables
+# Reads a command's arguments as the program does, and finds what the program refuses.
+#
+# shellcheck disable=SC2034,SC2154     # shared variables
 
-# the options that are given, each with its value
+# the given options with their values
 declare -A given=()
 
-# Reads arguments. Sets `command`; `given`; `certificate`, the file that the command writes;
-# `input`, the file that it reads besides the configuration; `words`, the arguments with the whole
-# paths of these files, since an unproved build may run in a directory of its own; and `fault`, a
-# sentence on the first thing that the program refuses, or nothing.
+# Reads arguments. Sets:
+#
+# - `command`, and `given`, the options;
+#
+# - `certificate`, the file that the command writes;
+#
+# - `input`, the file that it reads besides the configuration;
+#
+# - `words`, the arguments with whole paths, since an unproved build may run in its own directory;
+#
+# - `fault`, a sentence on the first thing that the program refuses, or nothing.
 read_arguments() {
     local word option='' is_closed='' unknown='' valueless='' repeated=''
     local -a positional=()
@@ -31,8 +39,7 @@ read_arguments() {
     find_fault
 }
 
-# Takes an argument that is not the value of the option before it. Returns whether it has put it
-# into `words` itself.
+# Takes an argument that is not an option's value. Returns whether it is already in `words`.
 take_word() {
     case $1 in
         --) is_closed=1 ;;
@@ -49,7 +56,7 @@ take_word() {
     return 1
 }
 
-# Takes an option's value. It is an argument of its own unless `$3` is the equals sign before it.
+# Takes an option's value, the next argument unless `$3` is the equals sign before it.
 take_option() {
     local path=$2
     [ -z "${given[$1]+given}" ] || repeated=${repeated:-$1}
@@ -61,7 +68,7 @@ take_option() {
     option=
 }
 
-# Sets `certificate` and `input` to what the command's options name.
+# Sets `certificate` and `input` from the command's options.
 find_files() {
     local named
     get_named "$command" writes
@@ -103,7 +110,7 @@ find_unknown() {
     fi
 }
 
-# What a second positional argument was likely meant for: the name of the configuration's file.
+# Finds the likely meaning of a second positional argument: the configuration's file.
 find_surplus() {
     if reads_configuration "command $command"; then
         fault="$command reads its configuration from standard input: add < before '$1'"
@@ -112,7 +119,7 @@ find_surplus() {
     fi
 }
 
-# Finds an option that is missing, is not the command's, or has a wrong value.
+# Finds an option that is missing, not the command's, or has a wrong value.
 find_option_fault() {
     local name value
     for name in ${names[option]}; do

@@ -1,5 +1,6 @@
-# Has the toolchain prove and build the program, and notes of which sources it was built.
-# shellcheck disable=SC2034,SC2154     # the parts of the launcher share their variables
+# Proves and builds the program, and notes its sources.
+#
+# shellcheck disable=SC2034,SC2154     # shared variables
 
 # Notes that the program was built of the sources with this checksum, and keeps the licences beside
 # it.
@@ -19,7 +20,7 @@ build() {
     note_proved "$sources"
 }
 
-# Builds the program, unless the note beside it says that it was built of these sources.
+# Builds the program, unless its note says that it was built of these sources.
 ensure_built() {
     know_sums
     is_built_of_sources "$program" "$program_sum" || build

@@ -1,13 +1,13 @@
-# The checksums of the program's sources, of the program and of the unproved build. They are cached
-# with the name, length, inode, rights and times of each file that they are of. If any of these
-# differs, all files are read again.
-# shellcheck disable=SC2034,SC2154     # the parts of the launcher share their variables
+# The checksums of the program's sources, the program and the unproved build. They are cached with
+# each file's name, length, inode, rights and times. If any of these differs, all files are read
+# again.
+#
+# shellcheck disable=SC2034,SC2154     # shared variables
 
 # the cache: the crates, the three checksums, and a line for each file
 cache=$top/out/checksums
 
-# Prints the lines of crates.txt that the program depends on: that of `irv`, and of each crate below
-# it.
+# Prints the lines of crates.txt for `irv` and its dependencies.
 lines_of_program() {
     local -A lower_of=() seen=()
     local name rest lower left=(irv)
@@ -26,7 +26,7 @@ lines_of_program() {
     done | LC_ALL=C sort
 }
 
-# Prints the checksum of the program's sources: of those lines, and of the contents of those crates.
+# Prints the checksum of the program's sources: of those lines and crates.
 sum_of_sources() {
     (
         set -o pipefail
@@ -50,7 +50,7 @@ sum_of_program() {
     [ ! -x "$1" ] || sha256sum <"$1" | cut -d ' ' -f 1
 }
 
-# Asks `find` about each file that the checksums are of, if these crates are the program's.
+# Runs `find` on each file of the checksums, if these crates are the program's.
 find_files_of() {
     local name places=("$top/crates.txt" "$program" "$unproved")
     for name in $1; do
@@ -59,15 +59,14 @@ find_files_of() {
     find "${places[@]}" -type f "${@:2}" 2>/dev/null
 }
 
-# Prints what the cache has to be if no file changed.
+# Prints the cache for unchanged files.
 expected_cache() {
     printf '%s\n' "$crates" "$sources_sum" "$program_sum" "$unproved_sum"
     find_files_of "$crates" -printf '%p %s %i %T@ %C@ %m\n'
 }
 
-# Sets `sources_sum`, `program_sum` and `unproved_sum`, by the cache if it still holds. A file that
-# changed within the last second may change once more with the same times, so nothing is cached
-# then.
+# Sets `sources_sum`, `program_sum` and `unproved_sum`, from the cache if it is valid. If a file
+# changed within the last second, nothing is cached: it may change again with the same times.
 know_sums() {
     local crates='' seen
     sources_sum='' program_sum='' unproved_sum=''
@@ -90,7 +89,7 @@ know_sums() {
     [ -z "$seen" ] || keep_sums "$seen"
 }
 
-# Caches the checksums for the next call, if that is possible.
+# Caches the checksums for the next call, if possible.
 keep_sums() {
     {
         mkdir -p "$top/out"
@@ -100,8 +99,8 @@ keep_sums() {
     } 2>/dev/null
 }
 
-# Returns whether the note beside a program says that it was built of these sources and has this
-# checksum, which `$2` is. `know_sums` comes before.
+# Returns whether the note beside a program says that it was built of these sources and has the
+# checksum `$2`. Call `know_sums` first.
 is_built_of_sources() {
     local sources sum
     [[ -x $1 && -f $1.built && -n $2 ]] || return
@@ -109,7 +108,7 @@ is_built_of_sources() {
     [ "$sources" = "sources $sources_sum" ] && [ "$sum" = "program $2" ]
 }
 
-# Notes beside a program that it was built here and now of the sources with this checksum.
+# Notes that a program was built here and now of the sources with this checksum.
 note_built() {
     local sum toolchain
     sum=$(sum_of_program "$1") && [ -n "$sum" ] && toolchain=$(rt version) || return
@@ -117,7 +116,7 @@ note_built() {
         "date $(date -u '+%Y-%m-%d %H:%M UTC')" >"$1.built.$$" && mv "$1.built.$$" "$1.built"
 }
 
-# Prints what the note beside a program says of this key.
+# Prints a key's value in the note beside a program.
 noted() {
     sed -n "s/^$2 //p" "$1.built" 2>/dev/null
 }

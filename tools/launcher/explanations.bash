@@ -1,8 +1,9 @@
-# The line that the launcher adds on standard error after the program's own: which argument was
-# wrong, or which file or stream failed, and why, as far as the launcher can see.
-# shellcheck disable=SC2034,SC2154     # the parts of the launcher share their variables
+# Adds a line on standard error after the program's own: the wrong argument, or the failed file or
+# stream, and why, as far as the launcher can see.
+#
+# shellcheck disable=SC2034,SC2154     # shared variables
 
-# Prints why a file cannot be read, if that can be seen.
+# Prints why a file cannot be read, if that is visible.
 why_unreadable() {
     if [ ! -e "$1" ]; then
         echo "no such file"
@@ -13,12 +14,12 @@ why_unreadable() {
     fi
 }
 
-# Returns whether the disk of a file or a directory is full.
+# Returns whether a file's or directory's disk is full.
 is_full() {
     [ "$(df --output=avail -- "$1" 2>/dev/null | tail -n 1 | tr -d ' ')" = 0 ]
 }
 
-# Prints why a file cannot be written, if that can be seen.
+# Prints why a file cannot be written, if that is visible.
 why_unwritable() {
     local directory=.
     [[ $1 != */* ]] || directory=${1%/*}
@@ -38,7 +39,7 @@ why_unwritable() {
     fi
 }
 
-# Explains `irv: usage`: by what was found in the arguments, or by bytes that are not UTF-8.
+# Explains `irv: usage` by the fault in the arguments, or by bytes that are not UTF-8.
 explain_usage() {
     local word
     for word in ${words[@]+"${words[@]}"}; do
@@ -82,8 +83,8 @@ explain_write_fault() {
     echo "irv: ${why:-"cannot write $sinks"}" >&2
 }
 
-# Explains the rejection of a file that is meant for another command: of a scenario that was given
-# to replay, and of a run that was given to drive.
+# Explains the rejection of another command's file: a scenario given to replay, or a run given to
+# drive.
 explain_rejection() {
     local head=
     [ -n "$names_input" ] && [ -f "$input" ] && [ -r "$input" ] || return
@@ -94,7 +95,7 @@ explain_rejection() {
     esac
 }
 
-# Says on a terminal which option says in sentences what is wrong.
+# Names on a terminal the option that explains faults in sentences.
 hint_at_sentences() {
     [ ! -t 2 ] || echo "irv: ./irv $command --explain says in sentences what is wrong and where" >&2
 }
@@ -113,7 +114,7 @@ explain() {
     esac
 }
 
-# Says what is waited for if the configuration is expected from a terminal.
+# Says that the configuration is expected from the terminal, if so.
 announce_terminal() {
     [ -t 0 ] && reads_configuration "$1" || return 0
     echo "irv: ${1#* } reads its configuration from standard input, which is this terminal:" \

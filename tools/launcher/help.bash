@@ -1,10 +1,11 @@
-# Prints help, by the table alone: no other program is called, and nothing has to be built.
-# shellcheck disable=SC2034,SC2154     # the parts of the launcher share their variables
+# Prints help from the table alone: it calls no other program and needs no build.
+#
+# shellcheck disable=SC2034,SC2154     # shared variables
 
 width=80
 
-# Prints words in lines of at most `width` columns. The first line begins with `$1`, which is filled
-# up to the margin `$2`; the others begin at that margin.
+# Prints words in lines of at most `width` columns. The first begins with `$1`, padded to the margin
+# `$2`; the others begin at that margin.
 wrap() {
     local line=$1 margin=$2 word is_first=1
     local -a text
@@ -27,7 +28,7 @@ wrap() {
     printf '%s\n' "${line%"${line##*[! ]}"}"
 }
 
-# Sets `usage` to the arguments of a command: its options in the table's order, and its input.
+# Sets `usage` to a command's arguments: options in the table's order, and input.
 get_usage() {
     local name value part
     usage=$1
@@ -42,7 +43,7 @@ get_usage() {
     ! reads_configuration "command $1" || usage+=" < CONFIGURATION"
 }
 
-# Prints an option of the program, with its values and its default or that it is needed.
+# Prints a program option with its values, and its default or that it is needed.
 help_option() {
     local value summary of=$2 text
     get "option $1" summary
@@ -105,7 +106,7 @@ built, which takes 40 minutes with four processors. ./irv --unproved answers in 
 without proof. docs/reference/commands.md describes each answer."
 }
 
-# Prints what a command may print, each with its exit status.
+# Prints a command's possible output, with exit statuses.
 help_reports() {
     local line parts
     printf '\n%s\n' "Exit statuses and what is printed:"
@@ -127,7 +128,7 @@ help_command() {
     help_reports "$1"
 }
 
-# Prints the options of a tool, each with its default.
+# Prints a tool's options, each with its default.
 help_tool_options() {
     local line parts text
     [ -n "${fields["launcher $1 option"]-}" ] || return 0
@@ -167,7 +168,7 @@ help_launcher() {
     help_tool_statuses "$1"
 }
 
-# Prints the help of a command or of an option of the launcher; that of all if it is neither.
+# Prints the help of a command or launcher option, otherwise of all.
 help() {
     if is_listed command "$1"; then
         help_command "$1"
@@ -178,17 +179,16 @@ help() {
     fi
 }
 
-# Sets `takes_value` to 1 if an option takes the next argument as its value: for the program's
-# options and those of the launcher's option `$2`.
+# Sets `takes_value` to 1 if an option takes the next argument as its value, among the options of
+# the program and of the launcher's option `$2`.
 get_takes_value() {
     takes_value=
     ! is_listed option "$1" || takes_value=1
     [[ "${fields["launcher $2 option"]-}" != *" $1 "[A-Z]* ]] || takes_value=1
 }
 
-# Returns whether the arguments ask for help: with `-h` or `--help` before `--`, unless it is where
-# the value of an option stands. Sets `topic` to the command or the option of the launcher that it
-# is about.
+# Returns whether the arguments ask for help: `-h` or `--help` before `--`, not as an option's
+# value. Sets `topic` to the command or launcher option in question.
 asks_for_help() {
     local word first=${1-} takes_value='' is_value='' is_asked=''
     topic=

@@ -1,5 +1,6 @@
 # Prints the version, and installs the program.
-# shellcheck disable=SC2034,SC2154     # the parts of the launcher share their variables
+#
+# shellcheck disable=SC2034,SC2154     # shared variables
 
 # Prints the state of a program: its checksum, or why it is not called.
 state_of() {
@@ -12,7 +13,7 @@ state_of() {
     fi
 }
 
-# Prints the commit. That of a repository that only contains this directory does not count.
+# Prints the commit, unless the repository only contains this directory.
 commit() {
     local commit
     commit=$(git -C "$top" rev-parse HEAD 2>/dev/null) \
@@ -22,7 +23,7 @@ commit() {
     echo "$commit"
 }
 
-# Prints what is the same on each machine: versions and checksums. `know_sums` comes before.
+# Prints the versions and checksums that all machines share. Call `know_sums` first.
 print_sums() {
     local toolchain
     toolchain=$(rt version 2>/dev/null) || toolchain=unknown
@@ -60,7 +61,7 @@ libraries() {
     printf '%s\n' "${!seen[@]}" | LC_ALL=C sort
 }
 
-# Prints each licence that the toolchain has of these libraries, and at the end which have none.
+# Prints these libraries' licences in the toolchain, and at the end libraries without one.
 licences() {
     local kit name file found without=
     kit=$(dirname "$(rt doc)")
@@ -78,8 +79,7 @@ licences() {
     printf '\n==== libraries of the toolchain that come without a licence file:%s\n' "$without"
 }
 
-# Puts the licences beside the program that was just built, so that it can be installed without
-# `rt`.
+# Puts the licences beside the new program, for an installation without `rt`.
 keep_licences() {
     if licences >"$program.licences.$$"; then
         mv "$program.licences.$$" "$program.licences"
@@ -93,8 +93,8 @@ manual() {
     PYTHONPATH=$top/tools python3 -m irvtools.launcher.manual "$1"
 }
 
-# Puts the files into a directory: the program, its licences, manual page and completions for bash,
-# and a file with the version, which the program does not print.
+# Installs the program in a directory, with licences, manual page, bash completions, and a version
+# file, since the program does not print its version.
 install_files() {
     mkdir -p -- "$1" && install -m 644 -- "$program.licences" "$1/irv.licences" \
         && manual page >"$1/irv.1" && manual completions >"$1/irv.bash" \

@@ -1,8 +1,9 @@
-# Runs programs: passes signals on to them, and shows on a terminal that work goes on.
-# shellcheck disable=SC2034,SC2154     # the parts of the launcher share their variables
+# Runs programs, passes signals on to them, and shows on a terminal that work goes on.
+#
+# shellcheck disable=SC2034,SC2154     # shared variables
 
-# Passes its input on to standard error. Before the first byte it shows from the second second on
-# that work goes on, and then removes that line.
+# Passes its input on to standard error. Until the first byte, from the second second on, a line
+# shows that work goes on.
 show_work() {
     trap '' INT QUIT
     local first seconds=0 status
@@ -24,8 +25,8 @@ is_open() {
     [ -e "/proc/$$/fd/$1" ]
 }
 
-# Replaces this process by a command that ends with the launcher, however the launcher ends.
-# Standard input is the caller's.
+# Replaces this process by a command that ends with the launcher in any case. Standard input is the
+# caller's.
 run_tied() {
     trap - INT QUIT
     local tie=()
@@ -33,7 +34,7 @@ run_tied() {
     exec ${tie[@]+"${tie[@]}"} "$@"
 }
 
-# Waits for the process with this number, and passes signals on to it. Returns its status.
+# Waits for this process, passes signals on to it, and returns its status.
 await() {
     local running=$1 signal status
     for signal in HUP INT QUIT TERM; do
@@ -58,8 +59,8 @@ run_alone() {
     await $!
 }
 
-# Runs a command. If standard error is a terminal, a line shows there that work goes on. What the
-# command writes to that terminal takes the same way, so that the line is removed before it.
+# Runs a command. If standard error is a terminal, a line shows that work goes on. The command's
+# output to that terminal takes the same way, so that the line is removed first.
 run_shown() {
     is_watched || { run_alone "$@"; return; }
     local line output=1 shown status
@@ -78,7 +79,7 @@ run_shown() {
     return "$status"
 }
 
-# Calls a program with these arguments, and ends with its status. A line explains a fault.
+# Calls a program with these arguments, explains a fault in a line, and ends with its status.
 call() {
     local status
     run_shown "$@"

@@ -1,10 +1,11 @@
 # Reads tools/launcher/commands.txt, the one table of commands, options and exit statuses.
-# shellcheck disable=SC2034,SC2154     # the parts of the launcher share their variables
+#
+# shellcheck disable=SC2034,SC2154     # shared variables
 
 table=$top/tools/launcher/commands.txt
-# the values of a field by its entry and key, as "command check summary"; each ends with a line feed
+# a field's values by entry and key, as "command check summary"; each ends with a line feed
 declare -A fields=()
-# the names of the entries of a kind, in the table's order, with a space after each
+# the names of a kind's entries in the table's order, with a space after each
 declare -A names=()
 examples=()
 
@@ -27,7 +28,7 @@ read_table() {
     done <"$table"
 }
 
-# Sets `value` to the first value of a field, or to nothing if the entry has no such field.
+# Sets `value` to a field's first value, or to nothing without such a field.
 get() {
     value=${fields["$1 $2"]-}
     value=${value%%$'\n'*}
@@ -39,28 +40,28 @@ is_listed() {
     [ -n "$2" ] && [[ " ${names[$1]-}" == *" $2 "* ]]
 }
 
-# Returns whether an option of the program belongs to a command.
+# Returns whether a program option belongs to a command.
 is_option_of() {
     local value
     get "option $1" commands
     [[ " $value " == *" $2 "* ]]
 }
 
-# Sets `named` to the option by which a command names the file that it `reads` or `writes`.
+# Sets `named` to the option for the file that a command `reads` or `writes`.
 get_named() {
     local value
     get "command $1" "$2"
     named=$value
 }
 
-# Returns whether a command or an option of the launcher reads a configuration from standard input.
+# Returns whether a command or launcher option reads a configuration from standard input.
 reads_configuration() {
     local value
     get "$1" input
     [ "$value" = configuration ]
 }
 
-# Sets `parts` to the parts of a value, which ` | ` separates.
+# Sets `parts` to the parts of a value, separated by ` | `.
 split() {
     local rest=${1# }
     parts=()

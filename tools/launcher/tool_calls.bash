@@ -1,12 +1,13 @@
-# Calls the tools of tools/, which are handed the program that was proved, and the tests.
-# shellcheck disable=SC2034,SC2154     # the parts of the launcher share their variables
+# Calls the tools of tools/ with the proved program, and the tests.
+#
+# shellcheck disable=SC2034,SC2154     # shared variables
 
 # Ends if a tool does not exist.
 need_tool() {
     [ -x "$top/$1" ] || no_answer "$1, which $2 calls, does not exist"
 }
 
-# Ends if a certificate would be written over what is read or printed.
+# Ends if a certificate would overwrite an input or output file.
 guard_certificate() {
     [ -f "$certificate" ] || return 0
     [ ! "$certificate" -ef /dev/stdin ] \
@@ -29,7 +30,7 @@ is_short_for() {
     [[ ${#word} -ge 3 && $2 == "$word"* ]]
 }
 
-# Ends if the arguments name a program: the launcher hands on none but the one that was proved.
+# Ends if the arguments name a program: the launcher passes on only the proved one.
 guard_program() {
     local word
     for word in "${@:2}"; do
@@ -51,7 +52,7 @@ needs_program() {
     return 1
 }
 
-# Calls the tool of an option of the launcher with the arguments that follow it.
+# Calls a launcher option's tool with the arguments after it.
 call_tool() {
     local value tool called=$program
     get "launcher $1" tool
@@ -66,15 +67,15 @@ call_tool() {
         ensure_built
     else
         know_sums
-        # a program that is not known to be proved is never within a tool's reach
+        # no tool can reach a program that is not known to be proved
         is_built_of_sources "$program" "$program_sum" || called=$program.unbuilt
     fi
     announce_terminal "launcher $1"
     exec "$top/$tool" --program "$called" "${@:2}"
 }
 
-# Returns whether a command's arguments ask for sentences: by --explain or --advise before `--` that is
-# not the value of an option.
+# Returns whether a command's arguments ask for sentences: --explain or --advise before `--`, not as
+# an option's value.
 asks_for_sentences() {
     local word is_value=''
     for word in "$@"; do
@@ -92,7 +93,7 @@ asks_for_sentences() {
     return 1
 }
 
-# Prepares a call that explains: its own options are those of the tool.
+# Prepares a call that explains; its own options are the tool's.
 prepare_sentences() {
     local word option='' rest=()
     need python3
@@ -110,14 +111,14 @@ prepare_sentences() {
     guard_certificate
 }
 
-# Answers a command by the proved program, in sentences on standard error.
+# Runs a command of the proved program, with sentences on standard error.
 explain_answer() {
     prepare_sentences "$@"
     ensure_built
     exec "$top/tools/explain" --program "$program" "$@"
 }
 
-# Answers a command by the unproved build, in sentences on standard error.
+# Runs a command of the unproved build, with sentences on standard error.
 explain_unproved() {
     prepare_sentences "$@"
     ensure_unproved

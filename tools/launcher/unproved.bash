@@ -1,12 +1,13 @@
 # Answers by an unproved build, and makes it for the tests.
 #
-# `rt try` compiles such a build quickly; it is slow, and checks each operation while it runs. From
-# what `rt try` compiled a faster build is made in the background of the first answer. It is cached
-# in a directory of its own, which only `--unproved` and `--test` know. It is made elsewhere, since
-# it needs a toolchain of links, and `rt ci` refuses a repository with a link in it.
-# shellcheck disable=SC2034,SC2154     # the parts of the launcher share their variables
+# `rt try` compiles such a build quickly; it is slow, and checks each operation at run time. During
+# the first answer, a faster build is made from it in the background. Only `--unproved` and `--test`
+# know its cache. It is made elsewhere, since it needs a toolchain of links, and `rt ci` refuses a
+# repository with a link.
+#
+# shellcheck disable=SC2034,SC2154     # shared variables
 
-# the file that one call at a time locks to make the build, and what was printed meanwhile
+# the lock for making the build, and the output meanwhile
 turn=$top/out/making.turn
 log=$top/out/making.log
 
@@ -14,7 +15,7 @@ say_unproved() {
     echo "irv: this answer is by an unproved build" >&2
 }
 
-# Waits until no other call makes the build. Returns whether this one may make it.
+# Waits until no other call makes the build; returns whether this one may.
 take_turn() {
     mkdir -p "$top/out" 2>/dev/null && { exec {turns}>"$turn"; } 2>/dev/null || return
     flock -n "$turns" && return
@@ -27,8 +28,8 @@ make_with() {
     PYTHONPATH=$top/tools python3 -m irvtools.launcher.unproved_build "$@"
 }
 
-# Sets `making` to a new directory, and `rt` to a toolchain's `rt` that keeps there what the faster
-# build is made of; to the usual one if the toolchain does not allow that.
+# Sets `making` to a new directory, and `rt` to a toolchain's `rt` that keeps the faster build's
+# parts there. If the toolchain does not allow that, `rt` is the usual one.
 prepare_faster() {
     making=$(mktemp -d "${TMPDIR:-/tmp}/irv-making.XXXXXX") || return
     trap 'rm -rf "$making"' EXIT
@@ -46,7 +47,7 @@ make_faster() {
     ) </dev/null >"$log" 2>&1
 }
 
-# Makes the faster build in the background; it goes on when this call has ended.
+# Makes the faster build in the background; it goes on after this call.
 make_behind() {
     echo "irv: a faster unproved build is made in the background, and cached for --unproved" >&2
     trap - EXIT
@@ -56,9 +57,9 @@ make_behind() {
     ) &
 }
 
-# Runs arguments by the build of `rt try`, which this `rt` makes. Standard error has the program's
-# own lines, or everything if the program did not end. One step of the toolchain's interpreter is
-# asked for: more would take longer than all else.
+# Runs arguments by the build of `rt try`, made by this `rt`. Standard error has the program's own
+# lines, or everything if the program did not end. The toolchain's interpreter runs one step only:
+# more would take longer than all else.
 try_watched() {
     local printed status
     printed=$(mktemp) || no_answer "cannot make a file in ${TMPDIR:-/tmp}"
@@ -75,7 +76,7 @@ try_watched() {
     return "${status:-$none}"
 }
 
-# Answers a command by the unproved build.
+# Runs a command of the unproved build.
 answer_unproved() {
     local sources rt=rt status turns making=
     read_arguments "$@"
@@ -100,7 +101,7 @@ answer_unproved() {
     exit "$status"
 }
 
-# Makes the unproved build, unless it is made of these sources, and waits for it.
+# Waits for the unproved build; makes it unless it is of these sources.
 ensure_unproved() {
     local sources rt=rt turns making=
     need rt
@@ -110,7 +111,7 @@ ensure_unproved() {
     echo "irv: making the unproved build: this takes a minute or two" >&2
     prepare_faster
     sources=$sources_sum
-    # a program that ended was compiled, whatever its status
+    # an ended program was compiled, whatever its status
     try_watched "$rt" make --stations 1 </dev/null >/dev/null
     [ $? -ne "$none" ] || no_answer "cannot compile the sources"
     { [ -f "$making/module.bc" ] && make_faster "$sources"; } \

@@ -1,52 +1,46 @@
--- What is answered where it may not be told what is read besides the configuration.
+-- Answers to an extra input that may not be exposed.
 use Rattle.std.proofs.Common.{◌≡◌, ℕ, ◌+◌, ◌<◌, ◌≤◌, Bool, true, false, Option, Some, None, IfSome, Result, Ok, Err, List, [], length, nat_le, refl, sym, subst, unwrap_or, arith}
 use Rattle.std.proofs.Math.ListN.{replicate}
 use Rattle.std.proofs.lemmas.Bool.{le-leb, lt-leb}
 use Rattle.std.proofs.lemmas.List.{length-replicate}
-use Rattle.ilk_net_read.specs.Fault.{broken}
+use Rattle.ilk_net_read.specs.Fault.{form_fault}
 use Rattle.ilk_net_read.specs.declared.fault.Form.TheVariants.{F1}
 use Rattle.ilk_net_read.specs.declared.fault.Place.TheVariants.{Extra}
 use Rattle.ilk_plant.specs.Plant.{PlantLists}
 use Rattle.ilk_words.specs.Plan.{plan_of}
 use Rattle.ilk_words.specs.declared.command.Command.{Command}
-use Rattle.ilk_answers.specs.Answer.{Answers, AnswersFound, AnswersPlant, AnswersWithin, refused, refused_by}
-use Rattle.ilk_answers.specs.Besides.{AnswersSome}
+use Rattle.ilk_answers.specs.Answer.{Answers, AnswersOutcome, AnswersPlant, AnswersWithin, refused, refused_by}
+use Rattle.ilk_answers.specs.Besides.{AnswersSomeExtra}
 use Rattle.ilk_answers.specs.declared.refusals.Refusal.TheVariants.{Form as FormRefusal}
 use Rattle.ilk_answers.specs.declared.refusals.Refusals.{Refusals}
 use Rattle.ilk_answers.specs.declared.reply.Reply.{Reply}
 
--- what is told, or else no byte
 told_or_none : (extra : Option (List ℕ)) → IfSome extra (λ bytes. unwrap_or extra [] ≡ bytes)
 told_or_none None = tt
 told_or_none (Some bytes) = refl
 
--- what refuses the configuration answers whatever is read besides
-pub some-refused : (command : Command) (refusals : Refusals) (extra : Option (List ℕ)) (made : Reply) → made ≡ refused_by command refusals → AnswersSome command (Err refusals) extra made
+pub some-refused : (command : Command) (refusals : Refusals) (extra : Option (List ℕ)) (made : Reply) → made ≡ refused_by command refusals → AnswersSomeExtra command (Err refusals) extra made
 some-refused command refusals extra made is =
     record { text = unwrap_or extra []; whole = told_or_none extra; answer = is }
 
--- so does the reply of a command that reads nothing besides
-pub some-unread : (command : Command) (p : PlantLists) (extra : Option (List ℕ)) (made : Reply) → (plan_of command).extra ≡ None → Answers command p [] made → AnswersSome command (Ok p) extra made
+pub some-unread : (command : Command) (p : PlantLists) (extra : Option (List ℕ)) (made : Reply) → (plan_of command).extra ≡ None → Answers command p [] made → AnswersSomeExtra command (Ok p) extra made
 some-unread command p extra made none is = record {
   text = unwrap_or extra [];
   whole = told_or_none extra;
   answer = subst (λ limit. AnswersPlant limit command p (Some (unwrap_or extra [])) made) (sym none) is;
 }
 
--- the reply to a text that is within its limit, or isn't
 module _ (command : Command) (p : PlantLists) (limit : ℕ) (made : Reply) (planned : (plan_of command).extra ≡ Some limit) where
-  within-limit : (b : Bool) (text : List ℕ) → nat_le (length text) limit ≡ b → AnswersWithin b command p text made → AnswersFound command (Ok p) (Some text) made
+  within-limit : (b : Bool) (text : List ℕ) → nat_le (length text) limit ≡ b → AnswersWithin b command p text made → AnswersOutcome command (Ok p) (Some text) made
   within-limit b text same is =
       let Told : Option ℕ → Type 0 = λ o. AnswersPlant o command p (Some text) made in
       subst Told (sym planned) (subst (λ c. AnswersWithin c command p text made) (sym same) is)
 
-  -- what was read to its end is answered
-  pub some-within : (extra : Option (List ℕ)) (text : List ℕ) → IfSome extra (λ bytes. text ≡ bytes) → length text ≤ limit → Answers command p text made → AnswersSome command (Ok p) extra made
+  pub some-within : (extra : Option (List ℕ)) (text : List ℕ) → IfSome extra (λ bytes. text ≡ bytes) → length text ≤ limit → Answers command p text made → AnswersSomeExtra command (Ok p) extra made
   some-within extra text whole short is =
       record { text = text; whole = whole; answer = within-limit true text (le-leb (length text) limit short) is }
 
-  -- what is longer than the limit is refused, whether or not it is told
-  pub some-too_long : (extra : Option (List ℕ)) → IfSome extra (λ bytes. limit < length bytes) → made ≡ refused (FormRefusal (broken F1 Extra)) → AnswersSome command (Ok p) extra made
+  pub some-too_long : (extra : Option (List ℕ)) → IfSome extra (λ bytes. limit < length bytes) → made ≡ refused (FormRefusal (form_fault F1 Extra)) → AnswersSomeExtra command (Ok p) extra made
   some-too_long None long is =
       let text : List ℕ = replicate (limit + 1) 0 in
       let longer : limit < length text = omega (arith, length-replicate {A = ℕ} (limit + 1) 0) in
@@ -54,8 +48,7 @@ module _ (command : Command) (p : PlantLists) (limit : ℕ) (made : Reply) (plan
   some-too_long (Some bytes) long is =
       record { text = bytes; whole = refl; answer = within-limit false bytes (lt-leb (length bytes) limit long) is }
 
--- what answers some text answers the one that is told
-pub some-answer : (command : Command) (found : Result PlantLists Refusals) (extra : Option (List ℕ)) (made : Reply) → AnswersSome command found extra made → AnswersFound command found extra made
+pub some-answer : (command : Command) (found : Result PlantLists Refusals) (extra : Option (List ℕ)) (made : Reply) → AnswersSomeExtra command found extra made → AnswersOutcome command found extra made
 some-answer command (Err refusals) extra made some = some.answer
 some-answer command (Ok p) extra made some = of_limit (plan_of command).extra extra some.whole some.answer
   where

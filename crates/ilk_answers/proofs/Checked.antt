@@ -1,55 +1,49 @@
--- The plant of drafts that are asked in stages.
+-- The plant of drafts that are checked in stages.
 use Rattle.std.proofs.Common.{◌≡◌, None, Some, IfOk, IfErr, Option, Result, Ok, Err, List, [], ◌∷◌, refl, sym, ap, ◌∙◌, subst}
 use Rattle.ilk_plant.specs.Plant.{PlantLists}
 use Rattle.ilk_plant.specs.declared.broken.Broken.{Broken}
 use Rattle.ilk_words.specs.declared.command.Columns.{Columns}
-use Rattle.ilk_answers.specs.Answer.{or_refused, refusals_of}
-use Rattle.ilk_answers.specs.Stages.{columns_broken, or_later}
+use Rattle.ilk_answers.specs.Answer.{unless_refused, refusals_of}
+use Rattle.ilk_answers.specs.Stages.{columns_broken, first_broken}
 use Rattle.ilk_answers.specs.declared.refusals.Refusals.{Refusals}
 
--- a stage that refuses nothing has found nothing
 pub none-broken : (broken : List Broken) → refusals_of broken ≡ None → broken ≡ []
 none-broken [] none = refl
 none-broken (first ∷ rest) none = absurd (cc)
 
--- where two stages find nothing neither finds anything
-pub first-none : (first later : List Broken) → or_later first later ≡ [] → first ≡ []
+pub first-none : (first later : List Broken) → first_broken first later ≡ [] → first ≡ []
 first-none [] later e = refl
 first-none (b ∷ rest) later e = absurd (cc)
 
-pub later-none : (first later : List Broken) → or_later first later ≡ [] → later ≡ []
+pub later-none : (first later : List Broken) → first_broken first later ≡ [] → later ≡ []
 later-none [] later e = e
 later-none (b ∷ rest) later e = absurd (cc)
 
--- a stage that refuses nothing leaves what the later ones find
-later-found : (broken later : List Broken) → refusals_of broken ≡ None → or_later broken later ≡ later
+later-found : (broken later : List Broken) → refusals_of broken ≡ None → first_broken broken later ≡ later
 later-found [] later none = refl
 later-found (first ∷ rest) later none = absurd (cc)
 
--- what was not refused is what was asked
-pub not-refused : {A : Type 0} (refusals : Option Refusals) (asked kept : A) → or_refused refusals asked ≡ Ok kept → (refusals ≡ None) × (kept ≡ asked)
+pub not-refused : {A : Type 0} (refusals : Option Refusals) (asked kept : A) → unless_refused refusals asked ≡ Ok kept → (refusals ≡ None) × (kept ≡ asked)
 not-refused None asked kept is = (refl, cc)
 not-refused (Some refusals) asked kept is = absurd (cc)
 
--- what is let through was asked, and nothing was found broken
 pub let-through :
     {A E : Type 0} (found : Result (List Broken) E) (broken : List Broken) (asked kept : A)
     (answer : Result (Result A Refusals) E) →
-    IfOk found (λ b. b ≡ broken) → IfOk found (λ b. answer ≡ Ok (or_refused (refusals_of b) asked)) →
+    IfOk found (λ b. b ≡ broken) → IfOk found (λ b. answer ≡ Ok (unless_refused (refusals_of b) asked)) →
     IfErr found (λ e. answer ≡ Err e) → answer ≡ Ok (Ok kept) → (refusals_of broken ≡ None) × (kept ≡ asked)
 let-through (Err e) broken asked kept answer same answered wanting is = absurd (cc)
 let-through (Ok b) broken asked kept answer same answered wanting is =
-    let left : or_refused (refusals_of broken) asked ≡ Ok kept = cc in not-refused (refusals_of broken) asked kept left
+    let left : unless_refused (refusals_of broken) asked ≡ Ok kept = cc in not-refused (refusals_of broken) asked kept left
 
--- where the table is not refused, what is asked of the columns of its plant is all that is left to ask
 pub columns-alone :
     {E : Type 0} (columns : Columns) (found known : List Broken) (made plant : PlantLists)
     (asked : Result (Result PlantLists Refusals) E) → found ≡ known →
     refusals_of found ≡ None → made ≡ plant →
-    IfOk asked (λ a. a ≡ or_refused (refusals_of (columns_broken columns made)) made) →
-    IfOk asked (λ a. a ≡ or_refused (refusals_of (or_later known (columns_broken columns plant))) plant)
+    IfOk asked (λ a. a ≡ unless_refused (refusals_of (columns_broken columns made)) made) →
+    IfOk asked (λ a. a ≡ unless_refused (refusals_of (first_broken known (columns_broken columns plant))) plant)
 columns-alone columns found known made plant (Err e) same none is h = tt
 columns-alone columns found known made plant (Ok a) same none is h =
-    let Asked : PlantLists → Type 0 = λ p. a ≡ or_refused (refusals_of (columns_broken columns p)) p in
-    let left : or_later known (columns_broken columns plant) ≡ columns_broken columns plant = later-found known (columns_broken columns plant) (ap refusals_of (sym same) ∙ none) in
+    let Asked : PlantLists → Type 0 = λ p. a ≡ unless_refused (refusals_of (columns_broken columns p)) p in
+    let left : first_broken known (columns_broken columns plant) ≡ columns_broken columns plant = later-found known (columns_broken columns plant) (ap refusals_of (sym same) ∙ none) in
     rw left (subst Asked is h)

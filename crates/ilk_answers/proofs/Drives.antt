@@ -1,12 +1,12 @@
--- Over a plant that breaks no rule of the columns no drive comes to a hazard.
+-- Over a plant that breaks no column rule no drive comes to a hazard.
 use Rattle.std.proofs.Common.{◌≡◌, ℕ, Bool, true, false, Some, List, [], length, nat_le, refl, sym, ap, ◌∙◌}
 use Rattle.std.specs.Prelude.{◌≢◌}
 use Rattle.ilk_plant.specs.ColumnRules.{column_rules_broken}
 use Rattle.ilk_plant.specs.Plant.{IsPlant, PlantLists}
 use Rattle.ilk_strict.proofs.Strict.{strict_from_list}
 use Rattle.ilk_drive.proofs.Drives.{drive-safe}
-use Rattle.ilk_drive.specs.Scene.{scene_of}
-use Rattle.ilk_drive.specs.Told.{RestsSafely}
+use Rattle.ilk_drive.specs.Scene.{scene_from_text}
+use Rattle.ilk_drive.specs.Told.{EndsWithoutHazard}
 use Rattle.ilk_drive.specs.declared.outcome.Rest.{Rest}
 use Rattle.ilk_drive.specs.declared.outcome.Rest.TheVariants as rest
 use Rattle.ilk_drive.specs.declared.scene.Scene.{Scene}
@@ -15,16 +15,16 @@ use Rattle.ilk_words.specs.declared.command.Columns.TheVariants.{Strict}
 use Rattle.ilk_words.specs.declared.command.Command.TheVariants.{Drive}
 use Rattle.ilk_words.specs.declared.lengths.TheConstants.{MAX_SCENARIO}
 use Rattle.ilk_answers.specs.Answer.{AnswersPlant, AnswersWithin}
-use Rattle.ilk_answers.specs.Drives.{TellsScene, rest_status}
+use Rattle.ilk_answers.specs.Drives.{AnswersScene, rest_status}
 use Rattle.ilk_answers.specs.declared.reply.Reply.{Reply}
 use Rattle.ilk_answers.specs.declared.status.Status.TheVariants.{Rejected, Refused as IsRefused, Unsafe}
 
-safe-status : (r : Rest) → RestsSafely r → rest_status r ≢ Unsafe
+safe-status : (r : Rest) → EndsWithoutHazard r → rest_status r ≢ Unsafe
 safe-status rest.Driven safe e = absurd (cc)
 safe-status (rest.Stuck at) safe e = absurd (cc)
 safe-status (rest.Hazard at) safe e = absurd (safe at refl)
 
-scene-safe : (p : PlantLists) (told : Scene) (made : Reply) → IsPlant p → column_rules_broken p ≡ [] → TellsScene p told made → made.status ≢ Unsafe
+scene-safe : (p : PlantLists) (told : Scene) (made : Reply) → IsPlant p → column_rules_broken p ≡ [] → AnswersScene p told made → made.status ≢ Unsafe
 scene-safe p (scene.Bad line) made plant none is e =
     let rejected : Rejected ≡ Unsafe = ap (λ (r : Reply). r.status) (sym is) ∙ e in absurd (cc)
 scene-safe p (scene.Scene commands) made plant none is e =
@@ -33,7 +33,7 @@ scene-safe p (scene.Scene commands) made plant none is e =
 within-safe : (b : Bool) (p : PlantLists) (run text : List ℕ) (made : Reply) → IsPlant p → column_rules_broken p ≡ [] → AnswersWithin b (Drive Strict run) p text made → made.status ≢ Unsafe
 within-safe false p run text made plant none is e =
     let refused : IsRefused ≡ Unsafe = ap (λ (r : Reply). r.status) (sym is) ∙ e in absurd (cc)
-within-safe true p run text made plant none is e = scene-safe p (scene_of p text) made plant none is e
+within-safe true p run text made plant none is e = scene-safe p (scene_from_text p text) made plant none is e
 
 pub drive-right : (p : PlantLists) (run text : List ℕ) (made : Reply) → IsPlant p → column_rules_broken p ≡ [] → AnswersPlant (Some MAX_SCENARIO) (Drive Strict run) p (Some text) made → made.status ≢ Unsafe
 drive-right p run text made plant none is = within-safe (nat_le (length text) MAX_SCENARIO) p run text made plant none is

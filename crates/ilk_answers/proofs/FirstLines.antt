@@ -1,4 +1,4 @@
--- Which lines a text has up to a line feed, and how they begin.
+-- The lines of a text up to a line feed, and their beginnings.
 use Rattle.std.proofs.Common.{◌≡◌, Bool, true, false, ◌==◌, ◌&&◌, ◌||◌, List, [], ◌∷◌, ◌++◌, cond, drop, length, refl, sym, ap, ◌∙◌, append_assoc}
 use Rattle.std.specs.List.{list_all, onto_first, starts_with}
 use Rattle.std.proofs.lemmas.Bool.{and_parts}
@@ -7,9 +7,9 @@ use Rattle.std.proofs.lemmas.List.Folds.{list_all-append}
 use Rattle.std.proofs.lemmas.Slice.Eq.{starts_is}
 use Rattle.ilk_lines.specs.Lines.{Bytes, lines_of, parts_at, parts_but_last}
 use Rattle.ilk_lines.proofs.Cuts.{parts_follow}
-use Rattle.ilk_answers.specs.Strict.{HasOnlyLines, begins_in, each_line_begins_in}
+use Rattle.ilk_answers.specs.Strict.{HasOnlyLines, has_beginning, lines_have_beginnings}
 
--- the lines of a text up to a line feed, and of what follows it: the first is a prefix of the text
+-- The lines of `text`, a line feed and `rest`: the first is a prefix of `text`.
 pub record IsFirstOf (text : Bytes) (rest : Bytes) : Type 0 where
   pub line : Bytes
   pub left : Bytes
@@ -57,7 +57,6 @@ first-line (x ∷ text) rest = by_byte (x == 10) refl (first-line text rest)
             let others : parts_but_last (next ∷ parts) ≡ after.more ++ lines_of rest = cc in
             rw (differs, is) (ap (λ l. (x ∷ l) ∷ parts_but_last (next ∷ parts)) first ∙ ap (λ ls. (x ∷ after.line) ∷ ls) others)
 
--- what begins a prefix of a text begins the text
 begins-more : (line left beginning : Bytes) → starts_with ◌==◌ line beginning ≡ true → starts_with ◌==◌ (line ++ left) beginning ≡ true
 begins-more line left beginning h =
     let split : line ≡ beginning ++ drop (length beginning) line = (starts_is Decides-eqb line beginning (starts_with ◌==◌ line beginning) refl).0 h in
@@ -68,42 +67,41 @@ or-holds true b c d first later e = rw (first refl) refl
 or-holds false b true d first later e = refl
 or-holds false b false d first later e = later e
 
-begins_in-more : (beginnings : List Bytes) (line left : Bytes) → begins_in beginnings line ≡ true → begins_in beginnings (line ++ left) ≡ true
-begins_in-more [] line left h = h
-begins_in-more (beginning ∷ beginnings) line left h =
-    or-holds (starts_with ◌==◌ line beginning) (begins_in beginnings line) (starts_with ◌==◌ (line ++ left) beginning) (begins_in beginnings (line ++ left)) (begins-more line left beginning) (begins_in-more beginnings line left) h
+has_beginning-more : (beginnings : List Bytes) (line left : Bytes) → has_beginning beginnings line ≡ true → has_beginning beginnings (line ++ left) ≡ true
+has_beginning-more [] line left h = h
+has_beginning-more (beginning ∷ beginnings) line left h =
+    or-holds (starts_with ◌==◌ line beginning) (has_beginning beginnings line) (starts_with ◌==◌ (line ++ left) beginning) (has_beginning beginnings (line ++ left)) (begins-more line left beginning) (has_beginning-more beginnings line left) h
 
--- if each line of a text begins in one of these ways, so does the text up to any line feed, and each line of what follows
-pub lines-begin : (beginnings : List Bytes) (text rest : Bytes) → each_line_begins_in beginnings (text ++ 10 ∷ rest) ≡ true → (begins_in beginnings text ≡ true) × (each_line_begins_in beginnings rest ≡ true)
+pub lines-begin : (beginnings : List Bytes) (text rest : Bytes) → lines_have_beginnings beginnings (text ++ 10 ∷ rest) ≡ true → (has_beginning beginnings text ≡ true) × (lines_have_beginnings beginnings rest ≡ true)
 lines-begin beginnings text rest h =
     let first : IsFirstOf text rest = first-line text rest in
-    let each : list_all (begins_in beginnings) (first.line ∷ (first.more ++ lines_of rest)) ≡ true = sym (ap (list_all (begins_in beginnings)) first.lines) ∙ h in
-    let parts = and_parts (begins_in beginnings first.line) (list_all (begins_in beginnings) (first.more ++ lines_of rest)) each in
-    let others = and_parts (list_all (begins_in beginnings) first.more) (list_all (begins_in beginnings) (lines_of rest)) (sym (list_all-append (begins_in beginnings) first.more (lines_of rest)) ∙ parts.1) in
-    (ap (begins_in beginnings) first.prefix ∙ begins_in-more beginnings first.line first.left parts.0, others.1)
+    let each : list_all (has_beginning beginnings) (first.line ∷ (first.more ++ lines_of rest)) ≡ true = sym (ap (list_all (has_beginning beginnings)) first.lines) ∙ h in
+    let parts = and_parts (has_beginning beginnings first.line) (list_all (has_beginning beginnings) (first.more ++ lines_of rest)) each in
+    let others = and_parts (list_all (has_beginning beginnings) first.more) (list_all (has_beginning beginnings) (lines_of rest)) (sym (list_all-append (has_beginning beginnings) first.more (lines_of rest)) ∙ parts.1) in
+    (ap (has_beginning beginnings) first.prefix ∙ has_beginning-more beginnings first.line first.left parts.0, others.1)
 
--- if each allowed way begins in one of the narrower ways, so does each line that begins in an allowed way
-begins-narrower : (narrower allowed : List Bytes) (line : Bytes) → list_all (begins_in narrower) allowed ≡ true → begins_in allowed line ≡ true → begins_in narrower line ≡ true
+begins-narrower : (narrower allowed : List Bytes) (line : Bytes) → list_all (has_beginning narrower) allowed ≡ true → has_beginning allowed line ≡ true → has_beginning narrower line ≡ true
 begins-narrower narrower [] line each h = absurd (cc)
 begins-narrower narrower (beginning ∷ allowed) line each h =
-    let parts = and_parts (begins_in narrower beginning) (list_all (begins_in narrower) allowed) each in
+    let parts = and_parts (has_beginning narrower beginning) (list_all (has_beginning narrower) allowed) each in
     by_first (starts_with ◌==◌ line beginning) refl parts.0 (begins-narrower narrower allowed line parts.1) h
   where
-    by_first : (b : Bool) → starts_with ◌==◌ line beginning ≡ b → begins_in narrower beginning ≡ true → (begins_in allowed line ≡ true → begins_in narrower line ≡ true) → (b || begins_in allowed line) ≡ true → begins_in narrower line ≡ true
+    by_first : (b : Bool) → starts_with ◌==◌ line beginning ≡ b → has_beginning narrower beginning ≡ true → (has_beginning allowed line ≡ true → has_beginning narrower line ≡ true) → (b || has_beginning allowed line) ≡ true
+        → has_beginning narrower line ≡ true
     by_first true here own later e =
         let split : line ≡ beginning ++ drop (length beginning) line = (starts_is Decides-eqb line beginning (starts_with ◌==◌ line beginning) refl).0 here in
-        ap (begins_in narrower) split ∙ begins_in-more narrower beginning (drop (length beginning) line) own
+        ap (has_beginning narrower) split ∙ has_beginning-more narrower beginning (drop (length beginning) line) own
     by_first false here own later e = later e
 
-pub lines-narrower : (narrower allowed : List Bytes) (report : Bytes) → list_all (begins_in narrower) allowed ≡ true → HasOnlyLines allowed report → HasOnlyLines narrower report
+pub lines-narrower : (narrower allowed : List Bytes) (report : Bytes) → list_all (has_beginning narrower) allowed ≡ true → HasOnlyLines allowed report → HasOnlyLines narrower report
 lines-narrower narrower allowed report each h = record { each = of_lines (lines_of report) h.each }
   where
     both : (x y : Bool) → x ≡ true → y ≡ true → (x && y) ≡ true
     both true y first later = later
     both false y first later = absurd (cc)
 
-    of_lines : (lines : List Bytes) → list_all (begins_in allowed) lines ≡ true → list_all (begins_in narrower) lines ≡ true
+    of_lines : (lines : List Bytes) → list_all (has_beginning allowed) lines ≡ true → list_all (has_beginning narrower) lines ≡ true
     of_lines [] e = refl
     of_lines (line ∷ lines) e =
-        let parts = and_parts (begins_in allowed line) (list_all (begins_in allowed) lines) e in
-        both (begins_in narrower line) (list_all (begins_in narrower) lines) (begins-narrower narrower allowed line each parts.0) (of_lines lines parts.1)
+        let parts = and_parts (has_beginning allowed line) (list_all (has_beginning allowed) lines) e in
+        both (has_beginning narrower line) (list_all (has_beginning narrower) lines) (begins-narrower narrower allowed line each parts.0) (of_lines lines parts.1)

@@ -1,19 +1,19 @@
--- If each line of a report refuses by a rule that safety doesn't need, no other rule is broken.
+-- If each line of a report is harmless, no rule is broken that safety needs.
 use Rattle.std.proofs.Common.{◌≡◌, ℕ, ◌<◌, zero, suc, ◌==◌, Bool, true, false, not, ◌&&◌, Option, Some, None, List, [], ◌∷◌, ◌++◌, codes, filter, flat_map, is_none, length, map, nat_lt, slice_get, refl, sym, ap, ◌∙◌}
 use Rattle.std.specs.List.{list_all, range_with_len}
 use Rattle.std.proofs.lemmas.Bool.{and_parts, eqb-true}
 use Rattle.std.proofs.lemmas.List.Folds.{list_all-append}
 use Rattle.ilk_base.specs.Option.{is_some_and}
 use Rattle.ilk_lines.specs.Lines.{Bytes}
-use Rattle.ilk_plant.specs.Broken.{broken_at, each_broken_at, places_of, rule_word}
-use Rattle.ilk_plant.specs.ColumnRules.{breaks_columns, column_rule_broken, column_rules, column_rules_broken, ends_path, has_no_board, is_between_boards, path_ends_at_board, points_are_set}
-use Rattle.ilk_plant.specs.Draft.{numbered}
+use Rattle.ilk_plant.specs.Broken.{broken_at, broken_rules_at, places_of, rule_word}
+use Rattle.ilk_plant.specs.ColumnRules.{breaks_columns, column_rule_broken, column_rules, column_rules_broken, ends_at_destination, has_no_board, is_between_boards, path_ends_at_board, points_are_listed}
+use Rattle.ilk_plant.specs.Draft.{plant_from_drafts}
 use Rattle.ilk_plant.specs.NetworkRules.{breaks_network, count_in_network, network_rules, network_rules_broken}
 use Rattle.ilk_plant.specs.Network.{last_of}
 use Rattle.ilk_plant.specs.Plant.{PlantLists, board_of, next_to}
 use Rattle.ilk_plant.specs.TableRules.{breaks_table, count_in_plant, route_fails, table_rules, table_rules_broken}
 use Rattle.ilk_plant.specs.declared.broken.Broken.{Broken}
-use Rattle.ilk_plant.specs.declared.broken.Places.{Places}
+use Rattle.ilk_plant.specs.declared.broken.PlaceKind.{PlaceKind}
 use Rattle.ilk_plant.specs.declared.broken.Rule.{Rule}
 use Rattle.ilk_plant.specs.declared.broken.Rule.TheVariants.{N1, N2, N3, N4, N5, N6, N7, N8, R1, R2, R3, R4, R5, R6, R7, R8, C1, C2, C3, C4, C5, C6, C7, C8}
 use Rattle.ilk_plant.specs.declared.draft.NetDraft.{NetDraft}
@@ -21,11 +21,10 @@ use Rattle.ilk_plant.specs.declared.draft.TableDraft.{TableDraft}
 use Rattle.ilk_plant.specs.declared.network.Dir.{Dir}
 use Rattle.ilk_plant.specs.declared.table.Route.{Route}
 use Rattle.ilk_plant.proofs.Rules.{rule-kept}
-use Rattle.ilk_model.specs.Holding.{is_plain}
-use Rattle.ilk_strict.specs.IsStrict.{KeepsPathRules, path_end_is_not_plain, path_points_are_set}
-use Rattle.ilk_answers.specs.Strict.{begins_in, harmless_beginnings}
+use Rattle.ilk_model.specs.Holding.{is_plain_for_direction}
+use Rattle.ilk_strict.specs.IsStrict.{KeepsPathRules, ends_at_board_or_limit, path_points_are_listed}
+use Rattle.ilk_answers.specs.Strict.{has_beginning, deviation_beginnings}
 
--- whether safety doesn't need the rule
 abbrev pub is_harmless : Rule → Bool
 is_harmless C4 = true
 is_harmless C5 = true
@@ -33,8 +32,7 @@ is_harmless C6 = true
 is_harmless C8 = true
 is_harmless _ = false
 
--- a line that refuses by a rule begins in one of the harmless ways only if the rule is harmless
-pub harmless-begins : (rule : Rule) (place : Bytes) → begins_in harmless_beginnings (codes "refused " ++ (rule_word rule ++ (codes " " ++ place))) ≡ true → is_harmless rule ≡ true
+pub harmless-begins : (rule : Rule) (place : Bytes) → has_beginning deviation_beginnings (codes "refused " ++ (rule_word rule ++ (codes " " ++ place))) ≡ true → is_harmless rule ≡ true
 harmless-begins N1 place h = h
 harmless-begins N2 place h = h
 harmless-begins N3 place h = h
@@ -60,11 +58,9 @@ harmless-begins C6 place h = refl
 harmless-begins C7 place h = h
 harmless-begins C8 place h = refl
 
--- whether each of some broken rules is harmless
 abbrev pub are_harmless : List Broken → Bool
 are_harmless broken = list_all (λ b. is_harmless b.rule) broken
 
--- if all that is found of one rule is harmless, and the rule isn't, nothing is found
 none-at : (rule : Rule) (n : ℕ) (test : ℕ → Bool) → is_harmless rule ≡ false → are_harmless (broken_at rule n test) ≡ true → broken_at rule n test ≡ []
 none-at rule n test harms all = of_places (filter test (range_with_len 0 n)) all
   where
@@ -75,25 +71,22 @@ none-at rule n test harms all = of_places (filter test (range_with_len 0 n)) all
     of_places [] h = refl
     of_places (i ∷ places) h = let here : is_harmless rule ≡ true = (and_parts (is_harmless rule) (are_harmless (map made places)) h).0 in cc
 
--- so such a rule is kept at each place
 kept-at : (rule : Rule) (n : ℕ) (test : ℕ → Bool) → is_harmless rule ≡ false → are_harmless (broken_at rule n test) ≡ true → (i : ℕ) → i < n → test i ≡ false
 kept-at rule n test harms all = rule-kept rule n test (none-at rule n test harms all)
 
--- nor is anything found of a list of such rules
-pub none-each : (rules : List Rule) (count : Places → ℕ) (breaks : Rule → ℕ → Bool) → list_all (λ rule. not (is_harmless rule)) rules ≡ true → are_harmless (each_broken_at rules count breaks) ≡ true → each_broken_at rules count breaks ≡ []
+pub none-each : (rules : List Rule) (count : PlaceKind → ℕ) (breaks : Rule → ℕ → Bool) → list_all (λ rule. not (is_harmless rule)) rules ≡ true → are_harmless (broken_rules_at rules count breaks) ≡ true → broken_rules_at rules count breaks ≡ []
 none-each [] count breaks harm all = refl
 none-each (rule ∷ rules) count breaks harm all =
     let first : List Broken = broken_at rule (count (places_of rule)) (breaks rule) in
     let harms = and_parts (not (is_harmless rule)) (list_all (λ r. not (is_harmless r)) rules) harm in
-    let parts = and_parts (are_harmless first) (are_harmless (each_broken_at rules count breaks)) (sym (list_all-append (λ b. is_harmless b.rule) first (each_broken_at rules count breaks)) ∙ all) in
+    let parts = and_parts (are_harmless first) (are_harmless (broken_rules_at rules count breaks)) (sym (list_all-append (λ b. is_harmless b.rule) first (broken_rules_at rules count breaks)) ∙ all) in
     let none : first ≡ [] = none-at rule (count (places_of rule)) (breaks rule) (isnt (is_harmless rule) harms.0) parts.0 in
-    ap (λ found. found ++ each_broken_at rules count breaks) none ∙ none-each rules count breaks harms.1 parts.1
+    ap (λ found. found ++ broken_rules_at rules count breaks) none ∙ none-each rules count breaks harms.1 parts.1
   where
     isnt : (b : Bool) → not b ≡ true → b ≡ false
     isnt true h = sym h
     isnt false h = refl
 
--- if all that is found of a list of rules is harmless, so is what is found of each of them
 part-harmless : (made : Rule → List Broken) (rules : List Rule) (k : ℕ) (rule : Rule) → slice_get rules k ≡ Some rule → are_harmless (flat_map made rules) ≡ true → are_harmless (made rule) ≡ true
 part-harmless made [] k rule at all = absurd (cc)
 part-harmless made (r ∷ rules) zero rule at all =
@@ -104,7 +97,6 @@ part-harmless made (r ∷ rules) (suc k) rule at all =
     let parts = and_parts (are_harmless (made r)) (are_harmless (flat_map made rules)) (sym (list_all-append (λ b. is_harmless b.rule) (made r) (flat_map made rules)) ∙ all) in
     part-harmless made rules k rule at parts.1
 
--- a route that fails a test fails each test that asks more
 fails-more : (p : PlantLists) (test more : Route → Bool) (i : ℕ) → ((route : Route) → more route ≡ true → test route ≡ true) → route_fails p more i ≡ false → route_fails p test i ≡ false
 fails-more p test more i leads h = of_route (slice_get p.routes i) h
   where
@@ -120,8 +112,7 @@ passes-less : {A : Type 0} (o : Option A) (more test : A → Bool) → ((x : A) 
 passes-less None more test leads h = h
 passes-less (Some x) more test leads h = leads x h
 
--- a section at which a path ends rightly isn't plain
-ends-not_plain : (p : PlantLists) (d : Dir) (destination : Option ℕ) (x : ℕ) → ends_path p d destination x ≡ true → not (is_plain p d x) ≡ true
+ends-not_plain : (p : PlantLists) (d : Dir) (destination : Option ℕ) (x : ℕ) → ends_at_destination p d destination x ≡ true → not (is_plain_for_direction p d x) ≡ true
 ends-not_plain p d (Some m) x h = boarded (board_of p x d) (nat_lt 0 (length (next_to p x d))) h
   where
     boarded : (o : Option ℕ) (c : Bool) → is_some_and o (λ n. n == m) ≡ true → not (is_none o && c) ≡ true
@@ -133,32 +124,30 @@ ends-not_plain p d None x h = alone (has_no_board p d x) (length (next_to p x d)
     alone true n e = rw e refl
     alone false n e = refl
 
--- if each broken rule of the columns is harmless, what strict safety needs of the columns is kept
 pub harmless-keeps : (p : PlantLists) → are_harmless (column_rules_broken p) ≡ true → KeepsPathRules p
 harmless-keeps p all = record {
   c1 = kept-at C1 (length p.routes) (breaks_columns p C1) refl (of_rule 0 C1 refl);
-  c2 = λ i less. fails-more p (path_end_is_not_plain p) (path_ends_at_board p) i ends (kept-at C2 (length p.routes) (breaks_columns p C2) refl (of_rule 1 C2 refl) i less);
-  c3 = λ i less. fails-more p (path_points_are_set p) (points_are_set p) i (λ route h. (and_parts (path_points_are_set p route) _ h).0) (kept-at C3 (length p.routes) (breaks_columns p C3) refl (of_rule 2 C3 refl) i less);
+  c2 = λ i less. fails-more p (ends_at_board_or_limit p) (path_ends_at_board p) i ends (kept-at C2 (length p.routes) (breaks_columns p C2) refl (of_rule 1 C2 refl) i less);
+  c3 = λ i less. fails-more p (path_points_are_listed p) (points_are_listed p) i (λ route h. (and_parts (path_points_are_listed p route) _ h).0) (kept-at C3 (length p.routes) (breaks_columns p C3) refl (of_rule 2 C3 refl) i less);
   c7 = kept-at C7 (length p.sections) (breaks_columns p C7) refl (of_rule 6 C7 refl);
 }
   where
     of_rule : (k : ℕ) (rule : Rule) → slice_get column_rules k ≡ Some rule → are_harmless (column_rule_broken p rule) ≡ true
     of_rule k rule at = part-harmless (column_rule_broken p) column_rules k rule at all
 
-    of_end : (d : Dir) (destination : Option ℕ) (path : List ℕ) → is_between_boards p d destination path ≡ true → is_some_and (last_of path) (λ x. not (is_plain p d x)) ≡ true
+    of_end : (d : Dir) (destination : Option ℕ) (path : List ℕ) → is_between_boards p d destination path ≡ true → is_some_and (last_of path) (λ x. not (is_plain_for_direction p d x)) ≡ true
     of_end d destination path between =
-        let end = (and_parts _ (is_some_and (last_of path) (ends_path p d destination)) between).1 in
-        passes-less (last_of path) (ends_path p d destination) (λ x. not (is_plain p d x)) (ends-not_plain p d destination) end
+        let end = (and_parts _ (is_some_and (last_of path) (ends_at_destination p d destination)) between).1 in
+        passes-less (last_of path) (ends_at_destination p d destination) (λ x. not (is_plain_for_direction p d x)) (ends-not_plain p d destination) end
 
-    ends : (route : Route) → path_ends_at_board p route ≡ true → path_end_is_not_plain p route ≡ true
+    ends : (route : Route) → path_ends_at_board p route ≡ true → ends_at_board_or_limit p route ≡ true
     ends route h =
         passes-less (slice_get p.boards route.source) (λ b. is_between_boards p b.dir route.destination route.path)
-        (λ b. is_some_and (last_of route.path) (λ x. not (is_plain p b.dir x)))
+        (λ b. is_some_and (last_of route.path) (λ x. not (is_plain_for_direction p b.dir x)))
         (λ b between. of_end b.dir route.destination route.path between) h
 
--- no rule of the network or of the table is harmless
 pub network-harmless : (net : NetDraft) → are_harmless (network_rules_broken net) ≡ true → network_rules_broken net ≡ []
 network-harmless net all = none-each network_rules (count_in_network net) (breaks_network net) refl all
 
 pub table-harmless : (net : NetDraft) (table : TableDraft) → are_harmless (table_rules_broken net table) ≡ true → table_rules_broken net table ≡ []
-table-harmless net table all = none-each table_rules (count_in_plant (numbered net table)) (breaks_table (numbered net table)) refl all
+table-harmless net table all = none-each table_rules (count_in_plant (plant_from_drafts net table)) (breaks_table (plant_from_drafts net table)) refl all

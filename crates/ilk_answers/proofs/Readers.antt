@@ -1,6 +1,6 @@
--- Which commands have a reader of a certificate, and that what it was fed is what its audit was fed.
+-- The commands that read a certificate, and the bytes that their audit was fed.
 use Rattle.std.proofs.Common.{◌≡◌, ◌∙◌, None, false, List, ℕ, ◌++◌, refl}
-use Rattle.ilk_plant_audit.specs.Audited.{HasFed}
+use Rattle.ilk_plant_audit.specs.Audited.{HasAuditedBytes}
 use Rattle.ilk_plant_audit.specs.declared.audit.CertAudit.{CertAudit}
 use Rattle.ilk_words.specs.Plan.{plan_of}
 use Rattle.ilk_words.specs.declared.command.Command.{Command}
@@ -8,10 +8,9 @@ use Rattle.ilk_words.specs.declared.command.Command.TheVariants.{Check, Verify, 
 use Rattle.ilk_answers.specs.Reader.{WasFed, is_audit}
 use Rattle.ilk_answers.specs.declared.reader.Reader.TheVariants.{Certificate}
 
-pub audit_fed : (before after : CertAudit) (piece : List ℕ) → after.plant.now ≡ before.plant.now → ((bytes : List ℕ) → HasFed before bytes → HasFed after (bytes ++ piece)) → WasFed (Certificate before) (Certificate after) piece
+pub audit_fed : (before after : CertAudit) (piece : List ℕ) → after.plant.now ≡ before.plant.now → ((bytes : List ℕ) → HasAuditedBytes before bytes → HasAuditedBytes after (bytes ++ piece)) → WasFed (Certificate before) (Certificate after) piece
 audit_fed before after piece same fed command p read h = (h.0, same ∙ h.1, fed read h.2)
 
--- a command that reads nothing besides the configuration checks no certificate
 pub reads_no_certificate : (command : Command) → (plan_of command).extra ≡ None → is_audit command ≡ false
 reads_no_certificate (Audit columns cert) none = absurd (cc)
 reads_no_certificate (Check columns) none = refl

@@ -1,19 +1,17 @@
--- Under strict columns a configuration that breaks no rule is safe for ever, so check is good only for such ones, verify says
--- `safe k=1` of them, or that all conflicts are spent, and no drive tells a hazard. A configuration that
--- check refuses by C4, C5, C6 and C8 only is safe for runs of any length too.
+-- With strict columns, the answers mean what `HasStrictGuarantees` says.
 use Rattle.std.proofs.Common.{◌≡◌, inl, inr, ℕ, ◌<◌, Bool, true, false, ◌&&◌, if◌then◌else◌, Option, Some, None, IfOk, IfSome, Result, Ok, Err, List, [], ◌++◌, append-nil, length, nat_le, nat_lt, refl, sym, ap, ◌∙◌, subst}
 use Rattle.std.specs.Prelude.{◌≢◌}
 use Rattle.std.proofs.lemmas.Bool.{leb-true}
 use Rattle.std.proofs.lemmas.Option.{same_Some}
 use Rattle.ilk_plant.specs.ColumnRules.{column_rules_broken}
-use Rattle.ilk_plant.specs.Draft.{numbered}
+use Rattle.ilk_plant.specs.Draft.{plant_from_drafts}
 use Rattle.ilk_plant.specs.Kept.{IsSound}
 use Rattle.ilk_plant.specs.NetworkRules.{network_rules_broken}
 use Rattle.ilk_plant.specs.Plant.{IsPlant, PlantLists}
 use Rattle.ilk_plant.specs.TableRules.{table_rules_broken}
 use Rattle.ilk_plant.specs.declared.draft.NetDraft.{NetDraft}
 use Rattle.ilk_plant.specs.declared.draft.TableDraft.{TableDraft}
-use Rattle.ilk_net_read.specs.Fault.{broken}
+use Rattle.ilk_net_read.specs.Fault.{form_fault}
 use Rattle.ilk_net_read.specs.declared.fault.Form.TheVariants.{F1}
 use Rattle.ilk_net_read.specs.declared.fault.FormFault.{FormFault}
 use Rattle.ilk_net_read.specs.declared.fault.Place.TheVariants.{Document}
@@ -32,11 +30,11 @@ use Rattle.ilk_words.specs.declared.lengths.TheConstants.{MAX_CONFIGURATION}
 use Rattle.ilk_words.specs.declared.limits.TheConstants.{MAX_DEPTH, MAX_SEARCH_CONFLICTS}
 use Rattle.ilk_words.specs.declared.plan.Stages.{Stages}
 use Rattle.ilk_words.specs.declared.plan.Stages.TheVariants.{All, Network}
-use Rattle.ilk_answers.specs.Answer.{AnswersFound, IsAnswerTo, form_refused, plant_of, plant_of_drafts, refusals_of}
-use Rattle.ilk_answers.specs.Besides.{AnswersSome}
-use Rattle.ilk_answers.specs.Stages.{columns_broken, or_later, rules_broken}
-use Rattle.ilk_answers.specs.Strict.{HasSafePlant, HasTableOf, IsCleanAndSafe, IsCleanFor, IsPlantIfFree, IsStrictlyRight, SaysSafeAtOneOrSpent, TellsNoHazard, each_line_begins_in, harmless_beginnings}
-use Rattle.ilk_answers.specs.Verdicts.{TellsVerdict, verdict_line, verdict_run, verdict_status}
+use Rattle.ilk_answers.specs.Answer.{AnswersOutcome, IsAnswerTo, form_refusals, plant_of, plant_of_drafts, refusals_of}
+use Rattle.ilk_answers.specs.Besides.{AnswersSomeExtra}
+use Rattle.ilk_answers.specs.Stages.{columns_broken, first_broken, rules_broken}
+use Rattle.ilk_answers.specs.Strict.{HasSafePlant, HasTableOf, IsCleanAndSafe, IsCleanFor, GivesPlantIfFree, HasStrictGuarantees, SaysSafeAtOneOrSpent, ReportsNoHazard, lines_have_beginnings, deviation_beginnings}
+use Rattle.ilk_answers.specs.Verdicts.{AnswersVerdict, verdict_line, verdict_run_text, verdict_status}
 use Rattle.ilk_answers.specs.declared.refusals.Refusals.{Refusals}
 use Rattle.ilk_answers.specs.declared.reply.Reply.{Reply}
 use Rattle.ilk_answers.specs.declared.status.Status.TheVariants.{Good, Refused as IsRefused, Unsafe}
@@ -45,25 +43,24 @@ use Rattle.ilk_answers.proofs.Deviations.{deviations-safe}
 use Rattle.ilk_answers.proofs.Drives.{drive-right}
 use Rattle.ilk_answers.proofs.Tables.{table-right}
 
--- a configuration that breaks no rule breaks none of the columns
 clean-columns : (conf : List ℕ) (p : PlantLists) → IsCleanFor conf p → column_rules_broken p ≡ []
 clean-columns conf p clean = of_length (nat_lt MAX_CONFIGURATION (length conf)) clean
   where
     of_drafts : (drafts : Result (NetDraft × TableDraft) FormFault) → plant_of_drafts (All Strict) drafts ≡ Ok p → column_rules_broken p ≡ []
     of_drafts (Err fault) e = absurd (cc)
     of_drafts (Ok (net, table)) e =
-        let kept : (refusals_of (rules_broken (All Strict) net table) ≡ None) × (p ≡ numbered net table) = not-refused (refusals_of (rules_broken (All Strict) net table)) (numbered net table) p e in
+        let kept : (refusals_of (rules_broken (All Strict) net table) ≡ None) × (p ≡ plant_from_drafts net table) = not-refused (refusals_of (rules_broken (All Strict) net table)) (plant_from_drafts net table) p e in
         let none : rules_broken (All Strict) net table ≡ [] = none-broken (rules_broken (All Strict) net table) kept.0 in
-        let later : or_later (table_rules_broken net table) (columns_broken Strict (numbered net table)) ≡ [] = later-none (network_rules_broken net) (or_later (table_rules_broken net table) (columns_broken Strict (numbered net table))) none in
-        ap column_rules_broken kept.1 ∙ later-none (table_rules_broken net table) (columns_broken Strict (numbered net table)) later
+        let later : first_broken (table_rules_broken net table) (columns_broken Strict (plant_from_drafts net table)) ≡ [] =
+        later-none (network_rules_broken net) (first_broken (table_rules_broken net table) (columns_broken Strict (plant_from_drafts net table))) none in
+        ap column_rules_broken kept.1 ∙ later-none (table_rules_broken net table) (columns_broken Strict (plant_from_drafts net table)) later
 
-    of_length : (b : Bool) → (if b then Err (form_refused (broken F1 Document)) else plant_of_drafts (All Strict) (drafts_of conf)) ≡ Ok p → column_rules_broken p ≡ []
+    of_length : (b : Bool) → (if b then Err (form_refusals (form_fault F1 Document)) else plant_of_drafts (All Strict) (drafts_of conf)) ≡ Ok p → column_rules_broken p ≡ []
     of_length true e = absurd (cc)
     of_length false e = of_drafts (drafts_of conf) e
 
--- check is good only where there is a plant
 check-safe : (conf : List ℕ) (found : Result PlantLists Refusals) (extra : Option (List ℕ)) (made : Reply) →
-    found ≡ plant_of (All Strict) conf → IfOk found IsSound → AnswersFound (Check Strict) found extra made →
+    found ≡ plant_of (All Strict) conf → IfOk found IsSound → AnswersOutcome (Check Strict) found extra made →
     made.status ≡ Good → IsCleanAndSafe conf
 check-safe conf (Err refusals) extra made known sound told good =
     let refused : IsRefused ≡ Good = ap (λ (r : Reply). r.status) (sym told) ∙ good in absurd (cc)
@@ -73,19 +70,17 @@ check-safe conf (Ok p) extra made known sound told good = record {
   safe = clean-forever p sound.plant (clean-columns conf p (sym known));
 }
 
--- a verdict on a plant that breaks no rule of the columns
-tells-at_one : (p : PlantLists) (depth conflicts : ℕ) (made : Reply) → IsPlant p → column_rules_broken p ≡ [] → 0 < depth → TellsVerdict p depth conflicts made → SaysSafeAtOneOrSpent p depth conflicts made
+tells-at_one : (p : PlantLists) (depth conflicts : ℕ) (made : Reply) → IsPlant p → column_rules_broken p ≡ [] → 0 < depth → AnswersVerdict p depth conflicts made → SaysSafeAtOneOrSpent p depth conflicts made
 tells-at_one p depth conflicts made plant none some told =
     elim (clean-verdict p depth told.verdict plant none some told.right) [
       | inl safe ↦ inl (record {
         status = told.status ∙ ap verdict_status safe;
-        report = told.report ∙ ap (λ v. verdict_line p conflicts v ++ verdict_run p v) safe ∙ append-nil (verdict_line p conflicts (Safe 1));
+        report = told.report ∙ ap (λ v. verdict_line p conflicts v ++ verdict_run_text p v) safe ∙ append-nil (verdict_line p conflicts (Safe 1));
         certificate = subst (λ v. IsCertificateOf p depth conflicts v made.certificate) safe told.certificate;
       })
       | inr spent ↦ inr (told.status ∙ ap verdict_status spent)
     ]
 
--- the depth of a command is at least 1
 first-true : (a b c : Bool) → (a && b && c) ≡ true → a ≡ true
 first-true true b c e = refl
 first-true false b c e = absurd (cc)
@@ -93,43 +88,38 @@ first-true false b c e = absurd (cc)
 some-depth : (depth conflicts : ℕ) (cert : List ℕ) → has_option_limits (Verify Strict depth conflicts cert) ≡ true → 0 < depth
 some-depth depth conflicts cert limits = leb-true 1 depth (first-true (nat_le 1 depth) (nat_le depth MAX_DEPTH) (nat_le conflicts MAX_SEARCH_CONFLICTS) limits)
 
--- verify tells the verdict
 verify-safe :
     (found : Result PlantLists Refusals) (conf : List ℕ) (depth conflicts : ℕ) (cert : List ℕ)
     (extra : Option (List ℕ)) (made : Reply) (p : PlantLists) → found ≡ Ok p →
     IfOk found IsSound → has_option_limits (Verify Strict depth conflicts cert) ≡ true →
-    AnswersFound (Verify Strict depth conflicts cert) found extra made → IsCleanFor conf p →
+    AnswersOutcome (Verify Strict depth conflicts cert) found extra made → IsCleanFor conf p →
     SaysSafeAtOneOrSpent p depth conflicts made
 verify-safe (Err refusals) conf depth conflicts cert extra made p is sound limits told clean = absurd (cc)
 verify-safe (Ok q) conf depth conflicts cert extra made p is sound limits told clean =
     let same : q ≡ p = cc in
-    let tells : TellsVerdict q depth conflicts made = told in
-    tells-at_one p depth conflicts made (subst IsPlant same sound.plant) (clean-columns conf p clean) (some-depth depth conflicts cert limits) (subst (λ r. TellsVerdict r depth conflicts made) same tells)
+    let tells : AnswersVerdict q depth conflicts made = told in
+    tells-at_one p depth conflicts made (subst IsPlant same sound.plant) (clean-columns conf p clean) (some-depth depth conflicts cert limits) (subst (λ r. AnswersVerdict r depth conflicts made) same tells)
 
--- no drive comes to a hazard
-drive-safe : (conf : List ℕ) (found : Result PlantLists Refusals) (run text : List ℕ) (made : Reply) → found ≡ plant_of (All Strict) conf → IfOk found IsSound → AnswersFound (Drive Strict run) found (Some text) made → made.status ≢ Unsafe
+drive-safe : (conf : List ℕ) (found : Result PlantLists Refusals) (run text : List ℕ) (made : Reply) → found ≡ plant_of (All Strict) conf → IfOk found IsSound → AnswersOutcome (Drive Strict run) found (Some text) made → made.status ≢ Unsafe
 drive-safe conf (Err refusals) run text made known sound told e =
     let refused : IsRefused ≡ Unsafe = ap (λ (r : Reply). r.status) (sym told) ∙ e in absurd (cc)
 drive-safe conf (Ok p) run text made known sound told e =
     drive-right p run text made sound.plant (clean-columns conf p (sym known)) told e
 
--- what came of a configuration is sound
 sound-at : (found : Result PlantLists Refusals) → IfOk found IsSound → (p : PlantLists) → found ≡ Ok p → IsSound p
 sound-at (Err refusals) sound p is = absurd (cc)
 sound-at (Ok q) sound p is = let same : q ≡ p = cc in subst IsSound same sound
 
--- what answers what came of a configuration has what strict columns give besides
 module _ (command : Command) (stages : Stages) (planned : (plan_of command).stages ≡ Some stages)
     (found : Result PlantLists Refusals) (sound : IfOk found IsSound) (extra : Option (List ℕ)) (made : Reply)
-    (some : AnswersSome command found extra made) where
-  -- which stages were asked
+    (some : AnswersSomeExtra command found extra made) where
   asked-by : (c : List ℕ) (asked : Command) (s : Stages) → command ≡ asked → (plan_of asked).stages ≡ Some s → found ≡ plant_of stages c → found ≡ plant_of s c
   asked-by c asked s is by known =
       let same : Some stages ≡ Some s = sym planned ∙ ap (λ k. (plan_of k).stages) is ∙ by in
       known ∙ ap (λ o. plant_of o c) (same_Some stages s same)
 
-  told-as : (asked : Command) → command ≡ asked → AnswersFound asked found (Some some.text) made
-  told-as asked is = subst (λ k. AnswersFound k found (Some some.text) made) is some.answer
+  told-as : (asked : Command) → command ≡ asked → AnswersOutcome asked found (Some some.text) made
+  told-as asked is = subst (λ k. AnswersOutcome k found (Some some.text) made) is some.answer
 
   check-right : (conf : Option (List ℕ)) → IfSome conf (λ c. found ≡ plant_of stages c) → command ≡ Check Strict → made.status ≡ Good → IfSome conf IsCleanAndSafe
   check-right None known is good = tt
@@ -137,8 +127,8 @@ module _ (command : Command) (stages : Stages) (planned : (plan_of command).stag
       check-safe c found (Some some.text) made (asked-by c (Check Strict) (All Strict) is refl known) sound (told-as (Check Strict) is) good
 
   deviations-right : (conf : Option (List ℕ)) → IfSome conf (λ c. found ≡ plant_of stages c) →
-      IfSome conf IsPlantIfFree → command ≡ Check Strict → made.status ≡ IsRefused →
-      each_line_begins_in harmless_beginnings made.report ≡ true → IfSome conf HasSafePlant
+      IfSome conf GivesPlantIfFree → command ≡ Check Strict → made.status ≡ IsRefused →
+      lines_have_beginnings deviation_beginnings made.report ≡ true → IfSome conf HasSafePlant
   deviations-right None known plant is refused lines = tt
   deviations-right (Some c) known plant is refused lines =
       deviations-safe c found (Some some.text) made (asked-by c (Check Strict) (All Strict) is refl known) plant (told-as (Check Strict) is) refused lines
@@ -157,15 +147,15 @@ module _ (command : Command) (stages : Stages) (planned : (plan_of command).stag
   routes-right (Some c) known columns is good =
       table-right columns c found (Some some.text) made (asked-by c (Table columns) (Network columns) is refl known) (sound-at found sound) (told-as (Table columns) is) good
 
-  scene-right : (conf : Option (List ℕ)) → IfSome conf (λ c. found ≡ plant_of stages c) → (run bytes : List ℕ) → command ≡ Drive Strict run → conf ≡ Some bytes → TellsNoHazard run bytes extra made
+  scene-right : (conf : Option (List ℕ)) → IfSome conf (λ c. found ≡ plant_of stages c) → (run bytes : List ℕ) → command ≡ Drive Strict run → conf ≡ Some bytes → ReportsNoHazard run bytes extra made
   scene-right None known run bytes is at = absurd (cc)
   scene-right (Some c) known run bytes is at =
       let here : found ≡ plant_of (All Strict) c = asked-by c (Drive Strict run) (All Strict) is refl known in
-      let told : AnswersFound (Drive Strict run) found (Some some.text) made = told-as (Drive Strict run) is in
+      let told : AnswersOutcome (Drive Strict run) found (Some some.text) made = told-as (Drive Strict run) is in
       record {
         scenario = some.text;
         whole = some.whole;
-        answer = subst (λ b. IsAnswerTo (Some (Drive Strict run)) (Some b) (Some some.text) made) (same_Some c bytes at) (subst (λ f. AnswersFound (Drive Strict run) f (Some some.text) made) here told);
+        answer = subst (λ b. IsAnswerTo (Some (Drive Strict run)) (Some b) (Some some.text) made) (same_Some c bytes at) (subst (λ f. AnswersOutcome (Drive Strict run) f (Some some.text) made) here told);
         safe = drive-safe c found run some.text made here sound told;
       }
 
@@ -173,8 +163,8 @@ pub strictly-right :
     {E : Type 0} (command : Command) (stages : Stages) (conf extra : Option (List ℕ))
     (found : Result PlantLists Refusals) (made : Result Reply E) →
     (plan_of command).stages ≡ Some stages → has_option_limits command ≡ true →
-    IfSome conf (λ c. found ≡ plant_of stages c) → IfSome conf IsPlantIfFree → IfOk found IsSound →
-    IfOk made (AnswersSome command found extra) → IfOk made (IsStrictlyRight (Some command) conf extra)
+    IfSome conf (λ c. found ≡ plant_of stages c) → IfSome conf GivesPlantIfFree → IfOk found IsSound →
+    IfOk made (AnswersSomeExtra command found extra) → IfOk made (HasStrictGuarantees (Some command) conf extra)
 strictly-right command stages conf extra found (Err e) planned limits known plant sound some = tt
 strictly-right command stages conf extra found (Ok made) planned limits known plant sound some = record {
   check = λ asked good. check-right command stages planned found sound extra made some conf known (same_Some command (Check Strict) asked) good;

@@ -1,4 +1,4 @@
--- The run of a right verdict can be written, and what is written tells the verdict.
+-- The run of a right verdict can be written, and the reply has that verdict.
 use Rattle.std.proofs.Common.{◌≡◌, ℕ, All, Some, List, [], ◌∷◌, ◌++◌, ◌⊎◌, ◌<◌, length, inl, inr, is_some, IfOk, Result, Ok, Err, sym, ap, subst, ◌∙◌}
 use Rattle.std.specs.Prelude.{option_and_then}
 use Rattle.std.proofs.lemmas.List.Elements.{All-nil, All-cons}
@@ -11,29 +11,29 @@ use Rattle.ilk_model.specs.Event.{next}
 use Rattle.ilk_model.specs.Hazard.{hazard}
 use Rattle.ilk_model.specs.Run.{run}
 use Rattle.ilk_model.specs.declared.event.Event.{Event}
-use Rattle.ilk_replay.specs.Writable.{IsAbout}
+use Rattle.ilk_replay.specs.Writable.{HasSubjectOf}
 use Rattle.ilk_replay.proofs.Enabled.{enabled-about, run-about}
-use Rattle.ilk_queries.specs.Asked.{leaves_at}
+use Rattle.ilk_queries.specs.Asked.{leaves_invariant_at}
 use Rattle.ilk_queries.specs.Walk.{states_from}
 use Rattle.ilk_engine.specs.CertificateOf.{IsCertificateOf}
-use Rattle.ilk_engine.specs.Forever.{LastsFor}
-use Rattle.ilk_engine.specs.Right.{IsRightFor}
+use Rattle.ilk_engine.specs.Forever.{HoldsAtAnyLength}
+use Rattle.ilk_engine.specs.Right.{IsRightVerdict}
 use Rattle.ilk_engine.specs.declared.verdict.Verdict.{Verdict}
 use Rattle.ilk_engine.specs.declared.verdict.Verdict.TheVariants.{Safe, Unsafe, Breach, NotInductive, Spent}
 use Rattle.ilk_engine.proofs.Strict.{clean-verdict}
-use Rattle.ilk_answers.specs.Made.{TellsDemo, demo_line, stations_plant}
-use Rattle.ilk_answers.specs.Verdicts.{TellsVerdict, verdict_line, verdict_run, verdict_status}
-use Rattle.ilk_answers.specs.Writable.{HasRuns}
+use Rattle.ilk_answers.specs.Made.{AnswersDemo, demo_line, stations_plant}
+use Rattle.ilk_answers.specs.Verdicts.{AnswersVerdict, verdict_line, verdict_run_text, verdict_status}
+use Rattle.ilk_answers.specs.Writable.{HasWritableRun}
 use Rattle.ilk_answers.specs.declared.reply.Reply.{Reply}
 
-states-about : (p : PlantLists) (s : State) (events : List Event) (states : List State) → states_from p s events ≡ Some states → All (IsAbout p) events
-states-about p s [] states e = All-nil (IsAbout p)
+states-about : (p : PlantLists) (s : State) (events : List Event) (states : List State) → states_from p s events ≡ Some states → All (HasSubjectOf p) events
+states-about p s [] states e = All-nil (HasSubjectOf p)
 states-about p s (event ∷ rest) states e =
     let more = mapped-Some (λ left. s ∷ left) (option_and_then (λ t. states_from p t rest) (next p s event)) states e in
     let led = bind_some (next p s event) (λ t. states_from p t rest) more.0 more.1 in
-    All-cons (IsAbout p) event rest (enabled-about p s led.0 event led.1) (states-about p led.0 rest more.0 led.2)
+    All-cons (HasSubjectOf p) event rest (enabled-about p s led.0 event led.1) (states-about p led.0 rest more.0 led.2)
 
-pub verdict-written : (p : PlantLists) (depth : ℕ) (verdict : Verdict) → IsRightFor p depth verdict ⊎ (verdict ≡ Spent) → HasRuns p verdict
+pub verdict-written : (p : PlantLists) (depth : ℕ) (verdict : Verdict) → IsRightVerdict p depth verdict ⊎ (verdict ≡ Spent) → HasWritableRun p verdict
 verdict-written p depth (Safe k) right = tt
 verdict-written p depth (Unsafe events at) (inl right) =
     let ends = some-and (run p (start p) events) (λ t. is_some (hazard p t)) right.1.2 in
@@ -44,20 +44,19 @@ verdict-written p depth (Breach events family) (inl right) =
     run-about p (start p) ends.0 events ends.1
 verdict-written p depth (Breach events family) (inr spent) = absurd (cc)
 verdict-written p depth (NotInductive first events) (inl right) =
-    let ends = some-and (states_from p first events) (leaves_at p (length events)) right.1.2 in
+    let ends = some-and (states_from p first events) (leaves_invariant_at p (length events)) right.1.2 in
     (right.1.0, states-about p first events ends.0 ends.1)
 verdict-written p depth (NotInductive first events) (inr spent) = absurd (cc)
 verdict-written p depth Spent right = tt
 
--- a reply with the status, the line, the run and the certificate of a verdict tells it
 pub verdict-told :
     {E : Type 0} (p : PlantLists) (depth conflicts : ℕ) (verdict : Verdict) (text wanted : List ℕ)
     (made : Result Reply E) →
-    IsRightFor p depth verdict ⊎ (verdict ≡ Spent) → LastsFor p verdict →
+    IsRightVerdict p depth verdict ⊎ (verdict ≡ Spent) → HoldsAtAnyLength p verdict →
     IsCertificateOf p depth conflicts verdict wanted → text ≡ wanted →
     IfOk made (λ r. r.status ≡ verdict_status verdict) →
-    IfOk made (λ r. r.report ≡ verdict_line p conflicts verdict ++ verdict_run p verdict) →
-    IfOk made (λ r. r.certificate ≡ text) → IfOk made (TellsVerdict p depth conflicts)
+    IfOk made (λ r. r.report ≡ verdict_line p conflicts verdict ++ verdict_run_text p verdict) →
+    IfOk made (λ r. r.certificate ≡ text) → IfOk made (AnswersVerdict p depth conflicts)
 verdict-told p depth conflicts verdict text wanted (Err e) right lasts certified same status report certificate = tt
 verdict-told p depth conflicts verdict text wanted (Ok r) right lasts certified same status report certificate = record {
   verdict = verdict;
@@ -68,18 +67,17 @@ verdict-told p depth conflicts verdict text wanted (Ok r) right lasts certified 
   report = report;
 }
 
--- a reply with the status, the line and the certificate of the verdict on a made plant tells that verdict
 pub demo-told :
     (n depth conflicts : ℕ) (p : PlantLists) (verdict : Verdict) (text wanted : List ℕ) (made : Reply) →
     p ≡ stations_plant n → IsPlant p → column_rules_broken (stations_plant n) ≡ [] → 0 < depth →
-    IsRightFor p depth verdict ⊎ (verdict ≡ Spent) → LastsFor p verdict →
+    IsRightVerdict p depth verdict ⊎ (verdict ≡ Spent) → HoldsAtAnyLength p verdict →
     IsCertificateOf p depth conflicts verdict wanted → text ≡ wanted → made.status ≡ verdict_status verdict →
-    made.certificate ≡ text → made.report ≡ demo_line n conflicts verdict → TellsDemo n depth conflicts made
+    made.certificate ≡ text → made.report ≡ demo_line n conflicts verdict → AnswersDemo n depth conflicts made
 demo-told n depth conflicts p verdict text wanted made is plant kept some right lasts certified same status certificate report = record {
   verdict = verdict;
   safe = clean-verdict p depth verdict plant (ap column_rules_broken is ∙ kept) some right;
-  right = subst (λ q. IsRightFor q depth verdict ⊎ (verdict ≡ Spent)) is right;
-  lasts = subst (λ q. LastsFor q verdict) is lasts;
+  right = subst (λ q. IsRightVerdict q depth verdict ⊎ (verdict ≡ Spent)) is right;
+  lasts = subst (λ q. HoldsAtAnyLength q verdict) is lasts;
   certificate = subst (λ q. IsCertificateOf q depth conflicts verdict made.certificate) is (subst (IsCertificateOf p depth conflicts verdict) (sym (certificate ∙ same)) certified);
   status = status;
   report = report;

@@ -1,10 +1,10 @@
--- What is answered where made stations are asked for, and no configuration is read.
+-- The answer for generated stations, for which no configuration is read.
 use Rattle.std.specs.Prelude.{ℕ, ◌≡◌, ◌⊎◌, ◌++◌, List, [], ◌∷◌, codes, decimal, length}
-use Rattle.ilk_plant.specs.Draft.{numbered}
+use Rattle.ilk_plant.specs.Draft.{plant_from_drafts}
 use Rattle.ilk_plant.specs.Plant.{PlantLists}
 use Rattle.ilk_engine.specs.CertificateOf.{IsCertificateOf}
-use Rattle.ilk_engine.specs.Forever.{LastsFor}
-use Rattle.ilk_engine.specs.Right.{IsRightFor}
+use Rattle.ilk_engine.specs.Forever.{HoldsAtAnyLength}
+use Rattle.ilk_engine.specs.Right.{IsRightVerdict}
 use Rattle.ilk_engine.specs.declared.verdict.Verdict.{Verdict}
 use Rattle.ilk_engine.specs.declared.verdict.Verdict.TheVariants.{Safe, Spent}
 use Rattle.ilk_gen.specs.StationRoutes.{stations_table}
@@ -15,15 +15,14 @@ use Rattle.ilk_answers.specs.Verdicts.{verdict_line, verdict_status}
 use Rattle.ilk_answers.specs.declared.reply.Reply.{Reply}
 use Rattle.ilk_answers.specs.declared.status.Status.TheVariants.{Good}
 
--- the configuration of n stations
+-- The reply with the configuration of n stations.
 abbrev pub make_reply : ℕ → Reply
 make_reply n = reply Good (stations_text n ++ 10 ∷ [])
 
--- its plant
 abbrev pub stations_plant : ℕ → PlantLists
-stations_plant n = numbered (stations_net n) (stations_table n)
+stations_plant n = plant_from_drafts (stations_net n) (stations_table n)
 
--- the line that tells the verdict on the plant of n stations
+-- The line with the verdict on the plant of n stations.
 abbrev pub demo_line : ℕ → ℕ → Verdict → List ℕ
 demo_line n conflicts verdict =
     codes "stations=" ++ (decimal n
@@ -31,13 +30,14 @@ demo_line n conflicts verdict =
     ++ (codes " routes=" ++ (decimal (length (stations_plant n).routes)
     ++ (codes " " ++ verdict_line (stations_plant n) conflicts verdict))))))
 
--- a reply tells the verdict on the plant of n stations: it is safe with k = 1, or all conflicts are spent; the verdict is
--- right, and where it is safe, it is so for runs of any length; and what is written besides is the certificate for that
-pub record TellsDemo (n depth conflicts : ℕ) (made : Reply) : Type 0 where
+-- Holds if a reply has the verdict on the plant of n stations: safe with k = 1, or all conflicts
+-- are spent. The verdict is right, and a safe one holds for runs of any length. The certificate is
+-- the one for it.
+pub record AnswersDemo (n depth conflicts : ℕ) (made : Reply) : Type 0 where
   pub verdict : Verdict
   pub safe : (verdict ≡ Safe 1) ⊎ (verdict ≡ Spent)
-  pub right : IsRightFor (stations_plant n) depth verdict ⊎ (verdict ≡ Spent)
-  pub lasts : LastsFor (stations_plant n) verdict
+  pub right : IsRightVerdict (stations_plant n) depth verdict ⊎ (verdict ≡ Spent)
+  pub lasts : HoldsAtAnyLength (stations_plant n) verdict
   pub certificate : IsCertificateOf (stations_plant n) depth conflicts verdict made.certificate
   pub status : made.status ≡ verdict_status verdict
   pub report : made.report ≡ demo_line n conflicts verdict

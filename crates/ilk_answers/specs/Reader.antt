@@ -1,4 +1,4 @@
--- What a command keeps of what it reads besides the configuration.
+-- The part of the extra input that a command keeps.
 use Rattle.std.specs.Prelude.{◌≡◌, ℕ, Bool, true, false, List, ◌++◌}
 use Rattle.ilk_plant.specs.Plant.{PlantLists}
 use Rattle.ilk_plant_audit.specs.Audited as audit
@@ -7,17 +7,17 @@ use Rattle.ilk_words.specs.declared.command.Command.TheVariants.{Audit}
 use Rattle.ilk_answers.specs.declared.reader.Reader.{Reader}
 use Rattle.ilk_answers.specs.declared.reader.Reader.TheVariants.{Text, Certificate}
 
--- whether a command checks what it reads piece by piece, as a certificate, and keeps no text
+-- Returns whether a command checks its input piece by piece, as a certificate, and keeps no text.
 abbrev pub is_audit : Command → Bool
 is_audit (Audit columns cert) = true
 is_audit _ = false
 
--- the reader of a command over a plant has read these bytes, in one piece or in several
-abbrev pub HasRead : Command → PlantLists → Reader → List ℕ → Type 0
-HasRead command p (Text text) bytes = (is_audit command ≡ false) × (text.items ≡ bytes)
-HasRead command p (Certificate reader) bytes =
-    (is_audit command ≡ true) × (reader.plant.now ≡ p) × audit.HasFed reader bytes
+-- Holds if the reader of a command over a plant has read these bytes, in one piece or more.
+abbrev pub ReaderHasRead : Command → PlantLists → Reader → List ℕ → Type 0
+ReaderHasRead command p (Text text) bytes = (is_audit command ≡ false) × (text.items ≡ bytes)
+ReaderHasRead command p (Certificate reader) bytes =
+    (is_audit command ≡ true) × (reader.plant.now ≡ p) × audit.HasAuditedBytes reader bytes
 
--- between the one and the other the reader was fed these bytes
+-- Holds if the reader was fed these bytes between `before` and `after`.
 abbrev pub WasFed : Reader → Reader → List ℕ → Type 0
-WasFed before after bytes = (command : Command) (p : PlantLists) (read : List ℕ) → HasRead command p before read → HasRead command p after (read ++ bytes)
+WasFed before after bytes = (command : Command) (p : PlantLists) (read : List ℕ) → ReaderHasRead command p before read → ReaderHasRead command p after (read ++ bytes)

@@ -17,7 +17,7 @@ form_name F4 = codes "F4"
 form_name F5 = codes "F5"
 form_name F6 = codes "F6"
 
--- entry i of these places, as `routes[3]`
+-- An entry such as `routes[3]`.
 abbrev pub entry_text : List ℕ → ℕ → List ℕ
 entry_text places i = places ++ (codes "[" ++ (decimal i ++ codes "]"))
 
@@ -27,7 +27,6 @@ place_text Extra = codes "extra"
 place_text (Section i) = entry_text (codes "sections") i
 place_text (Route i) = entry_text (codes "routes") i
 
--- the one or two places of a broken rule
 abbrev pub broken_places : Broken → List ℕ
 broken_places broken = with_second broken.second
   where
@@ -37,10 +36,10 @@ broken_places broken = with_second broken.second
         entry_text (places_word (places_of broken.rule)) broken.first
         ++ (codes " " ++ entry_text (places_word (places_of broken.rule)) second)
 
--- `refused`, the rule, the place and a line feed
-abbrev pub refused_at : List ℕ → List ℕ → List ℕ
-refused_at rule place = codes "refused " ++ (rule ++ (codes " " ++ (place ++ 10 ∷ [])))
+-- `refused`, the rule, the place and a line feed.
+abbrev pub refusal_line_at : List ℕ → List ℕ → List ℕ
+refusal_line_at rule place = codes "refused " ++ (rule ++ (codes " " ++ (place ++ 10 ∷ [])))
 
 abbrev pub refusal_line : Refusal → List ℕ
-refusal_line (FormRefusal fault) = refused_at (form_name fault.rule) (place_text fault.place)
-refusal_line (RuleRefusal broken) = refused_at (rule_word broken.rule) (broken_places broken)
+refusal_line (FormRefusal fault) = refusal_line_at (form_name fault.rule) (place_text fault.place)
+refusal_line (RuleRefusal broken) = refusal_line_at (rule_word broken.rule) (broken_places broken)

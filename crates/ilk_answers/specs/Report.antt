@@ -1,4 +1,4 @@
--- The lines of the reports, and replies that have no more.
+-- The lines of the reports, and replies with nothing else.
 use Rattle.std.specs.Prelude.{ℕ, List, [], ◌∷◌, ◌++◌, codes, decimal, slice_get, unwrap_or}
 use Rattle.ilk_plant.specs.Plant.{PlantLists}
 use Rattle.ilk_model.specs.declared.hazards.HazardAt.{HazardAt}
@@ -8,14 +8,14 @@ use Rattle.ilk_words.specs.declared.command.QueryKind.{QueryKind}
 use Rattle.ilk_answers.specs.declared.reply.Reply.{Reply}
 use Rattle.ilk_answers.specs.declared.status.Status.{Status}
 
--- a reply without a certificate
+-- A reply without a certificate.
 abbrev pub reply : Status → List ℕ → Reply
 reply status report = record { status = status; report = report; certificate = [] }
 
 abbrev pub section_name : PlantLists → ℕ → List ℕ
 section_name p x = unwrap_or (slice_get p.section_names x) []
 
--- a hazard, by its kind and its section
+-- The text of a hazard: its kind and its section.
 abbrev pub hazard_text : PlantLists → HazardAt → List ℕ
 hazard_text p (Two x) = codes "two " ++ section_name p x
 hazard_text p (Wrong x) = codes "wrong " ++ section_name p x
@@ -29,26 +29,24 @@ no_hazard_line = codes "no hazard" ++ 10 ∷ []
 abbrev pub clean_line : List ℕ
 clean_line = codes "clean" ++ 10 ∷ []
 
--- the first bad line of a text, numbered from 1
+-- Lines count from 1.
 abbrev pub rejected_line : ℕ → List ℕ
 rejected_line line = codes "rejected line " ++ decimal line ++ 10 ∷ []
 
--- the first event that is no step of a run, numbered from 1
+-- Events count from 1.
 abbrev pub not_a_run_line : ℕ → List ℕ
 not_a_run_line at = codes "not a run at " ++ decimal at ++ 10 ∷ []
 
--- a run of so many events ends in this hazard
 abbrev pub unsafe_line : PlantLists → ℕ → HazardAt → List ℕ
 unsafe_line p steps at = codes "unsafe steps=" ++ (decimal steps ++ (codes " hazard=" ++ (hazard_text p at ++ 10 ∷ [])))
 
--- a certificate is one for k
 abbrev pub accepted_line : ℕ → List ℕ
 accepted_line k = codes "accepted k=" ++ decimal k ++ 10 ∷ []
 
--- the query of this kind for runs of n events has no run
+-- The query has no run.
 abbrev pub refuted_line : QueryKind → ℕ → List ℕ
 refuted_line kind n = codes "refuted " ++ (query_word kind ++ (codes " " ++ (decimal n ++ 10 ∷ [])))
 
--- the first bad item of a text, numbered from 1
+-- Items count from 1.
 abbrev pub rejected_item_line : ℕ → List ℕ
 rejected_item_line item = codes "rejected item " ++ decimal item ++ 10 ∷ []

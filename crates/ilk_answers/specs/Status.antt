@@ -1,4 +1,4 @@
--- The exit status of each way in which the program ends.
+-- The exit status for each end of the program.
 use Rattle.std.specs.Prelude.{ℕ, Bool, true, false}
 use Rattle.ilk_answers.specs.declared.status.Status.{Status}
 use Rattle.ilk_answers.specs.declared.status.Status.TheVariants.{Good, Unsafe, NotInductive, Breach, Spent, Refused, Rejected, Usage, ReadFault, WriteFault, OutOfMemory}
@@ -16,7 +16,8 @@ code ReadFault = 8
 code WriteFault = 9
 code OutOfMemory = 10
 
--- whether a command answers with this status, once its words were right and no fault or want of memory came
+-- Returns whether a command replies with this status: the arguments were right, no fault came and
+-- memory sufficed.
 abbrev pub is_reply : Status → Bool
 is_reply Usage = false
 is_reply ReadFault = false
@@ -24,12 +25,12 @@ is_reply WriteFault = false
 is_reply OutOfMemory = false
 is_reply _ = true
 
--- whether the status is an answer, and no fault or want of memory
+-- Returns whether the status is an answer: no fault came and memory sufficed.
 abbrev pub is_answer : Status → Bool
 is_answer Usage = true
 is_answer status = is_reply status
 
--- whether the call came to the writing: all was read, and there was a reply to write
-abbrev pub came_to_writing : Status → Bool
-came_to_writing WriteFault = true
-came_to_writing status = is_reply status
+-- Returns whether the call came to writing: all was read, and there was a reply to write.
+abbrev pub reached_writing : Status → Bool
+reached_writing WriteFault = true
+reached_writing status = is_reply status

@@ -1,4 +1,4 @@
--- Only the model of a content needs this file: which bytes are left, wherever they come from.
+-- Used only by the model of a content: the bytes that are left, regardless of origin.
 use Rattle.std.specs.Prelude.{ℕ, List}
 use Rattle.ilk_answers.specs.declared.content.Source.{Source}
 use Rattle.ilk_answers.specs.declared.content.Source.TheVariants.{Bytes, Certificate, Formula}

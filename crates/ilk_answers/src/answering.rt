@@ -1,7 +1,7 @@
 ghost use Rattle.std.specs.Prelude.{◌≡◌, ◌^◌, ◌<◌, ℕ, List, [], None, true, false, IfOk, IsTrue, is_some, length};
-ghost use Rattle.ilk_answers.specs.Answer.{Answers, AnswersAlone};
-ghost use Rattle.ilk_answers.specs.Reader.{HasRead, is_audit};
-ghost use Rattle.ilk_answers.specs.Reply.{IsPlanned};
+ghost use Rattle.ilk_answers.specs.Answer.{Answers, AnswersWithoutConf};
+ghost use Rattle.ilk_answers.specs.Reader.{ReaderHasRead, is_audit};
+ghost use Rattle.ilk_answers.specs.Reply.{FitsPlan};
 ghost use Rattle.ilk_words.specs.Limits.{has_option_limits};
 ghost use Rattle.ilk_words.specs.Plan.{plan_of};
 
@@ -9,7 +9,7 @@ use crate::audit::audit_reply;
 use crate::drive::drive_reply;
 use crate::export::export_reply;
 use crate::made::{demo_reply, make_reply};
-use crate::replay::run_reply;
+use crate::replay::replay_reply;
 use crate::rup::rup_reply;
 use crate::table::table_reply;
 use crate::verify::verify_reply;
@@ -18,8 +18,8 @@ use ilk_plant::Plant;
 use ilk_words::Command;
 use std::alloc::{AllocError, Global};
 
-// The reply of a command that doesn't check a certificate to a plant, and to the text that it reads
-// besides, if it reads any.
+// Returns the reply to a plant and to the text of the extra input, if any, for a command other than
+// `audit`.
 fn text_reply(
     alloc: Global,
     command: &Command,
@@ -30,19 +30,19 @@ fn text_reply(
     requires over { is_some (plan_of command.now).stages ≡ true }
     requires text { is_audit command.now ≡ false }
     ensures reply { IfOk result (Answers command.now plant.now text.now) }
-    ensures planned { IfOk result (IsPlanned (plan_of command.now)) }
+    ensures planned { IfOk result (FitsPlan (plan_of command.now)) }
 {
     match command {
         Command::Check { .. } => {
             let line = String::from_str(alloc, "clean\n")?;
-            Ok(Reply::of(alloc, Status::Good, line))
+            Ok(Reply::with_report(alloc, Status::Good, line))
         }
         Command::Verify {
             depth,
             conflicts,
             ..
         } => verify_reply(alloc, plant, *depth, *conflicts),
-        Command::Replay { .. } => run_reply(alloc, plant, text),
+        Command::Replay { .. } => replay_reply(alloc, plant, text),
         Command::Table { .. } => table_reply(alloc, plant),
         Command::Export { query, number, .. } => export_reply(alloc, plant, *query, *number),
         Command::Rup { query, number, .. } => rup_reply(alloc, plant, *query, *number, text),
@@ -51,20 +51,19 @@ fn text_reply(
     }
 }
 
-/// The reply of a command to a plant, where it reads nothing besides the configuration. The only error
-/// is want of memory.
+/// Returns the reply to a plant of a command without extra input.
 #[tactic(auto, using(crate::proofs::Readers::reads_no_certificate))]
 pub fn answer_plant(alloc: Global, command: &Command, plant: &Plant) -> Result<Reply, AllocError>
     requires options { IsTrue (has_option_limits command.now) }
     requires over { is_some (plan_of command.now).stages ≡ true }
     requires no_more { (plan_of command.now).extra ≡ None }
     ensures reply { IfOk result (Answers command.now plant.now []) }
-    ensures planned { IfOk result (IsPlanned (plan_of command.now)) }
+    ensures planned { IfOk result (FitsPlan (plan_of command.now)) }
 {
     text_reply(alloc, command, plant, &[])
 }
 
-/// The reply of a command to a plant, and to what its reader was fed. The only error is want of memory.
+/// Returns the reply to a plant and to the bytes that `reader` was fed.
 pub fn answer(
     alloc: Global,
     command: &Command,
@@ -73,11 +72,11 @@ pub fn answer(
 ) -> Result<Reply, AllocError>
     requires options { IsTrue (has_option_limits command.now) }
     requires over { is_some (plan_of command.now).stages ≡ true }
-    requires read { (bytes : List ℕ) × HasRead command.now plant.now reader bytes }
+    requires read { (bytes : List ℕ) × ReaderHasRead command.now plant.now reader bytes }
     ensures reply { IfOk result
-        (λ made. (bytes : List ℕ) → HasRead command.now plant.now reader.entry bytes →
+        (λ made. (bytes : List ℕ) → ReaderHasRead command.now plant.now reader.entry bytes →
         length bytes < 2 ^ 40 → Answers command.now plant.now bytes made) }
-    ensures planned { IfOk result (IsPlanned (plan_of command.now)) }
+    ensures planned { IfOk result (FitsPlan (plan_of command.now)) }
 {
     match reader {
         Reader::Text(text) => text_reply(alloc, command, plant, text.as_slice()),
@@ -85,12 +84,12 @@ pub fn answer(
     }
 }
 
-/// The reply of a command that reads no configuration. The only error is want of memory.
+/// Returns the reply of a command that reads no configuration.
 pub fn answer_alone(alloc: Global, command: &Command) -> Result<Reply, AllocError>
     requires options { IsTrue (has_option_limits command.now) }
     requires alone { (plan_of command.now).stages ≡ None }
-    ensures reply { IfOk result (AnswersAlone command.now) }
-    ensures planned { IfOk result (IsPlanned (plan_of command.now)) }
+    ensures reply { IfOk result (AnswersWithoutConf command.now) }
+    ensures planned { IfOk result (FitsPlan (plan_of command.now)) }
 {
     match command {
         Command::Make { stations } => make_reply(alloc, *stations),

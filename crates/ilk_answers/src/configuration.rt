@@ -1,6 +1,6 @@
 ghost use Rattle.std.specs.Prelude.{◌≡◌, ◌≤◌, IfOk, OnOk, length};
 ghost use Rattle.ilk_answers.specs.Answer.{plant_of};
-ghost use Rattle.ilk_answers.specs.Strict.{IsPlantIfFree};
+ghost use Rattle.ilk_answers.specs.Strict.{GivesPlantIfFree};
 ghost use Rattle.ilk_words.specs.declared.lengths.TheConstants.{MAX_CONFIGURATION};
 
 use crate::Refusals;
@@ -11,8 +11,8 @@ use ilk_table_read::read_drafts;
 use ilk_words::Stages;
 use std::alloc::{AllocError, Global};
 
-/// The plant of a configuration of these bytes, which are no more than there may be, or all that it
-/// is refused with by these stages of rules. The only error is want of memory.
+/// Returns the plant of a configuration, or all the refusals of these stages. `conf` has at most
+/// `MAX_CONFIGURATION` bytes.
 pub fn plant_of(
     alloc: Global,
     stages: Stages,
@@ -20,11 +20,11 @@ pub fn plant_of(
 ) -> Result<Result<Plant, Refusals>, AllocError>
     requires { length conf.now ≤ MAX_CONFIGURATION }
     ensures found { IfOk result (λ found. found ≡ plant_of stages conf.now) }
-    ensures plant { OnOk result (IsPlantIfFree conf.now) }
+    ensures plant { OnOk result (GivesPlantIfFree conf.now) }
 {
     match read_drafts(alloc, conf) {
         Ok((net, table)) => check_drafts(alloc, stages, &net, &table),
-        Err(FormError::Fault(fault)) => Ok(Err(Refusals::of_form(alloc, fault))),
+        Err(FormError::Fault(fault)) => Ok(Err(Refusals::from_form_fault(alloc, fault))),
         Err(FormError::OutOfMemory) => Err(AllocError),
     }
 }

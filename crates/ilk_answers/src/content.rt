@@ -2,24 +2,24 @@ ghost use Rattle.std.specs.Prelude.{◌≡◌, [], drop, length, min, take};
 
 use ilk_dimacs::FormulaText;
 use ilk_engine::CertificateText;
-use ilk_lines::Untaken;
+use ilk_lines::RemainingBytes;
 use std::alloc::Global;
 use std::marker::Model;
 
-// Where the bytes of a content come from.
+// The origin of a content's bytes.
 #[derive(Drop)]
 enum Source {
-    // They are held.
-    Bytes(Untaken),
-    // They are made as they are taken, of the logs of a certificate.
+    // Bytes in memory.
+    Bytes(RemainingBytes),
+    // Made as they are taken, from the logs of a certificate.
     Certificate(CertificateText),
-    // And these of the clauses of a formula.
+    // Made as they are taken, from the clauses of a formula.
     Formula(FormulaText),
 }
 
-/// What is to be written to a sink: seen as the bytes that are still to be taken from it.
+/// The bytes still to be written to a sink.
 ///
-/// They are taken in pieces, and taking them wants no memory, so a content needn't be held as bytes.
+/// They are taken in pieces, without allocating memory, so a content needn't be held as bytes.
 #[derive(Drop)]
 pub struct Content {
     source: Source,
@@ -36,24 +36,24 @@ impl Model for Content {
 }
 
 impl Content {
-    /// No bytes.
-    pub fn none(alloc: Global) -> Content
+    /// Creates an empty content.
+    pub fn empty(alloc: Global) -> Content
         ensures { result ≡ [] }
     {
-        Content::of(Vec::new(alloc))
+        Content::from_bytes(Vec::new(alloc))
     }
 
-    /// These bytes.
-    pub fn of(bytes: Vec<u8>) -> Content
+    /// Creates a content of `bytes`.
+    pub fn from_bytes(bytes: Vec<u8>) -> Content
         ensures { result ≡ bytes.items }
     {
         Content {
-            source: Source::Bytes(Untaken::of(bytes)),
+            source: Source::Bytes(RemainingBytes::from_bytes(bytes)),
         }
     }
 
-    /// The text of a certificate.
-    pub fn of_certificate(text: CertificateText) -> Content
+    /// Creates a content from the text of a certificate.
+    pub fn from_certificate(text: CertificateText) -> Content
         ensures { result ≡ text }
     {
         Content {
@@ -61,8 +61,8 @@ impl Content {
         }
     }
 
-    /// The text of a formula.
-    pub fn of_formula(text: FormulaText) -> Content
+    /// Creates a content from the text of a formula.
+    pub fn from_formula(text: FormulaText) -> Content
         ensures { result ≡ text }
     {
         Content {
@@ -70,8 +70,8 @@ impl Content {
         }
     }
 
-    /// Takes the next bytes into the front of the buffer, as many as there are and the buffer has
-    /// places for, and answers how many.
+    /// Moves the next bytes into the front of `into`, as many as there are and as fit. Returns how
+    /// many.
     pub fn take(&mut self, into: &mut [u8]) -> usize
         ensures count { result ≡ min (length into.old) (length self.old) }
         ensures bytes { take result into.new ≡ take result self.old }

@@ -1,17 +1,16 @@
 ghost use Rattle.std.specs.Prelude.{◌≡◌, List, [], IfOk, IsTrue};
 ghost use Rattle.ilk_drive.specs.Drive.{IsDriveOf};
 ghost use Rattle.ilk_model.specs.declared.event.Event.{Event};
-ghost use Rattle.ilk_answers.specs.Drives.{TellsDrive, driven_reply, rest_status};
+ghost use Rattle.ilk_answers.specs.Drives.{AnswersDrive, driven_reply, rest_status};
 ghost use Rattle.ilk_answers.specs.Status.{is_reply};
 
 use crate::report::{rejected_line, rest_line};
-use crate::run_text::text_from_start;
+use crate::run_text::run_text_from_start;
 use crate::{Reply, Status};
 use ilk_drive::{Driven, Rest, Scene, drive, drives_are_read_again, read_scene};
 use ilk_plant::Plant;
 use std::alloc::{AllocError, Global};
 
-// The status of a drive that rests so.
 fn rest_status(rest: Rest) -> Status
     ensures { result ≡ rest_status rest }
 {
@@ -22,7 +21,6 @@ fn rest_status(rest: Rest) -> Status
     }
 }
 
-// The reply to a drive of some commands.
 fn driven_reply(alloc: Global, plant: &Plant, driven: Driven) -> Result<Reply, AllocError>
     requires { (scene : List Event) × IsDriveOf plant.now scene driven }
     ensures reply { IfOk result (λ made. made ≡ driven_reply plant.now driven) }
@@ -32,21 +30,21 @@ fn driven_reply(alloc: Global, plant: &Plant, driven: Driven) -> Result<Reply, A
     drives_are_read_again(plant);
     let Driven { rest, events } = driven;
     let mut report = rest_line(alloc, plant, rest, events.len())?.into_bytes();
-    let run = text_from_start(alloc, plant, events)?;
+    let run = run_text_from_start(alloc, plant, events)?;
     report.extend_from_slice(run.as_slice())?;
-    Ok(Reply::of_bytes(alloc, rest_status(rest), report))
+    Ok(Reply::with_report_bytes(alloc, rest_status(rest), report))
 }
 
-/// The reply to the text of a scenario. The only error is want of memory.
+/// Returns the reply to the text of a scenario.
 pub fn drive_reply(alloc: Global, plant: &Plant, text: &[u8]) -> Result<Reply, AllocError>
-    ensures reply { IfOk result (TellsDrive plant.now text.now) }
+    ensures reply { IfOk result (AnswersDrive plant.now text.now) }
     ensures planned { IfOk result
         (λ made. IsTrue (is_reply made.status) × (made.certificate ≡ [])) }
 {
     match read_scene(alloc, plant, text)? {
         Scene::Bad { line } => {
             let line = rejected_line(alloc, line)?;
-            Ok(Reply::of(alloc, Status::Rejected, line))
+            Ok(Reply::with_report(alloc, Status::Rejected, line))
         }
         Scene::Scene(commands) => {
             let driven = drive(alloc, plant, &commands)?;

@@ -1,6 +1,6 @@
 ghost use Rattle.std.specs.Prelude.{◌≡◌, IfOk, IsTrue};
 ghost use Rattle.ilk_unroll.specs.Goal.{wanted_valid};
-ghost use Rattle.ilk_answers.specs.Verdicts.{TellsFormula, wanted_query};
+ghost use Rattle.ilk_answers.specs.Verdicts.{AnswersFormula, wanted_query};
 
 use crate::{Content, Reply, Status};
 use ilk_dimacs::FormulaText;
@@ -10,7 +10,7 @@ use ilk_unroll::Wanted;
 use ilk_words::QueryKind;
 use std::alloc::{AllocError, Global};
 
-/// The query of this kind for runs of so many events.
+/// Returns the query of this kind for runs of `number` events.
 pub fn wanted_query(kind: QueryKind, number: u32) -> Wanted
     ensures { result ≡ wanted_query kind number }
 {
@@ -21,9 +21,8 @@ pub fn wanted_query(kind: QueryKind, number: u32) -> Wanted
     }
 }
 
-/// The reply that has the formula of a query over a plant, in the DIMACS CNF format. The query is for
-/// runs of at most 16 events, and of at least one where it is a step query. The only error is want of
-/// memory.
+/// Returns the reply with the formula of a query in the DIMACS CNF format. `number` is at most 16,
+/// and at least 1 for a step query.
 pub fn export_reply(
     alloc: Global,
     plant: &Plant,
@@ -31,12 +30,12 @@ pub fn export_reply(
     number: u32,
 ) -> Result<Reply, AllocError>
     requires { IsTrue (wanted_valid (wanted_query kind number)) }
-    ensures { IfOk result (TellsFormula plant.now (wanted_query kind number)) }
+    ensures { IfOk result (AnswersFormula plant.now (wanted_query kind number)) }
 {
     let cnf = formula(alloc, plant, wanted_query(kind, number))?;
     Ok(Reply {
         status: Status::Good,
-        report: Content::of_formula(FormulaText::of(alloc, cnf)?),
-        certificate: Content::none(alloc),
+        report: Content::from_formula(FormulaText::from_cnf(alloc, cnf)?),
+        certificate: Content::empty(alloc),
     })
 }

@@ -1,18 +1,18 @@
-//! Answers as values: what the program replies to a configuration and to what it reads besides, apart
-//! from reading and writing. So what is answered is said of bytes, and nothing here can fail but for
-//! want of memory; `ilk_top` reads, writes and counts faults.
+//! Answers as values: the reply to a configuration and to the extra input, which is what a command
+//! reads besides. A call here fails only if memory runs out; `ilk_top` reads, writes and counts
+//! faults.
 //!
-//! A configuration becomes a plant, or all that it is refused with (`plant_of`, over `checks`).
-//! All that a configuration is refused with is a value (`refusals`), and `refuse` is a command's reply to
-//! it (`refused_reply`). To a plant `answer_plant` is the reply of a command that reads nothing else: the
-//! verdict with its run or its certificate (`verify`), the routes of the network (`table`), the formula of
-//! a query (`export`). `answer` is that of one which does, and says something of what it read: of a
-//! certificate (`audit`), a run (`replay`), another solver's refutation (`rup`), a scenario (`drive`).
-//! `answer_alone` is the reply of a command that reads no configuration (`made`). What a command reads
-//! besides is fed to its reader in pieces (`reader`), and what a reply has to be written is taken from it
-//! in pieces (`content`). The lines of reports are those of `report` and `refusal_text`.
-//! `specs/Answer.antt` says which replies are answers; `specs/Verdicts.antt`, `Audits`, `Refutations`,
-//! `Drives`, `Tables` and `Made` say it of single commands.
+//! `plant_of` turns a configuration into a plant, or into all its refusals (`checks`, `refusals`).
+//! `refuse` is the reply to refusals.
+//!
+//! `answer_plant` is the reply of a command without extra input: the verdict (`verify`), the table
+//! of routes (`table`) or a formula (`export`). `answer` is the reply to a certificate (`audit`), a
+//! run (`replay`), another solver's refutation (`rup`) or a scenario (`drive`). `answer_alone` is
+//! the reply of a command that reads no configuration (`made`).
+//!
+//! The extra input is fed in pieces (`reader`), and a reply is taken in pieces (`content`).
+//! `specs/Answer.antt` defines which replies are answers; `specs/Verdicts.antt`, `Audits`,
+//! `Refutations`, `IsDriveFrom`, `Tables` and `Made` define it for single commands.
 #![tactic(auto)]
 
 mod answering;

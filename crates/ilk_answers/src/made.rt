@@ -1,18 +1,17 @@
 ghost use Rattle.std.specs.Prelude.{◌≡◌, ◌<◌, ◌≤◌, [], IfOk, IsTrue, string_bytes};
 ghost use Rattle.ilk_gen.specs.declared.making.TheConstants.{MAX_STATIONS};
-ghost use Rattle.ilk_answers.specs.Made.{TellsDemo, demo_line, make_reply, stations_plant};
+ghost use Rattle.ilk_answers.specs.Made.{AnswersDemo, demo_line, make_reply, stations_plant};
 ghost use Rattle.ilk_answers.specs.Status.{is_reply};
 
 use crate::report::verdict_line;
 use crate::verify::verdict_status;
 use crate::{Content, Reply, Status};
-use ilk_engine::{Found, Verdict, certify, decide};
+use ilk_engine::{Found, Verdict, certificate_in_pieces, decide};
 use ilk_gen::{stations, stations_break_no_rule, stations_plant};
 use ilk_plant::Plant;
 use std::alloc::{AllocError, Global};
 
-/// The reply that has the configuration of `n` stations, from 1 to 16. The only error is want of
-/// memory.
+/// Returns the reply with the configuration of `n` generated stations, from 1 to 16.
 pub fn make_reply(alloc: Global, n: u32) -> Result<Reply, AllocError>
     requires some { 1 ≤ n }
     requires few { n ≤ MAX_STATIONS }
@@ -22,10 +21,9 @@ pub fn make_reply(alloc: Global, n: u32) -> Result<Reply, AllocError>
 {
     let mut text = stations(alloc, n)?;
     text.push(b'\n')?;
-    Ok(Reply::of_bytes(alloc, Status::Good, text))
+    Ok(Reply::with_report_bytes(alloc, Status::Good, text))
 }
 
-// The line that tells the verdict on the plant of `n` stations.
 fn demo_line(
     alloc: Global,
     plant: &Plant,
@@ -43,7 +41,6 @@ fn demo_line(
     format!(in alloc; "stations={n} sections={sections} routes={routes} {line}")
 }
 
-// The reply that tells the verdict on the plant of `n` stations.
 fn verdict_reply(
     alloc: Global,
     plant: &Plant,
@@ -56,30 +53,30 @@ fn verdict_reply(
     requires some_depth { 0 < depth }
     requires depth { depth ≤ 16 }
     requires plant { plant.now ≡ stations_plant n }
-    ensures { IfOk result (TellsDemo n depth conflicts) }
+    ensures { IfOk result (AnswersDemo n depth conflicts) }
 {
     plant.is_sound();
     stations_break_no_rule(n);
     let found = decide(alloc, plant, depth, conflicts)?;
     let Found { verdict, asked } = found;
-    let text = certify(alloc, &verdict, asked)?;
+    let text = certificate_in_pieces(alloc, &verdict, asked)?;
     let line = demo_line(alloc, plant, n, conflicts, &verdict)?;
     Ok(Reply {
         status: verdict_status(&verdict),
-        report: Content::of(line.into_bytes()),
-        certificate: Content::of_certificate(text),
+        report: Content::from_bytes(line.into_bytes()),
+        certificate: Content::from_certificate(text),
     })
 }
 
-/// The reply that tells the verdict on the plant of `n` stations, from 1 to 16, by runs of at most
-/// `depth` events, from 1 to 16, and searches that take at most so many conflicts. The only error is
-/// want of memory.
+/// Returns the reply with the verdict on the plant of `n` generated stations, from 1 to 16. The
+/// runs have at most `depth` events, from 1 to 16, and the searches take at most `conflicts`
+/// conflicts.
 pub fn demo_reply(alloc: Global, n: u32, depth: u32, conflicts: u64) -> Result<Reply, AllocError>
     requires some { 1 ≤ n }
     requires few { n ≤ MAX_STATIONS }
     requires some_depth { 0 < depth }
     requires depth { depth ≤ 16 }
-    ensures { IfOk result (TellsDemo n depth conflicts) }
+    ensures { IfOk result (AnswersDemo n depth conflicts) }
 {
     let plant = stations_plant(alloc, n)?;
     verdict_reply(alloc, &plant, n, depth, conflicts)

@@ -1,24 +1,24 @@
 ghost use Rattle.std.specs.Prelude.{[], IfOk, OnOk};
-ghost use Rattle.ilk_answers.specs.Reader.{HasRead, WasFed};
+ghost use Rattle.ilk_answers.specs.Reader.{ReaderHasRead, WasFed};
 
 use ilk_plant::Plant;
 use ilk_plant_audit::CertAudit;
 use ilk_words::Command;
 use std::alloc::{AllocError, Global};
 
-/// What a command keeps of what it reads besides the configuration, which comes to it in pieces.
+/// The part of the extra input that a command keeps; the input comes in pieces.
 #[derive(Drop)]
 pub enum Reader<'a> {
     /// The whole text.
     Text(Vec<u8>),
-    /// Of a certificate, what its audit keeps.
+    /// The state of an audit of a certificate.
     Certificate(CertAudit<'a>),
 }
 
 impl<'a> Reader<'a> {
-    /// The reader of a command over a plant, which was fed nothing yet.
+    /// Creates the reader of a command over a plant, which was fed nothing yet.
     pub fn new(alloc: Global, command: &Command, plant: &'a Plant) -> Result<Reader<'a>, AllocError>
-        ensures { IfOk result (λ reader. HasRead command.now plant.now reader []) }
+        ensures { IfOk result (λ reader. ReaderHasRead command.now plant.now reader []) }
     {
         match command {
             Command::Audit { .. } => Ok(Reader::Certificate(CertAudit::new(alloc, plant)?)),
@@ -26,9 +26,9 @@ impl<'a> Reader<'a> {
         }
     }
 
-    /// Feeds the next piece to it. Where memory runs out the reader is of no more use.
+    /// Feeds the next piece. If memory runs out, the reader is of no further use.
     ///
-    /// All is read, whatever comes: that a line of a certificate is bad is told at its end alone.
+    /// The whole input is read: a bad line of a certificate is reported only at its end.
     #[tactic(auto, using(crate::proofs::Readers::audit_fed))]
     pub fn feed(&mut self, piece: &[u8]) -> Result<(), AllocError>
         ensures { OnOk result (WasFed self.old self.new piece.now) }

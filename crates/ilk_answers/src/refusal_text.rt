@@ -1,14 +1,13 @@
 //! The line that a refusal prints, and its parts.
 
 ghost use Rattle.std.specs.Prelude.{◌≡◌, ◌++◌, IfOk, codes, string_bytes};
-ghost use Rattle.ilk_answers.specs.Refusal.{form_name, place_text, broken_places, entry_text, refusal_line, refused_at};
+ghost use Rattle.ilk_answers.specs.Refusal.{form_name, place_text, broken_places, entry_text, refusal_line, refusal_line_at};
 
 use crate::Refusal;
 use ilk_net_read::{Form, Place};
 use ilk_plant::{Broken, Worded};
 use std::alloc::{AllocError, Global};
 
-// The name of a rule of the form.
 fn form_name(form: Form) -> &'static str
     ensures { result.now ≡ form_name form }
 {
@@ -22,7 +21,6 @@ fn form_name(form: Form) -> &'static str
     }
 }
 
-// The text of a place of the form.
 fn place_text(alloc: Global, place: Place) -> Result<String, AllocError>
     ensures { IfOk result (λ text. string_bytes text ≡ place_text place) }
 {
@@ -34,14 +32,14 @@ fn place_text(alloc: Global, place: Place) -> Result<String, AllocError>
     }
 }
 
-/// One entry of these places, as `routes[3]`.
+/// Returns the text of entry `i` of these places, such as `routes[3]`.
 pub fn entry_text(alloc: Global, places: &str, i: u32) -> Result<String, AllocError>
     ensures { IfOk result (λ text. string_bytes text ≡ entry_text places.now i) }
 {
     format!(in alloc; "{places}[{i}]")
 }
 
-// The text of the one or two places of a broken rule.
+// Returns the text of the one or two places of a broken rule.
 fn broken_text(alloc: Global, broken: Broken) -> Result<String, AllocError>
     ensures { IfOk result (λ text. string_bytes text ≡ broken_places broken) }
 {
@@ -56,21 +54,20 @@ fn broken_text(alloc: Global, broken: Broken) -> Result<String, AllocError>
     }
 }
 
-// Two texts with a space between them.
 fn joined(alloc: Global, first: &str, second: &str) -> Result<String, AllocError>
     ensures { IfOk result (λ text. string_bytes text ≡ first.now ++ (codes " " ++ second.now)) }
 {
     format!(in alloc; "{first} {second}")
 }
 
-/// The line that refuses by a rule of this name, and names the place at which it is broken.
-pub fn refused_at(alloc: Global, rule: &str, place: &str) -> Result<String, AllocError>
-    ensures { IfOk result (λ line. string_bytes line ≡ refused_at rule.now place.now) }
+/// Returns the line of a refusal by `rule`, broken at `place`.
+pub fn refusal_line_at(alloc: Global, rule: &str, place: &str) -> Result<String, AllocError>
+    ensures { IfOk result (λ line. string_bytes line ≡ refusal_line_at rule.now place.now) }
 {
     format!(in alloc; "refused {rule} {place}\n")
 }
 
-/// The line that a refusal prints: its rule, and where it is broken.
+/// Returns the line that a refusal prints: its rule and its place.
 pub fn refusal_line(alloc: Global, refusal: Refusal) -> Result<String, AllocError>
     ensures { IfOk result (λ line. string_bytes line ≡ refusal_line refusal) }
 {
@@ -78,5 +75,5 @@ pub fn refusal_line(alloc: Global, refusal: Refusal) -> Result<String, AllocErro
         Refusal::Form(fault) => (form_name(fault.rule), place_text(alloc, fault.place)?),
         Refusal::Rule(broken) => (broken.rule.word(), broken_text(alloc, broken)?),
     };
-    refused_at(alloc, rule, place.as_str())
+    refusal_line_at(alloc, rule, place.as_str())
 }

@@ -1,23 +1,23 @@
-//! Why a configuration is refused, as values.
+//! The reasons why a configuration is refused, as values.
 
 ghost use Rattle.std.specs.Prelude.{◌≡◌};
-ghost use Rattle.ilk_answers.specs.Answer.{form_refused, refusals_of};
-ghost use Rattle.ilk_net_read.specs.Fault.{broken};
+ghost use Rattle.ilk_answers.specs.Answer.{form_refusals, refusals_of};
+ghost use Rattle.ilk_net_read.specs.Fault.{form_fault};
 
 use ilk_net_read::{Form, FormFault, Place};
 use ilk_plant::{Broken, Row};
 use std::alloc::Global;
 
-/// Why a configuration is refused.
+/// One reason why a configuration is refused.
 #[derive(Clone, Copy, PartialEq, Eq, Debug)]
 pub enum Refusal {
-    /// A rule of the form is broken.
+    /// A form rule is broken.
     Form(FormFault),
-    /// A rule of the network or of the table of routes is broken.
+    /// A rule of the network or of the table is broken.
     Rule(Broken),
 }
 
-/// All that a configuration is refused with: the first fault of its form, or all broken rules of
+/// All reasons why a configuration is refused: the first fault of its form, or all broken rules of
 /// the first stage that has any.
 #[derive(Drop)]
 pub struct Refusals {
@@ -27,9 +27,9 @@ pub struct Refusals {
 }
 
 impl Refusals {
-    /// A fault of the form, which is the only refusal.
-    pub fn of_form(alloc: Global, fault: FormFault) -> Refusals
-        ensures { result ≡ form_refused fault }
+    /// Returns a fault of the form as the only refusal.
+    pub fn from_form_fault(alloc: Global, fault: FormFault) -> Refusals
+        ensures { result ≡ form_refusals fault }
     {
         Refusals {
             first: Refusal::Form(fault),
@@ -37,11 +37,11 @@ impl Refusals {
         }
     }
 
-    /// That a configuration has more bytes than there may be.
+    /// Returns the refusal of a configuration with too many bytes.
     pub fn too_long(alloc: Global) -> Refusals
-        ensures { result ≡ form_refused (broken Form.F1 Place.Document) }
+        ensures { result ≡ form_refusals (form_fault Form.F1 Place.Document) }
     {
-        Refusals::of_form(
+        Refusals::from_form_fault(
             alloc,
             FormFault {
                 rule: Form::F1,
@@ -50,8 +50,8 @@ impl Refusals {
         )
     }
 
-    /// These broken rules, where there are any.
-    pub fn of_rules(found: Row<Broken>) -> Option<Refusals>
+    /// Returns these broken rules as refusals, or `None` if there are none.
+    pub fn from_broken_rules(found: Row<Broken>) -> Option<Refusals>
         ensures { result ≡ refusals_of found }
     {
         let mut rest = found;

@@ -3,7 +3,7 @@
 ghost use Rattle.std.specs.Prelude.{◌≡◌, ◌++◌, IfOk, string_bytes};
 ghost use Rattle.ilk_answers.specs.Answer.{broken_lines, refused_by};
 ghost use Rattle.ilk_answers.specs.Refusal.{refusal_line};
-ghost use Rattle.ilk_answers.specs.Reply.{IsPlanned};
+ghost use Rattle.ilk_answers.specs.Reply.{FitsPlan};
 ghost use Rattle.ilk_words.specs.Plan.{plan_of};
 
 use crate::refusal_text::refusal_line;
@@ -11,7 +11,6 @@ use crate::{Refusal, Refusals, Reply, Status};
 use ilk_words::Command;
 use std::alloc::{AllocError, Global};
 
-// A line for each of the refusals.
 fn refusal_lines(alloc: Global, refusals: &Refusals) -> Result<String, AllocError>
     ensures { IfOk result
         (λ lines. string_bytes lines
@@ -25,16 +24,16 @@ fn refusal_lines(alloc: Global, refusals: &Refusals) -> Result<String, AllocErro
     Ok(lines)
 }
 
-/// The reply of a command to a configuration that is refused: check lists all that it is refused
-/// with, every other command names the first.
+/// Returns the reply of a command to a refused configuration: `check` lists all refusals, every
+/// other command the first.
 pub fn refuse(alloc: Global, command: &Command, refusals: &Refusals) -> Result<Reply, AllocError>
     ensures reply { IfOk result (λ made. made ≡ refused_by command.now refusals.now) }
-    ensures planned { IfOk result (IsPlanned (plan_of command.now)) }
+    ensures planned { IfOk result (FitsPlan (plan_of command.now)) }
 {
     match command {
         Command::Check { .. } => {
             let lines = refusal_lines(alloc, refusals)?;
-            Ok(Reply::of(alloc, Status::Refused, lines))
+            Ok(Reply::with_report(alloc, Status::Refused, lines))
         }
         _ => Reply::refused(alloc, refusals.first),
     }

@@ -2,54 +2,54 @@ ghost use Rattle.std.specs.Prelude.{◌≡◌, IfOk, string_bytes};
 ghost use Rattle.ilk_answers.specs.Answer.{refused};
 ghost use Rattle.ilk_answers.specs.Report.{reply};
 ghost use Rattle.ilk_answers.specs.declared.refusals.Refusal.TheVariants as refusal;
-ghost use Rattle.ilk_net_read.specs.Fault.{broken};
+ghost use Rattle.ilk_net_read.specs.Fault.{form_fault};
 
 use crate::refusal_text::refusal_line;
 use crate::{Content, Refusal, Status};
 use ilk_net_read::{Form, FormFault, Place};
 use std::alloc::{AllocError, Global};
 
-/// What is answered: the status, which is that of no fault, the report that is printed, and the
-/// certificate that is written.
+/// The reply of a command: a status that is not a fault, the report to print, and the certificate
+/// to write.
 #[derive(Drop)]
 pub struct Reply {
     pub status: Status,
     pub report: Content,
-    /// Empty where there is none.
+    /// Empty if there is none.
     pub certificate: Content,
 }
 
 impl Reply {
-    /// The reply of this status and this report, without a certificate.
-    pub fn of(alloc: Global, status: Status, report: String) -> Reply
+    /// Creates a reply without a certificate.
+    pub fn with_report(alloc: Global, status: Status, report: String) -> Reply
         ensures { result ≡ reply status (string_bytes report) }
     {
-        Reply::of_bytes(alloc, status, report.into_bytes())
+        Reply::with_report_bytes(alloc, status, report.into_bytes())
     }
 
-    /// The reply of this status, with these bytes as its report, without a certificate.
-    pub fn of_bytes(alloc: Global, status: Status, report: Vec<u8>) -> Reply
+    /// Creates a reply without a certificate whose report is these bytes.
+    pub fn with_report_bytes(alloc: Global, status: Status, report: Vec<u8>) -> Reply
         ensures { result ≡ reply status report.items }
     {
         Reply {
             status,
-            report: Content::of(report),
-            certificate: Content::none(alloc),
+            report: Content::from_bytes(report),
+            certificate: Content::empty(alloc),
         }
     }
 
-    /// The reply that refuses a configuration.
+    /// Returns the reply that refuses a configuration.
     pub fn refused(alloc: Global, refusal: Refusal) -> Result<Reply, AllocError>
         ensures { IfOk result (λ made. made ≡ refused refusal) }
     {
         let line = refusal_line(alloc, refusal)?;
-        Ok(Reply::of(alloc, Status::Refused, line))
+        Ok(Reply::with_report(alloc, Status::Refused, line))
     }
 
-    /// The reply that refuses what is read besides the configuration, since it has more bytes than
-    /// there may be.
+    /// Returns the reply that refuses an extra input with too many bytes.
     pub fn too_long(alloc: Global) -> Result<Reply, AllocError>
-        ensures { IfOk result (λ made. made ≡ refused (refusal.Form (broken Form.F1 Place.Extra))) }
+        ensures { IfOk result (λ made. made
+            ≡ refused (refusal.Form (form_fault Form.F1 Place.Extra))) }
     {
         Reply::refused(
             alloc,

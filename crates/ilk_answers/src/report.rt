@@ -11,7 +11,7 @@ use ilk_plant::{Plant, Worded};
 use ilk_words::QueryKind;
 use std::alloc::{AllocError, Global};
 
-// The name of section `x`; empty where there is no such section.
+// Returns the name of section `x`; empty if there is no such section.
 fn section_name(plant: &Plant, x: u32) -> &str
     ensures { result.now ≡ section_name plant.now x }
 {
@@ -23,7 +23,6 @@ fn section_name(plant: &Plant, x: u32) -> &str
     }
 }
 
-// A hazard, by its kind and its section.
 fn hazard_text(alloc: Global, plant: &Plant, hazard: HazardAt) -> Result<String, AllocError>
     ensures { IfOk result (λ text. string_bytes text ≡ hazard_text plant.now hazard) }
 {
@@ -39,7 +38,7 @@ fn hazard_text(alloc: Global, plant: &Plant, hazard: HazardAt) -> Result<String,
     }
 }
 
-/// The line that names a hazard.
+/// Returns the line that names a hazard.
 pub fn hazard_line(alloc: Global, plant: &Plant, hazard: HazardAt) -> Result<String, AllocError>
     ensures { IfOk result (λ line. string_bytes line ≡ hazard_line plant.now hazard) }
 {
@@ -47,7 +46,6 @@ pub fn hazard_line(alloc: Global, plant: &Plant, hazard: HazardAt) -> Result<Str
     format!(in alloc; "hazard {text}\n")
 }
 
-// The line that tells an unsafe verdict, by a run of so many events to this hazard.
 fn unsafe_line(
     alloc: Global,
     plant: &Plant,
@@ -60,7 +58,7 @@ fn unsafe_line(
     format!(in alloc; "unsafe steps={steps} hazard={text}\n")
 }
 
-/// The line that tells a verdict, where so many conflicts were given to the searches.
+/// Returns the line of a verdict, if the searches were allowed `conflicts` conflicts.
 pub fn verdict_line(
     alloc: Global,
     plant: &Plant,
@@ -85,28 +83,28 @@ pub fn verdict_line(
     }
 }
 
-/// The line that names the first bad line of a text.
+/// Returns the line that names the first bad line of a text.
 pub fn rejected_line(alloc: Global, line: u64) -> Result<String, AllocError>
     ensures { IfOk result (λ text. string_bytes text ≡ rejected_line line) }
 {
     format!(in alloc; "rejected line {line}\n")
 }
 
-/// The line that names the first event that is no step of a run.
+/// Returns the line that names the first event that is not a step of a run.
 pub fn not_a_run_line(alloc: Global, at: u64) -> Result<String, AllocError>
     ensures { IfOk result (λ text. string_bytes text ≡ not_a_run_line at) }
 {
     format!(in alloc; "not a run at {at}\n")
 }
 
-/// The line that says that a certificate is one for k.
+/// Returns the line that accepts a certificate for `k`.
 pub fn accepted_line(alloc: Global, k: u32) -> Result<String, AllocError>
     ensures { IfOk result (λ text. string_bytes text ≡ accepted_line k) }
 {
     format!(in alloc; "accepted k={k}\n")
 }
 
-/// The line that says that the query of this kind for runs of so many events has no run.
+/// Returns the line that says that this query has no run.
 pub fn refuted_line(alloc: Global, kind: QueryKind, number: u32) -> Result<String, AllocError>
     ensures { IfOk result (λ text. string_bytes text ≡ refuted_line kind number) }
 {
@@ -114,14 +112,13 @@ pub fn refuted_line(alloc: Global, kind: QueryKind, number: u32) -> Result<Strin
     format!(in alloc; "refuted {query} {number}\n")
 }
 
-/// The line that names the first bad item of a text.
+/// Returns the line that names the first bad item of a text.
 pub fn rejected_item_line(alloc: Global, item: u64) -> Result<String, AllocError>
     ensures { IfOk result (λ text. string_bytes text ≡ rejected_item_line item) }
 {
     format!(in alloc; "rejected item {item}\n")
 }
 
-// How a drive rests, in words.
 fn rest_text(alloc: Global, plant: &Plant, rest: Rest) -> Result<String, AllocError>
     ensures { IfOk result (λ text. string_bytes text ≡ rest_text plant.now rest) }
 {
@@ -135,7 +132,7 @@ fn rest_text(alloc: Global, plant: &Plant, rest: Rest) -> Result<String, AllocEr
     }
 }
 
-/// The line that says how a drive rests, and after how many events.
+/// Returns the line with the end of a drive and its number of events.
 pub fn rest_line(alloc: Global, plant: &Plant, rest: Rest, steps: u64) -> Result<String, AllocError>
     ensures { IfOk result (λ line. string_bytes line ≡ rest_line plant.now rest steps) }
 {

@@ -1,7 +1,7 @@
 ghost use Rattle.std.specs.Prelude.{◌≡◌, [], Option, Some, None, IfOk, IsTrue};
 ghost use Rattle.ilk_unroll.specs.Goal.{wanted_valid};
-ghost use Rattle.ilk_answers.specs.Judged.{IsJudgedFor};
-ghost use Rattle.ilk_answers.specs.Refutations.{TellsRefutation};
+ghost use Rattle.ilk_answers.specs.Judged.{IsRupReplyFor};
+ghost use Rattle.ilk_answers.specs.Refutations.{AnswersRefutation};
 ghost use Rattle.ilk_answers.specs.Status.{is_reply};
 ghost use Rattle.ilk_answers.specs.Verdicts.{wanted_query};
 
@@ -15,7 +15,8 @@ use ilk_rup::{Rup, check_rup};
 use ilk_words::QueryKind;
 use std::alloc::{AllocError, Global};
 
-// The first bad item of a text that is to refute the formula of a query; none where it does.
+// Returns the first bad item of a text that is to refute the formula of a query, or `None` if it
+// does.
 fn first_bad_item(
     alloc: Global,
     plant: &Plant,
@@ -24,7 +25,7 @@ fn first_bad_item(
     text: &[u8],
 ) -> Result<Option<u64>, AllocError>
     requires { IsTrue (wanted_valid (wanted_query kind number)) }
-    ensures { IfOk result (IsJudgedFor plant.now kind number text.now) }
+    ensures { IfOk result (IsRupReplyFor plant.now kind number text.now) }
 {
     refutations_refute();
     let cnf = formula(alloc, plant, wanted_query(kind, number))?;
@@ -34,9 +35,8 @@ fn first_bad_item(
     }
 }
 
-/// The reply to the text of another solver that is to refute the formula of a query. The query is for
-/// runs of at most 16 events, and of at least one where it is a step query. The only error is want of
-/// memory.
+/// Returns the reply to another solver's text that is to refute the formula of a query. `number` is
+/// at most 16, and at least 1 for a step query.
 pub fn rup_reply(
     alloc: Global,
     plant: &Plant,
@@ -45,18 +45,18 @@ pub fn rup_reply(
     text: &[u8],
 ) -> Result<Reply, AllocError>
     requires { IsTrue (wanted_valid (wanted_query kind number)) }
-    ensures reply { IfOk result (TellsRefutation plant.now kind number text.now) }
+    ensures reply { IfOk result (AnswersRefutation plant.now kind number text.now) }
     ensures planned { IfOk result
         (λ made. IsTrue (is_reply made.status) × (made.certificate ≡ [])) }
 {
     match first_bad_item(alloc, plant, kind, number, text)? {
         None => {
             let line = refuted_line(alloc, kind, number)?;
-            Ok(Reply::of(alloc, Status::Good, line))
+            Ok(Reply::with_report(alloc, Status::Good, line))
         }
         Some(item) => {
             let line = rejected_item_line(alloc, item)?;
-            Ok(Reply::of(alloc, Status::Rejected, line))
+            Ok(Reply::with_report(alloc, Status::Rejected, line))
         }
     }
 }

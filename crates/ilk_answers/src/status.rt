@@ -1,7 +1,7 @@
 ghost use Rattle.std.specs.Prelude.{◌≡◌};
 ghost use Rattle.ilk_answers.specs.Status.{code};
 
-/// How a call of the program ends.
+/// The end of a call of the program.
 #[derive(Clone, Copy, PartialEq, Eq, Debug)]
 pub enum Status {
     Good,
@@ -18,7 +18,7 @@ pub enum Status {
 }
 
 impl Status {
-    /// The exit status of the process, 0 to 10 in the order of the variants.
+    /// Returns the exit status of the process, 0 to 10 in the order of the variants.
     pub fn code(self) -> u8
         ensures { result ≡ code self }
     {

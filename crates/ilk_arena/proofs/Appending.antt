@@ -1,25 +1,25 @@
--- More words at the end of an arena leave what stands before, and a chain takes up what is put at its head.
+-- Appending words leaves the earlier words unchanged, and a chain accepts a new head.
 use Rattle.std.proofs.Common.{◌≡◌, ◌≢◌, ℕ, ◌+◌, ◌<◌, ◌≤◌, ◌⊎◌, inl, inr, List, [], ◌∷◌, ◌++◌, length, get_or, set, drop, refl, sym, ◌∙◌, subst, arith, length-append}
 use Rattle.std.proofs.lemmas.List.{get_or-set_same, get_or-set_other, get_or_append_left, get_or-append-add, drop-append-le, take-append-le}
 use Rattle.std.proofs.Math.Seq.{drop-append-add}
 use Rattle.std.proofs.Math.ListN.{length-set}
 use Rattle.std.proofs.lemmas.Bool.Decides.{eqb_tells}
 use Rattle.std.proofs.lemmas.Grind.{common_steps}
-use Rattle.ilk_arena.specs.Words.{slot, next_reference, Path, Each, Stands, Watches, left, right, Distinct, Chains, Headers, upd}
-use Rattle.ilk_arena.specs.Linked.{places_at, chain_at, Linked}
+use Rattle.ilk_arena.specs.Words.{link_index, next_reference, IsChainPath, AllMembers, IsMemberOf, Watches, left, right, Distinct, AreChains, AreHeadersApart, with_chain_replaced}
+use Rattle.ilk_arena.specs.Linked.{places_at, chain_at, HasWatchChains}
 use Rattle.ilk_arena.proofs.Paths.{frame}
-use Rattle.ilk_arena.proofs.HeaderWrites.{slot-in}
+use Rattle.ilk_arena.proofs.HeaderWrites.{link_index-in}
 use Rattle.ilk_arena.proofs.ChainMoves.{each-map, by-pick}
 use Rattle.ilk_arena.proofs.LinkedChains.{headers-of}
 
-slot-append : (ws xs : List ℕ) (l c : ℕ) → c + 7 ≤ length ws → slot (ws ++ xs) l c ≡ slot ws l c
-unfolding slot
-slot-append ws xs l c h = (let e = get_or_append_left ws xs 0 (c + 1) (omega arith) in rw e refl)
+link_index-append : (ws xs : List ℕ) (l c : ℕ) → c + 7 ≤ length ws → link_index (ws ++ xs) l c ≡ link_index ws l c
+unfolding link_index
+link_index-append ws xs l c h = (let e = get_or_append_left ws xs 0 (c + 1) (omega arith) in rw e refl)
 
 next-append : (ws xs : List ℕ) (l c : ℕ) → c + 7 ≤ length ws → next_reference (ws ++ xs) l c ≡ next_reference ws l c
 next-append ws xs l c h =
-    let e = slot-append ws xs l c h in
-    let f = get_or_append_left ws xs 0 (slot ws l c) (grind (arith, slot-in ws l c)) in
+    let e = link_index-append ws xs l c h in
+    let f = get_or_append_left ws xs 0 (link_index ws l c) (grind (arith, link_index-in ws l c)) in
     rw e f
 
 watch-append : (ws xs : List ℕ) (c l : ℕ) → c + 7 ≤ length ws → Watches ws c l → Watches (ws ++ xs) c l
@@ -30,41 +30,38 @@ pub watch-shrink : (ws xs : List ℕ) (c l : ℕ) → c + 7 ≤ length ws → Wa
 watch-shrink ws xs c l h (left p) = left (sym (get_or_append_left ws xs 0 (c + 1) (omega arith)) ∙ p)
 watch-shrink ws xs c l h (right p) = right (sym (get_or_append_left ws xs 0 (c + 3) (omega arith)) ∙ p)
 
--- a longer block and more clauses leave the chains
-pub grown : (ws xs hs : List ℕ) (R S : ℕ → Type 0) (cs : ℕ → List ℕ) → Headers ws R → ((c : ℕ) → R c → S c) → Chains ws hs R cs → Chains (ws ++ xs) hs S cs
+pub grown : (ws xs hs : List ℕ) (R S : ℕ → Type 0) (cs : ℕ → List ℕ) → AreHeadersApart ws R → ((c : ℕ) → R c → S c) → AreChains ws hs R cs → AreChains (ws ++ xs) hs S cs
 grown ws xs hs R S cs hd f k = record {
   path = λ l h. frame ws (ws ++ xs) l (get_or hs l 0) (cs l) (each-map (λ c. R c × Watches ws c l) (λ c. next_reference (ws ++ xs) l c ≡ next_reference ws l c) (cs l) (λ c r. next-append ws xs l c (hd.room c r.0).1) (k.held l h)) (k.path l h);
   held = λ l h. each-map (λ c. R c × Watches ws c l) (λ c. S c × Watches (ws ++ xs) c l) (cs l) (λ c r. (f c r.0, watch-append ws xs c l (hd.room c r.0).1 r.1)) (k.held l h);
   once = k.once;
 }
 
--- c, whose link leads to the old head, becomes the head
 pub push-head : (ws hs : List ℕ) (R : ℕ → Type 0) (cs : ℕ → List ℕ) (t c : ℕ) → t < length hs → R c → 0 < c →
-    Watches ws c t → next_reference ws t c ≡ get_or hs t 0 → Each (λ d. d ≢ c) (cs t) → Chains ws hs R cs →
-    Chains ws (set hs t c) R (upd cs t (c ∷ cs t))
+    Watches ws c t → next_reference ws t c ≡ get_or hs t 0 → AllMembers (λ d. d ≢ c) (cs t) → AreChains ws hs R cs →
+    AreChains ws (set hs t c) R (with_chain_replaced cs t (c ∷ cs t))
 push-head ws hs R cs t c h rc pos w e gone k =
     let n : length (set hs t c) ≡ length hs = simp length-set in
     let at : get_or (set hs t c) t 0 ≡ c = get_or-set_same hs t c 0 h in
-    let P : ℕ → Type 0 = λ j. Path ws t j (cs t) in
+    let P : ℕ → Type 0 = λ j. IsChainPath ws t j (cs t) in
     record {
-      path = λ l i. by-pick cs t (c ∷ cs t) (length hs) (λ l ys. Path ws l (get_or (set hs t c) l 0) ys) (at, pos, subst P (sym e) (k.path t h)) (λ l m j. rw (get_or-set_other hs t l c 0 m) (k.path l j)) l (omega (arith, n));
-      held = λ l i. by-pick cs t (c ∷ cs t) (length hs) (λ l ys. Each (λ d. R d × Watches ws d l) ys) ((rc, w), k.held t h) (λ l m j. k.held l j) l (omega (arith, n));
+      path = λ l i. by-pick cs t (c ∷ cs t) (length hs) (λ l ys. IsChainPath ws l (get_or (set hs t c) l 0) ys) (at, pos, subst P (sym e) (k.path t h)) (λ l m j. rw (get_or-set_other hs t l c 0 m) (k.path l j)) l (omega (arith, n));
+      held = λ l i. by-pick cs t (c ∷ cs t) (length hs) (λ l ys. AllMembers (λ d. R d × Watches ws d l) ys) ((rc, w), k.held t h) (λ l m j. k.held l j) l (omega (arith, n));
       once = λ l i. by-pick cs t (c ∷ cs t) (length hs) (λ l ys. Distinct ys) (gone, k.once t h) (λ l m j. k.once l j) l (omega (arith, n));
     }
 
-pub stands-push : (refs : List ℕ) (c d : ℕ) → Stands (refs ++ (c ∷ [])) d → Stands refs d ⊎ (c ≡ d)
+pub stands-push : (refs : List ℕ) (c d : ℕ) → IsMemberOf (refs ++ (c ∷ [])) d → IsMemberOf refs d ⊎ (c ≡ d)
 stands-push [] c d s = elim s [ inl e ↦ inr e | inr r ↦ absurd r ]
 stands-push (x ∷ xs) c d s = elim s [ inl e ↦ inl (inl e) | inr r ↦ elim (stands-push xs c d r) [ inl q ↦ inl (inr q) | inr q ↦ inr q ] ]
 
-pub stands-more : (refs : List ℕ) (c d : ℕ) → Stands refs d → Stands (refs ++ (c ∷ [])) d
+pub stands-more : (refs : List ℕ) (c d : ℕ) → IsMemberOf refs d → IsMemberOf (refs ++ (c ∷ [])) d
 stands-more [] c d s = absurd s
 stands-more (x ∷ xs) c d s = elim s [ inl e ↦ inl e | inr r ↦ inr (stands-more xs c d r) ]
 
-pub stands-last : (refs : List ℕ) (c : ℕ) → Stands (refs ++ (c ∷ [])) c
+pub stands-last : (refs : List ℕ) (c : ℕ) → IsMemberOf (refs ++ (c ∷ [])) c
 stands-last [] c = inl refl
 stands-last (x ∷ xs) c = inr (stands-last xs c)
 
--- the words of a clause: its header, and the places of its literals
 abbrev pub block : ℕ → ℕ → ℕ → ℕ → ℕ → ℕ → List ℕ → List ℕ
 block n a x b y k ps = n ∷ (a ∷ (x ∷ (b ∷ (y ∷ (k ∷ (0 ∷ ps))))))
 
@@ -85,10 +82,10 @@ places-new ws ps a x b y k =
     let e : get_or (ws ++ blk) n 0 ≡ length ps = (let P : ℕ → Type 0 = λ j. get_or (ws ++ blk) j 0 ≡ length ps in subst P z (get_or-append-add ws blk 0 0)) in
     rw (e, drop-append-add ws blk 7) (grind (arith, common_steps))
 
-pub stands-one : (cs : ℕ → List ℕ) (t c d l : ℕ) → Stands (cs l) d ⊎ ((c ≡ d) × (l ≡ t)) → Stands (upd cs t (c ∷ cs t) l) d
+pub stands-one : (cs : ℕ → List ℕ) (t c d l : ℕ) → IsMemberOf (cs l) d ⊎ ((c ≡ d) × (l ≡ t)) → IsMemberOf (with_chain_replaced cs t (c ∷ cs t) l) d
 stands-one cs t c d l s =
     elim (eqb_tells l t) [
-      | inl e ↦ rw e.0 (elim s [ inl q ↦ inr (let P : ℕ → Type 0 = λ j. Stands (cs j) d in subst P e.1 q) | inr q ↦ inl q.0 ])
+      | inl e ↦ rw e.0 (elim s [ inl q ↦ inr (let P : ℕ → Type 0 = λ j. IsMemberOf (cs j) d in subst P e.1 q) | inr q ↦ inl q.0 ])
       | inr e ↦ rw e.0 (elim s [ inl q ↦ q | inr q ↦ absurd (e.1 q.1) ])
     ]
 
@@ -96,7 +93,6 @@ pub which : (us : List ℕ) (c a b l : ℕ) → get_or us (c + 1) 0 ≡ a → ge
 which us c a b l p q (left e) = inl (sym e ∙ p)
 which us c a b l p q (right e) = inr (sym e ∙ q)
 
--- the words with one more clause at their end
 pub record Appended (ws hs refs ps : List ℕ) (a x b y k : ℕ) : Type 0 where
   pub size : length (ws ++ block (length ps) a x b y k ps) ≡ length ws + 7 + length ps
   pub new_len : get_or (ws ++ block (length ps) a x b y k ps) (length ws) 0 ≡ length ps
@@ -106,15 +102,15 @@ pub record Appended (ws hs refs ps : List ℕ) (a x b y k : ℕ) : Type 0 where
   pub new_right_link : get_or (ws ++ block (length ps) a x b y k ps) (length ws + 4) 0 ≡ y
   pub new_number : get_or (ws ++ block (length ps) a x b y k ps) (length ws + 5) 0 ≡ k
   pub new_cursor : get_or (ws ++ block (length ps) a x b y k ps) (length ws + 6) 0 ≡ 0
-  pub old : (d : ℕ) → Stands refs d → d < length ws
-  pub kept : (d i : ℕ) → Stands refs d → i < 7 → get_or (ws ++ block (length ps) a x b y k ps) (d + i) 0 ≡ get_or ws (d + i) 0
-  pub kept_len : (d : ℕ) → Stands refs d → get_or (ws ++ block (length ps) a x b y k ps) d 0 ≡ get_or ws d 0
-  pub kept_places : (d : ℕ) → Stands refs d → places_at (ws ++ block (length ps) a x b y k ps) d ≡ places_at ws d
-  pub headers : Headers (ws ++ block (length ps) a x b y k ps) (Stands (refs ++ (length ws ∷ [])))
-  pub chains : Chains (ws ++ block (length ps) a x b y k ps) hs (Stands (refs ++ (length ws ∷ []))) (chain_at ws hs)
-  pub absent : (l : ℕ) → l < length hs → Each (λ d. d ≢ length ws) (chain_at ws hs l)
+  pub old : (d : ℕ) → IsMemberOf refs d → d < length ws
+  pub kept : (d i : ℕ) → IsMemberOf refs d → i < 7 → get_or (ws ++ block (length ps) a x b y k ps) (d + i) 0 ≡ get_or ws (d + i) 0
+  pub kept_len : (d : ℕ) → IsMemberOf refs d → get_or (ws ++ block (length ps) a x b y k ps) d 0 ≡ get_or ws d 0
+  pub kept_places : (d : ℕ) → IsMemberOf refs d → places_at (ws ++ block (length ps) a x b y k ps) d ≡ places_at ws d
+  pub headers : AreHeadersApart (ws ++ block (length ps) a x b y k ps) (IsMemberOf (refs ++ (length ws ∷ [])))
+  pub chains : AreChains (ws ++ block (length ps) a x b y k ps) hs (IsMemberOf (refs ++ (length ws ∷ []))) (chain_at ws hs)
+  pub absent : (l : ℕ) → l < length hs → AllMembers (λ d. d ≢ length ws) (chain_at ws hs l)
 
-pub appended : (ws hs refs ps : List ℕ) (a x b y k : ℕ) → Linked ws hs refs → Appended ws hs refs ps a x b y k
+pub appended : (ws hs refs ps : List ℕ) (a x b y k : ℕ) → HasWatchChains ws hs refs → Appended ws hs refs ps a x b y k
 appended ws hs refs ps a x b y k li =
     let c = length ws in
     let blk = block (length ps) a x b y k ps in
@@ -123,8 +119,8 @@ appended ws hs refs ps a x b y k li =
     let size : length us ≡ c + 7 + length ps = length-append ws blk ∙ omega arith in
     let z : c + 0 ≡ c = omega arith in
     let hd = headers-of ws hs refs li in
-    let old : (d : ℕ) → Stands refs d → d < c = λ d s. omega (arith, hd.room d s) in
-    let hd2 : Headers us (Stands all) = record {
+    let old : (d : ℕ) → IsMemberOf refs d → d < c = λ d s. omega (arith, hd.room d s) in
+    let hd2 : AreHeadersApart us (IsMemberOf all) = record {
       room = λ d s. elim (stands-push refs c d s) [
         | inl q ↦ (li.positive d q, omega (arith, size, li.whole d q))
         | inr q ↦ (omega (arith, q, li.started), omega (arith, size, q))
@@ -154,6 +150,6 @@ appended ws hs refs ps a x b y k li =
       kept_len = λ d s. get_or_append_left ws blk 0 d (old d s);
       kept_places = λ d s. places-append ws blk d (li.whole d s);
       headers = hd2;
-      chains = grown ws blk hs (Stands refs) (Stands all) (chain_at ws hs) hd (λ d s. stands-more refs c d s) li.chains;
-      absent = λ l h. each-map (λ d. Stands refs d × Watches ws d l) (λ d. d ≢ c) (chain_at ws hs l) (λ d r e. omega (arith, e, old d r.0)) (li.chains.held l h);
+      chains = grown ws blk hs (IsMemberOf refs) (IsMemberOf all) (chain_at ws hs) hd (λ d s. stands-more refs c d s) li.chains;
+      absent = λ l h. each-map (λ d. IsMemberOf refs d × Watches ws d l) (λ d. d ≢ c) (chain_at ws hs l) (λ d r e. omega (arith, e, old d r.0)) (li.chains.held l h);
     }

@@ -1,13 +1,13 @@
--- What a new cursor leaves, and an arena without clauses.
+-- The effect of a new cursor, and an arena without clauses.
 use Rattle.std.proofs.Common.{◌≡◌, ◌≢◌, ℕ, ◌+◌, ◌-◌, ◌*◌, ◌<◌, ◌≤◌, ◌⊎◌, inl, inr, List, [], ◌∷◌, length, get_or, set, drop, map, replicate, refl, sym, ap, ◌∙◌, subst, arith}
 use Rattle.std.proofs.lemmas.Bool.Decides.{eqb_tells}
 use Rattle.std.proofs.lemmas.Bool.{cases_eq, cases_order}
 use Rattle.std.proofs.lemmas.List.{get_or-set_same, get_or-set_other, drop-set-lt, drop-set-add, take-set-le, get_or-replicate, length-replicate, length-set}
 use Rattle.ilk_cnf.specs.Literal.{vars_differ}
-use Rattle.ilk_arena.specs.Arena.{ArenaLists, set_beside}
+use Rattle.ilk_arena.specs.Arena.{ArenaLists, set_for_reference}
 use Rattle.ilk_arena.specs.declared.place.TheConstants.{WORD_LIMIT}
-use Rattle.ilk_arena.specs.Words.{Path, chain, Each, Stands, Watches, left, right, Distinct, Chains, Headers, next_reference}
-use Rattle.ilk_arena.specs.Linked.{lit_at, places_at, literals_at, cursor_at, chain_at, Blocks, references_in, lists_of, Linked, Laid, HoldsArena}
+use Rattle.ilk_arena.specs.Words.{IsChainPath, chain, AllMembers, IsMemberOf, Watches, left, right, Distinct, AreChains, AreHeadersApart, next_reference}
+use Rattle.ilk_arena.specs.Linked.{lit_at, places_at, literals_at, cursor_at, chain_at, IsGaplessFrom, references_in, lists_of, HasWatchChains, HasClausesInOrder, HoldsArena}
 use Rattle.ilk_arena.proofs.Blocks.{references-are, blocks-same, stands-at}
 use Rattle.ilk_arena.proofs.Unlinking.{each-at}
 use Rattle.ilk_arena.proofs.LinkedChains.{headers-of, chain_at-is, same-chains}
@@ -16,21 +16,20 @@ use Rattle.ilk_arena.proofs.Paths.{frame}
 use Rattle.ilk_arena.proofs.ChainMoves.{each-map}
 use Rattle.ilk_arena.proofs.Updates.{arena-ext, Gives, gives-one, gives-seen, gives-as, map-same}
 
--- the words of another clause, and the other words of this one, stay
-cursor-far : (ws hs refs : List ℕ) (c d j : ℕ) → Linked ws hs refs → Stands refs c → Stands refs d → j < 6 → c + 6 ≢ d + j
+cursor-far : (ws hs refs : List ℕ) (c d j : ℕ) → HasWatchChains ws hs refs → IsMemberOf refs c → IsMemberOf refs d → j < 6 → c + 6 ≢ d + j
 cursor-far ws hs refs c d j k r s h =
     elim (cases_eq c d) [
       | inl e ↦ omega arith
       | inr n ↦ elim ((headers-of ws hs refs k).apart c d r s n) [ inl o ↦ omega arith | inr o ↦ omega arith ]
     ]
 
-cursor-read : (ws hs refs : List ℕ) (c d j v : ℕ) → Linked ws hs refs → Stands refs c → Stands refs d → j < 6 → get_or (set ws (c + 6) v) (d + j) 0 ≡ get_or ws (d + j) 0
+cursor-read : (ws hs refs : List ℕ) (c d j v : ℕ) → HasWatchChains ws hs refs → IsMemberOf refs c → IsMemberOf refs d → j < 6 → get_or (set ws (c + 6) v) (d + j) 0 ≡ get_or ws (d + j) 0
 cursor-read ws hs refs c d j v k r s h = get_or-set_other ws (c + 6) (d + j) v 0 (λ e. cursor-far ws hs refs c d j k r s h (sym e))
 
-cursor-len : (ws hs refs : List ℕ) (c d v : ℕ) → Linked ws hs refs → Stands refs c → Stands refs d → get_or (set ws (c + 6) v) d 0 ≡ get_or ws d 0
+cursor-len : (ws hs refs : List ℕ) (c d v : ℕ) → HasWatchChains ws hs refs → IsMemberOf refs c → IsMemberOf refs d → get_or (set ws (c + 6) v) d 0 ≡ get_or ws d 0
 cursor-len ws hs refs c d v k r s = (let z : d + 0 ≡ d = omega arith in let P : ℕ → Type 0 = λ i. get_or (set ws (c + 6) v) i 0 ≡ get_or ws i 0 in subst P z (cursor-read ws hs refs c d 0 v k r s (omega arith)))
 
-cursor-places : (ws hs refs : List ℕ) (c d v : ℕ) → Linked ws hs refs → Stands refs c → Stands refs d → places_at (set ws (c + 6) v) d ≡ places_at ws d
+cursor-places : (ws hs refs : List ℕ) (c d v : ℕ) → HasWatchChains ws hs refs → IsMemberOf refs c → IsMemberOf refs d → places_at (set ws (c + 6) v) d ≡ places_at ws d
 unfolding places_at
 cursor-places ws hs refs c d v k r s =
     let i = c + 6 in
@@ -55,33 +54,34 @@ watch-back ws vs d l a b (left p) = left (sym a ∙ p)
 watch-back ws vs d l a b (right p) = right (sym b ∙ p)
 
 pub record Turned (ws hs refs : List ℕ) (c v : ℕ) : Type 0 where
-  pub linked : Linked (set ws (c + 6) v) hs refs
+  pub linked : HasWatchChains (set ws (c + 6) v) hs refs
   pub chains : (l : ℕ) → l < length hs → chain_at (set ws (c + 6) v) hs l ≡ chain_at ws hs l
 
-turned : (ws hs refs : List ℕ) (c v : ℕ) → Linked ws hs refs → Stands refs c → Turned ws hs refs c v
+turned : (ws hs refs : List ℕ) (c v : ℕ) → HasWatchChains ws hs refs → IsMemberOf refs c → Turned ws hs refs c v
 turned ws hs refs c v k r =
     let us = set ws (c + 6) v in
     let size : length us ≡ length ws = simp length-set in
-    let far : (d j : ℕ) → Stands refs d → j < 6 → c + 6 ≢ d + j = λ d j s h. cursor-far ws hs refs c d j k r s h in
-    let len : (d : ℕ) → Stands refs d → get_or us d 0 ≡ get_or ws d 0 = λ d s. cursor-len ws hs refs c d v k r s in
-    let w1 : (d : ℕ) → Stands refs d → get_or us (d + 1) 0 ≡ get_or ws (d + 1) 0 = λ d s. cursor-read ws hs refs c d 1 v k r s (omega arith) in
-    let w3 : (d : ℕ) → Stands refs d → get_or us (d + 3) 0 ≡ get_or ws (d + 3) 0 = λ d s. cursor-read ws hs refs c d 3 v k r s (omega arith) in
-    let pl : (d : ℕ) → Stands refs d → places_at us d ≡ places_at ws d = λ d s. cursor-places ws hs refs c d v k r s in
-    let step : (l d : ℕ) → Stands refs d → next_reference us l d ≡ next_reference ws l d = λ l d s. next-far ws l d (c + 6) v (far d 1 s (omega arith)) (far d 2 s (omega arith)) (far d 4 s (omega arith)) in
-    let ch : Chains us hs (Stands refs) (chain_at ws hs) = record {
+    let far : (d j : ℕ) → IsMemberOf refs d → j < 6 → c + 6 ≢ d + j = λ d j s h. cursor-far ws hs refs c d j k r s h in
+    let len : (d : ℕ) → IsMemberOf refs d → get_or us d 0 ≡ get_or ws d 0 = λ d s. cursor-len ws hs refs c d v k r s in
+    let w1 : (d : ℕ) → IsMemberOf refs d → get_or us (d + 1) 0 ≡ get_or ws (d + 1) 0 = λ d s. cursor-read ws hs refs c d 1 v k r s (omega arith) in
+    let w3 : (d : ℕ) → IsMemberOf refs d → get_or us (d + 3) 0 ≡ get_or ws (d + 3) 0 = λ d s. cursor-read ws hs refs c d 3 v k r s (omega arith) in
+    let pl : (d : ℕ) → IsMemberOf refs d → places_at us d ≡ places_at ws d = λ d s. cursor-places ws hs refs c d v k r s in
+    let step : (l d : ℕ) → IsMemberOf refs d → next_reference us l d ≡ next_reference ws l d = λ l d s. next-far ws l d (c + 6) v (far d 1 s (omega arith)) (far d 2 s (omega arith)) (far d 4 s (omega arith)) in
+    let ch : AreChains us hs (IsMemberOf refs) (chain_at ws hs) = record {
       path =
           λ l h. frame ws us l (get_or hs l 0) (chain_at ws hs l)
-          (each-map (λ d. Stands refs d × Watches ws d l)
+          (each-map (λ d. IsMemberOf refs d × Watches ws d l)
           (λ d. next_reference us l d ≡ next_reference ws l d) (chain_at ws hs l)
           (λ d s. step l d s.0) (k.chains.held l h))
           (k.chains.path l h);
-      held = λ l h. each-map (λ d. Stands refs d × Watches ws d l) (λ d. Stands refs d × Watches us d l) (chain_at ws hs l) (λ d s. (s.0, watches-far ws d l (c + 6) v (far d 1 s.0 (omega arith)) (far d 3 s.0 (omega arith)) s.1)) (k.chains.held l h);
+      held = λ l h. each-map (λ d. IsMemberOf refs d × Watches ws d l) (λ d. IsMemberOf refs d × Watches us d l) (chain_at ws hs l) (λ d s. (s.0, watches-far ws d l (c + 6) v (far d 1 s.0 (omega arith)) (far d 3 s.0 (omega arith)) s.1))
+          (k.chains.held l h);
       once = k.chains.once;
     } in
     let hd = headers-of ws hs refs k in
-    let hd2 : Headers us (Stands refs) = record { room = λ d s. (k.positive d s, omega (arith, size, k.whole d s)); apart = hd.apart } in
-    let fam : (l : ℕ) → l < length hs → chain_at us hs l ≡ chain_at ws hs l = λ l h. chain_at-is us hs (Stands refs) (chain_at ws hs) hd2 ch l h in
-    let P : (p : ℕ) → List ℕ → Type 0 = λ p ys. Stands ys p in
+    let hd2 : AreHeadersApart us (IsMemberOf refs) = record { room = λ d s. (k.positive d s, omega (arith, size, k.whole d s)); apart = hd.apart } in
+    let fam : (l : ℕ) → l < length hs → chain_at us hs l ≡ chain_at ws hs l = λ l h. chain_at-is us hs (IsMemberOf refs) (chain_at ws hs) hd2 ch l h in
+    let P : (p : ℕ) → List ℕ → Type 0 = λ p ys. IsMemberOf ys p in
     record {
       chains = fam;
       linked = record {
@@ -97,14 +97,13 @@ turned ws hs refs c v k r =
         right_own = λ d s h. (let lg : 2 ≤ get_or ws d 0 = omega (arith, len d s, h) in rw (pl d s, w3 d s) (k.right_own d s lg));
         left_none = λ d s h. (let sh : get_or ws d 0 < 2 = omega (arith, len d s, h) in omega (arith, w1 d s, k.left_none d s sh));
         right_none = λ d s h. (let sh : get_or ws d 0 < 2 = omega (arith, len d s, h) in omega (arith, w3 d s, k.right_none d s sh));
-        chains = same-chains us hs (Stands refs) (chain_at ws hs) (chain_at us hs) fam ch;
+        chains = same-chains us hs (IsMemberOf refs) (chain_at ws hs) (chain_at us hs) fam ch;
         empty = λ l h. fam l (omega (arith, k.wide)) ∙ k.empty l h;
         standing = λ d l s l2 h w. subst (P d) (sym (fam l h)) (k.standing d l s l2 h (watch-back ws us d l (w1 d s) (w3 d s) w));
       };
     }
 
--- the references rise
-rising : (ws : List ℕ) (k : ℕ) (cs : List ℕ) → Blocks ws k cs → Each (λ d. k ≤ d) cs × Distinct cs
+rising : (ws : List ℕ) (k : ℕ) (cs : List ℕ) → IsGaplessFrom ws k cs → AllMembers (λ d. k ≤ d) cs × Distinct cs
 rising ws k [] b = (tt, tt)
 rising ws k (c ∷ cs) b =
     let r = rising ws (c + 7 + get_or ws c 0) cs b.2 in (
@@ -112,7 +111,7 @@ rising ws k (c ∷ cs) b =
       (each-map (λ d. c + 7 + get_or ws c 0 ≤ d) (λ d. d ≢ c) cs (λ d h. omega arith) r.0, r.1),
     )
 
-cursors-set : (f g : ℕ → ℕ) (refs : List ℕ) (c v : ℕ) → Distinct refs → g c ≡ v → ((d : ℕ) → Stands refs d → d ≢ c → g d ≡ f d) → map g refs ≡ set_beside c refs (map f refs) v
+cursors-set : (f g : ℕ → ℕ) (refs : List ℕ) (c v : ℕ) → Distinct refs → g c ≡ v → ((d : ℕ) → IsMemberOf refs d → d ≢ c → g d ≡ f d) → map g refs ≡ set_for_reference c refs (map f refs) v
 cursors-set f g [] c v d e h = refl
 cursors-set f g (r ∷ rs) c v d e h =
     elim (eqb_tells r c) [
@@ -123,11 +122,11 @@ cursors-set f g (r ∷ rs) c v d e h =
 
 pub record CursorSet (vars spare count : ℕ) (us hs : List ℕ) (a : ArenaLists) (c v : ℕ) : Type 0 where
   pub holds : HoldsArena us hs vars count
-  pub lists : lists_of vars spare us hs (references_in us) ≡ record a { cursors = set_beside c a.references a.cursors v }
+  pub lists : lists_of vars spare us hs (references_in us) ≡ record a { cursors = set_for_reference c a.references a.cursors v }
 
 pub cursor-law : (vars spare count : ℕ) (ws hs : List ℕ) (a : ArenaLists) (c v : ℕ) →
     HoldsArena ws hs vars count → lists_of vars spare ws hs (references_in ws) ≡ a →
-    Stands (references_in ws) c → v ≤ get_or ws c 0 → CursorSet vars spare count (set ws (c + 6) v) hs a c v
+    IsMemberOf (references_in ws) c → v ≤ get_or ws c 0 → CursorSet vars spare count (set ws (c + 6) v) hs a c v
 unfolding lists_of
 cursor-law vars spare count ws hs a c v h e s le =
     let refs = references_in ws in
@@ -137,7 +136,7 @@ cursor-law vars spare count ws hs a c v h e s le =
     let size : length us ≡ length ws = simp length-set in
     let at : get_or us (c + 6) 0 ≡ v = get_or-set_same ws (c + 6) v 0 (omega (arith, k.whole c s)) in
     let away : (d : ℕ) → d ≢ c → get_or us (d + 6) 0 ≡ get_or ws (d + 6) 0 = λ d n. get_or-set_other ws (c + 6) (d + 6) v 0 (omega arith) in
-    let d : Laid us refs = record {
+    let d : HasClausesInOrder us refs = record {
       blocks = blocks-same ws us 1 refs size (λ x q. cursor-len ws hs refs c x v k s q) h.laid.blocks;
       number = λ i x q. cursor-read ws hs refs c x 5 v k s (stands-at refs i x q) (omega arith) ∙ h.laid.number i x q;
       cursor = λ x q. elim (cases_eq x c) [
@@ -147,8 +146,8 @@ cursor-law vars spare count ws hs a c v h e s le =
       apart = λ x q. ap (λ (ps : List ℕ). vars_differ (map lit_at ps)) (cursor-places ws hs refs c x v k s q) ∙ h.laid.apart x q;
     } in
     let re : references_in us ≡ refs = references-are us refs d.blocks in
-    let P : List ℕ → Type 0 = λ rs. Linked us hs rs in
-    let Q : List ℕ → Type 0 = λ rs. Laid us rs in
+    let P : List ℕ → Type 0 = λ rs. HasWatchChains us hs rs in
+    let Q : List ℕ → Type 0 = λ rs. HasClausesInOrder us rs in
     let L = lists_of vars spare ws hs refs in
     let chains : (lists_of vars spare us hs refs).chains ≡ L.chains = gives-one
     (lists_of vars spare us hs refs).chains L.chains (length hs) (chain_at ws hs)
@@ -156,7 +155,7 @@ cursor-law vars spare count ws hs a c v h e s le =
     (gives-seen vars spare us hs refs) t.chains)
     (gives-seen vars spare ws hs refs) in
     let clauses : map (literals_at us) refs ≡ map (literals_at ws) refs = map-same (literals_at us) (literals_at ws) refs (λ x q. ap (λ (ps : List ℕ). map lit_at ps) (cursor-places ws hs refs c x v k s q)) in
-    let cursors : map (cursor_at us) refs ≡ set_beside c refs (map (cursor_at ws) refs) v = cursors-set (cursor_at ws) (cursor_at us) refs c v (rising ws 1 refs h.laid.blocks).1 at (λ x q n. away x n) in
+    let cursors : map (cursor_at us) refs ≡ set_for_reference c refs (map (cursor_at ws) refs) v = cursors-set (cursor_at ws) (cursor_at us) refs c v (rising ws 1 refs h.laid.blocks).1 at (λ x q n. away x n) in
     record {
       holds = record {
         few = h.few;
@@ -168,12 +167,11 @@ cursor-law vars spare count ws hs a c v h e s le =
       };
       lists = ap (λ (rs : List ℕ). lists_of vars spare us hs rs) re
           ∙ arena-ext (lists_of vars spare us hs refs)
-          (record L { cursors = set_beside c L.references L.cursors v }) refl refl refl clauses cursors
+          (record L { cursors = set_for_reference c L.references L.cursors v }) refl refl refl clauses cursors
           chains
-          ∙ ap (λ (y : ArenaLists). record y { cursors = set_beside c y.references y.cursors v }) e;
+          ∙ ap (λ (y : ArenaLists). record y { cursors = set_for_reference c y.references y.cursors v }) e;
     }
 
--- an arena without clauses
 pub empty-holds : (vars : ℕ) → 2 * vars + 2 ≤ WORD_LIMIT → HoldsArena (0 ∷ []) (replicate (2 * vars + 2) 0) vars 0
 empty-holds vars few =
     let ws : List ℕ = 0 ∷ [] in
@@ -200,8 +198,8 @@ empty-holds vars few =
         left_none = λ c s h. absurd s;
         right_none = λ c s h. absurd s;
         chains = record {
-          path = λ l h. (let Q : List ℕ → Type 0 = λ ys. Path ws l (get_or hs l 0) ys in subst Q (sym (none l h)) (head l h));
-          held = λ l h. (let Q : List ℕ → Type 0 = λ ys. Each (λ c. Stands [] c × Watches ws c l) ys in subst Q (sym (none l h)) tt);
+          path = λ l h. (let Q : List ℕ → Type 0 = λ ys. IsChainPath ws l (get_or hs l 0) ys in subst Q (sym (none l h)) (head l h));
+          held = λ l h. (let Q : List ℕ → Type 0 = λ ys. AllMembers (λ c. IsMemberOf [] c × Watches ws c l) ys in subst Q (sym (none l h)) tt);
           once = λ l h. (let Q : List ℕ → Type 0 = λ ys. Distinct ys in subst Q (sym (none l h)) tt);
         };
         empty = λ l h. none l (omega (arith, n));

@@ -4,46 +4,43 @@ use Rattle.std.proofs.lemmas.Bool.Decides.{nat_tests}
 use Rattle.std.proofs.lemmas.Bool.{cases_eq}
 use Rattle.std.proofs.lemmas.Grind.{get_or-set_at}
 use Rattle.std.proofs.Math.ListN.{length-set}
-use Rattle.ilk_arena.specs.Words.{slot, next_reference, watch_moved, Watches, left, right}
+use Rattle.ilk_arena.specs.Words.{link_index, next_reference, watch_moved, Watches, left, right}
 
--- a write outside the header
-pub slot-far : (ws : List ℕ) (l c i v : ℕ) → i ≢ c + 1 → slot (set ws i v) l c ≡ slot ws l c
-unfolding slot
-slot-far ws l c i v n =
+-- Writes to headers, and the words that they leave unchanged.
+pub link_index-far : (ws : List ℕ) (l c i v : ℕ) → i ≢ c + 1 → link_index (set ws i v) l c ≡ link_index ws l c
+unfolding link_index
+link_index-far ws l c i v n =
     let e : get_or (set ws i v) (c + 1) 0 ≡ get_or ws (c + 1) 0 = get_or-set_other ws i (c + 1) v 0 (λ q. n (sym q)) in
     rw e refl
 
-pub slot-in : (ws : List ℕ) (l c : ℕ) → (slot ws l c ≡ c + 2) ⊎ (slot ws l c ≡ c + 4)
-unfolding slot
-slot-in ws l c = grind (arith, nat_tests)
+pub link_index-in : (ws : List ℕ) (l c : ℕ) → (link_index ws l c ≡ c + 2) ⊎ (link_index ws l c ≡ c + 4)
+unfolding link_index
+link_index-in ws l c = grind (arith, nat_tests)
 
 pub next-far : (ws : List ℕ) (l c i v : ℕ) → i ≢ c + 1 → i ≢ c + 2 → i ≢ c + 4 → next_reference (set ws i v) l c ≡ next_reference ws l c
 next-far ws l c i v a b d =
-    let e = slot-far ws l c i v a in
-    let f : get_or (set ws i v) (slot ws l c) 0 ≡ get_or ws (slot ws l c) 0 = get_or-set_other ws i (slot ws l c) v 0 (grind (arith, slot-in ws l c)) in
+    let e = link_index-far ws l c i v a in
+    let f : get_or (set ws i v) (link_index ws l c) 0 ≡ get_or ws (link_index ws l c) 0 = get_or-set_other ws i (link_index ws l c) v 0 (grind (arith, link_index-in ws l c)) in
     rw e f
 
--- the slots of two watches differ
-pub slots-apart : (ws : List ℕ) (c l m : ℕ) → l ≢ m → Watches ws c l → Watches ws c m → slot ws l c ≢ slot ws m c
-unfolding slot
+pub slots-apart : (ws : List ℕ) (c l m : ℕ) → l ≢ m → Watches ws c l → Watches ws c m → link_index ws l c ≢ link_index ws m c
+unfolding link_index
 slots-apart ws c l m n (left p) (left q) = absurd (n (sym p ∙ q))
 slots-apart ws c l m n (right p) (right q) = absurd (n (sym p ∙ q))
 slots-apart ws c l m n (left p) (right q) = grind (arith, nat_tests)
 slots-apart ws c l m n (right p) (left q) = grind (arith, nat_tests)
 
--- a write to the link of one watch leaves that of the other
-pub next-other : (ws : List ℕ) (c l m v : ℕ) → l ≢ m → Watches ws c l → Watches ws c m → next_reference (set ws (slot ws m c) v) l c ≡ next_reference ws l c
+pub next-other : (ws : List ℕ) (c l m v : ℕ) → l ≢ m → Watches ws c l → Watches ws c m → next_reference (set ws (link_index ws m c) v) l c ≡ next_reference ws l c
 next-other ws c l m v n p q =
-    let e : slot (set ws (slot ws m c) v) l c ≡ slot ws l c = slot-far ws l c (slot ws m c) v (grind (arith, slot-in ws m c)) in
-    let f : get_or (set ws (slot ws m c) v) (slot ws l c) 0 ≡ get_or ws (slot ws l c) 0 = get_or-set_other ws (slot ws m c) (slot ws l c) v 0 (slots-apart ws c l m n p q) in
+    let e : link_index (set ws (link_index ws m c) v) l c ≡ link_index ws l c = link_index-far ws l c (link_index ws m c) v (grind (arith, link_index-in ws m c)) in
+    let f : get_or (set ws (link_index ws m c) v) (link_index ws l c) 0 ≡ get_or ws (link_index ws l c) 0 = get_or-set_other ws (link_index ws m c) (link_index ws l c) v 0 (slots-apart ws c l m n p q) in
     rw e f
 
--- the link that was written
-pub next-same : (ws : List ℕ) (c l v : ℕ) → c + 7 ≤ length ws → next_reference (set ws (slot ws l c) v) l c ≡ v
+pub next-same : (ws : List ℕ) (c l v : ℕ) → c + 7 ≤ length ws → next_reference (set ws (link_index ws l c) v) l c ≡ v
 next-same ws c l v h =
-    let e : slot (set ws (slot ws l c) v) l c ≡ slot ws l c = slot-far ws l c (slot ws l c) v (grind (arith, slot-in ws l c)) in
-    let b : slot ws l c < length ws = grind (arith, slot-in ws l c) in
-    rw e (get_or-set_same ws (slot ws l c) v 0 b)
+    let e : link_index (set ws (link_index ws l c) v) l c ≡ link_index ws l c = link_index-far ws l c (link_index ws l c) v (grind (arith, link_index-in ws l c)) in
+    let b : link_index ws l c < length ws = grind (arith, link_index-in ws l c) in
+    rw e (get_or-set_same ws (link_index ws l c) v 0 b)
 
 pub watches-far : (ws : List ℕ) (c l i v : ℕ) → i ≢ c + 1 → i ≢ c + 3 → Watches ws c l → Watches (set ws i v) c l
 watches-far ws c l i v a b (left p) = left (get_or-set_other ws i (c + 1) v 0 (λ q. a (sym q)) ∙ p)
@@ -51,26 +48,25 @@ watches-far ws c l i v a b (right p) = right (get_or-set_other ws i (c + 3) v 0 
 
 pub moved-far : (ws : List ℕ) (f c t v l d : ℕ) → (c + 7 ≤ d) ⊎ (d + 7 ≤ c) → next_reference (watch_moved ws f c t v) l d ≡ next_reference ws l d
 moved-far ws f c t v l d h =
-    let us = set ws (slot ws f c - 1) t in
-    let a = next-far us l d (slot ws f c) v (grind (arith, slot-in ws f c)) (grind (arith, slot-in ws f c)) (grind (arith, slot-in ws f c)) in
-    let b = next-far ws l d (slot ws f c - 1) t (grind (arith, slot-in ws f c)) (grind (arith, slot-in ws f c)) (grind (arith, slot-in ws f c)) in
+    let us = set ws (link_index ws f c - 1) t in
+    let a = next-far us l d (link_index ws f c) v (grind (arith, link_index-in ws f c)) (grind (arith, link_index-in ws f c)) (grind (arith, link_index-in ws f c)) in
+    let b = next-far ws l d (link_index ws f c - 1) t (grind (arith, link_index-in ws f c)) (grind (arith, link_index-in ws f c)) (grind (arith, link_index-in ws f c)) in
     a ∙ b
 
 pub moved-watch-far : (ws : List ℕ) (f c t v l d : ℕ) → (c + 7 ≤ d) ⊎ (d + 7 ≤ c) → Watches ws d l → Watches (watch_moved ws f c t v) d l
 moved-watch-far ws f c t v l d h w =
-    let us = set ws (slot ws f c - 1) t in
-    watches-far us d l (slot ws f c) v (grind (arith, slot-in ws f c)) (grind (arith, slot-in ws f c)) (watches-far ws d l (slot ws f c - 1) t (grind (arith, slot-in ws f c)) (grind (arith, slot-in ws f c)) w)
+    let us = set ws (link_index ws f c - 1) t in
+    watches-far us d l (link_index ws f c) v (grind (arith, link_index-in ws f c)) (grind (arith, link_index-in ws f c)) (watches-far ws d l (link_index ws f c - 1) t (grind (arith, link_index-in ws f c)) (grind (arith, link_index-in ws f c)) w)
 
--- reads of the words of the header after the move
 pub moved-reads-left : (ws : List ℕ) (f c t v : ℕ) → c + 7 ≤ length ws → get_or ws (c + 1) 0 ≡ f →
-    (slot ws f c ≡ c + 2) × (get_or (watch_moved ws f c t v) (c + 1) 0 ≡ t) ×
+    (link_index ws f c ≡ c + 2) × (get_or (watch_moved ws f c t v) (c + 1) 0 ≡ t) ×
     (get_or (watch_moved ws f c t v) (c + 2) 0 ≡ v) ×
     (get_or (watch_moved ws f c t v) (c + 3) 0 ≡ get_or ws (c + 3) 0) ×
     (get_or (watch_moved ws f c t v) (c + 4) 0 ≡ get_or ws (c + 4) 0)
-unfolding slot
+unfolding link_index
 moved-reads-left ws f c t v h p =
-    let s : slot ws f c ≡ c + 2 = grind (arith, nat_tests) in
-    let m : slot ws f c - 1 ≡ c + 1 = omega (arith, s) in
+    let s : link_index ws f c ≡ c + 2 = grind (arith, nat_tests) in
+    let m : link_index ws f c - 1 ≡ c + 1 = omega (arith, s) in
     let u : length (set ws (c + 1) t) ≡ length ws = simp length-set in (
       s,
       rw s (rw (get_or-set_other (set ws (c + 2 - 1) t) (c + 2) (c + 1) v 0 (omega arith)) (grind (arith, get_or-set_at))),
@@ -80,12 +76,12 @@ moved-reads-left ws f c t v h p =
     )
 
 pub moved-reads-right : (ws : List ℕ) (f c t v : ℕ) → c + 7 ≤ length ws → get_or ws (c + 1) 0 ≢ f →
-    (slot ws f c ≡ c + 4) × (get_or (watch_moved ws f c t v) (c + 1) 0 ≡ get_or ws (c + 1) 0) ×
+    (link_index ws f c ≡ c + 4) × (get_or (watch_moved ws f c t v) (c + 1) 0 ≡ get_or ws (c + 1) 0) ×
     (get_or (watch_moved ws f c t v) (c + 2) 0 ≡ get_or ws (c + 2) 0) ×
     (get_or (watch_moved ws f c t v) (c + 3) 0 ≡ t) × (get_or (watch_moved ws f c t v) (c + 4) 0 ≡ v)
-unfolding slot
+unfolding link_index
 moved-reads-right ws f c t v h p =
-    let s : slot ws f c ≡ c + 4 = grind (arith, nat_tests) in (
+    let s : link_index ws f c ≡ c + 4 = grind (arith, nat_tests) in (
       s,
       rw s (get_or-set_other (set ws (c + 4 - 1) t) (c + 4) (c + 1) v 0 (omega arith) ∙ get_or-set_other ws (c + 4 - 1) (c + 1) t 0 (omega arith)),
       rw s (get_or-set_other (set ws (c + 4 - 1) t) (c + 4) (c + 2) v 0 (omega arith) ∙ get_or-set_other ws (c + 4 - 1) (c + 2) t 0 (omega arith)),
@@ -94,7 +90,7 @@ moved-reads-right ws f c t v h p =
     )
 
 pub moved-next : (ws : List ℕ) (f c t v : ℕ) → c + 7 ≤ length ws → get_or ws (c + 1) 0 ≢ t → next_reference (watch_moved ws f c t v) t c ≡ v
-unfolding slot
+unfolding link_index
 moved-next ws f c t v h n =
     elim (cases_eq (get_or ws (c + 1) 0) f) [
       | inl p ↦ (let r = moved-reads-left ws f c t v h p in let e : eqb (get_or (watch_moved ws f c t v) (c + 1) 0) t ≡ true = grind (arith, nat_tests) in rw e r.2)
@@ -102,7 +98,7 @@ moved-next ws f c t v h n =
     ]
 
 pub moved-other : (ws : List ℕ) (f c t v l : ℕ) → c + 7 ≤ length ws → l ≢ f → l ≢ t → Watches ws c f → Watches ws c l → next_reference (watch_moved ws f c t v) l c ≡ next_reference ws l c
-unfolding slot
+unfolding link_index
 moved-other ws f c t v l h n m wf wl =
     elim (cases_eq (get_or ws (c + 1) 0) f) [
       | inl p ↦ (let r = moved-reads-left ws f c t v h p in

@@ -1,49 +1,47 @@
--- The chains that an arena's lists have, from those of its words.
+-- The chains of an arena's lists, derived from those of its words.
 use Rattle.std.proofs.Common.{◌≡◌, ℕ, ◌+◌, ◌*◌, ◌/◌, ◌%◌, ◌<◌, ◌≤◌, ◌⊎◌, inl, inr, true, false, cond, eqb, List, [], ◌∷◌, length, get_or, map, refl, sym, ap, ◌∙◌, subst, arith}
 use Rattle.std.specs.List.{IsDistinct}
 use Rattle.std.proofs.lemmas.Bool.Decides.{eqb_tells}
 use Rattle.std.proofs.lemmas.Bool.{cases_lt, cases_Bool, or_left, or_right}
 use Rattle.std.proofs.lemmas.List.{get_or_past, length-map}
 use Rattle.ilk_cnf.specs.Literal.{Literal, same_lit, has_lit}
-use Rattle.ilk_arena.specs.Arena.{place, chain_of, stands_in, literals_of}
+use Rattle.ilk_arena.specs.Arena.{place, chain_of, is_listed_in, literals_of}
 use Rattle.ilk_arena.specs.Chains.{IsArena, WatchesTwo}
-use Rattle.ilk_arena.specs.Words.{Stands, Watches, left, right}
-use Rattle.ilk_arena.specs.Linked.{lit_at, places_at, chain_at, lists_of, Linked}
+use Rattle.ilk_arena.specs.Words.{IsMemberOf, Watches, left, right}
+use Rattle.ilk_arena.specs.Linked.{lit_at, places_at, chain_at, lists_of, HasWatchChains}
 use Rattle.ilk_arena.proofs.Seen.{stands-from, stands-to, lit-at-place, chain-seen, chains-count, clause-seen, references-seen, places-length}
 use Rattle.ilk_arena.proofs.Unlinking.{each-at}
 use Rattle.ilk_arena.proofs.LinkedChains.{distinct-std}
 use Rattle.ilk_cnf.proofs.SameLiterals.{same-lit}
 
--- places and literals
 pub place-of-lit : (p : ℕ) → place (lit_at p) ≡ p
 place-of-lit p = go (p / 2) (p % 2) (omega arith) (omega arith)
   where
     go : (q r : ℕ) → r < 2 → 2 * q + r ≡ p → cond (eqb r 1) (2 * q + 1) (2 * q) ≡ p
     go q r h e = elim (eqb_tells r 1) [ inl t ↦ rw t.0 (omega (arith, t.1)) | inr t ↦ rw t.0 (omega (arith, t.1)) ]
 
-pub has-lit : (p : ℕ) (ps : List ℕ) → Stands ps p → has_lit (lit_at p) (map lit_at ps) ≡ true
+pub has-lit : (p : ℕ) (ps : List ℕ) → IsMemberOf ps p → has_lit (lit_at p) (map lit_at ps) ≡ true
 has-lit p [] s = absurd s
 has-lit p (q ∷ ps) s = elim s [
   | inl e ↦ or_left _ _ (ap (λ (x : ℕ). same_lit (lit_at p) (lit_at x)) e ∙ same-lit (lit_at p))
   | inr r ↦ or_right _ _ (has-lit p ps r)
 ]
 
--- a clause in a literal's chain
-pub in-chain : (ws hs refs : List ℕ) (p c : ℕ) → Linked ws hs refs → p < length hs → Stands (chain_at ws hs p) c → Stands refs c × Watches ws c p
-in-chain ws hs refs p c k h s = each-at (λ d. Stands refs d × Watches ws d p) (chain_at ws hs p) c s (k.chains.held p h)
+pub in-chain : (ws hs refs : List ℕ) (p c : ℕ) → HasWatchChains ws hs refs → p < length hs → IsMemberOf (chain_at ws hs p) c → IsMemberOf refs c × Watches ws c p
+in-chain ws hs refs p c k h s = each-at (λ d. IsMemberOf refs d × Watches ws d p) (chain_at ws hs p) c s (k.chains.held p h)
 
 pub record InChain (ws hs refs : List ℕ) (l : Literal) (c : ℕ) : Type 0 where
   pub below : place l < length hs
-  pub stands : Stands (chain_at ws hs (place l)) c
-  pub known : Stands refs c
+  pub stands : IsMemberOf (chain_at ws hs (place l)) c
+  pub known : IsMemberOf refs c
   pub watches : Watches ws c (place l)
   pub least : 2 ≤ place l
 
-pub chain-has : (vars spare : ℕ) (ws hs refs : List ℕ) (l : Literal) (c : ℕ) → Linked ws hs refs → stands_in c (chain_of (lists_of vars spare ws hs refs) l) ≡ true → InChain ws hs refs l c
+pub chain-has : (vars spare : ℕ) (ws hs refs : List ℕ) (l : Literal) (c : ℕ) → HasWatchChains ws hs refs → is_listed_in c (chain_of (lists_of vars spare ws hs refs) l) ≡ true → InChain ws hs refs l c
 chain-has vars spare ws hs refs l c k h =
     elim (cases_lt (place l) (length hs)) [
-      | inl b ↦ (let S : List ℕ → Type 0 = λ ys. stands_in c ys ≡ true in
-          let t : stands_in c (chain_at ws hs (place l)) ≡ true = subst S (chain-seen vars spare ws hs refs (place l) b) h in
+      | inl b ↦ (let S : List ℕ → Type 0 = λ ys. is_listed_in c ys ≡ true in
+          let t : is_listed_in c (chain_at ws hs (place l)) ≡ true = subst S (chain-seen vars spare ws hs refs (place l) b) h in
           let s = stands-from c (chain_at ws hs (place l)) t in
           let r = in-chain ws hs refs (place l) c k b s in
           record {
@@ -52,39 +50,39 @@ chain-has vars spare ws hs refs l c k h =
             known = r.0;
             watches = r.1;
             least = elim (cases_lt (place l) 2) [
-              | inl w ↦ absurd (let Q : List ℕ → Type 0 = λ ys. Stands ys c in subst Q (k.empty (place l) w) s)
+              | inl w ↦ absurd (let Q : List ℕ → Type 0 = λ ys. IsMemberOf ys c in subst Q (k.empty (place l) w) s)
               | inr w ↦ w
             ];
           })
       | inr b ↦ absurd (
           let n = chains-count vars spare ws hs refs in
           let none : chain_of (lists_of vars spare ws hs refs) l ≡ [] = get_or_past (lists_of vars spare ws hs refs).chains (place l) [] (omega (arith, n)) in
-          let S : List ℕ → Type 0 = λ ys. stands_in c ys ≡ true in
+          let S : List ℕ → Type 0 = λ ys. is_listed_in c ys ≡ true in
           let t : false ≡ true = subst S none h in
           cc)
     ]
 
-pub chain-gets : (vars spare : ℕ) (ws hs refs : List ℕ) (l : Literal) (c : ℕ) → place l < length hs → Stands (chain_at ws hs (place l)) c → stands_in c (chain_of (lists_of vars spare ws hs refs) l) ≡ true
+pub chain-gets : (vars spare : ℕ) (ws hs refs : List ℕ) (l : Literal) (c : ℕ) → place l < length hs → IsMemberOf (chain_at ws hs (place l)) c → is_listed_in c (chain_of (lists_of vars spare ws hs refs) l) ≡ true
 chain-gets vars spare ws hs refs l c b s =
-    let S : List ℕ → Type 0 = λ ys. stands_in c ys ≡ true in
+    let S : List ℕ → Type 0 = λ ys. is_listed_in c ys ≡ true in
     subst S (sym (chain-seen vars spare ws hs refs (place l) b)) (stands-to c (chain_at ws hs (place l)) s)
 
-pub clause-length : (vars spare : ℕ) (ws hs refs : List ℕ) (c : ℕ) → Linked ws hs refs → Stands refs c → length (literals_of (lists_of vars spare ws hs refs) c) ≡ get_or ws c 0
+pub clause-length : (vars spare : ℕ) (ws hs refs : List ℕ) (c : ℕ) → HasWatchChains ws hs refs → IsMemberOf refs c → length (literals_of (lists_of vars spare ws hs refs) c) ≡ get_or ws c 0
 clause-length vars spare ws hs refs c k s =
     ap (λ (ls : List Literal). length ls) (clause-seen vars spare ws hs refs c s) ∙ length-map (places_at ws c) lit_at ∙ places-length ws c (k.whole c s)
 
--- the literals of the two watches
-pub watch-gets : (vars spare : ℕ) (ws hs refs : List ℕ) (c p : ℕ) (l : Literal) → Linked ws hs refs → Stands refs c → Stands (places_at ws c) p → Watches ws c p → l ≡ lit_at p → stands_in c (chain_of (lists_of vars spare ws hs refs) l) ≡ true
+pub watch-gets : (vars spare : ℕ) (ws hs refs : List ℕ) (c p : ℕ) (l : Literal) → HasWatchChains ws hs refs → IsMemberOf refs c → IsMemberOf (places_at ws c) p → Watches ws c p → l ≡ lit_at p
+    → is_listed_in c (chain_of (lists_of vars spare ws hs refs) l) ≡ true
 watch-gets vars spare ws hs refs c p l k s o w e =
     let q : place l ≡ p = ap place e ∙ place-of-lit p in
     let h : p < length hs = k.small c p s o in
-    let S : ℕ → Type 0 = λ j. Stands (chain_at ws hs j) c in
+    let S : ℕ → Type 0 = λ j. IsMemberOf (chain_at ws hs j) c in
     chain-gets vars spare ws hs refs l c (omega (arith, q)) (subst S (sym q) (k.standing c p s (k.least c p s o) h w))
 
 pub lit-of : (p : ℕ) (l : Literal) → p ≡ place l → l ≡ lit_at p
 lit-of p l e = sym (lit-at-place l) ∙ ap lit_at (sym e)
 
-pub watches-two : (vars spare : ℕ) (ws hs refs : List ℕ) (c : ℕ) → Linked ws hs refs → Stands refs c → 2 ≤ get_or ws c 0 → WatchesTwo (lists_of vars spare ws hs refs) c (lit_at (get_or ws (c + 1) 0)) (lit_at (get_or ws (c + 3) 0))
+pub watches-two : (vars spare : ℕ) (ws hs refs : List ℕ) (c : ℕ) → HasWatchChains ws hs refs → IsMemberOf refs c → 2 ≤ get_or ws c 0 → WatchesTwo (lists_of vars spare ws hs refs) c (lit_at (get_or ws (c + 1) 0)) (lit_at (get_or ws (c + 3) 0))
 watches-two vars spare ws hs refs c k s h =
     let p = get_or ws (c + 1) 0 in
     let q = get_or ws (c + 3) 0 in
@@ -111,15 +109,15 @@ watches-two vars spare ws hs refs c k s h =
     to l (left e) = inl (lit-of (get_or ws (c + 1) 0) l e)
     to l (right e) = inr (lit-of (get_or ws (c + 3) 0) l e)
 
-pub arena-law : (vars spare : ℕ) (ws hs refs : List ℕ) → Linked ws hs refs → IsArena (lists_of vars spare ws hs refs)
+pub arena-law : (vars spare : ℕ) (ws hs refs : List ℕ) → HasWatchChains ws hs refs → IsArena (lists_of vars spare ws hs refs)
 arena-law vars spare ws hs refs k =
     let a = lists_of vars spare ws hs refs in
-    let from : (c : ℕ) → stands_in c a.references ≡ true → Stands refs c = λ c t. (let S : List ℕ → Type 0 = λ ys. stands_in c ys ≡ true in stands-from c refs (subst S (references-seen vars spare ws hs refs) t)) in
+    let from : (c : ℕ) → is_listed_in c a.references ≡ true → IsMemberOf refs c = λ c t. (let S : List ℕ → Type 0 = λ ys. is_listed_in c ys ≡ true in stands-from c refs (subst S (references-seen vars spare ws hs refs) t)) in
     record {
       long = λ c t n. (let s = from c t in
           let m = clause-length vars spare ws hs refs c k s in
           (lit_at (get_or ws (c + 1) 0), lit_at (get_or ws (c + 3) 0), watches-two vars spare ws hs refs c k s (omega (arith, m, n))));
-      short = λ c t n l. elim (cases_Bool (stands_in c (chain_of a l))) [
+      short = λ c t n l. elim (cases_Bool (is_listed_in c (chain_of a l))) [
         | inl b ↦ absurd (let s = from c t in
             let m = clause-length vars spare ws hs refs c k s in
             let i = chain-has vars spare ws hs refs l c k b in
@@ -135,7 +133,7 @@ arena-law vars spare ws hs refs k =
             subst D (sym (get_or_past a.chains (place l) [] (omega (arith, n)))) (distinct-std [] tt))
       ];
       held = λ l c t. (let i = chain-has vars spare ws hs refs l c k t in
-          let S : List ℕ → Type 0 = λ ys. stands_in c ys ≡ true in
+          let S : List ℕ → Type 0 = λ ys. is_listed_in c ys ≡ true in
           subst S (sym (references-seen vars spare ws hs refs)) (stands-to c refs i.known));
     }
   where

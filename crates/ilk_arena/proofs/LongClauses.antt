@@ -1,10 +1,10 @@
--- A clause with two literals or more: what the code reads of it, and what it writes for it.
+-- A clause of two or more literals: reads and writes of the code.
 use Rattle.std.proofs.Common.{◌≡◌, ℕ, ◌+◌, ◌*◌, ◌<◌, ◌≤◌, true, List, length, get_or, set, map, ◌++◌, refl, sym, ap, ◌∙◌, Some, arith}
 use Rattle.std.specs.List.{slice_get}
 use Rattle.std.proofs.lemmas.List.{get_or_read, length-map}
 use Rattle.std.proofs.lemmas.Option.{slice_get_read}
 use Rattle.ilk_cnf.specs.Literal.{Literal, vars_differ}
-use Rattle.ilk_cnf.specs.Formula.{clause_in}
+use Rattle.ilk_cnf.specs.Formula.{is_clause_over}
 use Rattle.ilk_arena.specs.Arena.{ArenaLists, place}
 use Rattle.ilk_arena.specs.declared.place.TheConstants.{WORD_LIMIT}
 use Rattle.ilk_arena.specs.Linked.{references_in, lists_of, HoldsArena}
@@ -12,7 +12,7 @@ use Rattle.ilk_arena.proofs.Appending.{block}
 use Rattle.ilk_arena.proofs.AddedClauses.{Grown, words_long, heads_long, long-law, lit-fits}
 use Rattle.ilk_arena.proofs.Readings.{vars-are, spare-are}
 
--- what is so of literal i, read from a clause over the arena's variables: its place fits a word and has a chain
+-- Facts about literal `i` of a clause: its place fits a word and has a chain.
 pub record LiteralRead (hs : List ℕ) (ls : List Literal) (i : ℕ) (l : Literal) : Type 0 where
   pub stands : slice_get ls i ≡ Some l
   pub fits : 2 * l.var + 1 < WORD_LIMIT
@@ -21,15 +21,14 @@ pub record LiteralRead (hs : List ℕ) (ls : List Literal) (i : ℕ) (l : Litera
 pub literal-read :
     {vars count : ℕ} {ws hs : List ℕ} {x : ArenaLists} (old : ℕ) (ls : List Literal) (i : ℕ) (l : Literal) →
     HoldsArena ws hs vars count → lists_of vars old ws hs (references_in ws) ≡ x →
-    clause_in x.vars ls ≡ true → i < length ls → l ≡ get_or ls i l → LiteralRead hs ls i l
+    is_clause_over x.vars ls ≡ true → i < length ls → l ≡ get_or ls i l → LiteralRead hs ls i l
 literal-read {vars} {count} {ws} {hs} {x} old ls i l h e within below is =
-    let within0 = ap (λ (n : ℕ). clause_in n ls) (vars-are vars old ws hs x e) ∙ within in
+    let within0 = ap (λ (n : ℕ). is_clause_over n ls) (vars-are vars old ws hs x e) ∙ within in
     let s : slice_get ls i ≡ Some l = slice_get_read ls (length ls) i l refl below is in
     let f = lit-fits vars count ws hs ls i l h within0 s in
     record { stands = s; fits = f.0; chained = f.1 }
 
--- what was read and written for the clause ls: its first two literals, their places and the heads of the chains
--- there, and then the new words us and the new heads ks
+-- The words and heads after clause `ls` is written.
 pub record LongWritten (ws hs us ks : List ℕ) (count reference : ℕ) (ls : List Literal) : Type 0 where
   pub l : Literal
   pub m : Literal
@@ -47,11 +46,10 @@ pub record LongWritten (ws hs us ks : List ℕ) (count reference : ℕ) (ls : Li
   pub words_are : us ≡ ws ++ block (length ls) left left_link right right_link (count + 1) (map place ls)
   pub heads_are : ks ≡ set (set hs left reference) right reference
 
--- so the new words and heads hold the arena with this clause
 pub long-grown :
     {vars count reference : ℕ} {ws hs us ks : List ℕ} {ls : List Literal} {x : ArenaLists} (spare old : ℕ) →
     HoldsArena ws hs vars count → lists_of vars old ws hs (references_in ws) ≡ x →
-    clause_in x.vars ls ≡ true → vars_differ ls ≡ true → 2 ≤ length ls → length ls + 8 ≤ x.spare →
+    is_clause_over x.vars ls ≡ true → vars_differ ls ≡ true → 2 ≤ length ls → length ls + 8 ≤ x.spare →
     old + length ws ≤ WORD_LIMIT → LongWritten ws hs us ks count reference ls →
     Grown vars spare count us ks x ls reference
 long-grown {vars} {count} {reference} {ws} {hs} {us} {ks} {ls} {x} spare old h e within differ long room below w =
@@ -64,6 +62,6 @@ long-grown {vars} {count} {reference} {ws} {hs} {us} {ks} {ls} {x} spare old h e
     let n : length ls ≡ length (map place ls) = sym (length-map ls place) in
     let us-are : us ≡ words_long ws hs ls w.l w.m (count + 1) = (rw (w.left_is, w.right_is, p, q) at w.words_are) ∙ ap (λ (k : ℕ). ws ++ block k (place w.l) hl (place w.m) hm (count + 1) (map place ls)) n in
     let ks-are : ks ≡ heads_long ws hs w.l w.m = rw (w.left_is, w.right_is, w.reference_is) at w.heads_are in
-    let within0 = ap (λ (k : ℕ). clause_in k ls) (vars-are vars old ws hs x e) ∙ within in
+    let within0 = ap (λ (k : ℕ). is_clause_over k ls) (vars-are vars old ws hs x e) ∙ within in
     let fits : length ws + length ls + 7 ≤ WORD_LIMIT = omega (arith, spare-are vars old ws hs x e, room, below) in
     rw (w.reference_is, us-are, ks-are) (long-law vars spare old count ws hs x ls w.l w.m h e within0 differ a.stands b.stands fits)

@@ -1,16 +1,15 @@
 use Rattle.std.proofs.Common.{◌≡◌, ℕ, zero, suc, ◌<◌, ◌≤◌, false, eqb, List, [], ◌∷◌, ◌++◌, length, refl, sym, subst, arith}
 use Rattle.std.proofs.lemmas.Bool.Decides.{nat_tests}
-use Rattle.ilk_arena.specs.Words.{next_reference, Path, chain, Each}
+use Rattle.ilk_arena.specs.Words.{next_reference, IsChainPath, chain, AllMembers}
 
--- what leaves the links of a path leaves the path
-pub frame : (ws vs : List ℕ) (l k : ℕ) (cs : List ℕ) → Each (λ c. next_reference vs l c ≡ next_reference ws l c) cs → Path ws l k cs → Path vs l k cs
+-- A write that keeps the links of a path keeps the path.
+pub frame : (ws vs : List ℕ) (l k : ℕ) (cs : List ℕ) → AllMembers (λ c. next_reference vs l c ≡ next_reference ws l c) cs → IsChainPath ws l k cs → IsChainPath vs l k cs
 frame ws vs l k [] e p = p
 frame ws vs l k (c ∷ cs) e p =
-    let P : ℕ → Type 0 = λ j. Path vs l j cs in
+    let P : ℕ → Type 0 = λ j. IsChainPath vs l j cs in
     (p.0, p.1, subst P (sym e.0) (frame ws vs l (next_reference ws l c) cs e.1 p.2))
 
--- a path is what the links say
-pub chain-is : (ws : List ℕ) (l n k : ℕ) (cs : List ℕ) → length cs ≤ n → Path ws l k cs → chain ws l n k ≡ cs
+pub chain-is : (ws : List ℕ) (l n k : ℕ) (cs : List ℕ) → length cs ≤ n → IsChainPath ws l k cs → chain ws l n k ≡ cs
 chain-is ws l zero k [] h p = refl
 chain-is ws l zero k (c ∷ cs) h p = absurd (omega arith)
 chain-is ws l (suc n) k [] h p = rw p refl
@@ -21,21 +20,19 @@ chain-is ws l (suc n) k (c ∷ cs) h p =
     let s : chain ws l n (next_reference ws l k) ≡ cs = rw p.0 t in
     rw e (rw s (rw p.0 refl))
 
--- the front of a path, up to what follows it
-pub split : (ws : List ℕ) (l k : ℕ) (pre : List ℕ) (c : ℕ) (post : List ℕ) → Path ws l k (pre ++ (c ∷ post)) → Path ws l c (c ∷ post)
+pub split : (ws : List ℕ) (l k : ℕ) (pre : List ℕ) (c : ℕ) (post : List ℕ) → IsChainPath ws l k (pre ++ (c ∷ post)) → IsChainPath ws l c (c ∷ post)
 split ws l k [] c post p = (refl, p.1, p.2)
 split ws l k (d ∷ pre) c post p = split ws l (next_reference ws l d) pre c post p.2
 
--- a path without its element c, where the link before c skips it
 pub unlink : (ws vs : List ℕ) (l k b c : ℕ) (pre post : List ℕ) →
-    Each (λ d. next_reference vs l d ≡ next_reference ws l d) pre →
+    AllMembers (λ d. next_reference vs l d ≡ next_reference ws l d) pre →
     next_reference vs l b ≡ next_reference ws l c →
-    Each (λ d. next_reference vs l d ≡ next_reference ws l d) post → Path ws l k (pre ++ (b ∷ (c ∷ post))) →
-    Path vs l k (pre ++ (b ∷ post))
+    AllMembers (λ d. next_reference vs l d ≡ next_reference ws l d) post → IsChainPath ws l k (pre ++ (b ∷ (c ∷ post))) →
+    IsChainPath vs l k (pre ++ (b ∷ post))
 unlink ws vs l k b c [] post e x f p =
-    let P : ℕ → Type 0 = λ j. Path vs l j post in
-    let q : Path vs l (next_reference ws l c) post = frame ws vs l (next_reference ws l c) post f p.2.2 in
+    let P : ℕ → Type 0 = λ j. IsChainPath vs l j post in
+    let q : IsChainPath vs l (next_reference ws l c) post = frame ws vs l (next_reference ws l c) post f p.2.2 in
     (p.0, p.1, subst P (sym x) q)
 unlink ws vs l k b c (d ∷ pre) post e x f p =
-    let P : ℕ → Type 0 = λ j. Path vs l j (pre ++ (b ∷ post)) in
+    let P : ℕ → Type 0 = λ j. IsChainPath vs l j (pre ++ (b ∷ post)) in
     (p.0, p.1, subst P (sym e.0) (unlink ws vs l (next_reference ws l d) b c pre post e.1 x f p.2))

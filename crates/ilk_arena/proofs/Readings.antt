@@ -1,31 +1,30 @@
--- What the calls that only read may rely on.
+-- Facts for the calls that only read.
 use Rattle.std.proofs.Common.{◌≡◌, ◌≢◌, ℕ, suc, ◌+◌, ◌*◌, ◌<◌, ◌≤◌, inl, inr, Bool, true, false, ◌&&◌, not, ltb, leb, ◌==◌, List, [], ◌∷◌, length, get_or, map, refl, sym, ap, ◌∙◌, subst, arith, Some}
 use Rattle.std.specs.List.{slice_get, position_or_len}
 use Rattle.std.proofs.lemmas.Bool.Decides.{eqb_tells}
 use Rattle.std.proofs.lemmas.Bool.{cases_Bool, and_parts, and_from, leb-true, not-true, not_from_false}
 use Rattle.ilk_cnf.specs.Literal.{Literal, same_lit}
-use Rattle.ilk_cnf.specs.Formula.{lit_in}
-use Rattle.ilk_arena.specs.Arena.{ArenaLists, place, chain_of, stands_in, literals_of, cursor_of, number_of_clause, first_of, after, other_watch_of}
+use Rattle.ilk_cnf.specs.Formula.{is_lit_over}
+use Rattle.ilk_arena.specs.Arena.{ArenaLists, place, chain_of, is_listed_in, literals_of, cursor_of, number_of_clause, first_of, reference_after, other_watch_of}
 use Rattle.ilk_arena.specs.declared.place.TheConstants.{WORD_LIMIT}
-use Rattle.ilk_arena.specs.Words.{Stands, Watches, left, right, next_reference, other, reference_of}
-use Rattle.ilk_arena.specs.Linked.{lit_at, places_at, chain_at, references_in, lists_of, Linked, HoldsArena}
+use Rattle.ilk_arena.specs.Words.{IsMemberOf, Watches, left, right, next_reference, other_watch_place, reference_of}
+use Rattle.ilk_arena.specs.Linked.{lit_at, places_at, chain_at, references_in, lists_of, HasWatchChains, HoldsArena}
 use Rattle.ilk_base.proofs.Lists.{find-only}
 use Rattle.ilk_arena.proofs.Blocks.{few-clauses}
-use Rattle.ilk_arena.proofs.Seen.{stands-from, lit-at-place, place-within, chain-seen, clause-seen, cursor-seen, references-seen, vars-seen, first-is, after-is}
+use Rattle.ilk_arena.proofs.Seen.{stands-from, lit-at-place, place-within, chain-seen, clause-seen, cursor-seen, references-seen, vars-seen, first-is, reference_after-is}
 use Rattle.ilk_arena.proofs.Law.{place-of-lit, InChain, chain-has, clause-length, watch-gets, lit-of}
 use Rattle.ilk_arena.proofs.Relinking.{long-of}
 use Rattle.ilk_cnf.proofs.SameLiterals.{same-lit, lit-is}
 
--- a clause of the arena
 pub record Known (ws : List ℕ) (a : ArenaLists) (c : ℕ) : Type 0 where
-  pub stands : Stands (references_in ws) c
+  pub stands : IsMemberOf (references_in ws) c
   pub room : c + 7 + get_or ws c 0 ≤ length ws
   pub len : get_or ws c 0 ≡ length (literals_of a c)
   pub number : get_or ws (c + 5) 0 ≡ number_of_clause a c
   pub cursor : get_or ws (c + 6) 0 ≡ cursor_of a c
   pub within : get_or ws (c + 6) 0 ≤ get_or ws c 0
 
-position-at : (c : ℕ) (refs : List ℕ) → Stands refs c → slice_get refs (position_or_len (λ x. x == c) refs) ≡ Some c
+position-at : (c : ℕ) (refs : List ℕ) → IsMemberOf refs c → slice_get refs (position_or_len (λ x. x == c) refs) ≡ Some c
 position-at c [] s = absurd s
 position-at c (r ∷ rs) s =
     elim (eqb_tells r c) [
@@ -39,13 +38,13 @@ position-at c (r ∷ rs) s =
       ])
     ]
 
-pub stands-known : (vars spare : ℕ) (ws hs : List ℕ) (a : ArenaLists) (c : ℕ) → lists_of vars spare ws hs (references_in ws) ≡ a → stands_in c a.references ≡ true → Stands (references_in ws) c
+pub stands-known : (vars spare : ℕ) (ws hs : List ℕ) (a : ArenaLists) (c : ℕ) → lists_of vars spare ws hs (references_in ws) ≡ a → is_listed_in c a.references ≡ true → IsMemberOf (references_in ws) c
 stands-known vars spare ws hs a c e t =
     let refs = references_in ws in
     let rs : a.references ≡ refs = ap (λ (y : ArenaLists). y.references) (sym e) ∙ references-seen vars spare ws hs refs in
-    stands-from c refs (ap (stands_in c) (sym rs) ∙ t)
+    stands-from c refs (ap (is_listed_in c) (sym rs) ∙ t)
 
-pub known : (vars spare count : ℕ) (ws hs : List ℕ) (a : ArenaLists) (c : ℕ) → HoldsArena ws hs vars count → lists_of vars spare ws hs (references_in ws) ≡ a → stands_in c a.references ≡ true → Known ws a c
+pub known : (vars spare count : ℕ) (ws hs : List ℕ) (a : ArenaLists) (c : ℕ) → HoldsArena ws hs vars count → lists_of vars spare ws hs (references_in ws) ≡ a → is_listed_in c a.references ≡ true → Known ws a c
 known vars spare count ws hs a c h e t =
     let refs = references_in ws in
     let s = stands-known vars spare ws hs a c e t in
@@ -58,17 +57,16 @@ known vars spare count ws hs a c h e t =
       within = h.laid.cursor c s;
     }
 
--- a literal of the arena's variables
 pub record Within (ws hs : List ℕ) (a : ArenaLists) (l : Literal) : Type 0 where
   pub few : 2 * l.var + 1 < WORD_LIMIT
   pub below : place l < length hs
   pub chain : chain_of a l ≡ chain_at ws hs (place l)
 
-pub within : (vars spare count : ℕ) (ws hs : List ℕ) (a : ArenaLists) (l : Literal) → HoldsArena ws hs vars count → lists_of vars spare ws hs (references_in ws) ≡ a → lit_in a.vars l ≡ true → Within ws hs a l
+pub within : (vars spare count : ℕ) (ws hs : List ℕ) (a : ArenaLists) (l : Literal) → HoldsArena ws hs vars count → lists_of vars spare ws hs (references_in ws) ≡ a → is_lit_over a.vars l ≡ true → Within ws hs a l
 within vars spare count ws hs a l h e t =
     let refs = references_in ws in
     let v : vars ≡ a.vars = sym (vars-seen vars spare ws hs refs) ∙ ap (λ (x : ArenaLists). x.vars) e in
-    let fv : lit_in vars l ≡ true = ap (λ (n : ℕ). lit_in n l) v ∙ t in
+    let fv : is_lit_over vars l ≡ true = ap (λ (n : ℕ). is_lit_over n l) v ∙ t in
     let w = place-within vars l fv in
     let p : (ltb 0 l.var ≡ true) × (leb l.var vars ≡ true) = and_parts _ _ fv in
     let b : place l < length hs = omega (arith, h.heads, w.1) in
@@ -81,25 +79,25 @@ within vars spare count ws hs a l h e t =
 pub first-seen : (vars spare count : ℕ) (ws hs : List ℕ) (a : ArenaLists) (l : Literal) → HoldsArena ws hs vars count → Within ws hs a l → reference_of (get_or hs (place l) 0) ≡ first_of (chain_of a l)
 first-seen vars spare count ws hs a l h w = first-is ws (place l) (get_or hs (place l) 0) (chain_at ws hs (place l)) (h.linked.chains.path (place l) w.below) ∙ ap first_of (sym w.chain)
 
--- a clause in a chain
-pub watching : (vars spare : ℕ) (ws hs : List ℕ) (a : ArenaLists) (l : Literal) (c : ℕ) → Linked ws hs (references_in ws) → lists_of vars spare ws hs (references_in ws) ≡ a → stands_in c (chain_of a l) ≡ true → InChain ws hs (references_in ws) l c
-watching vars spare ws hs a l c k e t = chain-has vars spare ws hs (references_in ws) l c k (ap (λ (x : ArenaLists). stands_in c (chain_of x l)) e ∙ t)
+pub watching : (vars spare : ℕ) (ws hs : List ℕ) (a : ArenaLists) (l : Literal) (c : ℕ) → HasWatchChains ws hs (references_in ws) → lists_of vars spare ws hs (references_in ws) ≡ a → is_listed_in c (chain_of a l) ≡ true
+    → InChain ws hs (references_in ws) l c
+watching vars spare ws hs a l c k e t = chain-has vars spare ws hs (references_in ws) l c k (ap (λ (x : ArenaLists). is_listed_in c (chain_of x l)) e ∙ t)
 
-pub after-seen : (vars count : ℕ) (ws hs : List ℕ) (a : ArenaLists) (l : Literal) (c : ℕ) → HoldsArena ws hs vars count → Within ws hs a l → InChain ws hs (references_in ws) l c → reference_of (next_reference ws (place l) c) ≡ after c (chain_of a l)
-after-seen vars count ws hs a l c h w i = after-is ws (place l) (get_or hs (place l) 0) c (chain_at ws hs (place l)) (h.linked.chains.path (place l) w.below) i.stands ∙ ap (after c) (sym w.chain)
+pub reference_after-seen : (vars count : ℕ) (ws hs : List ℕ) (a : ArenaLists) (l : Literal) (c : ℕ) → HoldsArena ws hs vars count → Within ws hs a l → InChain ws hs (references_in ws) l c
+    → reference_of (next_reference ws (place l) c) ≡ reference_after c (chain_of a l)
+reference_after-seen vars count ws hs a l c h w i = reference_after-is ws (place l) (get_or hs (place l) 0) c (chain_at ws hs (place l)) (h.linked.chains.path (place l) w.below) i.stands ∙ ap (reference_after c) (sym w.chain)
 
--- the other watch
 pub record OtherWatch (ws : List ℕ) (a : ArenaLists) (c : ℕ) (l : Literal) : Type 0 where
-  pub low : 2 ≤ other ws (place l) c
-  pub is : other_watch_of a c l ≡ Some (lit_at (other ws (place l) c))
+  pub low : 2 ≤ other_watch_place ws (place l) c
+  pub is : other_watch_of a c l ≡ Some (lit_at (other_watch_place ws (place l) c))
 
 record Other (ws : List ℕ) (c f q : ℕ) : Type 0 where
   watches : Watches ws c q
   differs : q ≢ f
   only : (p : ℕ) → Watches ws c p → p ≢ f → p ≡ q
 
-other-is : (ws : List ℕ) (c f : ℕ) → get_or ws (c + 1) 0 ≢ get_or ws (c + 3) 0 → Watches ws c f → Other ws c f (other ws f c)
-other-is ws c f n w =
+other_watch_place-is : (ws : List ℕ) (c f : ℕ) → get_or ws (c + 1) 0 ≢ get_or ws (c + 3) 0 → Watches ws c f → Other ws c f (other_watch_place ws f c)
+other_watch_place-is ws c f n w =
     elim (eqb_tells (get_or ws (c + 1) 0) f) [
       | inl t ↦ rw t.0 (record { watches = right refl; differs = λ e. n (t.1 ∙ sym e); only = λ p v m. lefts p v m t.1 })
       | inr t ↦ rw t.0 (record { watches = left refl; differs = t.1; only = λ p v m. rights p v m t.1 w })
@@ -114,38 +112,38 @@ other-is ws c f n w =
     rights p (left e) m t (right g) = sym e
     rights p (right e) m t (right g) = absurd (m (sym e ∙ g))
 
-watch-place : (ws hs refs : List ℕ) (c p : ℕ) → Linked ws hs refs → Stands refs c → 2 ≤ get_or ws c 0 → Watches ws c p → Stands (places_at ws c) p
-watch-place ws hs refs c p k s h (left e) = (let S : ℕ → Type 0 = λ j. Stands (places_at ws c) j in subst S e (k.left_own c s h))
-watch-place ws hs refs c p k s h (right e) = (let S : ℕ → Type 0 = λ j. Stands (places_at ws c) j in subst S e (k.right_own c s h))
+watch-place : (ws hs refs : List ℕ) (c p : ℕ) → HasWatchChains ws hs refs → IsMemberOf refs c → 2 ≤ get_or ws c 0 → Watches ws c p → IsMemberOf (places_at ws c) p
+watch-place ws hs refs c p k s h (left e) = (let S : ℕ → Type 0 = λ j. IsMemberOf (places_at ws c) j in subst S e (k.left_own c s h))
+watch-place ws hs refs c p k s h (right e) = (let S : ℕ → Type 0 = λ j. IsMemberOf (places_at ws c) j in subst S e (k.right_own c s h))
 
-index-of : (ps : List ℕ) (q : ℕ) → Stands ps q → (i : ℕ) × (slice_get (map lit_at ps) i ≡ Some (lit_at q))
+index-of : (ps : List ℕ) (q : ℕ) → IsMemberOf ps q → (i : ℕ) × (slice_get (map lit_at ps) i ≡ Some (lit_at q))
 index-of [] q s = absurd s
 index-of (p ∷ ps) q s = elim s [ inl e ↦ (0, ap (λ (x : ℕ). Some (lit_at x)) e) | inr r ↦ (let t = index-of ps q r in (suc t.0, t.1)) ]
 
-pub other-seen : (vars spare count : ℕ) (ws hs : List ℕ) (a : ArenaLists) (l : Literal) (c : ℕ) → HoldsArena ws hs vars count → lists_of vars spare ws hs (references_in ws) ≡ a → stands_in c (chain_of a l) ≡ true → OtherWatch ws a c l
-other-seen vars spare count ws hs a l c h e t =
+pub other_watch_place-seen : (vars spare count : ℕ) (ws hs : List ℕ) (a : ArenaLists) (l : Literal) (c : ℕ) → HoldsArena ws hs vars count → lists_of vars spare ws hs (references_in ws) ≡ a → is_listed_in c (chain_of a l) ≡ true → OtherWatch ws a c l
+other_watch_place-seen vars spare count ws hs a l c h e t =
     let refs = references_in ws in
     let k = h.linked in
     let i = watching vars spare ws hs a l c k e t in
     let f = place l in
-    let q = other ws f c in
+    let q = other_watch_place ws f c in
     let s = i.known in
     let L = lists_of vars spare ws hs refs in
     let lg : 2 ≤ get_or ws c 0 = long-of ws hs refs c f k s i.least i.watches in
-    let o = other-is ws c f (k.differ c s) i.watches in
+    let o = other_watch_place-is ws c f (k.differ c s) i.watches in
     let own = watch-place ws hs refs c q k s lg o.watches in
     let x = lit_at q in
     let n = index-of (places_at ws c) q own in
-    let p : Literal → Bool = λ m. stands_in c (chain_of L m) && not (same_lit l m) in
+    let p : Literal → Bool = λ m. is_listed_in c (chain_of L m) && not (same_lit l m) in
     let in-list : slice_get (literals_of L c) n.0 ≡ Some x = ap (λ (ls : List Literal). slice_get ls n.0) (clause-seen vars spare ws hs refs c s) ∙ n.1 in
-    let chained : stands_in c (chain_of L x) ≡ true = watch-gets vars spare ws hs refs c q x k s own o.watches refl in
+    let chained : is_listed_in c (chain_of L x) ≡ true = watch-gets vars spare ws hs refs c q x k s own o.watches refl in
     let apart : same_lit l x ≡ false = elim (cases_Bool (same_lit l x)) [
       | inl b ↦ absurd (o.differs (sym (place-of-lit q) ∙ ap place (sym (lit-is l x b))))
       | inr b ↦ b
     ] in
-    let passes : p x ≡ true = and_from (stands_in c (chain_of L x)) (not (same_lit l x)) chained (not_from_false (same_lit l x) apart) in
+    let passes : p x ≡ true = and_from (is_listed_in c (chain_of L x)) (not (same_lit l x)) chained (not_from_false (same_lit l x) apart) in
     let only : (y : Literal) → p y ≡ true → y ≡ x = λ y py. (
-    let parts = and_parts (stands_in c (chain_of L y)) (not (same_lit l y)) py in
+    let parts = and_parts (is_listed_in c (chain_of L y)) (not (same_lit l y)) py in
     let w = chain-has vars spare ws hs refs y c k parts.0 in
     let differs : place y ≢ f = λ g. (
     let same : y ≡ l = sym (lit-at-place y) ∙ ap lit_at g ∙ lit-at-place l in
@@ -158,7 +156,6 @@ other-seen vars spare count ws hs a l c h e t =
       is = ap (λ (y : ArenaLists). other_watch_of y c l) (sym e) ∙ find-only p (literals_of L c) x n.0 in-list passes only;
     }
 
--- the number of variables, and the room
 pub vars-are : (vars spare : ℕ) (ws hs : List ℕ) (a : ArenaLists) → lists_of vars spare ws hs (references_in ws) ≡ a → vars ≡ a.vars
 vars-are vars spare ws hs a e = sym (vars-seen vars spare ws hs (references_in ws)) ∙ ap (λ (x : ArenaLists). x.vars) e
 
@@ -169,11 +166,9 @@ spare-is vars spare ws hs refs = refl
 pub spare-are : (vars spare : ℕ) (ws hs : List ℕ) (a : ArenaLists) → lists_of vars spare ws hs (references_in ws) ≡ a → spare ≡ a.spare
 spare-are vars spare ws hs a e = sym (spare-is vars spare ws hs (references_in ws)) ∙ ap (λ (x : ArenaLists). x.spare) e
 
--- more room changes nothing else
 pub spare-change : (vars spare more : ℕ) (ws hs : List ℕ) (a : ArenaLists) → lists_of vars spare ws hs (references_in ws) ≡ a → lists_of vars more ws hs (references_in ws) ≡ record a { spare = more }
 unfolding lists_of
 spare-change vars spare more ws hs a e = ap (λ (x : ArenaLists). record x { spare = more }) e
 
--- the number of clauses fits a word
 pub count-fits : (vars count : ℕ) (ws hs : List ℕ) → HoldsArena ws hs vars count → count < length ws
 count-fits vars count ws hs h = omega (arith, h.counted, few-clauses ws (references_in ws) h.laid.blocks)

@@ -1,25 +1,23 @@
--- What the lists of an arena say of its words.
+-- Facts about the words that follow from the lists.
 use Rattle.std.proofs.Common.{◌≡◌, ℕ, ◌+◌, ◌*◌, ◌/◌, ◌%◌, ◌<◌, ◌≤◌, inl, inr, Bool, true, false, ◌&&◌, cond, eqb, List, [], ◌∷◌, length, get_or, map, refl, ap, ◌∙◌, subst, arith, Option, Some, None}
 use Rattle.std.proofs.lemmas.Bool.Decides.{nat_tests, eqb_tells}
 use Rattle.std.proofs.lemmas.Bool.{and_parts, or_cases, or_left, or_right, ltb-true, leb-true, eqb-true, eq-eqb}
 use Rattle.std.proofs.lemmas.Grind.{common_steps}
 use Rattle.std.proofs.lemmas.List.FromFn.{get_or-map-range_with_len, length-map-range_with_len}
 use Rattle.ilk_cnf.specs.Literal.{Literal}
-use Rattle.ilk_cnf.specs.Formula.{lit_in}
-use Rattle.ilk_arena.specs.Arena.{place, stands_in, paired_with, literals_of, cursor_of, first_of, after, follows}
-use Rattle.ilk_arena.specs.Words.{Path, Stands, StandsAfter, next_reference, reference_of}
+use Rattle.ilk_cnf.specs.Formula.{is_lit_over}
+use Rattle.ilk_arena.specs.Arena.{place, is_listed_in, item_for_reference, literals_of, cursor_of, first_of, reference_after, directly_follows}
+use Rattle.ilk_arena.specs.Words.{IsChainPath, IsMemberOf, DirectlyFollows, next_reference, reference_of}
 use Rattle.ilk_arena.specs.Linked.{lit_at, places_at, literals_at, cursor_at, chain_at, lists_of}
 
--- the test and the relation
-pub stands-from : (c : ℕ) (cs : List ℕ) → stands_in c cs ≡ true → Stands cs c
+pub stands-from : (c : ℕ) (cs : List ℕ) → is_listed_in c cs ≡ true → IsMemberOf cs c
 stands-from c [] h = absurd (cc)
-stands-from c (x ∷ cs) h = elim (or_cases (eqb x c) (stands_in c cs) h) [ inl e ↦ inl (eqb-true x c e) | inr r ↦ inr (stands-from c cs r) ]
+stands-from c (x ∷ cs) h = elim (or_cases (eqb x c) (is_listed_in c cs) h) [ inl e ↦ inl (eqb-true x c e) | inr r ↦ inr (stands-from c cs r) ]
 
-pub stands-to : (c : ℕ) (cs : List ℕ) → Stands cs c → stands_in c cs ≡ true
+pub stands-to : (c : ℕ) (cs : List ℕ) → IsMemberOf cs c → is_listed_in c cs ≡ true
 stands-to c [] s = absurd s
-stands-to c (x ∷ cs) s = elim s [ inl e ↦ or_left (eqb x c) (stands_in c cs) (eq-eqb x c e) | inr r ↦ or_right (eqb x c) (stands_in c cs) (stands-to c cs r) ]
+stands-to c (x ∷ cs) s = elim s [ inl e ↦ or_left (eqb x c) (is_listed_in c cs) (eq-eqb x c e) | inr r ↦ or_right (eqb x c) (is_listed_in c cs) (stands-to c cs r) ]
 
--- the place of a literal
 pub lit-at-place : (l : Literal) → lit_at (place l) ≡ l
 lit-at-place l = go l.var l.positive
   where
@@ -33,15 +31,14 @@ lit-at-place l = go l.var l.positive
         let m : (2 * v) % 2 ≡ 0 = omega arith in
         rw (d, m) refl
 
-pub place-within : (n : ℕ) (l : Literal) → lit_in n l ≡ true → (2 ≤ place l) × (place l < 2 * n + 2)
+pub place-within : (n : ℕ) (l : Literal) → is_lit_over n l ≡ true → (2 ≤ place l) × (place l < 2 * n + 2)
 place-within n l h = (let p = and_parts _ _ h in go l.var l.positive (ltb-true 0 l.var p.0) (leb-true l.var n p.1))
   where
     go : (v : ℕ) (b : Bool) → 0 < v → v ≤ n → (2 ≤ cond b (2 * v + 1) (2 * v)) × (cond b (2 * v + 1) (2 * v) < 2 * n + 2)
     go v true a b = (omega arith, omega arith)
     go v false a b = (omega arith, omega arith)
 
--- the items of the lists
-pub beside-map : {A : Type 0} (f : ℕ → A) (d : A) (refs : List ℕ) (c : ℕ) → Stands refs c → paired_with c refs (map f refs) d ≡ f c
+pub beside-map : {A : Type 0} (f : ℕ → A) (d : A) (refs : List ℕ) (c : ℕ) → IsMemberOf refs c → item_for_reference c refs (map f refs) d ≡ f c
 beside-map f d [] c s = absurd s
 beside-map f d (r ∷ rs) c s =
     elim (eqb_tells r c) [
@@ -57,11 +54,11 @@ pub chains-count : (vars spare : ℕ) (ws hs refs : List ℕ) → length (lists_
 unfolding lists_of
 chains-count vars spare ws hs refs = length-map-range_with_len (chain_at ws hs) 0 (length hs)
 
-pub clause-seen : (vars spare : ℕ) (ws hs refs : List ℕ) (c : ℕ) → Stands refs c → literals_of (lists_of vars spare ws hs refs) c ≡ literals_at ws c
+pub clause-seen : (vars spare : ℕ) (ws hs refs : List ℕ) (c : ℕ) → IsMemberOf refs c → literals_of (lists_of vars spare ws hs refs) c ≡ literals_at ws c
 unfolding lists_of
 clause-seen vars spare ws hs refs c s = beside-map (literals_at ws) [] refs c s
 
-pub cursor-seen : (vars spare : ℕ) (ws hs refs : List ℕ) (c : ℕ) → Stands refs c → cursor_of (lists_of vars spare ws hs refs) c ≡ cursor_at ws c
+pub cursor-seen : (vars spare : ℕ) (ws hs refs : List ℕ) (c : ℕ) → IsMemberOf refs c → cursor_of (lists_of vars spare ws hs refs) c ≡ cursor_at ws c
 unfolding lists_of
 cursor-seen vars spare ws hs refs c s = beside-map (cursor_at ws) 0 refs c s
 
@@ -73,7 +70,6 @@ pub vars-seen : (vars spare : ℕ) (ws hs refs : List ℕ) → (lists_of vars sp
 unfolding lists_of
 vars-seen vars spare ws hs refs = refl
 
--- the literals at their places
 pub places-length : (ws : List ℕ) (c : ℕ) → c + 7 + get_or ws c 0 ≤ length ws → length (places_at ws c) ≡ get_or ws c 0
 unfolding places_at
 places-length ws c h = grind (arith, common_steps)
@@ -82,31 +78,29 @@ pub places-get : (ws : List ℕ) (c i : ℕ) → c + 7 + get_or ws c 0 ≤ lengt
 unfolding places_at
 places-get ws c i h l = grind (arith, common_steps)
 
--- walks along a chain
-pub first-is : (ws : List ℕ) (l k : ℕ) (cs : List ℕ) → Path ws l k cs → reference_of k ≡ first_of cs
+pub first-is : (ws : List ℕ) (l k : ℕ) (cs : List ℕ) → IsChainPath ws l k cs → reference_of k ≡ first_of cs
 first-is ws l k [] p = (let e : eqb k 0 ≡ true = grind (arith, nat_tests) in rw e refl)
 first-is ws l k (c ∷ cs) p =
     let q : 0 < k = omega (arith, p.0, p.1) in
     let e : eqb k 0 ≡ false = grind (arith, nat_tests) in
     rw e (ap Some p.0)
 
-pub after-is : (ws : List ℕ) (l k c : ℕ) (cs : List ℕ) → Path ws l k cs → Stands cs c → reference_of (next_reference ws l c) ≡ after c cs
-after-is ws l k c [] p s = absurd s
-after-is ws l k c (x ∷ xs) p s =
+pub reference_after-is : (ws : List ℕ) (l k c : ℕ) (cs : List ℕ) → IsChainPath ws l k cs → IsMemberOf cs c → reference_of (next_reference ws l c) ≡ reference_after c cs
+reference_after-is ws l k c [] p s = absurd s
+reference_after-is ws l k c (x ∷ xs) p s =
     elim (eqb_tells x c) [
       | inl e ↦ rw e.0 (let P : ℕ → Type 0 = λ j. reference_of (next_reference ws l j) ≡ first_of xs in subst P e.1 (first-is ws l (next_reference ws l x) xs p.2))
-      | inr e ↦ rw e.0 (elim s [ inl q ↦ absurd (e.1 q) | inr q ↦ after-is ws l (next_reference ws l x) c xs p.2 q ])
+      | inr e ↦ rw e.0 (elim s [ inl q ↦ absurd (e.1 q) | inr q ↦ reference_after-is ws l (next_reference ws l x) c xs p.2 q ])
     ]
 
--- c stands after the given clause
-pub stands-after-from : (before : Option ℕ) (c : ℕ) (cs : List ℕ) → follows before c cs ≡ true → StandsAfter before c cs
-stands-after-from None c [] h = absurd (cc)
-stands-after-from None c (x ∷ xs) h = (xs, ap (λ y. y ∷ xs) (eqb-true x c h))
-stands-after-from (Some b) c [] h = absurd (cc)
-stands-after-from (Some b) c (x ∷ xs) h =
-    elim (or_cases (eqb x b && follows None c xs) (follows (Some b) c xs) h) [
-      | inl p ↦ (let q = and_parts (eqb x b) (follows None c xs) p in
-          let r = stands-after-from None c xs q.1 in
+pub stands-reference_after-from : (before : Option ℕ) (c : ℕ) (cs : List ℕ) → directly_follows before c cs ≡ true → DirectlyFollows before c cs
+stands-reference_after-from None c [] h = absurd (cc)
+stands-reference_after-from None c (x ∷ xs) h = (xs, ap (λ y. y ∷ xs) (eqb-true x c h))
+stands-reference_after-from (Some b) c [] h = absurd (cc)
+stands-reference_after-from (Some b) c (x ∷ xs) h =
+    elim (or_cases (eqb x b && directly_follows None c xs) (directly_follows (Some b) c xs) h) [
+      | inl p ↦ (let q = and_parts (eqb x b) (directly_follows None c xs) p in
+          let r = stands-reference_after-from None c xs q.1 in
           ([], (r.0, ap (λ y. y ∷ xs) (eqb-true x b q.0) ∙ ap (λ ys. b ∷ ys) r.1)))
-      | inr p ↦ (let r = stands-after-from (Some b) c xs p in (x ∷ r.0, (r.1.0, ap (λ ys. x ∷ ys) r.1.1)))
+      | inr p ↦ (let r = stands-reference_after-from (Some b) c xs p in (x ∷ r.0, (r.1.0, ap (λ ys. x ∷ ys) r.1.1)))
     ]

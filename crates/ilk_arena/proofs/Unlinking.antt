@@ -3,21 +3,21 @@ use Rattle.std.proofs.lemmas.List.{get_or-set_other, drop-set-lt, drop-set-add, 
 use Rattle.std.proofs.lemmas.Bool.Decides.{nat_tests, eqb_tells}
 use Rattle.std.proofs.lemmas.Bool.{cases_eq, cases_order}
 use Rattle.std.proofs.Math.ListN.{length-set}
-use Rattle.ilk_arena.specs.Words.{slot, watch_moved, words_after, heads_after, Each, Stands, StandsAfter, Watches, left, right, Distinct, Chains, upd}
-use Rattle.ilk_arena.specs.Linked.{places_at, chain_at, Linked}
+use Rattle.ilk_arena.specs.Words.{link_index, watch_moved, words_after_unlink, heads_after_unlink, AllMembers, IsMemberOf, DirectlyFollows, Watches, left, right, Distinct, AreChains, with_chain_replaced}
+use Rattle.ilk_arena.specs.Linked.{places_at, chain_at, HasWatchChains}
 use Rattle.ilk_arena.specs.Arena.{without_reference}
-use Rattle.ilk_arena.proofs.HeaderWrites.{slot-in, moved-reads-left, moved-reads-right}
+use Rattle.ilk_arena.proofs.HeaderWrites.{link_index-in, moved-reads-left, moved-reads-right}
 use Rattle.ilk_arena.proofs.ChainMoves.{each-back, drop-first, drop-later}
 use Rattle.ilk_arena.proofs.LinkedChains.{headers-of}
 
-without-none : (c : ℕ) (xs : List ℕ) → Each (λ d. d ≢ c) xs → without_reference c xs ≡ xs
+without-none : (c : ℕ) (xs : List ℕ) → AllMembers (λ d. d ≢ c) xs → without_reference c xs ≡ xs
 without-none c [] e = refl
 without-none c (x ∷ xs) e =
     let n : x ≢ c = e.0 in
     let q : eqb x c ≡ false = grind (arith, nat_tests) in
     rw q (ap (λ ys. x ∷ ys) (without-none c xs e.1))
 
-pub without-first : (c : ℕ) (post : List ℕ) → Each (λ d. d ≢ c) post → without_reference c (c ∷ post) ≡ post
+pub without-first : (c : ℕ) (post : List ℕ) → AllMembers (λ d. d ≢ c) post → without_reference c (c ∷ post) ≡ post
 without-first c post n = (let e : eqb c c ≡ true = grind (arith, nat_tests) in rw e (without-none c post n))
 
 without-later : (pre : List ℕ) (b c : ℕ) (post : List ℕ) → Distinct (pre ++ (b ∷ (c ∷ post))) → without_reference c (pre ++ (b ∷ (c ∷ post))) ≡ pre ++ (b ∷ post)
@@ -30,12 +30,12 @@ without-later (p ∷ pre) b c post d =
     let e : eqb p c ≡ false = grind (arith, nat_tests) in
     rw (e, without-later pre b c post d.1) refl
 
-pub without-gone : (c : ℕ) (xs : List ℕ) → Each (λ d. d ≢ c) (without_reference c xs)
+pub without-gone : (c : ℕ) (xs : List ℕ) → AllMembers (λ d. d ≢ c) (without_reference c xs)
 without-gone c [] = tt
 without-gone c (x ∷ xs) =
     elim (eqb_tells x c) [ inl p ↦ rw p.0 (without-gone c xs) | inr p ↦ rw p.0 (p.1, without-gone c xs) ]
 
-pub stands-without : (c d : ℕ) (xs : List ℕ) → d ≢ c → Stands xs d → Stands (without_reference c xs) d
+pub stands-without : (c d : ℕ) (xs : List ℕ) → d ≢ c → IsMemberOf xs d → IsMemberOf (without_reference c xs) d
 stands-without c d [] n s = absurd s
 stands-without c d (x ∷ xs) n s =
     elim (eqb_tells x c) [
@@ -43,15 +43,15 @@ stands-without c d (x ∷ xs) n s =
       | inr p ↦ rw p.0 (elim s [ inl e ↦ inl e | inr r ↦ inr (stands-without c d xs n r) ])
     ]
 
-pub stands-in : (pre : List ℕ) (c : ℕ) (post : List ℕ) → Stands (pre ++ (c ∷ post)) c
+pub stands-in : (pre : List ℕ) (c : ℕ) (post : List ℕ) → IsMemberOf (pre ++ (c ∷ post)) c
 stands-in [] c post = inl refl
 stands-in (p ∷ pre) c post = inr (stands-in pre c post)
 
-pub each-at : (P : ℕ → Type 0) (xs : List ℕ) (c : ℕ) → Stands xs c → Each P xs → P c
+pub each-at : (P : ℕ → Type 0) (xs : List ℕ) (c : ℕ) → IsMemberOf xs c → AllMembers P xs → P c
 each-at P [] c s e = absurd s
 each-at P (x ∷ xs) c s e = elim s [ inl q ↦ subst P q e.0 | inr r ↦ each-at P xs c r e.1 ]
 
--- what a write to a watch or a link leaves of each clause
+-- A clause after a write to a watch or a link.
 pub record Same (ws vs : List ℕ) (d : ℕ) : Type 0 where
   pub len : get_or vs d 0 ≡ get_or ws d 0
   pub places : places_at vs d ≡ places_at ws d
@@ -82,33 +82,33 @@ same-after ws R c d i v clear rc rd lo hi =
       ]);
     }
 
--- two blocks that differ in the watches and links of headers alone
+-- Two blocks that differ only in the watches and links of headers.
 pub record Alike (ws vs refs : List ℕ) : Type 0 where
   pub size : length vs ≡ length ws
-  pub same : (d : ℕ) → Stands refs d → Same ws vs d
+  pub same : (d : ℕ) → IsMemberOf refs d → Same ws vs d
 
 pub record SameWatches (ws vs refs : List ℕ) : Type 0 where
-  pub left_same : (d : ℕ) → Stands refs d → get_or vs (d + 1) 0 ≡ get_or ws (d + 1) 0
-  pub right_same : (d : ℕ) → Stands refs d → get_or vs (d + 3) 0 ≡ get_or ws (d + 3) 0
+  pub left_same : (d : ℕ) → IsMemberOf refs d → get_or vs (d + 1) 0 ≡ get_or ws (d + 1) 0
+  pub right_same : (d : ℕ) → IsMemberOf refs d → get_or vs (d + 3) 0 ≡ get_or ws (d + 3) 0
 
-pub alike-set : (ws hs refs : List ℕ) (c i v : ℕ) → Linked ws hs refs → Stands refs c → c < i → i < c + 5 → Alike ws (set ws i v) refs
+pub alike-set : (ws hs refs : List ℕ) (c i v : ℕ) → HasWatchChains ws hs refs → IsMemberOf refs c → c < i → i < c + 5 → Alike ws (set ws i v) refs
 alike-set ws hs refs c i v k r lo hi = record {
   size = simp length-set;
-  same = λ d s. same-after ws (Stands refs) c d i v k.clear r s lo hi;
+  same = λ d s. same-after ws (IsMemberOf refs) c d i v k.clear r s lo hi;
 }
 
-pub other-header : (ws hs refs : List ℕ) (c d : ℕ) → Linked ws hs refs → Stands refs c → Stands refs d → c ≢ d → (c + 7 ≤ d) ⊎ (d + 7 ≤ c)
+pub other-header : (ws hs refs : List ℕ) (c d : ℕ) → HasWatchChains ws hs refs → IsMemberOf refs c → IsMemberOf refs d → c ≢ d → (c + 7 ≤ d) ⊎ (d + 7 ≤ c)
 other-header ws hs refs c d k r s n = (headers-of ws hs refs k).apart c d r s n
 
-pub same-set : (ws hs refs : List ℕ) (f b v : ℕ) → Linked ws hs refs → Stands refs b → SameWatches ws (set ws (slot ws f b) v) refs
+pub same-set : (ws hs refs : List ℕ) (f b v : ℕ) → HasWatchChains ws hs refs → IsMemberOf refs b → SameWatches ws (set ws (link_index ws f b) v) refs
 same-set ws hs refs f b v k r = record {
   left_same = λ d s. elim (cases_eq b d) [
-    | inl e ↦ get_or-set_other ws (slot ws f b) (d + 1) v 0 (grind (arith, slot-in ws f b))
-    | inr n ↦ (let a = other-header ws hs refs b d k r s n in get_or-set_other ws (slot ws f b) (d + 1) v 0 (grind (arith, slot-in ws f b)))
+    | inl e ↦ get_or-set_other ws (link_index ws f b) (d + 1) v 0 (grind (arith, link_index-in ws f b))
+    | inr n ↦ (let a = other-header ws hs refs b d k r s n in get_or-set_other ws (link_index ws f b) (d + 1) v 0 (grind (arith, link_index-in ws f b)))
   ];
   right_same = λ d s. elim (cases_eq b d) [
-    | inl e ↦ get_or-set_other ws (slot ws f b) (d + 3) v 0 (grind (arith, slot-in ws f b))
-    | inr n ↦ (let a = other-header ws hs refs b d k r s n in get_or-set_other ws (slot ws f b) (d + 3) v 0 (grind (arith, slot-in ws f b)))
+    | inl e ↦ get_or-set_other ws (link_index ws f b) (d + 3) v 0 (grind (arith, link_index-in ws f b))
+    | inr n ↦ (let a = other-header ws hs refs b d k r s n in get_or-set_other ws (link_index ws f b) (d + 3) v 0 (grind (arith, link_index-in ws f b)))
   ];
 }
 
@@ -116,7 +116,7 @@ pub watches-to : (ws vs : List ℕ) (c l : ℕ) → get_or vs (c + 1) 0 ≡ get_
 watches-to ws vs c l a b (left p) = left (a ∙ p)
 watches-to ws vs c l a b (right p) = right (b ∙ p)
 
--- after the move c watches t, and what it watched but f
+-- After the move `c` watches `t`, and its earlier watches other than `f`.
 pub watch-back : (ws : List ℕ) (f c t v l : ℕ) → c + 7 ≤ length ws → get_or ws (c + 1) 0 ≢ get_or ws (c + 3) 0 → Watches ws c f → Watches (watch_moved ws f c t v) c l → (l ≡ t) ⊎ (Watches ws c l × (l ≢ f))
 watch-back ws f c t v l h n wf w =
     elim (cases_eq (get_or ws (c + 1) 0) f) [
@@ -135,16 +135,15 @@ watch-back ws f c t v l h n wf w =
     pick2 ws vs c f t l p n a b (right x) (left q) = inr (left (sym a ∙ q), λ e. p (sym a ∙ q ∙ e))
     pick2 ws vs c f t l p n a b (right x) (right q) = inl (sym q ∙ b)
 
--- c leaves the chain of f
-pub unlinked : (ws hs refs : List ℕ) (before : Option ℕ) (f c : ℕ) → Linked ws hs refs → f < length hs →
-    StandsAfter before c (chain_at ws hs f) →
-    Chains (words_after ws before f c) (heads_after hs ws before f c) (Stands refs)
-    (upd (chain_at ws hs) f (without_reference c (chain_at ws hs f)))
+pub unlinked : (ws hs refs : List ℕ) (before : Option ℕ) (f c : ℕ) → HasWatchChains ws hs refs → f < length hs →
+    DirectlyFollows before c (chain_at ws hs f) →
+    AreChains (words_after_unlink ws before f c) (heads_after_unlink hs ws before f c) (IsMemberOf refs)
+    (with_chain_replaced (chain_at ws hs) f (without_reference c (chain_at ws hs f)))
 unlinked ws hs refs None f c k h a =
     let e : without_reference c (chain_at ws hs f) ≡ a.0 = rw a.1 (without-first c a.0 (let D : List ℕ → Type 0 = λ ys. Distinct ys in let d : Distinct (c ∷ a.0) = subst D a.1 (k.chains.once f h) in d.0)) in
-    rw e (drop-first ws hs (Stands refs) (chain_at ws hs) f c a.0 h a.1 k.chains)
+    rw e (drop-first ws hs (IsMemberOf refs) (chain_at ws hs) f c a.0 h a.1 k.chains)
 unlinked ws hs refs (Some b) f c k h a =
     let D : List ℕ → Type 0 = λ ys. Distinct ys in
     let d : Distinct (a.0 ++ (b ∷ (c ∷ a.1.0))) = subst D a.1.1 (k.chains.once f h) in
     let e : without_reference c (chain_at ws hs f) ≡ a.0 ++ (b ∷ a.1.0) = rw a.1.1 (without-later a.0 b c a.1.0 d) in
-    rw e (drop-later ws hs (Stands refs) (chain_at ws hs) f b c a.0 a.1.0 h a.1.1 (headers-of ws hs refs k) k.chains)
+    rw e (drop-later ws hs (IsMemberOf refs) (chain_at ws hs) f b c a.0 a.1.0 h a.1.1 (headers-of ws hs refs k) k.chains)

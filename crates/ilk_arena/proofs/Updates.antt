@@ -1,17 +1,16 @@
--- How the lists of an arena follow its words.
+-- Updates of an arena's lists by updates of its words.
 use Rattle.std.proofs.Common.{◌≡◌, ℕ, ◌<◌, inl, inr, List, [], ◌∷◌, length, get_or, set, map, refl, sym, ap, ◌∙◌, subst, arith}
 use Rattle.std.proofs.lemmas.Bool.Decides.{eqb_tells}
 use Rattle.std.proofs.lemmas.List.{get_or-set_same, get_or-set_other, length-set}
 use Rattle.ilk_cnf.specs.Literal.{Literal, vars_differ}
 use Rattle.ilk_arena.specs.Arena.{ArenaLists}
-use Rattle.ilk_arena.specs.Words.{Stands, upd}
-use Rattle.ilk_arena.specs.Linked.{lit_at, literals_at, cursor_at, chain_at, references_in, lists_of, Linked, Laid, HoldsArena}
+use Rattle.ilk_arena.specs.Words.{IsMemberOf, with_chain_replaced}
+use Rattle.ilk_arena.specs.Linked.{lit_at, literals_at, cursor_at, chain_at, references_in, lists_of, HasWatchChains, HasClausesInOrder, HoldsArena}
 use Rattle.ilk_base.proofs.Lists.{list-ext}
 use Rattle.ilk_arena.proofs.Blocks.{references-are, blocks-same, stands-at}
 use Rattle.ilk_arena.proofs.Seen.{chain-seen, chains-count}
 use Rattle.ilk_arena.proofs.Unlinking.{Alike}
 
--- equal lists make equal arenas
 pub arena-ext : (x y : ArenaLists) → x.vars ≡ y.vars → x.spare ≡ y.spare → x.references ≡ y.references → x.clauses ≡ y.clauses → x.cursors ≡ y.cursors → x.chains ≡ y.chains → x ≡ y
 arena-ext x y a b c d e f =
     let A : (v s : ℕ) (rs : List ℕ) (cl : List (List Literal)) (cu : List ℕ) (ch : List (List ℕ)) → ArenaLists = λ v s rs cl cu ch. record { vars = v; spare = s; references = rs; clauses = cl; cursors = cu; chains = ch } in
@@ -22,12 +21,11 @@ arena-ext x y a b c d e f =
     ∙ ap (λ (cu : List ℕ). A y.vars y.spare y.references y.clauses cu x.chains) e
     ∙ ap (λ (ch : List (List ℕ)). A y.vars y.spare y.references y.clauses y.cursors ch) f
 
--- a list of chains, and the chain at each place
 pub record Gives (chains : List (List ℕ)) (n : ℕ) (cs : ℕ → List ℕ) : Type 0 where
   pub size : length chains ≡ n
   pub item : (p : ℕ) → p < n → get_or chains p [] ≡ cs p
 
-pub gives-set : (chains : List (List ℕ)) (n : ℕ) (cs : ℕ → List ℕ) (p : ℕ) (v w : List ℕ) → Gives chains n cs → p < n → v ≡ w → Gives (set chains p v) n (upd cs p w)
+pub gives-set : (chains : List (List ℕ)) (n : ℕ) (cs : ℕ → List ℕ) (p : ℕ) (v w : List ℕ) → Gives chains n cs → p < n → v ≡ w → Gives (set chains p v) n (with_chain_replaced cs p w)
 gives-set chains n cs p v w g h e = record {
   size = simp length-set g.size;
   item = λ q l. elim (eqb_tells q p) [
@@ -48,13 +46,12 @@ gives-seen vars spare ws hs refs = record {
 pub gives-as : (xs : List (List ℕ)) (n : ℕ) (cs ds : ℕ → List ℕ) → Gives xs n cs → ((p : ℕ) → p < n → cs p ≡ ds p) → Gives xs n ds
 gives-as xs n cs ds g e = record { size = g.size; item = λ p l. g.item p l ∙ e p l }
 
-pub map-same : {A : Type 0} (f g : ℕ → A) (xs : List ℕ) → ((c : ℕ) → Stands xs c → f c ≡ g c) → map f xs ≡ map g xs
+pub map-same : {A : Type 0} (f g : ℕ → A) (xs : List ℕ) → ((c : ℕ) → IsMemberOf xs c → f c ≡ g c) → map f xs ≡ map g xs
 map-same f g [] e = refl
 map-same f g (x ∷ xs) e =
     ap (λ y. y ∷ map f xs) (e x (inl refl)) ∙ ap (λ ys. g x ∷ ys) (map-same f g xs (λ c s. e c (inr s)))
 
--- the words beside the chains stay
-pub laid-alike : (ws us refs : List ℕ) → Laid ws refs → Alike ws us refs → Laid us refs
+pub laid-alike : (ws us refs : List ℕ) → HasClausesInOrder ws refs → Alike ws us refs → HasClausesInOrder us refs
 laid-alike ws us refs k a = record {
   blocks = blocks-same ws us 1 refs a.size (λ c s. (a.same c s).len) k.blocks;
   number = λ i c s. (a.same c (stands-at refs i c s)).number ∙ k.number i c s;
@@ -62,12 +59,13 @@ laid-alike ws us refs k a = record {
   apart = λ c s. ap (λ (ps : List ℕ). vars_differ (map lit_at ps)) (a.same c s).places ∙ k.apart c s;
 }
 
-pub holds-alike : (ws us hs ks : List ℕ) (vars count : ℕ) → HoldsArena ws hs vars count → Alike ws us (references_in ws) → length ks ≡ length hs → Linked us ks (references_in ws) → HoldsArena us ks vars count × (references_in us ≡ references_in ws)
+pub holds-alike : (ws us hs ks : List ℕ) (vars count : ℕ) → HoldsArena ws hs vars count → Alike ws us (references_in ws) → length ks ≡ length hs → HasWatchChains us ks (references_in ws)
+    → HoldsArena us ks vars count × (references_in us ≡ references_in ws)
 holds-alike ws us hs ks vars count h a n li =
     let d = laid-alike ws us (references_in ws) h.laid a in
     let e : references_in us ≡ references_in ws = references-are us (references_in ws) d.blocks in
-    let P : List ℕ → Type 0 = λ rs. Linked us ks rs in
-    let Q : List ℕ → Type 0 = λ rs. Laid us rs in (
+    let P : List ℕ → Type 0 = λ rs. HasWatchChains us ks rs in
+    let Q : List ℕ → Type 0 = λ rs. HasClausesInOrder us rs in (
       record {
         few = h.few;
         addressed = omega (arith, h.addressed, a.size);

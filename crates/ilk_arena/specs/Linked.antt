@@ -1,32 +1,28 @@
--- Only proofs need this file: how the words of an arena hold its lists.
+-- Used only in proofs: the relation between the words of an arena and its lists.
 use Rattle.std.specs.Prelude.{ℕ, zero, suc, ◌+◌, ◌*◌, ◌/◌, ◌%◌, ◌<◌, ◌≤◌, ◌≡◌, ◌≢◌, true, ◌==◌, List, [], ◌∷◌, cond, nat_lt, slice_index, length, take, drop, map, Some}
 use Rattle.std.specs.List.{slice_get, range_with_len}
 use Rattle.ilk_cnf.specs.Literal.{Literal, vars_differ}
 use Rattle.ilk_arena.specs.Arena.{ArenaLists}
 use Rattle.ilk_arena.specs.declared.place.TheConstants.{WORD_LIMIT}
-use Rattle.ilk_arena.specs.Words.{chain, Stands, Watches, Chains}
+use Rattle.ilk_arena.specs.Words.{chain, IsMemberOf, Watches, AreChains}
 
--- the literal at a place
 abbrev pub lit_at : ℕ → Literal
 lit_at p = record { var = p / 2; positive = p % 2 == 1 }
 
--- the places of the literals of c
+-- The places of the literals of clause `c`.
 unfoldable pub places_at : List ℕ → ℕ → List ℕ
 places_at ws c = take (slice_index ws c) (drop (c + 7) ws)
 
--- the literals of c
 abbrev pub literals_at : List ℕ → ℕ → List Literal
 literals_at ws c = map lit_at (places_at ws c)
 
--- the cursor of c
 abbrev pub cursor_at : List ℕ → ℕ → ℕ
 cursor_at ws c = slice_index ws (c + 6)
 
--- the chain of place l
 abbrev pub chain_at : List ℕ → List ℕ → ℕ → List ℕ
 chain_at ws hs l = chain ws l (length ws) (slice_index hs l)
 
--- the references of the clauses from word k on, at most n of them
+-- The references of the clauses from word `k` on, at most `n` of them.
 abbrev pub references_from : List ℕ → ℕ → ℕ → List ℕ
 references_from ws zero k = []
 references_from ws (suc n) k = cond (nat_lt k (length ws)) (k ∷ references_from ws n (k + 7 + slice_index ws k)) []
@@ -34,7 +30,6 @@ references_from ws (suc n) k = cond (nat_lt k (length ws)) (k ∷ references_fro
 abbrev pub references_in : List ℕ → List ℕ
 references_in ws = references_from ws (length ws) 1
 
--- the lists that the words hold
 unfoldable pub lists_of : ℕ → ℕ → List ℕ → List ℕ → List ℕ → ArenaLists
 lists_of vars spare ws hs refs = record {
   vars = vars;
@@ -45,42 +40,44 @@ lists_of vars spare ws hs refs = record {
   chains = map (chain_at ws hs) (range_with_len 0 (length hs));
 }
 
--- from word k on the block has the clauses cs, one right after the other
-abbrev pub Blocks : List ℕ → ℕ → List ℕ → Type 0
-Blocks ws k [] = k ≡ length ws
-Blocks ws k (c ∷ cs) = (k ≡ c) × (c + 7 + slice_index ws c ≤ length ws) × Blocks ws (c + 7 + slice_index ws c) cs
+-- Holds if, from word `k` on, the block consists of the clauses `cs`, without gaps.
+abbrev pub IsGaplessFrom : List ℕ → ℕ → List ℕ → Type 0
+IsGaplessFrom ws k [] = k ≡ length ws
+IsGaplessFrom ws k (c ∷ cs) = (k ≡ c) × (c + 7 + slice_index ws c ≤ length ws) × IsGaplessFrom ws (c + 7 + slice_index ws c) cs
 
--- the chains through the headers are those of the watches; the first two places are no literal's
-pub record Linked (ws hs refs : List ℕ) : Type 0 where
+-- Holds if the links in the headers form the chains of the watches. No literal has one of the first
+-- two places.
+pub record HasWatchChains (ws hs refs : List ℕ) : Type 0 where
   pub started : 0 < length ws
   pub wide : 2 ≤ length hs
-  pub positive : (c : ℕ) → Stands refs c → 0 < c
-  pub whole : (c : ℕ) → Stands refs c → c + 7 + slice_index ws c ≤ length ws
-  pub clear : (c d : ℕ) → Stands refs c → Stands refs d → c < d → c + 7 + slice_index ws c ≤ d
-  pub differ : (c : ℕ) → Stands refs c → slice_index ws (c + 1) ≢ slice_index ws (c + 3)
-  pub least : (c p : ℕ) → Stands refs c → Stands (places_at ws c) p → 2 ≤ p
-  pub small : (c p : ℕ) → Stands refs c → Stands (places_at ws c) p → p < length hs
-  pub left_own : (c : ℕ) → Stands refs c → 2 ≤ slice_index ws c → Stands (places_at ws c) (slice_index ws (c + 1))
-  pub right_own : (c : ℕ) → Stands refs c → 2 ≤ slice_index ws c → Stands (places_at ws c) (slice_index ws (c + 3))
-  pub left_none : (c : ℕ) → Stands refs c → slice_index ws c < 2 → slice_index ws (c + 1) < 2
-  pub right_none : (c : ℕ) → Stands refs c → slice_index ws c < 2 → slice_index ws (c + 3) < 2
-  pub chains : Chains ws hs (Stands refs) (chain_at ws hs)
+  pub positive : (c : ℕ) → IsMemberOf refs c → 0 < c
+  pub whole : (c : ℕ) → IsMemberOf refs c → c + 7 + slice_index ws c ≤ length ws
+  pub clear : (c d : ℕ) → IsMemberOf refs c → IsMemberOf refs d → c < d → c + 7 + slice_index ws c ≤ d
+  pub differ : (c : ℕ) → IsMemberOf refs c → slice_index ws (c + 1) ≢ slice_index ws (c + 3)
+  pub least : (c p : ℕ) → IsMemberOf refs c → IsMemberOf (places_at ws c) p → 2 ≤ p
+  pub small : (c p : ℕ) → IsMemberOf refs c → IsMemberOf (places_at ws c) p → p < length hs
+  pub left_own : (c : ℕ) → IsMemberOf refs c → 2 ≤ slice_index ws c → IsMemberOf (places_at ws c) (slice_index ws (c + 1))
+  pub right_own : (c : ℕ) → IsMemberOf refs c → 2 ≤ slice_index ws c → IsMemberOf (places_at ws c) (slice_index ws (c + 3))
+  pub left_none : (c : ℕ) → IsMemberOf refs c → slice_index ws c < 2 → slice_index ws (c + 1) < 2
+  pub right_none : (c : ℕ) → IsMemberOf refs c → slice_index ws c < 2 → slice_index ws (c + 3) < 2
+  pub chains : AreChains ws hs (IsMemberOf refs) (chain_at ws hs)
   pub empty : (l : ℕ) → l < 2 → chain_at ws hs l ≡ []
-  pub standing : (c l : ℕ) → Stands refs c → 2 ≤ l → l < length hs → Watches ws c l → Stands (chain_at ws hs l) c
+  pub standing : (c l : ℕ) → IsMemberOf refs c → 2 ≤ l → l < length hs → Watches ws c l → IsMemberOf (chain_at ws hs l) c
 
--- the clauses stand one after the other, with their numbers and cursors, and each has a variable once
-pub record Laid (ws refs : List ℕ) : Type 0 where
-  pub blocks : Blocks ws 1 refs
+-- Holds if the clauses follow each other with their numbers and cursors, and no clause has a
+-- variable twice.
+pub record HasClausesInOrder (ws refs : List ℕ) : Type 0 where
+  pub blocks : IsGaplessFrom ws 1 refs
   pub number : (i c : ℕ) → slice_get refs i ≡ Some c → slice_index ws (c + 5) ≡ i + 1
-  pub cursor : (c : ℕ) → Stands refs c → slice_index ws (c + 6) ≤ slice_index ws c
-  pub apart : (c : ℕ) → Stands refs c → vars_differ (literals_at ws c) ≡ true
+  pub cursor : (c : ℕ) → IsMemberOf refs c → slice_index ws (c + 6) ≤ slice_index ws c
+  pub apart : (c : ℕ) → IsMemberOf refs c → vars_differ (literals_at ws c) ≡ true
 
--- how the words, the heads, the number of variables and the number of clauses hold the lists, where
--- each place and each reference fits a word
+-- Holds if the words, the heads and the numbers of variables and clauses store the lists, and each
+-- place and reference fits a word.
 pub record HoldsArena (ws hs : List ℕ) (vars count : ℕ) : Type 0 where
   pub few : 2 * vars + 2 ≤ WORD_LIMIT
   pub addressed : length ws ≤ WORD_LIMIT
   pub heads : length hs ≡ 2 * vars + 2
   pub counted : count ≡ length (references_in ws)
-  pub linked : Linked ws hs (references_in ws)
-  pub laid : Laid ws (references_in ws)
+  pub linked : HasWatchChains ws hs (references_in ws)
+  pub laid : HasClausesInOrder ws (references_in ws)

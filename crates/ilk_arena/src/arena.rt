@@ -1,18 +1,18 @@
 ghost use Rattle.std.specs.Prelude.{◌≡◌, ◌≤◌, ◌<◌, ◌+◌, ◌*◌, ◌^◌, false, Some, [], length, slice_get, replicate, IfOk, IfSome, OnOk, OnErr, IsTrue};
-ghost use Rattle.ilk_cnf.specs.Formula.{clause_in, lit_in};
+ghost use Rattle.ilk_cnf.specs.Formula.{is_clause_over, is_lit_over};
 ghost use Rattle.ilk_cnf.specs.Literal.{vars_differ};
-ghost use Rattle.ilk_arena.specs.Arena.{added, after, chain_of, cursor_of, first_of, follows, literals_of, number_of_clause, other_watch_of, rewatched, set_beside, stands_in};
+ghost use Rattle.ilk_arena.specs.Arena.{with_clause_added, reference_after, chain_of, cursor_of, first_of, directly_follows, literals_of, number_of_clause, other_watch_of, with_watch_moved, set_for_reference, is_listed_in};
 ghost use Rattle.ilk_arena.specs.Words.{reference_of};
 ghost use Rattle.ilk_arena.specs.Chains.{IsArena};
 
 use crate::block::append;
-use crate::links::{lead, move_watch, next_of, other_of};
+use crate::links::{move_watch, next_of, other_of, set_both_heads};
 use crate::place::{WORD_LIMIT, lit_at, place};
 use ilk_cnf::Lit;
 use std::alloc::{AllocError, Global};
 use std::marker::Model;
 
-// The words of a header, and where it has the number and the cursor.
+// The size of a header, and the offsets of the number and the cursor in it.
 const HEADER: usize = 7;
 
 const NUMBER: usize = 5;
@@ -22,9 +22,9 @@ const CURSOR: usize = 6;
 /// All clauses, each with its watches.
 #[derive(Drop)]
 pub struct Arena {
-    // the clauses, after one word that no clause takes, so that no reference is 0
+    // The clauses, after one word that belongs to no clause, so that no reference is 0.
     words: Vec<u32>,
-    // by place: the first clause of its chain, or 0
+    // By place: the first clause of its chain, or 0.
     heads: Vec<u32>,
     vars: u64,
     count: u32,
@@ -44,7 +44,7 @@ impl Model for Arena {
     ghost invariant = { λ a. HoldsArena a.words.items a.heads.items a.vars a.count };
 }
 
-// A link as a reference.
+// Converts a link to a reference, or to `None` if it is 0.
 #[inline(always)]
 fn reference(link: u32) -> Option<u64>
     ensures { result ≡ reference_of link }
@@ -53,8 +53,8 @@ fn reference(link: u32) -> Option<u64>
 }
 
 impl Arena {
-    /// An arena over the variables 1 to `vars`, without clauses. There is no memory for 2^31 variables
-    /// or more: a word has no room for their places.
+    /// Creates an arena over the variables 1 to `vars`, without clauses. Fails if memory runs out,
+    /// or for 2^31 variables or more, because their places don't fit a word.
     pub fn new(alloc: Global, vars: u64) -> Result<Arena, AllocError>
         requires { vars ≤ 2 ^ 62 }
         ensures empty { IfOk result
@@ -80,8 +80,9 @@ impl Arena {
         })
     }
 
-    /// Makes room for clauses of so many words: their literals, and 8 more for each clause. There is no
-    /// memory for more than 2^32 words in all: a word has no room for a reference past them.
+    /// Makes room for clauses of `words` words in total: their literals, and 8 more for each
+    /// clause. Fails if memory runs out, or for more than 2^32 words in all, because a later
+    /// reference would not fit a word.
     pub fn reserve(&mut self, words: u64) -> Result<(), AllocError>
         ensures room { OnOk result (words ≤ self.new.spare) }
         ensures same { self.new ≡ record self.old { spare = self.new.spare } }
@@ -94,14 +95,14 @@ impl Arena {
         Ok(())
     }
 
-    /// Adds a clause and answers its reference. It watches its first two literals, if it has two,
-    /// and stands first in their chains.
+    /// Adds a clause and returns its reference. If the clause has two or more literals, it watches
+    /// the first two and is put first in their chains.
     pub fn add(&mut self, clause: &[Lit]) -> u64
         requires room { length clause.now + 8 ≤ self.old.spare }
-        requires within { IsTrue (clause_in self.old.vars clause.now) }
+        requires within { IsTrue (is_clause_over self.old.vars clause.now) }
         requires differ { IsTrue (vars_differ clause.now) }
-        ensures added { self.new ≡ added self.old clause.now result self.new.spare }
-        ensures fresh { stands_in result self.old.references ≡ false }
+        ensures added { self.new ≡ with_clause_added self.old clause.now result self.new.spare }
+        ensures fresh { is_listed_in result self.old.references ≡ false }
         ensures room { self.old.spare ≤ self.new.spare + length clause.now + 8 }
         ensures arena { IsArena self.new }
     {
@@ -112,14 +113,13 @@ impl Arena {
         }
     }
 
-    // Adds a clause that watches nothing.
     fn add_short(&mut self, clause: &[Lit]) -> u64
         requires room { length clause.now + 8 ≤ self.old.spare }
-        requires within { IsTrue (clause_in self.old.vars clause.now) }
+        requires within { IsTrue (is_clause_over self.old.vars clause.now) }
         requires differ { IsTrue (vars_differ clause.now) }
         requires short { length clause.now < 2 }
-        ensures added { self.new ≡ added self.old clause.now result self.new.spare }
-        ensures fresh { stands_in result self.old.references ≡ false }
+        ensures added { self.new ≡ with_clause_added self.old clause.now result self.new.spare }
+        ensures fresh { is_listed_in result self.old.references ≡ false }
         ensures room { self.old.spare ≤ self.new.spare + length clause.now + 8 }
         ensures arena { IsArena self.new }
     {
@@ -133,14 +133,13 @@ impl Arena {
         reference
     }
 
-    // Adds a clause that watches its first two literals.
     fn add_long(&mut self, clause: &[Lit]) -> u64
         requires room { length clause.now + 8 ≤ self.old.spare }
-        requires within { IsTrue (clause_in self.old.vars clause.now) }
+        requires within { IsTrue (is_clause_over self.old.vars clause.now) }
         requires differ { IsTrue (vars_differ clause.now) }
         requires long { 2 ≤ length clause.now }
-        ensures added { self.new ≡ added self.old clause.now result self.new.spare }
-        ensures fresh { stands_in result self.old.references ≡ false }
+        ensures added { self.new ≡ with_clause_added self.old clause.now result self.new.spare }
+        ensures fresh { is_listed_in result self.old.references ≡ false }
         ensures room { self.old.spare ≤ self.new.spare + length clause.now + 8 }
         ensures arena { IsArena self.new }
     {
@@ -163,11 +162,11 @@ impl Arena {
             ],
             clause,
         );
-        lead(&mut self.heads, left, right, reference);
+        set_both_heads(&mut self.heads, left, right, reference);
         reference
     }
 
-    /// How many variables there are.
+    /// Returns the number of variables.
     pub fn vars(&self) -> u64
         ensures count { result ≡ self.now.vars }
         ensures numbered { result ≤ 2 ^ 62 }
@@ -175,89 +174,92 @@ impl Arena {
         self.vars
     }
 
-    /// How many literals clause `c` has.
+    /// Returns the number of literals of clause `c`.
     pub fn length(&self, c: u64) -> u64
-        requires { IsTrue (stands_in c self.now.references) }
+        requires { IsTrue (is_listed_in c self.now.references) }
         ensures { result ≡ length (literals_of self.now c) }
     {
         self.words[c as usize] as u64
     }
 
-    /// Literal `i` of clause `c`.
+    /// Returns literal `i` of clause `c`.
     pub fn literal(&self, c: u64, i: u64) -> Lit
-        requires known { IsTrue (stands_in c self.now.references) }
+        requires known { IsTrue (is_listed_in c self.now.references) }
         requires below { i < length (literals_of self.now c) }
         ensures { slice_get (literals_of self.now c) i ≡ Some result }
     {
         lit_at(self.words[c as usize + HEADER + i as usize])
     }
 
-    /// The number of clause `c`: clauses are numbered from 1, in the order in which they were added.
+    /// Returns the number of clause `c`: clauses are numbered from 1, in the order of adding.
     pub fn number(&self, c: u64) -> u64
-        requires { IsTrue (stands_in c self.now.references) }
+        requires { IsTrue (is_listed_in c self.now.references) }
         ensures { result ≡ number_of_clause self.now c }
     {
         self.words[c as usize + NUMBER] as u64
     }
 
-    /// The cursor of clause `c`, which is 0 at first.
+    /// Returns the cursor of clause `c`, which is 0 at first.
     pub fn cursor(&self, c: u64) -> u64
-        requires { IsTrue (stands_in c self.now.references) }
+        requires { IsTrue (is_listed_in c self.now.references) }
         ensures cursor { result ≡ cursor_of self.now c }
         ensures within { result ≤ length (literals_of self.now c) }
     {
         self.words[c as usize + CURSOR] as u64
     }
 
-    /// Sets the cursor of clause `c`.
+    /// Sets the cursor of clause `c` to `i`.
     pub fn set_cursor(&mut self, c: u64, i: u64)
-        requires known { IsTrue (stands_in c self.old.references) }
+        requires known { IsTrue (is_listed_in c self.old.references) }
         requires within { i ≤ length (literals_of self.old c) }
         ensures { self.new
-            ≡ record self.old { cursors = set_beside c self.old.references self.old.cursors i } }
+            ≡ record self.old {
+              cursors = set_for_reference c self.old.references self.old.cursors
+                  i;
+            } }
     {
         let cursor = &mut self.words[c as usize + CURSOR];
         *cursor = i as u32;
     }
 
-    /// The first clause in the chain of `l`.
+    /// Returns the first clause in the chain of `l`, or `None` if the chain is empty.
     pub fn first_watch(&self, l: Lit) -> Option<u64>
-        requires { IsTrue (lit_in self.now.vars l) }
+        requires { IsTrue (is_lit_over self.now.vars l) }
         ensures first { result ≡ first_of (chain_of self.now l) }
         ensures arena { IsArena self.now }
     {
         reference(self.heads[place(l) as usize])
     }
 
-    /// The clause after clause `c` in the chain of `l`.
+    /// Returns the clause after clause `c` in the chain of `l`, or `None` if `c` is the last.
     pub fn next_watch(&self, c: u64, l: Lit) -> Option<u64>
-        requires within { IsTrue (lit_in self.now.vars l) }
-        requires stands { IsTrue (stands_in c (chain_of self.now l)) }
-        ensures { result ≡ after c (chain_of self.now l) }
+        requires within { IsTrue (is_lit_over self.now.vars l) }
+        requires stands { IsTrue (is_listed_in c (chain_of self.now l)) }
+        ensures { result ≡ reference_after c (chain_of self.now l) }
     {
         reference(next_of(&self.words, place(l), c))
     }
 
-    /// The watch of clause `c` besides `l`.
+    /// Returns the literal besides `l` that clause `c` watches.
     pub fn other_watch(&self, c: u64, l: Lit) -> Lit
-        requires within { IsTrue (lit_in self.now.vars l) }
-        requires stands { IsTrue (stands_in c (chain_of self.now l)) }
+        requires within { IsTrue (is_lit_over self.now.vars l) }
+        requires stands { IsTrue (is_listed_in c (chain_of self.now l)) }
         ensures { other_watch_of self.now c l ≡ Some result }
     {
         lit_at(other_of(&self.words, place(l), c))
     }
 
-    /// Moves the watch of clause `c` from `from` to its literal `to`, which it doesn't watch. In the
-    /// chain of `from` it stands right after `before`, or first; in that of the literal it comes to
-    /// stand first.
+    /// Moves the watch of clause `c` from `from` to its literal number `to`, which it doesn't
+    /// watch. In the chain of `from`, `c` directly follows `before`, or is first if `before` is
+    /// `None`. It becomes the first in the chain of the new literal.
     pub fn rewatch(&mut self, before: Option<u64>, c: u64, from: Lit, to: u64)
-        requires within { IsTrue (lit_in self.old.vars from) }
-        requires follows { IsTrue (follows before c (chain_of self.old from)) }
+        requires within { IsTrue (is_lit_over self.old.vars from) }
+        requires follows { IsTrue (directly_follows before c (chain_of self.old from)) }
         requires to_in { to < length (literals_of self.old c) }
         requires unwatched { IfSome (slice_get (literals_of self.old c) to)
-            (λ l. stands_in c (chain_of self.old l) ≡ false) }
+            (λ l. is_listed_in c (chain_of self.old l) ≡ false) }
         ensures moved { IfSome (slice_get (literals_of self.old c) to)
-            (λ l. self.new ≡ rewatched self.old c from l) }
+            (λ l. self.new ≡ with_watch_moved self.old c from l) }
         ensures arena { IsArena self.new }
     {
         let watch = self.words[c as usize + HEADER + to as usize];

@@ -1,13 +1,13 @@
 ghost use Rattle.std.specs.Prelude.{◌≡◌, ◌+◌, ◌-◌, ◌<◌, ◌≤◌, length, slice_index, slice_set, IfSome};
-ghost use Rattle.ilk_arena.specs.Words.{slot, next_reference, watch_moved, other, words_after, heads_after};
+ghost use Rattle.ilk_arena.specs.Words.{link_index, next_reference, watch_moved, other_watch_place, words_after_unlink, heads_after_unlink};
 ghost use Rattle.ilk_arena.specs.declared.place.TheConstants.{WORD_LIMIT};
 
-/// Where the link of place `at` stands in the header of `clause`.
+/// Returns the index of the link for place `at` in the header of `clause`.
 #[inline(always)]
-#[tactic(auto, unfolding(crate::specs::Words::slot))]
+#[tactic(auto, unfolding(crate::specs::Words::link_index))]
 pub fn slot_of(words: &[u32], at: u32, clause: u64) -> u64
     requires { clause + 7 ≤ length words.now }
-    ensures slot { result ≡ slot words.now at clause }
+    ensures slot { result ≡ link_index words.now at clause }
     ensures low { clause + 2 ≤ result }
     ensures high { result ≤ clause + 4 }
 {
@@ -18,7 +18,7 @@ pub fn slot_of(words: &[u32], at: u32, clause: u64) -> u64
     }
 }
 
-/// The clause after `clause` in the chain of place `at`, or 0.
+/// Returns the clause after `clause` in the chain of place `at`, or 0 if there is none.
 #[inline(always)]
 pub fn next_of(words: &[u32], at: u32, clause: u64) -> u32
     requires { clause + 7 ≤ length words.now }
@@ -27,11 +27,11 @@ pub fn next_of(words: &[u32], at: u32, clause: u64) -> u32
     words[slot_of(words, at, clause) as usize]
 }
 
-/// The other watch of `clause`.
+/// Returns the place besides `at` that `clause` watches.
 #[inline(always)]
 pub fn other_of(words: &[u32], at: u32, clause: u64) -> u32
     requires { clause + 7 ≤ length words.now }
-    ensures { result ≡ other words.now at clause }
+    ensures { result ≡ other_watch_place words.now at clause }
 {
     let left = words[clause as usize + 1];
     if left == at {
@@ -41,19 +41,20 @@ pub fn other_of(words: &[u32], at: u32, clause: u64) -> u32
     }
 }
 
-// Lets the link of `before` skip `clause`.
+// Makes the link of `before` skip `clause`.
 fn skip(words: &mut [u32], from: u32, before: u64, clause: u64)
     requires before_in { before + 7 ≤ length words.old }
     requires clause_in { clause + 7 ≤ length words.old }
     ensures { words.new
-        ≡ slice_set words.old (slot words.old from before) (next_reference words.old from clause) }
+        ≡ slice_set words.old (link_index words.old from before)
+        (next_reference words.old from clause) }
 {
     let after = next_of(words, from, clause);
     let at = slot_of(words, from, before);
     words[at as usize] = after;
 }
 
-// Makes the watch of `from` one of `to`, whose link is `link`.
+// Replaces the watch of `from` in `clause` by one of `to` with link `link`.
 fn relabel(words: &mut [u32], from: u32, clause: u64, to: u32, link: u32)
     requires { clause + 7 ≤ length words.old }
     ensures { words.new ≡ watch_moved words.old from clause to link }
@@ -63,13 +64,13 @@ fn relabel(words: &mut [u32], from: u32, clause: u64, to: u32, link: u32)
     words[at as usize] = link;
 }
 
-// Takes `clause` out of the chain of `from`, where it follows `before` or is the first.
+// Removes `clause` from the chain of `from`, in which it follows `before` or is first.
 fn unlink(words: &mut [u32], heads: &mut [u32], before: Option<u64>, from: u32, clause: u64)
     requires before_in { IfSome before (λ b. b + 7 ≤ length words.old) }
     requires clause_in { clause + 7 ≤ length words.old }
     requires from_in { from < length heads.old }
-    ensures words { words.new ≡ words_after words.old before from clause }
-    ensures heads { heads.new ≡ heads_after heads.old words.old before from clause }
+    ensures words { words.new ≡ words_after_unlink words.old before from clause }
+    ensures heads { heads.new ≡ heads_after_unlink heads.old words.old before from clause }
 {
     match before {
         None => heads[from as usize] = next_of(words, from, clause),
@@ -90,8 +91,8 @@ fn link_first(words: &mut [u32], heads: &mut [u32], from: u32, clause: u64, to: 
     heads[to as usize] = clause as u32;
 }
 
-/// Moves `clause` from the chain of `from`, where it follows `before` or is the first, to the front
-/// of that of `to`.
+/// Moves `clause` from the chain of `from`, in which it follows `before` or is first, to the front
+/// of the chain of `to`.
 pub fn move_watch(
     words: &mut [u32],
     heads: &mut [u32],
@@ -106,17 +107,17 @@ pub fn move_watch(
     requires to_in { to < length heads.old }
     requires fits { clause < WORD_LIMIT }
     ensures words { words.new
-        ≡ watch_moved (words_after words.old before from clause) from clause to
-        (slice_index (heads_after heads.old words.old before from clause) to) }
+        ≡ watch_moved (words_after_unlink words.old before from clause) from clause to
+        (slice_index (heads_after_unlink heads.old words.old before from clause) to) }
     ensures heads { heads.new
-        ≡ slice_set (heads_after heads.old words.old before from clause) to clause }
+        ≡ slice_set (heads_after_unlink heads.old words.old before from clause) to clause }
 {
     unlink(words, heads, before, from, clause);
     link_first(words, heads, from, clause, to);
 }
 
-/// Makes `clause` the head of both chains.
-pub fn lead(heads: &mut [u32], left: u32, right: u32, clause: u64)
+/// Makes `clause` the head of the chains of `left` and `right`.
+pub fn set_both_heads(heads: &mut [u32], left: u32, right: u32, clause: u64)
     requires left_in { left < length heads.old }
     requires right_in { right < length heads.old }
     requires fits { clause < WORD_LIMIT }

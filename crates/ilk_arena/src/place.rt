@@ -4,10 +4,11 @@ ghost use Rattle.ilk_arena.specs.Linked.{lit_at};
 
 use ilk_cnf::Lit;
 
-/// What a word holds is below this: a place, and a reference too, so that a block has no more words.
+/// The bound of all places and references, so that each fits a word. A block has at most
+/// `WORD_LIMIT` words.
 pub const WORD_LIMIT: u64 = 1 << 32;
 
-/// The place of a literal in the list of chains.
+/// Returns the place of literal `l` in the list of chains.
 #[inline(always)]
 pub fn place(l: Lit) -> u32
     requires { 2 * l.var + 1 < WORD_LIMIT }
@@ -17,7 +18,7 @@ pub fn place(l: Lit) -> u32
     if l.positive() { negative + 1 } else { negative }
 }
 
-/// The literal at a place.
+/// Returns the literal at `place`.
 #[inline(always)]
 pub fn lit_at(place: u32) -> Lit
     requires { 2 ≤ place }

@@ -1,4 +1,4 @@
--- Clauses in one block, where one is added, and where one is looked up.
+-- Adding a clause to a block, and looking one up.
 use Rattle.std.proofs.Common.{◌≡◌, ℕ, ◌+◌, ◌-◌, ◌<◌, ◌≤◌, inl, inr, true, List, [], ◌∷◌, ◌++◌, length, map, take, drop, refl, sym, ap, ◌∙◌, subst, arith, Some, None, suc, zero}
 use Rattle.std.specs.Prelude.{◌⊎◌, ◌==◌, nat_le, slice_get}
 use Rattle.std.proofs.Math.Seq.{drop-append_seam}
@@ -8,56 +8,54 @@ use Rattle.std.proofs.lemmas.Option.{same_Some}
 use Rattle.ilk_base.proofs.Tested.{list_all-more, list_all-slice_get}
 use Rattle.ilk_cnf.specs.Literal.{Literal, vars_differ}
 use Rattle.ilk_cnf.specs.Code.{code_of}
-use Rattle.ilk_cnf.specs.Formula.{clause_in, clauses_in, IsFormula}
+use Rattle.ilk_cnf.specs.Formula.{is_clause_over, are_clauses_over, IsFormula}
 use Rattle.ilk_log.specs.Propagation.{clause_numbered}
-use Rattle.ilk_audit.specs.Codes.{codes_in, fit}
-use Rattle.ilk_audit.specs.Stored.{are_bounds, ascend, clauses_between, literals_of, IsBlock}
+use Rattle.ilk_audit.specs.Codes.{codes_in, codes_fit}
+use Rattle.ilk_audit.specs.Stored.{are_bounds, is_ascending, clauses_between, literals_of, IsBlock}
 use Rattle.ilk_audit.specs.declared.codes.Codes.{Codes}
 use Rattle.ilk_audit.proofs.Numbers.{literals_back}
 
--- bounds
-ascend-le : (from : ℕ) (bounds : List ℕ) (to : ℕ) → ascend from bounds to ≡ true → from ≤ to
-ascend-le from [] to h = (let e = eqb-true from to h in omega (arith, e))
-ascend-le from (b ∷ bounds) to h =
-    let p = and_parts (nat_le from b) (ascend b bounds to) h in
+is_ascending-le : (from : ℕ) (bounds : List ℕ) (to : ℕ) → is_ascending from bounds to ≡ true → from ≤ to
+is_ascending-le from [] to h = (let e = eqb-true from to h in omega (arith, e))
+is_ascending-le from (b ∷ bounds) to h =
+    let p = and_parts (nat_le from b) (is_ascending b bounds to) h in
     let here = leb-true from b p.0 in
-    omega (arith, here, ascend-le b bounds to p.1)
+    omega (arith, here, is_ascending-le b bounds to p.1)
 
-ascend-push : (from : ℕ) (bounds : List ℕ) (to more : ℕ) → ascend from bounds to ≡ true → to ≤ more → ascend from (bounds ++ more ∷ []) more ≡ true
-ascend-push from [] to more h le =
+is_ascending-push : (from : ℕ) (bounds : List ℕ) (to more : ℕ) → is_ascending from bounds to ≡ true → to ≤ more → is_ascending from (bounds ++ more ∷ []) more ≡ true
+is_ascending-push from [] to more h le =
     let e = eqb-true from to h in
     and_from (nat_le from more) (more == more) (le-leb from more (omega (arith, e))) (eq-eqb more more refl)
-ascend-push from (b ∷ bounds) to more h le =
-    let p = and_parts (nat_le from b) (ascend b bounds to) h in
-    and_from (nat_le from b) (ascend b (bounds ++ more ∷ []) more) p.0 (ascend-push b bounds to more p.1 le)
+is_ascending-push from (b ∷ bounds) to more h le =
+    let p = and_parts (nat_le from b) (is_ascending b bounds to) h in
+    and_from (nat_le from b) (is_ascending b (bounds ++ more ∷ []) more) p.0 (is_ascending-push b bounds to more p.1 le)
 
 pub bounds-push : (bounds : List ℕ) (to more : ℕ) → are_bounds bounds to ≡ true → to ≤ more → are_bounds (bounds ++ more ∷ []) more ≡ true
 bounds-push [] to more h le = absurd (cc)
-bounds-push (from ∷ bounds) to more h le = ascend-push from bounds to more h le
+bounds-push (from ∷ bounds) to more h le = is_ascending-push from bounds to more h le
 
-ascend-at : (from : ℕ) (bounds : List ℕ) (to i a b : ℕ) → ascend from bounds to ≡ true → slice_get (from ∷ bounds) i ≡ Some a → slice_get (from ∷ bounds) (suc i) ≡ Some b → (a ≤ b) × (b ≤ to)
-ascend-at from [] to i a b h p q = absurd (cc)
-ascend-at from (c ∷ bounds) to zero a b h p q =
+is_ascending-at : (from : ℕ) (bounds : List ℕ) (to i a b : ℕ) → is_ascending from bounds to ≡ true → slice_get (from ∷ bounds) i ≡ Some a → slice_get (from ∷ bounds) (suc i) ≡ Some b → (a ≤ b) × (b ≤ to)
+is_ascending-at from [] to i a b h p q = absurd (cc)
+is_ascending-at from (c ∷ bounds) to zero a b h p q =
     let x : from ≡ a = same_Some from a p in
     let y : c ≡ b = same_Some c b q in
-    let t = and_parts (nat_le from c) (ascend c bounds to) h in
+    let t = and_parts (nat_le from c) (is_ascending c bounds to) h in
     let here = leb-true from c t.0 in
-    let rest = ascend-le c bounds to t.1 in
+    let rest = is_ascending-le c bounds to t.1 in
     (omega (arith, x, y, here), omega (arith, y, rest))
-ascend-at from (c ∷ bounds) to (suc i) a b h p q = ascend-at c bounds to i a b (and_parts (nat_le from c) (ascend c bounds to) h).1 p q
+is_ascending-at from (c ∷ bounds) to (suc i) a b h p q = is_ascending-at c bounds to i a b (and_parts (nat_le from c) (is_ascending c bounds to) h).1 p q
 
--- two bounds that follow each other ascend, and neither passes the end
 pub bounds-at : (bounds : List ℕ) (to i a b : ℕ) → are_bounds bounds to ≡ true → slice_get bounds i ≡ Some a → slice_get bounds (suc i) ≡ Some b → (a ≤ b) × (b ≤ to)
 bounds-at [] to i a b h p q = absurd (cc)
-bounds-at (from ∷ bounds) to i a b h p q = ascend-at from bounds to i a b h p q
+bounds-at (from ∷ bounds) to i a b h p q = is_ascending-at from bounds to i a b h p q
 
--- what stands between two bounds isn't changed by what comes at the end
 between-same : (codes new : List ℕ) (from to : ℕ) → from ≤ to → to ≤ length codes → take (to - from) (drop from (codes ++ new)) ≡ take (to - from) (drop from codes)
 between-same codes new from to le fits =
     let long : to - from ≤ length (drop from codes) = (let e = length-drop from codes in omega (arith, e)) in
     ap (take (to - from)) (drop-append-le from codes new (omega arith)) ∙ take-append-le (to - from) (drop from codes) new long
 
-between-push : (from : ℕ) (bounds codes new : List ℕ) → ascend from bounds (length codes) ≡ true → clauses_between (from ∷ (bounds ++ (length codes + length new) ∷ [])) (codes ++ new) ≡ clauses_between (from ∷ bounds) codes ++ literals_of new ∷ []
+between-push : (from : ℕ) (bounds codes new : List ℕ) → is_ascending from bounds (length codes) ≡ true
+    → clauses_between (from ∷ (bounds ++ (length codes + length new) ∷ [])) (codes ++ new) ≡ clauses_between (from ∷ bounds) codes ++ literals_of new ∷ []
 between-push from [] codes new h =
     let e : from ≡ length codes = eqb-true from (length codes) h in
     let n : length codes + length new - from ≡ length new = omega (arith, e) in
@@ -66,18 +64,16 @@ between-push from [] codes new h =
     ∙ ap (take (length new)) (drop-append_seam codes new) ∙ take_all (length new) new (omega arith) in
     ap (λ (xs : List ℕ). literals_of xs ∷ []) here
 between-push from (b ∷ bounds) codes new h =
-    let p = and_parts (nat_le from b) (ascend b bounds (length codes)) h in
+    let p = and_parts (nat_le from b) (is_ascending b bounds (length codes)) h in
     let here = leb-true from b p.0 in
-    let same = between-same codes new from b here (ascend-le b bounds (length codes) p.1) in
+    let same = between-same codes new from b here (is_ascending-le b bounds (length codes) p.1) in
     ap (λ (xs : List ℕ). literals_of xs ∷ clauses_between (b ∷ (bounds ++ (length codes + length new) ∷ [])) (codes ++ new)) same
     ∙ ap (λ (cs : List (List Literal)). literals_of (take (b - from) (drop from codes)) ∷ cs) (between-push b bounds codes new p.1)
 
--- the clauses of a block to which the numbers of one more are added
 pub clauses-push : (bounds codes new : List ℕ) → are_bounds bounds (length codes) ≡ true → clauses_between (bounds ++ (length codes + length new) ∷ []) (codes ++ new) ≡ clauses_between bounds codes ++ literals_of new ∷ []
 clauses-push [] codes new h = absurd (cc)
 clauses-push (from ∷ bounds) codes new h = between-push from bounds codes new h
 
--- a clause by its number
 pub clause-at : (bounds codes : List ℕ) (i a b : ℕ) → slice_get bounds i ≡ Some a → slice_get bounds (suc i) ≡ Some b → slice_get (clauses_between bounds codes) i ≡ Some (literals_of (take (b - a) (drop a codes)))
 clause-at [] codes i a b p q = absurd (cc)
 clause-at (from ∷ []) codes i a b p q = absurd (cc)
@@ -93,16 +89,14 @@ clause-past (from ∷ []) codes i h = refl
 clause-past (from ∷ (to ∷ bounds)) codes zero h = absurd (omega arith)
 clause-past (from ∷ (to ∷ bounds)) codes (suc i) h = clause-past (to ∷ bounds) codes i (omega arith)
 
--- a formula with one more clause
-pub formula-push : (n : ℕ) (cs : List (List Literal)) (c : List Literal) → IsFormula (record { vars = n; clauses = cs }) → clause_in n c ≡ true → vars_differ c ≡ true → IsFormula (record { vars = n; clauses = cs ++ c ∷ [] })
+pub formula-push : (n : ℕ) (cs : List (List Literal)) (c : List Literal) → IsFormula (record { vars = n; clauses = cs }) → is_clause_over n c ≡ true → vars_differ c ≡ true → IsFormula (record { vars = n; clauses = cs ++ c ∷ [] })
 formula-push n cs c f within differ = record {
   numbered = f.numbered;
-  within = list_all-more (clause_in n) cs c f.within within;
+  within = list_all-more (is_clause_over n) cs c f.within within;
   differ = list_all-more vars_differ cs c f.differ differ;
 }
 
--- a block to which a clause is added
-pub block-push : (n : ℕ) (codes more : Codes) (bounds : List ℕ) (c : List Literal) → IsBlock n codes bounds → codes_in more ≡ codes_in codes ++ map code_of c → fit n more ≡ true → clause_in n c ≡ true → vars_differ c ≡ true
+pub block-push : (n : ℕ) (codes more : Codes) (bounds : List ℕ) (c : List Literal) → IsBlock n codes bounds → codes_in more ≡ codes_in codes ++ map code_of c → codes_fit n more ≡ true → is_clause_over n c ≡ true → vars_differ c ≡ true
     → IsBlock n more (bounds ++ length (codes_in more) ∷ []) × (clauses_between (bounds ++ length (codes_in more) ∷ []) (codes_in more) ≡ clauses_between bounds (codes_in codes) ++ c ∷ [])
 block-push n codes more bounds c b e f within differ =
     let m : length (codes_in more) ≡ length (codes_in codes) + length (map code_of c) = ap (λ (xs : List ℕ). length xs) e ∙ length-append (codes_in codes) (map code_of c) in
@@ -119,7 +113,6 @@ block-push n codes more bounds c b e f within differ =
       grown,
     )
 
--- the clause with a number, where it is one of the block
 pub numbered : (bounds codes : List ℕ) (number a b : ℕ) → 0 < number →
     slice_get bounds (number - 1) ≡ Some a → slice_get bounds number ≡ Some b →
     clause_numbered (clauses_between bounds codes) number ≡ Some (literals_of (take (b - a) (drop a codes)))
@@ -139,12 +132,10 @@ bounds-numbered bounds to (suc i) a b h some p q =
     let e : suc i - 1 ≡ i = omega arith in
     bounds-at bounds to i a b h (ap (slice_get bounds) (sym e) ∙ p) q
 
--- a clause with a number is over the variables of its formula
-pub numbered-within : (n : ℕ) (cs : List (List Literal)) (number : ℕ) (c : List Literal) → clauses_in n cs ≡ true → clause_numbered cs number ≡ Some c → clause_in n c ≡ true
+pub numbered-within : (n : ℕ) (cs : List (List Literal)) (number : ℕ) (c : List Literal) → are_clauses_over n cs ≡ true → clause_numbered cs number ≡ Some c → is_clause_over n c ≡ true
 numbered-within n cs zero c w e = absurd (cc)
-numbered-within n cs (suc i) c w e = list_all-slice_get (clause_in n) cs i c w e
+numbered-within n cs (suc i) c w e = list_all-slice_get (is_clause_over n) cs i c w e
 
--- there are no more clauses than bounds
 pub clauses-few : (bounds codes : List ℕ) → length (clauses_between bounds codes) ≤ length bounds
 clauses-few [] codes = omega arith
 clauses-few (from ∷ []) codes = omega arith

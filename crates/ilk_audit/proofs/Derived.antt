@@ -1,4 +1,4 @@
--- A step is taken exactly where it follows.
+-- A step is taken exactly if it follows.
 use Rattle.std.proofs.Common.{◌≡◌, ℕ, inl, inr, true, false, not, cond, List, [], ◌∷◌, refl, ap, ◌∙◌, Option, Some, None}
 use Rattle.std.specs.Prelude.{is_none}
 use Rattle.std.specs.List.{filter}
@@ -6,42 +6,39 @@ use Rattle.std.specs.Option.{option_map_or}
 use Rattle.std.proofs.lemmas.Bool.{cases_Bool, and_parts}
 use Rattle.ilk_base.specs.Option.{◌>>=◌, is_some_and, only_if}
 use Rattle.ilk_cnf.specs.Literal.{Literal, vars_differ}
-use Rattle.ilk_cnf.specs.Formula.{clause_in}
+use Rattle.ilk_cnf.specs.Formula.{is_clause_over}
 use Rattle.ilk_log.specs.declared.step.Step.{Step}
-use Rattle.ilk_log.specs.Propagation.{clause_numbered, is_false, is_falsified, lone_unset, unit_of}
-use Rattle.ilk_log.specs.Derived.{ends_false, is_derived, is_empty, opposites}
-use Rattle.ilk_audit.specs.Audited.{Audited}
-use Rattle.ilk_audit.specs.Taken.{answered, fault_of, hints_fault, is_taken, some_left, taken_of}
+use Rattle.ilk_log.specs.Propagation.{clause_numbered, is_false, is_falsified, single_unset_lit, unit_lit}
+use Rattle.ilk_log.specs.Derived.{hints_end_in_conflict, is_derived, is_empty, negated_clause}
+use Rattle.ilk_audit.specs.Audited.{AuditState}
+use Rattle.ilk_audit.specs.Taken.{answer_from_fault, fault_of, hints_fault, is_taken, has_hint_left, step_answer}
 use Rattle.ilk_audit.specs.declared.taken.Why.{Why}
 use Rattle.ilk_audit.specs.declared.taken.Why.TheVariants.{BadHint, NotUnit, NotFalse}
 
--- a clause that is false has no open literal
 pub none-open : (set c : List Literal) → is_falsified set c ≡ true → filter (λ l. not (is_false set l)) c ≡ []
 none-open set [] f = refl
 none-open set (l ∷ c) f = (let p = and_parts (is_false set l) (is_falsified set c) f in rw p.0 (none-open set c p.1))
 
--- so that it has no unit
-no-unit : (set c : List Literal) → is_falsified set c ≡ true → unit_of set c ≡ None
-no-unit set c f = ap (lone_unset set) (none-open set c f)
+no-unit : (set c : List Literal) → is_falsified set c ≡ true → unit_lit set c ≡ None
+no-unit set c f = ap (single_unset_lit set) (none-open set c f)
 
--- why a clause that a hint names, and the hints after it, don't end as they have to
+-- The reason why a clause that a hint names, and the hints after it, do not end as they have to.
 abbrev in_clause : List (List Literal) → List Literal → List ℕ → List Literal → Option Why
 in_clause clauses set hints c =
-    cond (is_falsified set c) (only_if (some_left hints) NotFalse) (option_map_or (λ l. hints_fault clauses (l ∷ set) hints) (unit_of set c) (Some NotUnit))
+    cond (is_falsified set c) (only_if (has_hint_left hints) NotFalse) (option_map_or (λ l. hints_fault clauses (l ∷ set) hints) (unit_lit set c) (Some NotUnit))
 
 last-clause : (clauses : List (List Literal)) (set c : List Literal) → is_none (in_clause clauses set [] c) ≡ is_falsified set c
 last-clause clauses set c =
     elim (cases_Bool (is_falsified set c)) [
       | inl t ↦ rw t refl
-      | inr f ↦ rw f (go (unit_of set c))
+      | inr f ↦ rw f (go (unit_lit set c))
     ]
   where
     go : (o : Option Literal) → is_none (option_map_or (λ l. hints_fault clauses (l ∷ set) []) o (Some NotUnit)) ≡ false
     go None = refl
     go (Some l) = refl
 
--- no cause is found exactly where the hints end at a clause that is false
-pub hints-derived : (clauses : List (List Literal)) (set : List Literal) (hints : List ℕ) → is_none (hints_fault clauses set hints) ≡ ends_false clauses set hints
+pub hints-derived : (clauses : List (List Literal)) (set : List Literal) (hints : List ℕ) → is_none (hints_fault clauses set hints) ≡ hints_end_in_conflict clauses set hints
 hints-derived clauses set [] = refl
 hints-derived clauses set (h ∷ []) = go (clause_numbered clauses h)
   where
@@ -52,41 +49,40 @@ hints-derived clauses set (h ∷ (k ∷ hints)) = go (λ l. hints-derived clause
   where
     by_unit :
         ((l : Literal) →
-        is_none (hints_fault clauses (l ∷ set) (k ∷ hints)) ≡ ends_false clauses (l ∷ set) (k ∷ hints)) →
+        is_none (hints_fault clauses (l ∷ set) (k ∷ hints)) ≡ hints_end_in_conflict clauses (l ∷ set) (k ∷ hints)) →
         (o : Option Literal) →
         is_none (option_map_or (λ l. hints_fault clauses (l ∷ set) (k ∷ hints)) o (Some NotUnit))
-        ≡ is_some_and (o >>= (λ l. Some (l ∷ set))) (λ s. ends_false clauses s (k ∷ hints))
+        ≡ is_some_and (o >>= (λ l. Some (l ∷ set))) (λ s. hints_end_in_conflict clauses s (k ∷ hints))
     by_unit next None = refl
     by_unit next (Some l) = next l
 
     go :
         ((l : Literal) →
-        is_none (hints_fault clauses (l ∷ set) (k ∷ hints)) ≡ ends_false clauses (l ∷ set) (k ∷ hints)) →
+        is_none (hints_fault clauses (l ∷ set) (k ∷ hints)) ≡ hints_end_in_conflict clauses (l ∷ set) (k ∷ hints)) →
         (o : Option (List Literal)) →
         is_none (option_map_or (in_clause clauses set (k ∷ hints)) o (Some BadHint))
-        ≡ is_some_and (o >>= (λ c. unit_of set c >>= (λ l. Some (l ∷ set))))
-        (λ s. ends_false clauses s (k ∷ hints))
+        ≡ is_some_and (o >>= (λ c. unit_lit set c >>= (λ l. Some (l ∷ set))))
+        (λ s. hints_end_in_conflict clauses s (k ∷ hints))
     go next None = refl
     go next (Some c) =
         elim (cases_Bool (is_falsified set c)) [
           | inl t ↦ rw (t, no-unit set c t) refl
-          | inr f ↦ rw f (by_unit next (unit_of set c))
+          | inr f ↦ rw f (by_unit next (unit_lit set c))
         ]
 
-answered-taken : (s : Step) (o : Option Why) → is_taken (answered s o) ≡ is_none o
-answered-taken s (Some why) = refl
-answered-taken s None = elim (cases_Bool (is_empty s.clause)) [ inl t ↦ rw t refl | inr f ↦ rw f refl ]
+answer_from_fault-taken : (s : Step) (o : Option Why) → is_taken (answer_from_fault s o) ≡ is_none o
+answer_from_fault-taken s (Some why) = refl
+answer_from_fault-taken s None = elim (cases_Bool (is_empty s.clause)) [ inl t ↦ rw t refl | inr f ↦ rw f refl ]
 
 pub fault-derived : (n : ℕ) (clauses : List (List Literal)) (s : Step) → is_none (fault_of n clauses s) ≡ is_derived n clauses s
 fault-derived n clauses s =
-    elim (cases_Bool (clause_in n s.clause)) [
+    elim (cases_Bool (is_clause_over n s.clause)) [
       | inl a ↦ elim (cases_Bool (vars_differ s.clause)) [
-        | inl b ↦ rw (a, b) (hints-derived clauses (opposites s.clause) s.hints)
+        | inl b ↦ rw (a, b) (hints-derived clauses (negated_clause s.clause) s.hints)
         | inr b ↦ rw (a, b) refl
       ]
       | inr a ↦ rw a refl
     ]
 
--- a step is taken exactly where it follows
-pub taken_derived : (a : Audited) (s : Step) → is_taken (taken_of a s) ≡ is_derived a.vars a.clauses s
-taken_derived a s = answered-taken s (fault_of a.vars a.clauses s) ∙ fault-derived a.vars a.clauses s
+pub taken_derived : (a : AuditState) (s : Step) → is_taken (step_answer a s) ≡ is_derived a.vars a.clauses s
+taken_derived a s = answer_from_fault-taken s (fault_of a.vars a.clauses s) ∙ fault-derived a.vars a.clauses s

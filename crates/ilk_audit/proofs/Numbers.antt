@@ -20,7 +20,6 @@ literal_of-code_of l = literal-of l.var l.positive
 pub same-code : (l m : Literal) → code_of l ≡ code_of m → l ≡ m
 same-code l m e = sym (literal_of-code_of l) ∙ ap literal_of e ∙ literal_of-code_of m
 
--- the literals of the numbers of a clause are the clause
 pub literals_back : (c : List Literal) → literals_of (map code_of c) ≡ c
 literals_back [] = refl
 literals_back (l ∷ c) = ap (λ (m : Literal). m ∷ literals_of (map code_of c)) (literal_of-code_of l) ∙ ap (λ (ls : List Literal). l ∷ ls) (literals_back c)

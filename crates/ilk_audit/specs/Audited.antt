@@ -1,16 +1,17 @@
--- What a checker of steps has.
+-- The data of a checker of steps.
 use Rattle.std.specs.Prelude.{ℕ, Bool, List, [], ◌∷◌, ◌++◌}
 use Rattle.ilk_cnf.specs.Literal.{Literal}
 use Rattle.ilk_log.specs.declared.step.Step.{Step}
 use Rattle.ilk_log.specs.Derived.{is_empty}
 
--- the clauses over the variables 1 to `vars` by which the next step may follow: those of the formula and then those of the
--- steps that were taken; and whether one of these was the empty clause, after which no step is taken
-pub record Audited : Type 0 where
+-- The clauses over the variables 1 to `vars` by which the next step may follow: those of the
+-- formula, then those of the steps taken. `closed` says whether a taken step had the empty clause;
+-- no step is taken after it.
+pub record AuditState : Type 0 where
   pub vars : ℕ
   pub clauses : List (List Literal)
   pub closed : Bool
 
--- the same after a step that follows
-abbrev pub with_step : Audited → Step → Audited
+-- The same after a step that follows.
+abbrev pub with_step : AuditState → Step → AuditState
 with_step a s = record { vars = a.vars; clauses = a.clauses ++ s.clause ∷ []; closed = is_empty s.clause }

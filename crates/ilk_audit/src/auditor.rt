@@ -1,12 +1,12 @@
 ghost use Rattle.std.specs.Prelude.{◌≡◌, ◌<◌, ◌^◌, ◌++◌, ◌∷◌, [], false, length, if◌then◌else◌, IfOk, IsTrue, OnOk, OnErr};
-ghost use Rattle.ilk_cnf.specs.Formula.{clause_in, IsFormula};
+ghost use Rattle.ilk_cnf.specs.Formula.{is_clause_over, IsFormula};
 ghost use Rattle.ilk_cnf.specs.Literal.{vars_differ};
 ghost use Rattle.ilk_log.specs.Derived.{is_empty};
 ghost use Rattle.ilk_audit.specs.declared.taken.Taken.TheVariants.{Closed, Good};
-ghost use Rattle.ilk_audit.specs.Taken.{after_step, taken_of};
+ghost use Rattle.ilk_audit.specs.Taken.{after_step, step_answer};
 
 use crate::block::Block;
-use crate::fault::fault;
+use crate::fault::find_fault;
 use crate::partial::Partial;
 use crate::taken::Taken;
 use ilk_cnf::{Cnf, Lit};
@@ -14,21 +14,21 @@ use ilk_log::Step;
 use std::alloc::{AllocError, Global};
 use std::marker::Model;
 
-/// A formula and the steps that were taken so far, each of which follows from the formula and the
-/// steps before it.
+/// A formula and the steps taken so far, each of which follows from the formula and the steps
+/// before it.
 #[derive(Drop)]
 pub struct Auditor {
     clauses: Block,
-    // nothing is set between two steps
+    // Nothing is set between two steps.
     partial: Partial,
     closed: bool,
 }
 
 impl Model for Auditor {
     ghost use Rattle.std.specs.Prelude.{◌≡◌, []};
-    ghost use Rattle.ilk_audit.specs.Audited.{Audited};
+    ghost use Rattle.ilk_audit.specs.Audited.{AuditState};
 
-    ghost Value = { Audited };
+    ghost Value = { AuditState };
 
     ghost view = { λ a. record
         { vars = a.clauses.vars; clauses = a.clauses.clauses; closed = a.closed } };
@@ -36,7 +36,6 @@ impl Model for Auditor {
     ghost invariant = { λ a. a.partial ≡ record { vars = a.clauses.vars; set = [] } };
 }
 
-// The clauses of a formula.
 fn clauses_of(alloc: Global, cnf: &Cnf) -> Result<Block, AllocError>
     ensures { IfOk result (λ block. block ≡ cnf.now) }
 {
@@ -48,7 +47,8 @@ fn clauses_of(alloc: Global, cnf: &Cnf) -> Result<Block, AllocError>
 }
 
 impl Auditor {
-    /// The formula, and no step. Its clauses are numbered from 1, in order, and the steps after them.
+    /// Creates an auditor of the formula, with no step. Clauses are numbered from 1, in order, and
+    /// the steps after them.
     pub fn new(alloc: Global, cnf: &Cnf) -> Result<Auditor, AllocError>
         ensures { IfOk result
             (λ a. a ≡ record { vars = cnf.now.vars; clauses = cnf.now.clauses; closed = false }) }
@@ -60,7 +60,7 @@ impl Auditor {
         })
     }
 
-    /// Whether a step was answered with `Closed`.
+    /// Returns whether a step was answered with `Closed`.
     pub fn closed(&self) -> bool
         ensures closed { result ≡ self.now.closed }
         ensures formula { IsFormula (record { vars = self.now.vars; clauses = self.now.clauses }) }
@@ -70,9 +70,8 @@ impl Auditor {
         self.closed
     }
 
-    // Adds the clause of a step that follows.
     fn add(&mut self, clause: &[Lit]) -> Result<Taken, AllocError>
-        requires within { IsTrue (clause_in self.old.vars clause.now) }
+        requires within { IsTrue (is_clause_over self.old.vars clause.now) }
         requires differ { IsTrue (vars_differ clause.now) }
         ensures taken { IfOk result
             (λ taken. taken ≡ (if is_empty clause.now then Closed else Good)) }
@@ -94,28 +93,28 @@ impl Auditor {
         })
     }
 
-    /// Takes the next step, if it follows: its literals are asked first, and then its hints in order.
-    /// After `Bad`, and where memory runs out, the auditor is unchanged.
+    /// Takes the next step if it follows. Checks its literals first, then its hints in order. After
+    /// `Bad`, or if memory runs out, the auditor is unchanged.
     pub fn take(&mut self, step: &Step) -> Result<Taken, AllocError>
         requires open { self.old.closed ≡ false }
-        ensures taken { IfOk result (λ taken. taken ≡ taken_of self.old step.now) }
+        ensures taken { IfOk result (λ taken. taken ≡ step_answer self.old step.now) }
         ensures after { OnOk result (self.new ≡ after_step self.old step.now) }
         ensures err { OnErr result (self.new ≡ self.old) }
     {
         self.take_parts(step.clause.as_slice(), step.hints.as_slice())
     }
 
-    /// The same of a step whose clause and hints stand in lists.
+    /// Does the same for a step in two slices.
     pub fn take_parts(&mut self, clause: &[Lit], hints: &[u64]) -> Result<Taken, AllocError>
         requires open { self.old.closed ≡ false }
         ensures taken { IfOk result
             (λ taken. taken
-            ≡ taken_of self.old (record { clause = clause.now; hints = hints.now })) }
+            ≡ step_answer self.old (record { clause = clause.now; hints = hints.now })) }
         ensures after { OnOk result
             (self.new ≡ after_step self.old (record { clause = clause.now; hints = hints.now })) }
         ensures err { OnErr result (self.new ≡ self.old) }
     {
-        let fault = fault(&self.clauses, &mut self.partial, clause, hints);
+        let fault = find_fault(&self.clauses, &mut self.partial, clause, hints);
         self.partial.clear();
         match fault? {
             Some(why) => Ok(Taken::Bad(why)),

@@ -1,15 +1,15 @@
 //! All clauses in one block of memory: the numbers of their literals, one clause after another, and
-//! where each ends. A number takes four bytes, unless there are so many variables that some don't fit.
+//! the end of each. A number takes four bytes, unless there are too many variables.
 
 ghost use Rattle.std.specs.Prelude.{◌≡◌, ◌≤◌, ◌<◌, ◌-◌, ◌^◌, ◌⊎◌, ◌∷◌, [], Some, drop, length, option_to_list, slice_get, take, IfNone, IfOk, IfSome, IsTrue, OnOk, OnErr};
-ghost use Rattle.ilk_cnf.specs.Formula.{clause_in, grown, IsFormula};
+ghost use Rattle.ilk_cnf.specs.Formula.{is_clause_over, with_clauses, IsFormula};
 ghost use Rattle.ilk_cnf.specs.Literal.{vars_differ};
 ghost use Rattle.ilk_audit.specs.Codes.{codes_in};
-ghost use Rattle.ilk_audit.specs.Hinted.{found_at, found_in, found_open, IsSettable};
+ghost use Rattle.ilk_audit.specs.Hinted.{clause_status_at, clause_status, status_from_open, IsSettable};
 ghost use Rattle.ilk_audit.specs.Stored.{literals_of};
 
 use crate::codes::{Codes, literal_of};
-use crate::hinted::Hinted;
+use crate::hinted::ClauseStatus;
 use crate::partial::Partial;
 use ilk_cnf::Lit;
 use std::alloc::{AllocError, Global};
@@ -20,7 +20,7 @@ use std::marker::Model;
 pub struct Block {
     vars: u64,
     codes: Codes,
-    // where the first clause begins, and where each ends
+    // The start of the first clause, and the end of each.
     bounds: Vec<usize>,
 }
 
@@ -38,30 +38,29 @@ impl Model for Block {
     ghost invariant = { λ b. IsBlock b.vars b.codes b.bounds.items };
 }
 
-// What is found where the one literal that isn't false, if there is one, is this.
-fn found_open(partial: &Partial, lone: Option<Lit>) -> Hinted
-    requires { IsTrue (clause_in partial.now.vars (option_to_list lone)) }
-    ensures { result ≡ found_open partial.now.set (option_to_list lone) }
+// Returns the result for a clause whose only literal that is not false, if any, is `lone`.
+fn found_open(partial: &Partial, lone: Option<Lit>) -> ClauseStatus
+    requires { IsTrue (is_clause_over partial.now.vars (option_to_list lone)) }
+    ensures { result ≡ status_from_open partial.now.set (option_to_list lone) }
 {
     match lone {
-        None => Hinted::AllFalse,
-        Some(l) if partial.is_false(l.negated()) => Hinted::Other,
-        Some(l) => Hinted::OneUnset(l),
+        None => ClauseStatus::AllFalse,
+        Some(l) if partial.is_false(l.negated()) => ClauseStatus::Other,
+        Some(l) => ClauseStatus::OneUnset(l),
     }
 }
 
-// What is found in a clause, by the numbers of its literals.
-fn found_in_narrow(partial: &Partial, codes: &[u32]) -> Hinted
+fn found_in_narrow(partial: &Partial, codes: &[u32]) -> ClauseStatus
     requires few { partial.now.vars ≤ 2 ^ 62 }
-    requires within { IsTrue (clause_in partial.now.vars (literals_of codes.now)) }
-    ensures { result ≡ found_in partial.now.set (literals_of codes.now) }
+    requires within { IsTrue (is_clause_over partial.now.vars (literals_of codes.now)) }
+    ensures { result ≡ clause_status partial.now.set (literals_of codes.now) }
 {
     let mut lone = None;
     for code in codes {
         let l = literal_of(*code as u64);
         if !partial.is_false(l) {
             if lone.is_some() {
-                return Hinted::Other;
+                return ClauseStatus::Other;
             }
             lone = Some(l);
         }
@@ -69,18 +68,17 @@ fn found_in_narrow(partial: &Partial, codes: &[u32]) -> Hinted
     found_open(partial, lone)
 }
 
-// The same, where the numbers may be of any size.
-fn found_in_wide(partial: &Partial, codes: &[u64]) -> Hinted
+fn found_in_wide(partial: &Partial, codes: &[u64]) -> ClauseStatus
     requires few { partial.now.vars ≤ 2 ^ 62 }
-    requires within { IsTrue (clause_in partial.now.vars (literals_of codes.now)) }
-    ensures { result ≡ found_in partial.now.set (literals_of codes.now) }
+    requires within { IsTrue (is_clause_over partial.now.vars (literals_of codes.now)) }
+    ensures { result ≡ clause_status partial.now.set (literals_of codes.now) }
 {
     let mut lone = None;
     for code in codes {
         let l = literal_of(*code);
         if !partial.is_false(l) {
             if lone.is_some() {
-                return Hinted::Other;
+                return ClauseStatus::Other;
             }
             lone = Some(l);
         }
@@ -88,16 +86,15 @@ fn found_in_wide(partial: &Partial, codes: &[u64]) -> Hinted
     found_open(partial, lone)
 }
 
-// What is found in the part of these numbers that is a clause.
-fn found_between(partial: &Partial, codes: &Codes, from: usize, to: usize) -> Hinted
+fn found_between(partial: &Partial, codes: &Codes, from: usize, to: usize) -> ClauseStatus
     requires few { partial.now.vars ≤ 2 ^ 62 }
     requires ascend { from ≤ to }
     requires fit { to ≤ length (codes_in codes.now) }
     requires within { IsTrue
-        (clause_in partial.now.vars
+        (is_clause_over partial.now.vars
         (literals_of (take (to - from) (drop from (codes_in codes.now))))) }
     ensures { result
-        ≡ found_in partial.now.set
+        ≡ clause_status partial.now.set
         (literals_of (take (to - from) (drop from (codes_in codes.now)))) }
 {
     match codes {
@@ -106,7 +103,7 @@ fn found_between(partial: &Partial, codes: &Codes, from: usize, to: usize) -> Hi
     }
 }
 
-// Where the part with a number, from 1, begins and ends; none where there are fewer.
+// Returns the bounds of part `number`, from 1, or `None` if there are fewer.
 fn part_at(bounds: &[usize], number: u64) -> Option<(usize, usize)>
     ensures some { IfSome result
         (λ part. (0 < number) × (slice_get bounds.now (number - 1) ≡ Some part.0) ×
@@ -121,7 +118,7 @@ fn part_at(bounds: &[usize], number: u64) -> Option<(usize, usize)>
 }
 
 impl Block {
-    /// No clause, over the variables 1 to `vars`.
+    /// Creates a block without clauses over the variables 1 to `vars`.
     pub fn new(alloc: Global, vars: u64) -> Result<Block, AllocError>
         requires { vars ≤ 2 ^ 62 }
         ensures { IfOk result (λ b. b ≡ record { vars = vars; clauses = [] }) }
@@ -133,7 +130,7 @@ impl Block {
         })
     }
 
-    /// How many variables there are.
+    /// Returns the number of variables.
     pub fn vars(&self) -> u64
         ensures count { result ≡ self.now.vars }
         ensures numbered { result ≤ 2 ^ 62 }
@@ -146,9 +143,10 @@ impl Block {
 
     /// Adds a clause at the end.
     pub fn push(&mut self, clause: &[Lit]) -> Result<(), AllocError>
-        requires within { IsTrue (clause_in self.old.vars clause.now) }
+        requires within { IsTrue (is_clause_over self.old.vars clause.now) }
         requires differ { IsTrue (vars_differ clause.now) }
-        ensures ok { OnOk result (self.new ≡ grown self.old self.old.vars (clause.now ∷ [])) }
+        ensures ok { OnOk result (self.new
+            ≡ with_clauses self.old self.old.vars (clause.now ∷ [])) }
         ensures err { OnErr result (self.new ≡ self.old) }
     {
         self.codes.reserve(clause.len())?;
@@ -158,15 +156,15 @@ impl Block {
         Ok(())
     }
 
-    /// What the clause with a number, from 1, is where some literals are set.
-    pub fn found_at(&self, partial: &Partial, number: u64) -> Hinted
+    /// Returns the status of clause `number`, from 1, under `partial`.
+    pub fn clause_status(&self, partial: &Partial, number: u64) -> ClauseStatus
         requires { partial.now.vars ≡ self.now.vars }
-        ensures found { result ≡ found_at self.now.clauses partial.now.set number }
+        ensures found { result ≡ clause_status_at self.now.clauses partial.now.set number }
         ensures unit { IsSettable partial.now.vars partial.now.set result }
     {
         match part_at(self.bounds.as_slice(), number) {
             Some((from, to)) => found_between(partial, &self.codes, from, to),
-            None => Hinted::Missing,
+            None => ClauseStatus::Missing,
         }
     }
 }

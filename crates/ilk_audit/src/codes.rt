@@ -1,23 +1,23 @@
-//! The numbers of literals, each of which takes four bytes where all numbers fit.
+//! The numbers of literals, four bytes each if all numbers fit.
 
 ghost use Rattle.std.specs.Prelude.{ℕ, ◌≡◌, ◌≤◌, ◌<◌, ◌+◌, ◌*◌, ◌/◌, ◌^◌, ◌++◌, [], map, length, vec_len, vec_capacity, OnOk, IsTrue};
 ghost use Rattle.ilk_cnf.specs.Code.{code_of, literal_of};
-ghost use Rattle.ilk_cnf.specs.Formula.{clause_in};
-ghost use Rattle.ilk_audit.specs.Codes.{codes_in, fit, HasRoom};
+ghost use Rattle.ilk_cnf.specs.Formula.{is_clause_over};
+ghost use Rattle.ilk_audit.specs.Codes.{codes_in, codes_fit, HasRoom};
 
 use ilk_cnf::Lit;
 use std::alloc::{AllocError, Global};
 
-/// The numbers of literals.
+/// The numbers of literals, in one of two widths.
 #[derive(Drop)]
 pub enum Codes {
-    /// Below 2^32.
+    /// Numbers below 2^32.
     Narrow(Vec<u32>),
-    /// Of any size.
+    /// Numbers of any size.
     Wide(Vec<u64>),
 }
 
-/// The number of a literal.
+/// Returns the number of a literal.
 #[inline]
 pub fn code_of(l: Lit) -> u64
     requires { l.var ≤ 2 ^ 62 }
@@ -26,7 +26,7 @@ pub fn code_of(l: Lit) -> u64
     2 * l.var() + l.positive() as u64
 }
 
-/// The literal of a number.
+/// Returns the literal of a number.
 #[inline]
 pub fn literal_of(code: u64) -> Lit
     requires from_1 { 1 < code }
@@ -36,10 +36,9 @@ pub fn literal_of(code: u64) -> Lit
     Lit::new(code / 2, code % 2 == 1)
 }
 
-// Adds the numbers of the literals, for which there is memory.
 fn append_narrow(codes: &mut Vec<u32>, vars: u64, clause: &[Lit])
     requires fit { 2 * vars + 1 < 2 ^ 32 }
-    requires within { IsTrue (clause_in vars clause.now) }
+    requires within { IsTrue (is_clause_over vars clause.now) }
     requires room { vec_len codes.old + length clause.now ≤ vec_capacity codes.old }
     ensures { codes.new.items ≡ codes.old.items ++ map code_of clause.now }
 {
@@ -48,10 +47,9 @@ fn append_narrow(codes: &mut Vec<u32>, vars: u64, clause: &[Lit])
     }
 }
 
-// The same of numbers of any size.
 fn append_wide(codes: &mut Vec<u64>, vars: u64, clause: &[Lit])
     requires fit { vars ≤ 2 ^ 62 }
-    requires within { IsTrue (clause_in vars clause.now) }
+    requires within { IsTrue (is_clause_over vars clause.now) }
     requires room { vec_len codes.old + length clause.now ≤ vec_capacity codes.old }
     ensures { codes.new.items ≡ codes.old.items ++ map code_of clause.now }
 {
@@ -61,10 +59,10 @@ fn append_wide(codes: &mut Vec<u64>, vars: u64, clause: &[Lit])
 }
 
 impl Codes {
-    /// No number, and place for those of the variables 1 to `vars`.
+    /// Creates an empty list with the width that the variables 1 to `vars` need.
     pub fn new(alloc: Global, vars: u64) -> Codes
         ensures empty { codes_in result ≡ [] }
-        ensures fit { IsTrue (fit vars result) }
+        ensures fit { IsTrue (codes_fit vars result) }
     {
         if vars < 1 << 31 {
             Codes::Narrow(Vec::new(alloc))
@@ -73,7 +71,7 @@ impl Codes {
         }
     }
 
-    /// How many there are.
+    /// Returns how many numbers there are.
     pub fn len(&self) -> usize
         ensures { result ≡ length (codes_in self.now) }
     {
@@ -83,10 +81,10 @@ impl Codes {
         }
     }
 
-    /// Takes memory for so many more.
+    /// Reserves memory for `count` more.
     pub fn reserve(&mut self, count: usize) -> Result<(), AllocError>
         ensures same { codes_in self.new ≡ codes_in self.old }
-        ensures fit { (n : ℕ) → fit n self.new ≡ fit n self.old }
+        ensures fit { (n : ℕ) → codes_fit n self.new ≡ codes_fit n self.old }
         ensures room { OnOk result (HasRoom count self.new) }
     {
         match self {
@@ -95,14 +93,15 @@ impl Codes {
         }
     }
 
-    /// Adds the numbers of literals over the variables 1 to `vars`, for which there is memory.
+    /// Appends the numbers of literals over the variables 1 to `vars`, for which memory is
+    /// reserved.
     pub fn append(&mut self, vars: u64, clause: &[Lit])
         requires numbered { vars ≤ 2 ^ 62 }
-        requires fit { IsTrue (fit vars self.old) }
-        requires within { IsTrue (clause_in vars clause.now) }
+        requires fit { IsTrue (codes_fit vars self.old) }
+        requires within { IsTrue (is_clause_over vars clause.now) }
         requires room { HasRoom (length clause.now) self.old }
         ensures codes { codes_in self.new ≡ codes_in self.old ++ map code_of clause.now }
-        ensures fit { IsTrue (fit vars self.new) }
+        ensures fit { IsTrue (codes_fit vars self.new) }
     {
         match self {
             Codes::Narrow(codes) => append_narrow(codes, vars, clause),

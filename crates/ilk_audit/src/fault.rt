@@ -1,38 +1,37 @@
 ghost use Rattle.std.specs.Prelude.{◌≡◌, ◌&&◌, true, [], not, IfOk, IsTrue};
-ghost use Rattle.ilk_cnf.specs.Formula.{clause_in, lit_in};
+ghost use Rattle.ilk_cnf.specs.Formula.{is_clause_over, is_lit_over};
 ghost use Rattle.ilk_cnf.specs.Literal.{has_var, vars_differ};
-ghost use Rattle.ilk_log.specs.Derived.{opposites};
+ghost use Rattle.ilk_log.specs.Derived.{negated_clause};
 ghost use Rattle.ilk_audit.specs.Taken.{fault_of, hints_fault};
 
 use crate::block::Block;
-use crate::hinted::Hinted;
+use crate::hinted::ClauseStatus;
 use crate::partial::Partial;
 use crate::taken::Why;
 use ilk_cnf::Lit;
 use std::alloc::AllocError;
 
-// Whether the variable of a literal isn't set.
 fn is_unset(partial: &Partial, l: Lit) -> bool
-    requires { IsTrue (lit_in partial.now.vars l) }
+    requires { IsTrue (is_lit_over partial.now.vars l) }
     ensures { result ≡ not (has_var l.var partial.now.set) }
 {
     !partial.is_false(l) && !partial.is_false(l.negated())
 }
 
-// Whether the variable of a literal is one of the formula, and isn't set.
+// Returns whether the variable of a literal belongs to the formula and is unset.
 fn is_settable(partial: &Partial, l: Lit) -> bool
-    ensures { result ≡ (lit_in partial.now.vars l && not (has_var l.var partial.now.set)) }
+    ensures { result ≡ (is_lit_over partial.now.vars l && not (has_var l.var partial.now.set)) }
 {
     l.var() > 0 && l.var() <= partial.vars() && is_unset(partial, l)
 }
 
-// Sets the opposites of a clause's literals, from the last to the first, and answers whether the
-// clause is over different variables of the formula.
+// Sets the negations of a clause's literals, from last to first. Returns whether the clause is over
+// different variables of the formula.
 fn set_opposites(partial: &mut Partial, clause: &[Lit]) -> Result<bool, AllocError>
     requires { partial.old.set ≡ [] }
     ensures answer { IfOk result
-        (λ ok. ok ≡ (clause_in partial.old.vars clause.now && vars_differ clause.now)) }
-    ensures set { IfOk result (λ ok. ok ≡ true → partial.new.set ≡ opposites clause.now) }
+        (λ ok. ok ≡ (is_clause_over partial.old.vars clause.now && vars_differ clause.now)) }
+    ensures set { IfOk result (λ ok. ok ≡ true → partial.new.set ≡ negated_clause clause.now) }
     ensures vars { partial.new.vars ≡ partial.old.vars }
 {
     let mut left = clause.len();
@@ -47,7 +46,7 @@ fn set_opposites(partial: &mut Partial, clause: &[Lit]) -> Result<bool, AllocErr
     Ok(true)
 }
 
-// Why the hints don't end at a clause that is false; none where they do.
+// Returns why the hints do not end at a false clause, or `None` if they do.
 fn hints_fault(
     clauses: &Block,
     partial: &mut Partial,
@@ -59,19 +58,19 @@ fn hints_fault(
     ensures vars { partial.new.vars ≡ partial.old.vars }
 {
     for (i, hint) in hints.iter().enumerate() {
-        match clauses.found_at(partial, *hint) {
-            Hinted::Missing => return Ok(Some(Why::BadHint)),
-            Hinted::AllFalse if i + 1 < hints.len() => return Ok(Some(Why::NotFalse)),
-            Hinted::AllFalse => return Ok(None),
-            Hinted::OneUnset(l) => partial.set(l)?,
-            Hinted::Other => return Ok(Some(Why::NotUnit)),
+        match clauses.clause_status(partial, *hint) {
+            ClauseStatus::Missing => return Ok(Some(Why::BadHint)),
+            ClauseStatus::AllFalse if i + 1 < hints.len() => return Ok(Some(Why::NotFalse)),
+            ClauseStatus::AllFalse => return Ok(None),
+            ClauseStatus::OneUnset(l) => partial.set(l)?,
+            ClauseStatus::Other => return Ok(Some(Why::NotUnit)),
         }
     }
     Ok(Some(Why::NotFalse))
 }
 
-/// Why a step doesn't follow; none where it does. What was set for that stays set.
-pub fn fault(
+/// Returns why a step does not follow, or `None` if it does. The literals that it set stay set.
+pub fn find_fault(
     clauses: &Block,
     partial: &mut Partial,
     clause: &[Lit],

@@ -1,8 +1,8 @@
 use ilk_cnf::Lit;
 
-/// What a hint finds, where some literals are set.
+/// The status of the clause that a hint names, under the set literals.
 #[derive(Clone, Copy)]
-pub enum Hinted {
+pub enum ClauseStatus {
     /// No clause has the number.
     Missing,
     /// All literals of the clause are false.

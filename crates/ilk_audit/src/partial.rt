@@ -1,8 +1,8 @@
-//! The literals that are set while a step is checked. What is asked of them is whether a literal is
-//! false, once for each literal of each clause that a hint names, so that has a byte of its own.
+//! The literals that are set during the check of a step. Each literal of each clause that a hint
+//! names needs one look-up, whether it is false, so that has a byte of its own.
 
 ghost use Rattle.std.specs.Prelude.{◌≡◌, ◌<◌, ◌≤◌, ◌^◌, ◌∷◌, [], false, length, true, IfOk, IsTrue, OnOk, OnErr};
-ghost use Rattle.ilk_cnf.specs.Formula.{lit_in};
+ghost use Rattle.ilk_cnf.specs.Formula.{is_lit_over};
 ghost use Rattle.ilk_cnf.specs.Literal.{has_var};
 ghost use Rattle.ilk_log.specs.Propagation.{is_false};
 ghost use Rattle.ilk_audit.specs.Stored.{IsPartial};
@@ -16,9 +16,9 @@ use std::marker::Model;
 #[derive(Drop)]
 pub struct Partial {
     vars: u64,
-    // by the number of a literal: whether it is false
+    // By the number of a literal: whether it is false.
     falses: Vec<bool>,
-    // what is set, in order
+    // The set literals, in order.
     trail: Vec<Lit>,
 }
 
@@ -35,7 +35,7 @@ impl Model for Partial {
 }
 
 impl Partial {
-    /// No literal, of the variables 1 to `vars`.
+    /// Creates an empty assignment of the variables 1 to `vars`.
     pub fn new(alloc: Global, vars: u64) -> Result<Partial, AllocError>
         requires { vars ≤ 2 ^ 62 }
         ensures { IfOk result (λ p. p ≡ record { vars = vars; set = [] }) }
@@ -47,7 +47,7 @@ impl Partial {
         })
     }
 
-    /// How many variables there are.
+    /// Returns the number of variables.
     pub fn vars(&self) -> u64
         ensures count { result ≡ self.now.vars }
         ensures set { IsPartial self.now }
@@ -55,18 +55,18 @@ impl Partial {
         self.vars
     }
 
-    /// Whether a literal is false.
+    /// Returns whether a literal is false.
     #[inline]
     pub fn is_false(&self, l: Lit) -> bool
-        requires { IsTrue (lit_in self.now.vars l) }
+        requires { IsTrue (is_lit_over self.now.vars l) }
         ensures { result ≡ is_false self.now.set l }
     {
         self.falses[code_of(l) as usize]
     }
 
-    /// Sets a literal, whose variable isn't set.
+    /// Sets a literal, whose variable has to be unset.
     pub fn set(&mut self, l: Lit) -> Result<(), AllocError>
-        requires within { IsTrue (lit_in self.old.vars l) }
+        requires within { IsTrue (is_lit_over self.old.vars l) }
         requires unset { has_var l.var self.old.set ≡ false }
         ensures ok { OnOk result (self.new ≡ record self.old { set = l ∷ self.old.set }) }
         ensures err { OnErr result (self.new ≡ self.old) }
@@ -76,7 +76,7 @@ impl Partial {
         Ok(())
     }
 
-    // Takes the last literal back, if one is set.
+    // Unsets the last literal, if one is set.
     fn take_last(&mut self) -> bool
         ensures vars { self.new.vars ≡ self.old.vars }
         ensures some { result ≡ true → length self.new.set < length self.old.set }
@@ -89,7 +89,7 @@ impl Partial {
         true
     }
 
-    /// Takes all literals back.
+    /// Unsets all literals.
     pub fn clear(&mut self)
         ensures { self.new ≡ record self.old { set = [] } }
     {

@@ -1,23 +1,23 @@
-/// What is answered to a step.
+/// The answer to a step.
 #[derive(Clone, Copy, PartialEq, Eq, Debug)]
 pub enum Taken {
     /// It follows, and its clause has a literal.
     Good,
     /// It follows, and its clause is empty: the formula is refuted.
     Closed,
-    /// It doesn't follow, and isn't taken.
+    /// It does not follow, and is not taken.
     Bad(Why),
 }
 
-/// Why a step doesn't follow.
+/// The reason why a step does not follow.
 #[derive(Clone, Copy, PartialEq, Eq, Debug)]
 pub enum Why {
-    /// A hint is 0, or the number of no earlier clause.
+    /// A hint is 0, or not the number of an earlier clause.
     BadHint = 1,
     /// A hint names a clause with a true literal or with two unset ones.
     NotUnit = 2,
-    /// A hint that isn't the last names a clause with all literals false, or the last hint doesn't.
+    /// A hint before the last names a clause with all literals false, or no last hint does.
     NotFalse = 3,
-    /// A variable of the clause isn't one of the formula, or stands in it twice.
+    /// A variable of the clause is not in the formula, or is in the clause twice.
     BadLiteral = 4,
 }

@@ -11,6 +11,5 @@ below [] e i = omega arith
 below (b ∷ bs) e zero = ltb-true b 128 (and_parts (ltb b 128) (list_all (λ b. ltb b 128) bs) e).0
 below (b ∷ bs) e (suc i) = below bs (and_parts (ltb b 128) (list_all (λ b. ltb b 128) bs) e).1 i
 
--- ASCII is UTF-8
 pub ascii : (bs : List ℕ) → list_all (λ b. ltb b 128) bs ≡ true → IsUtf8 bs
 ascii bs e = IsUtf8-from_ascii bs (below bs e)

@@ -3,6 +3,6 @@ use Rattle.std.proofs.Common.{◌≡◌, ℕ, ◌^◌, ◌<◌, ◌≤◌, false
 use Rattle.std.specs.Int.{bit_at}
 use Rattle.std.proofs.lemmas.Nat.Bits.{bit_at_above}
 
--- none is set past its end
+-- No bit is set past the word's end.
 pub no_bit_past : (bits x : ℕ) → bits < 2 ^ 128 → 128 ≤ x → false ≡ (bit_at bits x == 1)
 no_bit_past bits x small past = sym (ap (λ b. b == 1) (bit_at_above bits 128 x small past))

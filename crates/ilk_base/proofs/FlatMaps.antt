@@ -1,27 +1,24 @@
--- The lists that a function gives for the items of a list, one after another.
+-- Joined lists: those that a function gives for the items of a list.
 use Rattle.std.proofs.Common.{◌≡◌, ℕ, zero, suc, ◌+◌, ◌<◌, Some, List, [], ◌∷◌, ◌++◌, length, take, get_or, slice_get, inl, inr, refl, sym, ◌∙◌, ap, subst, arith}
 use Rattle.std.specs.List.{Contains, flat_map}
 use Rattle.std.proofs.lemmas.List.{flat_map_more, take_more}
 use Rattle.std.proofs.lemmas.List.Elements.{Contains-append_cases, Contains-append_left, Contains-append_right}
 use Rattle.ilk_base.proofs.Lists.{append-none}
 
--- where all lists together are empty, that of the item at an index is
 pub flat_map-none : {X Y : Type 0} (f : X → List Y) (xs : List X) (k : ℕ) (x : X) → flat_map f xs ≡ [] → slice_get xs k ≡ Some x → f x ≡ []
 flat_map-none f [] k x e at = cc
 flat_map-none f (y ∷ xs) zero x e at =
     let same : y ≡ x = cc in ap f (sym same) ∙ (append-none (f y) (flat_map f xs) e).0
 flat_map-none f (y ∷ xs) (suc k) x e at = flat_map-none f xs k x (append-none (f y) (flat_map f xs) e).1 at
 
--- a list that grew by the list of the next item
 pub flat_map-grows : {X Y : Type 0} (f : X → List Y) (xs : List X) (i : ℕ) (d : X) (now next : List Y) → i < length xs → now ≡ flat_map f (take i xs) → next ≡ now ++ f (get_or xs i d) → next ≡ flat_map f (take (i + 1) xs)
 flat_map-grows f xs i d now next within sofar grown =
     grown ∙ ap (λ ys. ys ++ f (get_or xs i d)) sofar ∙ flat_map_more f [] (take i xs) (get_or xs i d) ∙ ap (flat_map f) (sym (take_more xs i d within))
 
--- nothing stands in an empty list
 pub Contains-none : {X : Type 0} (y : X) → Contains [] y → ⊥
 Contains-none y c = let below = c.1 in omega (arith, below)
 
--- what stands in all lists together stands in that of one item
+-- An item of the joined list is in the list of one item.
 pub Contains-flat_map : {X Y : Type 0} (f : X → List Y) (xs : List X) (y : Y) → Contains (flat_map f xs) y → (k : ℕ) × (x : X) × (slice_get xs k ≡ Some x) × Contains (f x) y
 Contains-flat_map f [] y c = absurd (Contains-none y c)
 Contains-flat_map f (x ∷ xs) y c =
@@ -30,7 +27,6 @@ Contains-flat_map f (x ∷ xs) y c =
       | inr h ↦ (let later = Contains-flat_map f xs y h in (suc later.0, later.1, later.2, later.3))
     ]
 
--- and what stands in that of one item stands in all together
 pub Contains-flat_map_of : {X Y : Type 0} (f : X → List Y) (xs : List X) (k : ℕ) (x : X) (y : Y) → slice_get xs k ≡ Some x → Contains (f x) y → Contains (flat_map f xs) y
 Contains-flat_map_of f [] k x y at h = cc
 Contains-flat_map_of {X = X} f (z ∷ xs) zero x y at h =

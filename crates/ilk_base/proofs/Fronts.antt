@@ -1,4 +1,4 @@
--- Lists that may be missing, with items before them.
+-- Optional lists with items before them.
 use Rattle.ilk_base.specs.Option.{◌>>=◌}
 use Rattle.std.proofs.Common.{◌≡◌, List, [], ◌∷◌, ◌++◌, Option, Some, None, refl, ap, sym, append_assoc}
 

@@ -1,4 +1,4 @@
--- Tests of lists: of joined lists, of lists of lists, and of tests that are alike.
+-- Tests of joined lists, of nested lists, and equivalent tests.
 use Rattle.std.proofs.Common.{◌≡◌, ℕ, zero, suc, ◌+◌, ◌-◌, ◌<◌, ◌≤◌, ◌==◌, Bool, true, false, not, ◌&&◌, ◌||◌, Option, Some, All, List, [], ◌∷◌, map, filter, slice_get, inl, inr, ◌⊎◌, refl, sym, ◌∙◌, ap, subst, arith, nat_le}
 use Rattle.std.specs.List.{enumerate_from, flat_map, last_or, list_all, list_any, range_with_len}
 use Rattle.std.proofs.lemmas.Bool.{cases_Bool, cases_eq, eq-eqb, ne_eqb}
@@ -7,7 +7,6 @@ use Rattle.std.proofs.lemmas.List.Folds.{list_all-append}
 use Rattle.std.proofs.lemmas.Option.{get_or_from_slice_get, same_Some, slice_get_within}
 use Rattle.ilk_base.specs.Option.{is_some_and}
 
--- P holds of each item, by its place
 pub all-at : {X : Type 0} (P : X → Type 0) (xs : List X) (i : ℕ) (x : X) → All P xs → slice_get xs i ≡ Some x → P x
 all-at P xs i x each at = subst P (get_or_from_slice_get xs i x x at) (each i x (slice_get_within xs i x at))
 
@@ -36,7 +35,6 @@ pub list_all-not : {X : Type 0} (f : X → Bool) (xs : List X) → list_all (λ 
 list_all-not f [] = refl
 list_all-not f (x ∷ xs) = ap (λ b. not (f x) && b) (list_all-not f xs) ∙ not-or (f x) (list_any f xs)
 
--- none of those that pass one test passes another
 pub filtered-none : {X : Type 0} (f g : X → Bool) (xs : List X) → list_all (λ x. not (f x)) (filter g xs) ≡ not (list_any (λ x. f x && g x) xs)
 filtered-none f g [] = refl
 filtered-none f g (x ∷ xs) = by_test (filtered-none f g xs) (g x) refl
@@ -55,7 +53,6 @@ filtered-none f g (x ∷ xs) = by_test (filtered-none f g xs) (g x) refl
     by_test rest false e =
         rw e (rest ∙ ap (λ a. not (a || list_any (λ y. f y && g y) xs)) (sym (and-false (f x))))
 
--- the last of a list stands in it
 pub last-at : {X : Type 0} (o : Option X) (xs : List X) (x : X) → last_or o xs ≡ Some x → (o ≡ Some x) ⊎ ((i : ℕ) × (slice_get xs i ≡ Some x))
 last-at o [] x e = inl e
 last-at o (y ∷ xs) x e =
@@ -64,7 +61,6 @@ last-at o (y ∷ xs) x e =
       | inr later ↦ inr (suc later.0, later.1)
     ]
 
--- a list of numbers that are all of at least k, and below n
 pub counted-from : (k n c : ℕ) → c < k + n → list_any (λ x. c == x) (range_with_len k n) ≡ nat_le k c
 counted-from k zero c below = let nay : nat_le k c ≡ false = grind (arith, nat_tests) in rw nay refl
 counted-from k (suc n) c below =
@@ -83,8 +79,7 @@ counted-from k (suc n) c below =
           | inr nay ↦ (let more : nat_le (k + 1) c ≡ false = grind (arith, nat_tests) in more ∙ sym nay)
         ]
 
--- of things that are made from the items of a list with their places, and of which only the one with the place `key` can
--- pass a test
+-- Only the thing made from place `key` can pass the test.
 module _ {R X : Type 0} (test : R → Bool) (f : ℕ → X → R) (key : ℕ) (other : (k : ℕ) (x : X) → (key ≡ k → ⊥) → test (f k x) ≡ false) where
   none-past : (k : ℕ) (xs : List X) → key < k → list_any test (map (λ place. f place.0 place.1) (enumerate_from k xs)) ≡ false
   none-past k [] past = refl
@@ -112,7 +107,6 @@ module _ {R X : Type 0} (test : R → Bool) (f : ℕ → X → R) (key : ℕ) (o
       lt-from : (key ≡ k → ⊥) → k + 1 ≤ key
       lt-from apart = omega (arith, apart)
 
--- what stands at place i of what is made so
 pub made-at : {R X : Type 0} (f : ℕ → X → R) (k : ℕ) (xs : List X) (i : ℕ) (r : R) → slice_get (map (λ place. f place.0 place.1) (enumerate_from k xs)) i ≡ Some r → (x : X) × (slice_get xs i ≡ Some x) × (f (k + i) x ≡ r)
 made-at f k [] i r at = cc
 made-at f k (x ∷ xs) zero r at = (x, refl, (let there : k + 0 ≡ k = omega arith in ap (λ j. f j x) there ∙ same_Some (f k x) r at))

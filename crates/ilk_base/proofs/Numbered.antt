@@ -1,4 +1,4 @@
--- Lists by number: the places of an enumerated list, and lists whose items are made anew by number.
+-- Enumerated lists, and lists rebuilt by number.
 use Rattle.std.proofs.Common.{◌≡◌, ℕ, ◌+◌, ◌==◌, Bool, true, false, Option, Some, None, List, [], ◌∷◌, map, option_map, length, slice_get, set, refl, ◌∙◌, sym, zero, suc, ap, arith}
 use Rattle.std.proofs.lemmas.Grind.{common_steps}
 use Rattle.std.proofs.lemmas.List.FromFn.{length-enumerate_from}
@@ -8,7 +8,6 @@ use Rattle.std.specs.List.{enumerate_from}
 use Rattle.ilk_base.specs.Numbered.{map_numbered}
 use Rattle.ilk_base.proofs.Lists.{same_by_slice_get, slice_get-set_other, slice_get-set_same}
 
--- a place of an enumerated list, and its item
 pub enumerated : {X : Type 0} (k : ℕ) (xs : List X) (i : ℕ) (place : ℕ × X) → slice_get (enumerate_from k xs) i ≡ Some place → (place.0 ≡ k + i) × (slice_get xs i ≡ Some place.1)
 enumerated k [] i place at = cc
 enumerated k (x ∷ xs) zero place at =
@@ -53,17 +52,14 @@ kept : {X : Type 0} (f : X → X) (o : Option X) → ((z : X) → f z ≡ z) →
 kept f None same = refl
 kept f (Some z) same = ap (λ y. Some y) (same z)
 
--- what keeps each item keeps the list
 pub map_numbered-same : {X : Type 0} (f : ℕ → X → X) (xs : List X) → ((i : ℕ) (z : X) → f i z ≡ z) → map_numbered f xs ≡ xs
 map_numbered-same f xs same =
     same_by_slice_get (map_numbered f xs) xs (λ i. slice_get-map_numbered f xs i ∙ kept (f i) (slice_get xs i) (same i))
 
--- one that does the same to each item
 pub map_numbered-alike : {X : Type 0} (f g : ℕ → X → X) (xs : List X) → ((i : ℕ) (z : X) → f i z ≡ g i z) → map_numbered f xs ≡ map_numbered g xs
 map_numbered-alike f g xs same =
     same_by_slice_get (map_numbered f xs) (map_numbered g xs) (λ i. slice_get-map_numbered f xs i ∙ same_map (f i) (g i) (slice_get xs i) (same i) ∙ sym (slice_get-map_numbered g xs i))
 
--- one after another
 pub map_numbered-after : {X : Type 0} (f g h : ℕ → X → X) (xs : List X) → ((i : ℕ) (z : X) → f i (g i z) ≡ h i z) → map_numbered f (map_numbered g xs) ≡ map_numbered h xs
 map_numbered-after {X = X} f g h xs same =
     same_by_slice_get (map_numbered f (map_numbered g xs)) (map_numbered h xs)
@@ -75,7 +71,6 @@ map_numbered-after {X = X} f g h xs same =
     both i None = refl
     both i (Some z) = ap (λ y. Some y) (same i z)
 
--- where f does to what is written at k what g does to what stood there, and else they do the same
 pub map_numbered-set : {X : Type 0} (f g : ℕ → X → X) (xs : List X) (k : ℕ) (x y : X) → slice_get xs k ≡ Some x → f k y ≡ g k x → ((i : ℕ) (z : X) → (k ≡ i → ⊥) → f i z ≡ g i z) → map_numbered f (set xs k y) ≡ map_numbered g xs
 map_numbered-set f g xs k x y at here else_ =
     same_by_slice_get (map_numbered f (set xs k y)) (map_numbered g xs) (λ i. slice_get-map_numbered f (set xs k y) i ∙ by_test i (k == i) refl ∙ sym (slice_get-map_numbered g xs i))

@@ -6,11 +6,9 @@ use Rattle.std.proofs.lemmas.List.Quantifiers.{position-Some}
 use Rattle.std.proofs.lemmas.Option.{get_or_from_slice_get}
 use Rattle.std.specs.List.{list_any, position_or_len}
 
--- what stands at the first position that passes does pass
 pub position-at : {X : Type 0} (p : X → Bool) (xs : List X) (i : ℕ) (x : X) → position p xs ≡ Some i → slice_get xs i ≡ Some x → p x ≡ true
 position-at p xs i x first at = rw (get_or_from_slice_get xs i x x at) at ((position-Some p xs i x first).1)
 
--- one more number for each
 pub lt-suc : (n m : ℕ) → nat_lt (1 + n) (suc m) ≡ nat_lt n m
 lt-suc n m = grind (arith, nat_tests)
 
@@ -28,7 +26,6 @@ position-cons p x xs = by_test (p x) refl
     by_test true e = rw e (grind (arith, nat_tests))
     by_test false e = rw e (later (position_or_len p xs) (length xs))
 
--- whether the first position is below i is whether one of the first i passes
 pub position-below : {X : Type 0} (p : X → Bool) (xs : List X) (i : ℕ) → is_some_and (position p xs) (λ k. nat_lt k i) ≡ list_any p (take i xs)
 position-below p [] zero = refl
 position-below p [] (suc i) = refl
@@ -50,7 +47,6 @@ position-below p (x ∷ xs) (suc i) = rw (position-cons p x xs) (by_test (p x) (
     by_test false None e = e
     by_test false (Some k) e = more k ∙ e
 
--- whether there is a position is whether some item passes
 pub is_some-position : {X : Type 0} (p : X → Bool) (xs : List X) → is_some (position p xs) ≡ list_any p xs
 is_some-position p [] = refl
 is_some-position p (x ∷ xs) = rw (position-cons p x xs) (by_test (p x) (position p xs) (is_some-position p xs))
@@ -60,7 +56,6 @@ is_some-position p (x ∷ xs) = rw (position-cons p x xs) (by_test (p x) (positi
     by_test false None e = e
     by_test false (Some n) e = e
 
--- the position in a list with one more item
 pub position-push : {X : Type 0} (p : X → Bool) (xs : List X) (y : X) → position p (xs ++ y ∷ []) ≡ cond (is_some (position p xs)) (position p xs) (cond (p y) (Some (length xs)) None)
 position-push p [] y = rw (position-cons p y []) (by_test (p y))
   where

@@ -1,4 +1,4 @@
--- Numbers in a row, and what is listed or found as they go up.
+-- Ranges of numbers, and lists and searches over growing ranges.
 use Rattle.std.proofs.Common.{◌≡◌, ℕ, zero, suc, ◌+◌, Bool, true, false, cond, List, [], ◌∷◌, ◌++◌, map, refl, ap, sym, ◌∙◌, arith, add-zero, add-one, append_assoc, append-nil, ◌<◌, ◌≤◌, Some, find, ◌⊎◌, inl, inr, nat_lt, slice_get}
 use Rattle.std.proofs.lemmas.Bool.Decides.{nat_tests}
 use Rattle.std.proofs.lemmas.List.Concat.{flat_map-append}
@@ -16,7 +16,6 @@ range-suc a (suc n) =
     let same : (a + 1) + n ≡ a + suc n = omega arith in
     ap (λ xs. a ∷ xs) (range-suc (a + 1) n ∙ ap (λ k. range_with_len (a + 1) n ++ k ∷ []) same)
 
--- the numbers below n + 1 are those below n, and then n
 pub range-more : (n : ℕ) → range_with_len 0 (n + 1) ≡ range_with_len 0 n ++ n ∷ []
 range-more n =
     let same : 0 + n ≡ n = omega arith in
@@ -30,7 +29,6 @@ pub map_cond : {X : Type 0} (f : ℕ → X) (n : ℕ) (b : Bool) → map f (cond
 map_cond f n true = refl
 map_cond f n false = refl
 
--- what is listed below n + 1 is what is listed below n, and then n where it passes
 pub listed-more : {X : Type 0} (f : ℕ → X) (p : ℕ → Bool) (n : ℕ) → map f (filter p (range_with_len 0 (n + 1))) ≡ map f (filter p (range_with_len 0 n)) ++ cond (p n) (f n ∷ []) []
 listed-more f p n =
     ap (λ xs. map f (filter p xs)) (range-more n)
@@ -38,14 +36,13 @@ listed-more f p n =
     ∙ map-append f (filter p (range_with_len 0 n)) (filter p (n ∷ []))
     ∙ ap (λ xs. map f (filter p (range_with_len 0 n)) ++ xs) (ap (map f) (filter_one p n (p n) refl) ∙ map_cond f n (p n))
 
--- lists of lists grow so too
 pub listed_all-more : {X : Type 0} (f : ℕ → List X) (n : ℕ) → flat_map f (range_with_len 0 (n + 1)) ≡ flat_map f (range_with_len 0 n) ++ f n
 listed_all-more f n =
     ap (flat_map f) (range-more n)
     ∙ flat_map-append f (range_with_len 0 n) (n ∷ [])
     ∙ ap (λ xs. flat_map f (range_with_len 0 n) ++ xs) (append-nil (f n))
 
--- a list that grew by the place n where it passes
+-- A list grows by `f n` if `n` passes.
 pub grows_if : {X : Type 0} (f : ℕ → X) (p : ℕ → Bool) (n : ℕ) (b : Bool) (start now next : List X) →
     b ≡ p n → now ≡ start ++ map f (filter p (range_with_len 0 n)) → next ≡ now ++ cond b (f n ∷ []) [] →
     next ≡ start ++ map f (filter p (range_with_len 0 (n + 1)))
@@ -55,17 +52,14 @@ grows_if f p n b start now next tested sofar grown =
     ∙ append_assoc start (map f (filter p (range_with_len 0 n))) (cond b (f n ∷ []) [])
     ∙ ap (λ xs. start ++ xs) (ap (λ t. map f (filter p (range_with_len 0 n)) ++ cond t (f n ∷ []) []) tested ∙ sym (listed-more f p n))
 
--- a list that grew by a whole list
 pub grows_all : {X : Type 0} (f : ℕ → List X) (n : ℕ) (start now next : List X) → now ≡ start ++ flat_map f (range_with_len 0 n) → next ≡ now ++ f n → next ≡ start ++ flat_map f (range_with_len 0 (n + 1))
 grows_all f n start now next sofar grown =
     grown ∙ ap (λ xs. xs ++ f n) sofar ∙ append_assoc start (flat_map f (range_with_len 0 n)) (f n) ∙ ap (λ xs. start ++ xs) (sym (listed_all-more f n))
 
--- the numbers from 0 on, by index
 pub range-at : (n i : ℕ) → i < n → slice_get (range_with_len 0 n) i ≡ Some i
 range-at n i h =
     slice_get-get_or (range_with_len 0 n) i 0 (rw (length-range_with_len 0 n) h) ∙ ap Some (get_or-range_with_len 0 n i 0 h ∙ omega arith)
 
--- lists of what two functions give are equal, where the functions are on the numbers of the range
 pub map-range-congr : {X : Type 0} (f g : ℕ → X) (a n : ℕ) → ((x : ℕ) → a ≤ x → x < a + n → f x ≡ g x) → map f (range_with_len a n) ≡ map g (range_with_len a n)
 map-range-congr f g a zero h = refl
 map-range-congr f g a (suc n) h =
@@ -74,19 +68,16 @@ map-range-congr f g a (suc n) h =
     map-range-congr f g (a + 1) n (λ x low high. h x (omega arith) (omega arith)) in
     rw (here, later) refl
 
--- a list of what a function gives, with what it gives for the next number
 pub pushed : {X : Type 0} (f : ℕ → X) (n : ℕ) (made new : List X) (x : X) → new ≡ made ++ x ∷ [] → made ≡ map f (range_with_len 0 n) → x ≡ f n → new ≡ map f (range_with_len 0 (n + 1))
 pushed f n made new x more before here =
     let step = map-range_with_len_more f 0 n n (omega arith) in cc
 
--- a number below the next one is below this one, or is this one
 pub below_or_at : (k n : ℕ) → k < n + 1 → (k < n) ⊎ (k ≡ n)
 below_or_at zero zero h = inr refl
 below_or_at zero (suc n) h = inl (omega arith)
 below_or_at (suc k) zero h = absurd (omega (arith, h))
 below_or_at (suc k) (suc n) h = elim (below_or_at k n (omega (arith, h))) [ inl p ↦ inl (omega (arith, p)) | inr p ↦ inr (ap suc p) ]
 
--- a number is below another or not
 pub below_or_past : (x n : ℕ) → (x < n) ⊎ (n ≤ x)
 below_or_past x n = by_test (nat_lt x n) refl
   where
@@ -94,14 +85,12 @@ below_or_past x n = by_test (nat_lt x n) refl
     by_test true e = inl (grind (arith, nat_tests))
     by_test false e = inr (grind (arith, nat_tests))
 
--- two tests that agree on a range find the same in it
 pub find-same : (f g : ℕ → Bool) (a n : ℕ) → ((x : ℕ) → a ≤ x → x < a + n → f x ≡ g x) → find f (range_with_len a n) ≡ find g (range_with_len a n)
 find-same f g a zero same = refl
 find-same f g a (suc n) same =
     (λ i. cond (same a (omega arith) (omega arith) i) (Some a) (find f (range_with_len (a + 1) n)))
     ∙ ap (cond (g a) (Some a)) (find-same f g (a + 1) n (λ x low high. same x (omega arith) (omega arith)))
 
--- what is found in a range is of it
 pub find-within : (f : ℕ → Bool) (a n x : ℕ) → find f (range_with_len a n) ≡ Some x → x < a + n
 find-within f a zero x e = cc
 find-within f a (suc n) x e = by_test (f a) e (find-within f (a + 1) n x)
@@ -110,7 +99,6 @@ find-within f a (suc n) x e = by_test (f a) e (find-within f (a + 1) n x)
     by_test true this later = let same : a ≡ x = same_Some a x this in omega arith
     by_test false this later = let below = later this in omega arith
 
--- number i of the numbers from a on is a + i
 pub range_get : (a n i x : ℕ) → slice_get (range_with_len a n) i ≡ Some x → x ≡ a + i
 range_get a zero i x e = cc
 range_get a (suc n) zero x e = let same : a ≡ x = cc in omega arith
@@ -123,7 +111,6 @@ range_within n i x at =
     let long = length-range_with_len 0 n in
     (omega arith, omega arith)
 
--- those of the numbers from a on that pass a test are among them
 pub passing_within : (test : ℕ → Bool) (a n i x : ℕ) → slice_get (filter test (range_with_len a n)) i ≡ Some x → x < a + n
 passing_within test a zero i x at = cc
 passing_within test a (suc n) i x at = by_test (test a) i at (λ j here. passing_within test (a + 1) n j x here)
@@ -134,7 +121,7 @@ passing_within test a (suc n) i x at = by_test (test a) i at (λ j here. passing
     by_test true (suc j) here later = let below = later j here in omega arith
     by_test false j here later = let below = later j here in omega arith
 
--- the least number of a range that passes the test is found
+-- The least passing number of a range is found.
 pub find-least : (test : ℕ → Bool) (a n k : ℕ) → a ≤ k → k < a + n → test k ≡ true → ((j : ℕ) → a ≤ j → j < k → test j ≡ false) → find test (range_with_len a n) ≡ Some k
 find-least test a zero k above below passes least = absurd (omega arith)
 find-least test a (suc n) k above below passes least =
@@ -144,6 +131,5 @@ find-least test a (suc n) k above below passes least =
           rw no (find-least test (a + 1) n k (omega arith) (omega arith) passes (λ j after before. least j (omega arith) before)))
     ]
 
--- a number that is tested to be below a bound
 pub below : (v n : ℕ) → nat_lt v n ≡ true → v < n
 below v n h = grind (arith, nat_tests)

@@ -1,4 +1,4 @@
--- Tests of the items of a list: some pass, all pass, how many pass.
+-- Tests of the items of a list: some pass, all pass, number that pass.
 use Rattle.std.proofs.Common.{◌≡◌, ℕ, zero, suc, Bool, true, false, Some, None, List, [], ◌∷◌, ◌++◌, map, slice_get, refl, ◌<◌, not, All, length, arith, ◌+◌, ◌||◌, cond, count_by, sym, ◌∙◌, ap, take, find, ◌≤◌, inl, inr}
 use Rattle.std.proofs.lemmas.Bool.{and_parts, cases_Bool, false≢true, false_from_ne_true}
 use Rattle.std.proofs.lemmas.List.Elements.{All-nil, All-cons, recursion_from_All}
@@ -7,7 +7,6 @@ use Rattle.std.proofs.lemmas.List.Sums.{count_by_more_yes, sum_by-take-le, sum_b
 use Rattle.std.proofs.lemmas.Option.{slice_get_within, get_or_from_slice_get, same_Some, none-some}
 use Rattle.std.specs.List.{AllByRecursion, list_all, list_any, filter, prefix_len}
 
--- where some item passes, one does at an index
 pub list_any-at : {X : Type 0} (p : X → Bool) (xs : List X) → list_any p xs ≡ true → (k : ℕ) × (x : X) × (slice_get xs k ≡ Some x) × (p x ≡ true)
 list_any-at p [] h = cc
 list_any-at p (x ∷ xs) h = by_test p x xs (list_any-at p xs) h (p x) refl
@@ -22,17 +21,14 @@ list_any-at p (x ∷ xs) h = by_test p x xs (list_any-at p xs) h (p x) refl
         let found : (k : ℕ) × (y : _) × (slice_get xs k ≡ Some y) × (p y ≡ true) = ih rest in
         (suc found.0, found.1, found.2, found.3)
 
--- where the item at an index passes, some item does
 pub list_any-from : {X : Type 0} (p : X → Bool) (xs : List X) (k : ℕ) (x : X) → slice_get xs k ≡ Some x → p x ≡ true → list_any p xs ≡ true
 list_any-from p xs k x at h =
     list_any_at p xs k x (slice_get_within xs k x at) (rw (get_or_from_slice_get xs k x x at) h)
 
--- where no item passes, that at an index doesn't
 pub list_any-none : {X : Type 0} (p : X → Bool) (xs : List X) (k : ℕ) (x : X) → list_any p xs ≡ false → slice_get xs k ≡ Some x → p x ≡ false
 list_any-none p xs k x h at =
     false_from_ne_true (p x) (λ e. let passes : list_any p xs ≡ true = list_any-from p xs k x at e in cc)
 
--- where nothing is left of a list, no item passed
 pub filter-none : {X : Type 0} (p : X → Bool) (xs : List X) (k : ℕ) (x : X) → filter p xs ≡ [] → slice_get xs k ≡ Some x → p x ≡ false
 filter-none p [] k x e at = cc
 filter-none p (y ∷ xs) k x e at = by_test p y xs k x (filter-none p xs) e at (p y) refl
@@ -44,20 +40,17 @@ filter-none p (y ∷ xs) k x e at = by_test p y xs k x (filter-none p xs) e at (
     by_test p y xs zero x ih e at false test = let same : y ≡ x = cc in rw same at test
     by_test p y xs (suc k) x ih e at false test = let rest : filter p xs ≡ [] = rw test at e in ih k x rest at
 
--- tests of all items that follow from one another
 pub list_all-weaken : {X : Type 0} (p q : X → Bool) → ((x : X) → p x ≡ true → q x ≡ true) → (xs : List X) → list_all p xs ≡ true → list_all q xs ≡ true
 list_all-weaken p q f [] h = refl
 list_all-weaken p q f (x ∷ xs) h =
     let parts = and_parts (p x) (list_all p xs) h in rw (f x parts.0) (list_all-weaken p q f xs parts.1)
 
--- what follows from a test that all items pass
 pub All-tested : {X : Type 0} (test : X → Bool) (P : X → Type 0) → ((x : X) → test x ≡ true → P x) → (xs : List X) → list_all test xs ≡ true → All P xs
 All-tested test P f [] h = All-nil P
 All-tested test P f (x ∷ xs) h =
     let parts = and_parts (test x) (list_all test xs) h in
     All-cons P x xs (f x parts.0) (All-tested test P f xs parts.1)
 
--- what all items pass, item i passes
 pub list_all-slice_get : {X : Type 0} (p : X → Bool) (xs : List X) (i : ℕ) (x : X) → list_all p xs ≡ true → slice_get xs i ≡ Some x → p x ≡ true
 list_all-slice_get p [] i x h e = cc
 list_all-slice_get p (y ∷ xs) zero x h e =
@@ -65,7 +58,6 @@ list_all-slice_get p (y ∷ xs) zero x h e =
 list_all-slice_get p (y ∷ xs) (suc i) x h e =
     let parts = and_parts (p y) (list_all p xs) h in list_all-slice_get p xs i x parts.1 e
 
--- the first place of a test that some item passes
 pub prefix-within : {X : Type 0} (p : X → Bool) (xs : List X) → list_any p xs ≡ true → prefix_len (λ x. not (p x)) xs < length xs
 prefix-within p [] h = cc
 prefix-within p (x ∷ xs) h = by_test p x xs (prefix-within p xs) h (p x) refl
@@ -74,7 +66,6 @@ prefix-within p (x ∷ xs) h = by_test p x xs (prefix-within p xs) h (p x) refl
     by_test p x xs ih h true e = rw e (omega arith)
     by_test p x xs ih h false e = rw e (let rest : list_any p xs ≡ true = rw e at h in let within = ih rest in omega arith)
 
--- a test that each of a list passes, and one more
 pub list_all-more : {A : Type 0} (test : A → Bool) (xs : List A) (x : A) → list_all test xs ≡ true → test x ≡ true → list_all test (xs ++ x ∷ []) ≡ true
 list_all-more test xs x front last = list_all-append test xs (x ∷ []) ∙ rw (front, last) refl
 
@@ -87,14 +78,12 @@ count_by-map p f [] = refl
 count_by-map p f (x ∷ xs) =
     sum_by-cons (λ y. cond (p y) 1 0) (f x) (map f xs) ∙ ap (λ n. cond (p (f x)) 1 0 + n) (count_by-map p f xs) ∙ sym (sum_by-cons (λ y. cond (p (f y)) 1 0) x xs)
 
--- fewer pass before an element that passes than in the whole list
 pub count_by-take-lt : {X : Type 0} (p : X → Bool) (xs : List X) (i : ℕ) (x : X) → slice_get xs i ≡ Some x → p x ≡ true → count_by p (take i xs) < count_by p xs
 count_by-take-lt p xs i x at passes =
     let more = count_by_more_yes p xs i x (slice_get_within xs i x at) (rw (get_or_from_slice_get xs i x x at) passes) in
     let most = sum_by-take-le (λ y. cond (p y) 1 0) xs (i + 1) in
     omega (arith, more, most)
 
--- all items pass a test where each does
 pub list_all-from_All : {X : Type 0} (test : X → Bool) (xs : List X) → All (λ x. test x ≡ true) xs → list_all test xs ≡ true
 list_all-from_All {X = X} test xs each = from_each xs (recursion_from_All (λ x. test x ≡ true) xs each)
   where
@@ -102,12 +91,10 @@ list_all-from_All {X = X} test xs each = from_each xs (recursion_from_All (λ x.
     from_each [] h = refl
     from_each (x ∷ rest) h = rw h.0 (from_each rest h.1)
 
--- and where the item at each number does
 pub all-pass : {X : Type 0} (test : X → Bool) (xs : List X) → ((i : ℕ) (x : X) → slice_get xs i ≡ Some x → test x ≡ true) → list_all test xs ≡ true
 all-pass test [] f = refl
 all-pass test (x ∷ xs) f = rw (f zero x refl) (all-pass test xs (λ i y at. f (suc i) y at))
 
--- some item passes
 pub counted : {X : Type 0} (p : X → Bool) (xs : List X) (i : ℕ) (x : X) → slice_get xs i ≡ Some x → p x ≡ true → 0 < count_by p xs
 counted p [] i x at px = cc
 counted p (z ∷ xs) zero x at px =
@@ -119,7 +106,6 @@ counted p (z ∷ xs) (suc i) x at px =
     let step = sum_by-cons (λ v. cond (p v) 1 0) z xs in
     omega (arith, rest, step)
 
--- where at most one item passes, those that pass stand at one place
 pub count-one : {X : Type 0} (p : X → Bool) (xs : List X) → count_by p xs ≤ 1 → (i j : ℕ) (x y : X) → slice_get xs i ≡ Some x → slice_get xs j ≡ Some y → p x ≡ true → p y ≡ true → i ≡ j
 count-one p [] few i j x y at also px py = cc
 count-one p (z ∷ xs) few zero zero x y at also px py = refl
@@ -137,7 +123,6 @@ count-one p (z ∷ xs) few (suc i) (suc j) x y at also px py =
     let step = sum_by-cons (λ v. cond (p v) 1 0) z xs in
     ap suc (count-one p xs (omega (arith, few, step)) i j x y at also px py)
 
--- and only where at most one passes
 pub few-from_places : {X : Type 0} (p : X → Bool) (xs : List X) → ((i j : ℕ) (x y : X) → slice_get xs i ≡ Some x → slice_get xs j ≡ Some y → p x ≡ true → p y ≡ true → i ≡ j) → count_by p xs ≤ 1
 few-from_places p [] one = omega arith
 few-from_places {X} p (z ∷ xs) one =
@@ -163,7 +148,6 @@ few-from_places {X} p (z ∷ xs) one =
           | inr away ↦ (let first : ◌≡◌ {A = ℕ} (cond (p y) 1 0) 0 = ap (λ b. cond b 1 0) away in omega (arith, step, first, rest))
         ]
 
--- what is found stands somewhere, and passes
 pub find-at : {X : Type 0} (p : X → Bool) (xs : List X) (x : X) → find p xs ≡ Some x → (i : ℕ) × (slice_get xs i ≡ Some x) × (p x ≡ true)
 find-at p [] x e = cc
 find-at {X} p (z ∷ xs) x e =
@@ -172,7 +156,6 @@ find-at {X} p (z ∷ xs) x e =
       | inr later ↦ (let rest : find p xs ≡ Some x = rw later at e in let found = find-at p xs x rest in (suc found.0, found.1, found.2))
     ]
 
--- where nothing is found, the item at an index doesn't pass
 pub find-none-at : {X : Type 0} (p : X → Bool) (xs : List X) (i : ℕ) (x : X) → find p xs ≡ None → slice_get xs i ≡ Some x → p x ≡ false
 find-none-at p [] i x e at = cc
 find-none-at {X} p (z ∷ xs) i x e at =
@@ -185,12 +168,10 @@ find-none-at {X} p (z ∷ xs) i x e at =
     by_place zero here rest away ih = ap p (sym (same_Some z x here)) ∙ away
     by_place (suc j) here rest away ih = ih j x rest here
 
--- and where each item fails, nothing is found
 pub find-none-from : {X : Type 0} (p : X → Bool) (xs : List X) → ((i : ℕ) (x : X) → slice_get xs i ≡ Some x → p x ≡ false) → find p xs ≡ None
 find-none-from p [] each = refl
 find-none-from p (x ∷ xs) each = rw (each zero x refl) (find-none-from p xs (λ i y at. each (suc i) y at))
 
--- where each item fails, none passes
 pub none-pass : {X : Type 0} (f : X → Bool) (xs : List X) → ((i : ℕ) (x : X) → slice_get xs i ≡ Some x → f x ≡ false) → list_any f xs ≡ false
 none-pass {X} f xs each =
     false_from_ne_true (list_any f xs) (λ h. (let found : (k : ℕ) × (x : X) × (slice_get xs k ≡ Some x) × (f x ≡ true) = list_any-at f xs h in false≢true (sym (each found.0 found.1 found.2) ∙ found.3)))

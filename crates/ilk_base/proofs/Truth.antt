@@ -2,7 +2,6 @@
 use Rattle.std.proofs.Common.{◌≡◌, Bool, true, false, refl, ◌&&◌, ◌||◌, ◌⊎◌, inl, inr, sym, not}
 use Rattle.std.specs.Prelude.{if◌then◌else◌}
 
--- one of two tests passes
 pub either : (a b : Bool) → (a || b) ≡ true → (a ≡ true) ⊎ (b ≡ true)
 either true b h = inl refl
 either false b h = inr h
@@ -15,18 +14,15 @@ pub or-true : (b : Bool) → (b || true) ≡ true
 or-true true = refl
 or-true false = refl
 
--- two tests that pass together are one
 pub same_truth : (a b : Bool) → (a ≡ true → b ≡ true) → (b ≡ true → a ≡ true) → a ≡ b
 same_truth true b there back = sym (there refl)
 same_truth false true there back = back refl
 same_truth false false there back = refl
 
--- a test whose denial passes fails
 pub fails : (b : Bool) → not b ≡ true → b ≡ false
 fails true e = cc
 fails false e = refl
 
--- a test that is asked only where another passes
 pub if-passes : (a b : Bool) → (if a then b else true) ≡ true → a ≡ true → b ≡ true
 if-passes true b h e = h
 if-passes false b h e = cc

@@ -2,6 +2,6 @@
 use Rattle.std.specs.Prelude.{ℕ, Bool, ◌==◌, List}
 use Rattle.std.specs.List.{list_any}
 
--- whether a list of numbers has number n
+-- Returns whether the list contains number `n`.
 abbrev pub has_number : ℕ → List ℕ → Bool
 has_number n numbers = list_any (λ m. m == n) numbers

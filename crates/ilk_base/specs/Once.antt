@@ -1,8 +1,8 @@
--- Lists in which nothing stands twice.
+-- Lists without duplicates.
 use Rattle.std.specs.Prelude.{Bool, true, not, List, [], ◌∷◌, ◌&&◌}
 use Rattle.std.specs.List.{list_any}
 
--- whether no item of a list is one with a later item, where `same` tells whether two items are one
-abbrev pub each_once : {A : Type 0} → (A → A → Bool) → List A → Bool
-each_once same [] = true
-each_once same (x ∷ rest) = not (list_any (same x) rest) && each_once same rest
+-- Returns whether no item equals a later item, as judged by `same`.
+abbrev pub has_no_duplicates : {A : Type 0} → (A → A → Bool) → List A → Bool
+has_no_duplicates same [] = true
+has_no_duplicates same (x ∷ rest) = not (list_any (same x) rest) && has_no_duplicates same rest

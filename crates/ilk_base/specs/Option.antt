@@ -1,15 +1,15 @@
 use Rattle.std.specs.Prelude.{Bool, false, Option, Some, None, option_and_then, if◌then◌else◌}
 
--- `x ← o` in a `do` block: x is the value of o, and where o has none the whole has none
+-- `x ← o` in a `do` block: `x` is the value of `o`. If `o` has none, the whole has none.
 infixl 10 ◌>>=◌
 abbrev pub ◌>>=◌ : {A B : Type 0} → Option A → (A → Option B) → Option B
 o >>= f = option_and_then f o
 
--- the value, where the test passes
+-- The value `x`, if the test `b` passes.
 abbrev pub only_if : {A : Type 0} → Bool → A → Option A
 only_if b x = if b then Some x else None
 
--- whether there is a value, and it passes the test
+-- Returns whether there is a value and it passes the test.
 abbrev pub is_some_and : {A : Type 0} → Option A → (A → Bool) → Bool
 is_some_and None test = false
 is_some_and (Some x) test = test x

@@ -1,17 +1,16 @@
-//! What every layer stands on, and nothing of railways: lists and texts that contracts see as
-//! plain lists, the words of definitions that may have no value, and the lemmas that hold of lists,
-//! options and results of any type.
+//! The base of every layer; it knows nothing of railways. It contains rows and texts, which
+//! contracts see as plain lists, and lemmas about lists, options and results of any type.
 //!
-//! A `Row` is a `Vec` and a `Text` a `String`, each with the one meaning that definitions are
-//! written in: a list of items, a list of bytes. So a definition speaks of lists alone, and a
-//! contract compares a row with it by `≡`. A row is made by `new` and grown by `push`, read by
-//! `at`, `len` and `as_slice`, and written by `at_mut` and `remove`. Whether a list of numbers has
-//! one, `has_number` says. A type whose values have words in texts is `Worded`; its one table both
-//! writes and, by `value_of_word`, reads.
+//! A `Row` is a `Vec` and a `Text` is a `String`. Each has one meaning in definitions: a list of
+//! items, a list of bytes. Definitions therefore speak only of lists, and a contract compares a row
+//! with a list by `≡`. `new` and `push` build a row; `at`, `len` and `as_slice` read it; `at_mut`
+//! and `remove` change it. `has_number` searches a list of numbers. A type whose values are written
+//! as words is `Worded`: its one table is used for writing and, by `value_of_word`, for reading.
 //!
-//! `specs/` has `do` blocks over options (`Option`) and results (`Result`), tests of every number
-//! below a bound (`Each`), lists of numbers (`Numbers`), lists in which nothing stands twice
-//! (`Once`), words in texts (`Words`), and what a write through `at_mut` leaves (`Row`).
+//! `specs/` contains `do` blocks over options (`Option`) and results (`Result`), tests of every
+//! number below a bound (`Each`), and lists of numbers (`Numbers`). It also contains lists without
+//! duplicates (`Once`), words in texts (`Words`), and the effect of a write through `at_mut`
+//! (`Row`).
 #![tactic(auto)]
 
 mod numbers;

@@ -5,7 +5,7 @@ ghost use Rattle.ilk_base.specs.Row.{LendsItem};
 use std::alloc::{AllocError, Global};
 use std::marker::Model;
 
-/// A list of items, which contracts see as that list.
+/// A list of items. Contracts see it as that list.
 #[derive(Drop)]
 pub struct Row<T> {
     items: Vec<T>,
@@ -20,7 +20,7 @@ impl<T> Model for Row<T> {
 }
 
 impl<T> Row<T> {
-    /// An empty row.
+    /// Creates an empty row.
     pub fn new(alloc: Global) -> Self
         ensures { result ≡ [] }
     {
@@ -29,8 +29,8 @@ impl<T> Row<T> {
         }
     }
 
-    /// An empty row, for which memory for so many items is asked at once. How many items find room
-    /// in it isn't promised.
+    /// Creates an empty row and requests memory for `items` items at once. The capacity itself
+    /// isn't promised.
     pub fn with_capacity(alloc: Global, items: u64) -> Result<Self, AllocError>
         ensures { IfOk result (λ row. row ≡ []) }
     {
@@ -39,26 +39,26 @@ impl<T> Row<T> {
         })
     }
 
-    /// The allocator that the row keeps.
+    /// Returns the row's allocator.
     pub fn allocator(&self) -> Global {
         *self.items.allocator()
     }
 
-    /// How many items there are.
+    /// Returns the number of items.
     pub fn len(&self) -> u64
         ensures { result ≡ length self.now }
     {
         self.items.len() as u64
     }
 
-    /// The items.
+    /// Returns the items as a slice.
     pub fn as_slice(&self) -> &[T]
         ensures { result.now ≡ self.now }
     {
         self.items.as_slice()
     }
 
-    /// Item `i`.
+    /// Returns item `i`.
     pub fn at(&self, i: u64) -> &T
         requires { i < length self.now }
         ensures { slice_get self.now i ≡ Some result.now }
@@ -66,7 +66,7 @@ impl<T> Row<T> {
         &self.items[i as usize]
     }
 
-    /// Item `i`, for writing.
+    /// Returns item `i` for writing.
     pub fn at_mut(&mut self, i: u64) -> &mut T
         requires { i < length self.old }
         ensures* writes_back { sem 𝓛 (LendsItem T.row self.entry i result) }
@@ -75,7 +75,7 @@ impl<T> Row<T> {
         &mut self.items[i as usize]
     }
 
-    /// Takes item `i` out, and closes up.
+    /// Removes and returns item `i`; the later items move up.
     pub fn remove(&mut self, i: u64) -> T
         requires { i < length self.old }
         ensures taken { slice_get self.old i ≡ Some result }
@@ -86,7 +86,7 @@ impl<T> Row<T> {
 }
 
 impl<T: Drop> Row<T> {
-    /// Adds an item at the end.
+    /// Adds `item` at the end.
     pub fn push(&mut self, item: T) -> Result<(), AllocError>
         ensures ok { OnOk result (self.new ≡ self.old ++ item ∷ []) }
         ensures err { OnErr result (self.new ≡ self.old) }
@@ -97,7 +97,7 @@ impl<T: Drop> Row<T> {
 }
 
 impl<T: Copy> Row<T> {
-    /// An equal row.
+    /// Returns a copy of the row.
     pub fn copy(&self) -> Result<Self, AllocError>
         ensures { IfOk result (λ row. row ≡ self.now) }
     {

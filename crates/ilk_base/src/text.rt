@@ -3,7 +3,7 @@ ghost use Rattle.std.specs.Prelude.{◌≡◌, IfOk, string_bytes};
 use std::alloc::AllocError;
 use std::marker::Model;
 
-/// A text, which contracts see as its bytes.
+/// A text. Contracts see it as its bytes.
 #[derive(Drop)]
 pub struct Text {
     text: String,
@@ -18,21 +18,21 @@ impl Model for Text {
 }
 
 impl Text {
-    /// The text of a string.
+    /// Creates the text of a string.
     pub fn of(text: String) -> Text
         ensures { result ≡ string_bytes text }
     {
         Text { text }
     }
 
-    /// The text.
+    /// Returns the text as a string slice.
     pub fn as_str(&self) -> &str
         ensures { result.now ≡ self.now }
     {
         self.text.as_str()
     }
 
-    /// The string of the text.
+    /// Returns the string of the text.
     pub fn into_string(self) -> String
         ensures { string_bytes result ≡ self }
     {
@@ -40,7 +40,7 @@ impl Text {
         text
     }
 
-    /// An equal text.
+    /// Returns a copy of the text.
     pub fn copy(&self) -> Result<Text, AllocError>
         ensures { IfOk result (λ text. text ≡ self.now) }
     {

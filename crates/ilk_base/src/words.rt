@@ -1,17 +1,17 @@
 ghost use Rattle.std.specs.Prelude.{◌≡◌, List, ℕ};
 ghost use Rattle.ilk_base.specs.Words.{value_of_word as value_by_word};
 
-/// A value for which a word stands in texts. The method `word` is the table of the words of its
-/// type, by which texts are written; `value_of_word` reads by it.
+/// A value that texts write as a word. The method `word` is the table of words of the type: texts
+/// are written by it, and `value_of_word` reads by it.
 pub trait Worded: Copy {
     ghost word_of: { Self → List ℕ };
 
-    /// The word of the value.
+    /// Returns the word of the value.
     fn word(self) -> &'static str
         ensures { result.now ≡ word_of self };
 }
 
-/// The first of these values whose word this is. None where it is the word of none of them.
+/// Returns the first of `values` whose word is `word`. Returns `None` if it is the word of none.
 pub fn value_of_word<T: Worded>(values: &[T], word: &[u8]) -> Option<T>
     ensures { result ≡ value_by_word T.word_of values.now word.now }
 {

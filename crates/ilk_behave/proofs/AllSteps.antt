@@ -1,4 +1,4 @@
--- The system steps as the events do, by the numbers of its rules.
+-- The system steps as the events do, by rule numbers.
 use Rattle.std.proofs.Common.{◌≡◌, ℕ, zero, suc, ◌+◌, ◌-◌, ◌<◌, ◌==◌, true, false, Option, Some, None, option_and_then, List, [], ◌∷◌, length, map, slice_get, inl, inr, refl, sym, ◌∙◌, ap, arith, is_some}
 use Rattle.std.specs.List.{flat_map}
 use Rattle.std.proofs.lemmas.Bool.{eq-eqb}
@@ -8,10 +8,10 @@ use Rattle.ilk_base.proofs.Lists.{at-before, at-past, item_at}
 use Rattle.ilk_base.proofs.Options.{bind_some}
 use Rattle.ilk_base.proofs.Ranges.{below_or_past}
 use Rattle.ilk_base.proofs.Tested.{list_any-at, list_any-from}
-use Rattle.ilk_ir.specs.System.{RuleTree, fired, set_all}
+use Rattle.ilk_ir.specs.System.{RuleTree, after_rule, after_settings}
 use Rattle.ilk_ir.specs.Tree.{tree_holds}
 use Rattle.ilk_plant.specs.Plant.{IsPlant, PlantLists, border, next_to, point_number}
-use Rattle.ilk_plant.specs.Sound.{NeverReturns}
+use Rattle.ilk_plant.specs.Sound.{NoWalkReturns}
 use Rattle.ilk_plant.specs.declared.network.Dir.{Dir}
 use Rattle.ilk_plant.specs.declared.network.Dir.TheVariants.{Up, Down}
 use Rattle.ilk_plant.specs.declared.state.State.{State}
@@ -19,11 +19,11 @@ use Rattle.ilk_model.specs.Event.{next}
 use Rattle.ilk_model.specs.declared.event.Event.{Event}
 use Rattle.ilk_model.specs.declared.event.Event.TheVariants.{Mark, Allocate, Lock, Sense, Release, Finish, Throw, Settle, Enter, Head, Tail, Leave, Cancel}
 use Rattle.ilk_layout.specs.Image.{image_of}
-use Rattle.ilk_layout.specs.Laws.{IsCalm}
+use Rattle.ilk_layout.specs.Laws.{IsWellFormedAndSafe}
 use Rattle.ilk_behave.specs.Behaviour.{events_of, events_of_rules, rules_of, system_of}
-use Rattle.ilk_behave.specs.Numbered.{HasNumber}
+use Rattle.ilk_behave.specs.Numbered.{IsEventOfPlant}
 use Rattle.ilk_behave.specs.Settings.{rules_for}
-use Rattle.ilk_behave.specs.Steps.{AlwaysStepAs, SomeRuleGives, RuleGives, StepsAs, can_fire}
+use Rattle.ilk_behave.specs.Steps.{AlwaysStepLikeEvent, SomeRuleGives, RuleGives, StepsLikeEvents, can_fire}
 use Rattle.ilk_behave.specs.TrainRules.{head_rules, tail_rule}
 use Rattle.ilk_behave.proofs.AllocateSteps.{allocate-steps, lock-steps}
 use Rattle.ilk_behave.proofs.EnterSteps.{enter-steps, leave-steps}
@@ -38,7 +38,7 @@ use Rattle.ilk_behave.proofs.RouteSteps.{cancel-steps, mark-steps, sense-steps}
 use Rattle.ilk_behave.proofs.TailSteps.{tail-steps}
 use Rattle.ilk_motion.proofs.Shape.{border-known}
 
-event-steps : (p : PlantLists) → IsPlant p → NeverReturns p → (event : Event) → AlwaysStepAs p event
+event-steps : (p : PlantLists) → IsPlant p → NoWalkReturns p → (event : Event) → AlwaysStepLikeEvent p event
 event-steps p plant never (Mark r) s shape calm = mark-steps p plant s shape calm r
 event-steps p plant never (Allocate r) s shape calm = allocate-steps p plant s shape calm r
 event-steps p plant never (Lock r) s shape calm = lock-steps p plant s shape calm r
@@ -53,7 +53,6 @@ event-steps p plant never (Tail x) s shape calm = tail-steps p plant never s sha
 event-steps p plant never (Leave x) s shape calm = leave-steps p plant never s shape calm x
 event-steps p plant never (Cancel r) s shape calm = cancel-steps p plant s shape calm r
 
--- where there are rules for a thing, there is the thing
 thing-of : {A : Type 0} (o : Option A) (rules : A → List RuleTree) (j : ℕ) (rule : RuleTree) → slice_get (rules_for o rules) j ≡ Some rule → (a : A) × (o ≡ Some a)
 thing-of None rules j rule at = cc
 thing-of (Some a) rules j rule at = (a, refl)
@@ -67,8 +66,7 @@ towards-known p plant x rules j rule at =
     let two = in-one (rules one.1) (next_to p x one.1) one.2 rule one.4 in
     has-neighbour-known p plant x two.1 one.1 (list_any-from (λ y. y == two.1) (next_to p x one.1) two.0 two.1 two.3 (eq-eqb two.1 two.1 refl))
 
--- an event that has a rule has the number of a route, or of a section
-rule-numbered : (p : PlantLists) → IsPlant p → (event : Event) (j : ℕ) (rule : RuleTree) → slice_get (rules_of p event) j ≡ Some rule → HasNumber p event
+rule-numbered : (p : PlantLists) → IsPlant p → (event : Event) (j : ℕ) (rule : RuleTree) → slice_get (rules_of p event) j ≡ Some rule → IsEventOfPlant p event
 rule-numbered p plant (Mark r) j rule at = let route = thing-of (slice_get p.routes r) _ j rule at in slice_get_within p.routes r route.0 route.1
 rule-numbered p plant (Allocate r) j rule at = let route = thing-of (slice_get p.routes r) _ j rule at in slice_get_within p.routes r route.0 route.1
 rule-numbered p plant (Lock r) j rule at = let route = thing-of (slice_get p.routes r) _ j rule at in slice_get_within p.routes r route.0 route.1
@@ -83,7 +81,6 @@ rule-numbered p plant (Head x) j rule at = towards-known p plant x (λ d y. flat
 rule-numbered p plant (Tail x) j rule at = towards-known p plant x (λ d y. map (tail_rule p x d y) (true ∷ false ∷ [])) j rule at
 rule-numbered p plant (Leave x) j rule at = let section = thing-of (slice_get p.sections x) _ j rule at in slice_get_within p.sections x section.0 section.1
 
--- a rule of an event of these has a number, and that number is the event's
 numbered : (p : PlantLists) (events : List Event) (k : ℕ) (event : Event) (j : ℕ) (rule : RuleTree) →
     slice_get events k ≡ Some event → slice_get (rules_of p event) j ≡ Some rule →
     (i : ℕ) × (slice_get (events_of_rules p events) i ≡ Some event) ×
@@ -98,7 +95,6 @@ numbered p (z ∷ rest) (suc k) event j rule at there =
     let back : length (rules_of p z) + later.0 - length (rules_of p z) ≡ later.0 = omega arith in
     (length (rules_of p z) + later.0, of_rest p z rest (length (rules_of p z) + later.0) (omega arith) ∙ ap (slice_get (events_of_rules p rest)) back ∙ later.1, at-past (rules_of p z) (flat_map (rules_of p) rest) later.0 rule later.2)
 
--- a rule with the number of an event's is a rule of the event
 rule-of : (p : PlantLists) (events : List Event) (i : ℕ) (event : Event) (rule : RuleTree) →
     slice_get (events_of_rules p events) i ≡ Some event →
     slice_get (flat_map (rules_of p) events) i ≡ Some rule →
@@ -115,23 +111,23 @@ rule-of p (z ∷ rest) i event rule at there =
           rule-of p rest (i - length (rules_of p z)) event rule (sym (of_rest p z rest i more) ∙ at) (sym (past-of (rules_of p z) (flat_map (rules_of p) rest) i more) ∙ there)
     ]
 
--- a rule that gives values is one that can be fired
+-- A rule gives these values.
 record IsGiven (p : PlantLists) (s : State) (event : Event) (values : List ℕ) : Type 0 where
   pub place : ℕ
   pub rule : RuleTree
   pub at : slice_get (rules_of p event) place ≡ Some rule
   pub fires : can_fire p s rule ≡ true
-  pub is : set_all (image_of p s) rule.sets ≡ values
+  pub is : after_settings (image_of p s) rule.sets ≡ values
 
 given : (p : PlantLists) (s : State) (event : Event) (i : ℕ) (values : List ℕ) → RuleGives p s event i values → IsGiven p s event values
 given p s event i values h =
-    let found = bind_some (slice_get (system_of p).rules i) (λ r. fired r (image_of p s)) values h.gives in
-    let fires = cond_some (tree_holds (image_of p s) found.0.guard) (set_all (image_of p s) found.0.sets) values found.2 in
+    let found = bind_some (slice_get (system_of p).rules i) (λ r. after_rule r (image_of p s)) values h.gives in
+    let fires = cond_some (tree_holds (image_of p s) found.0.guard) (after_settings (image_of p s) found.0.sets) values found.2 in
     let mine = rule-of p (events_of p) i event found.0 h.of_event found.1 in
     record { place = mine.0; rule = found.0; at = mine.1; fires = fires.0; is = fires.1 }
 
-module _ (p : PlantLists) (plant : IsPlant p) (never : NeverReturns p) where
-  gives-where-enabled : (s : State) (event : Event) → IsCalm p s → is_some (next p s event) ≡ true → SomeRuleGives p s event
+module _ (p : PlantLists) (plant : IsPlant p) (never : NoWalkReturns p) where
+  gives-where-enabled : (s : State) (event : Event) → IsWellFormedAndSafe p s → is_some (next p s event) ≡ true → SomeRuleGives p s event
   gives-where-enabled s event calm h =
       let step = event-steps p plant never event s calm.shape calm.no_hazard in
       let found : (j : ℕ) × (rule : RuleTree) × (slice_get (rules_of p event) j ≡ Some rule) × (can_fire p s rule ≡ true) = list_any-at (can_fire p s) (rules_of p event) (step.enabled ∙ h) in
@@ -139,17 +135,17 @@ module _ (p : PlantLists) (plant : IsPlant p) (never : NeverReturns p) where
       let number = numbered p (events_of p) listed_at.0 event found.0 found.1 listed_at.1 found.2 in
       record {
         number = number.0;
-        values = set_all (image_of p s) found.1.sets;
-        gives = record { of_event = number.1; gives = ap (option_and_then (λ r. fired r (image_of p s))) number.2 ∙ ap (λ b. only_if b (set_all (image_of p s) found.1.sets)) found.3 };
+        values = after_settings (image_of p s) found.1.sets;
+        gives = record { of_event = number.1; gives = ap (option_and_then (λ r. after_rule r (image_of p s))) number.2 ∙ ap (λ b. only_if b (after_settings (image_of p s) found.1.sets)) found.3 };
       }
 
-  enabled-where-given : (s : State) (event : Event) → IsCalm p s → SomeRuleGives p s event → is_some (next p s event) ≡ true
+  enabled-where-given : (s : State) (event : Event) → IsWellFormedAndSafe p s → SomeRuleGives p s event → is_some (next p s event) ≡ true
   enabled-where-given s event calm h =
       let step = event-steps p plant never event s calm.shape calm.no_hazard in
       let one = given p s event h.number h.values h.gives in
       sym step.enabled ∙ list_any-from (can_fire p s) (rules_of p event) one.place one.rule one.at one.fires
 
-  pub steps-as : StepsAs p
+  pub steps-as : StepsLikeEvents p
   steps-as = record {
     enabled = λ s event calm. (gives-where-enabled s event calm, enabled-where-given s event calm);
     after = λ s t event i values calm e h.

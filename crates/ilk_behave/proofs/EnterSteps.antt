@@ -1,4 +1,4 @@
--- enter and leave, by their rules.
+-- The steps of enter and leave.
 use Rattle.std.proofs.Common.{◌≡◌, ℕ, zero, suc, ◌+◌, ◌<◌, ◌≤◌, ◌==◌, Bool, true, false, not, ◌&&◌, ◌||◌, cond, count_by, filter, position, Option, Some, None, List, [], ◌∷◌, ◌++◌, length, map, nat_lt, remove, set, slice_get, inl, inr, refl, sym, ◌∙◌, ap, arith, is_some}
 use Rattle.std.specs.List.{list_any}
 use Rattle.std.proofs.lemmas.Bool.{cases_Bool, eq-eqb, false≢true, ltb-false, ne_eqb, or_parts}
@@ -8,12 +8,12 @@ use Rattle.ilk_base.specs.Option.{◌>>=◌, only_if}
 use Rattle.ilk_base.proofs.Positions.{is_some-position, position-at}
 use Rattle.ilk_base.proofs.Tested.{list_any-from}
 use Rattle.ilk_ir.specs.Tree.{tree_holds}
-use Rattle.ilk_ir.specs.System.{RuleTree, set_all}
+use Rattle.ilk_ir.specs.System.{RuleTree, after_settings}
 use Rattle.ilk_plant.specs.Network.{has_section}
 use Rattle.ilk_plant.specs.Plant.{IsPlant, PlantLists, border}
 use Rattle.ilk_plant.specs.Shape.{HasShape}
-use Rattle.ilk_plant.specs.Sound.{NeverReturns}
-use Rattle.ilk_plant.specs.State.{has_lock, is_clear, is_occupied, lie_of}
+use Rattle.ilk_plant.specs.Sound.{NoWalkReturns}
+use Rattle.ilk_plant.specs.State.{has_lock, is_clear, is_occupied, detected_position}
 use Rattle.ilk_plant.specs.declared.network.Dir.{Dir}
 use Rattle.ilk_plant.specs.declared.network.Dir.TheVariants.{Up, Down}
 use Rattle.ilk_plant.specs.declared.network.Section.{Section}
@@ -21,9 +21,9 @@ use Rattle.ilk_plant.specs.declared.network.Section.TheVariants.{Linear, Point}
 use Rattle.ilk_plant.specs.declared.state.Hold.TheVariants.{Free as FreeLock}
 use Rattle.ilk_plant.specs.declared.state.State.{State}
 use Rattle.ilk_plant.specs.declared.state.Train.{Train}
-use Rattle.ilk_motion.specs.Body.{stands_on, train_on}
+use Rattle.ilk_motion.specs.Body.{occupies_only, new_train_on}
 use Rattle.ilk_motion.specs.Trains.{after_enter, after_leave, has_neighbour}
-use Rattle.ilk_model.specs.Hazard.{hazard, is_two, is_wrong, strays}
+use Rattle.ilk_model.specs.Hazard.{hazard, has_two_trains, is_wrong_under_train, is_wrong_under_body}
 use Rattle.ilk_layout.specs.Image.{image_of, occupancy_values}
 use Rattle.ilk_layout.specs.Occupancy.{occupancy_of}
 use Rattle.ilk_layout.specs.Standing.{is_wrong_under}
@@ -31,38 +31,38 @@ use Rattle.ilk_layout.specs.Values.{occupancy_value}
 use Rattle.ilk_layout.specs.Variables.{occupancy_var}
 use Rattle.ilk_layout.specs.declared.values.Occupancy.{Occupancy}
 use Rattle.ilk_layout.specs.declared.values.Occupancy.TheVariants.{Vacant, Taken, Crash}
-use Rattle.ilk_model.proofs.Straying.{strays-has}
+use Rattle.ilk_model.proofs.Straying.{is_wrong_under_body-has}
 use Rattle.ilk_layout.proofs.Trains.{has_x, occupancy-more, with_trains}
 use Rattle.ilk_layout.proofs.Writes.{image_with}
-use Rattle.ilk_conditions.specs.Conditions.{lock_is, no_train_at, occupancy_is}
-use Rattle.ilk_behave.specs.Settings.{occupancy_becomes, rule}
-use Rattle.ilk_behave.specs.Steps.{StepAs, can_fire}
+use Rattle.ilk_layout.specs.Conditions.{lock_is, no_train_at, occupancy_is}
+use Rattle.ilk_behave.specs.Settings.{set_occupancy, rule}
+use Rattle.ilk_behave.specs.Steps.{StepLikeEvent, can_fire}
 use Rattle.ilk_behave.specs.TrainRules.{leave_rule, rules_of_enter, rules_of_leave}
 use Rattle.ilk_layout.proofs.Calm.{calm-at, occupancy-in, taken-in}
 use Rattle.ilk_behave.proofs.Tools.{no_rules, none_step, rule_step, rules_step}
-use Rattle.ilk_conditions.proofs.Values.{lock-holds, occupancy-holds, vacant-holds}
+use Rattle.ilk_layout.proofs.ConditionValues.{lock-holds, occupancy-holds, vacant-holds}
 use Rattle.ilk_behave.proofs.Writing.{by_image}
 use Rattle.ilk_behave.proofs.OneSection.{none-counted, one-written, only-body, only-of, position-some, removed-any, removed-count, removed-find, taken-parts, vacant-as}
 
-module _ (p : PlantLists) (plant : IsPlant p) (never : NeverReturns p) (s : State) (shape : HasShape p s) (calm : hazard p s ≡ None) where
-  entered-other : (x y : ℕ) (d : Dir) → (y ≡ x → ⊥) → occupancy_of p (with_trains s (s.trains ++ train_on x d ∷ [])) y ≡ occupancy_of p s y
+module _ (p : PlantLists) (plant : IsPlant p) (never : NoWalkReturns p) (s : State) (shape : HasShape p s) (calm : hazard p s ≡ None) where
+  entered-other : (x y : ℕ) (d : Dir) → (y ≡ x → ⊥) → occupancy_of p (with_trains s (s.trains ++ new_train_on x d ∷ [])) y ≡ occupancy_of p s y
   entered-other x y d apart =
       let nay : (x == y) ≡ false = ne_eqb x y (λ e. apart (sym e)) in
-      occupancy-more p s s.trains (train_on x d) y ∙ rw nay refl
+      occupancy-more p s s.trains (new_train_on x d) y ∙ rw nay refl
 
-  entered-here : (x : ℕ) (d : Dir) → border p x ≡ Some d → is_occupied s x ≡ false → occupancy_of p (with_trains s (s.trains ++ train_on x d ∷ [])) x ≡ Taken d true true
+  entered-here : (x : ℕ) (d : Dir) → border p x ≡ Some d → is_occupied s x ≡ false → occupancy_of p (with_trains s (s.trains ++ new_train_on x d ∷ [])) x ≡ Taken d true true
   entered-here x d edge none =
       let own : (x == x) ≡ true = eq-eqb x x refl in
       let vacant = vacant-as p s x none in
       let right : is_wrong_under p s x (x ∷ []) ≡ false = by_section (slice_get p.sections x) refl in
-      occupancy-more p s s.trains (train_on x d) x ∙ rw (own, vacant, right) refl
+      occupancy-more p s s.trains (new_train_on x d) x ∙ rw (own, vacant, right) refl
     where
       by_section : (o : Option Section) → slice_get p.sections x ≡ o → is_wrong_under p s x (x ∷ []) ≡ false
       by_section None e = rw e refl
       by_section (Some (Linear a b c f)) e = rw e refl
       by_section (Some (Point stem plus minus faces)) e = (let bad : None ≡ Some d = rw e at edge in cc)
 
-  pub enter-steps : (x : ℕ) → StepAs p s (after_enter p s x) (rules_of_enter p x)
+  pub enter-steps : (x : ℕ) → StepLikeEvent p s (after_enter p s x) (rules_of_enter p x)
   enter-steps x = by_border (border p x) refl
     where
       shuffle : (v l : Bool) → (v && (l && true)) ≡ (l && v)
@@ -83,48 +83,48 @@ module _ (p : PlantLists) (plant : IsPlant p) (never : NeverReturns p) (s : Stat
       free true false h = refl
       free false b h = cc
 
-      by_border : (o : Option Dir) → border p x ≡ o → StepAs p s (after_enter p s x) (rules_of_enter p x)
+      by_border : (o : Option Dir) → border p x ≡ o → StepLikeEvent p s (after_enter p s x) (rules_of_enter p x)
       by_border None e = rw e (no_rules p s)
       by_border (Some d) e =
           let within = known d e in
           let vacant = vacant-holds p s shape calm x within in
           let lock = lock-holds p s shape x FreeLock within in
-          rw e (rule_step p s (with_trains s (s.trains ++ train_on x d ∷ [])) (is_clear s x) (rule (no_train_at p x ∷ lock_is p x FreeLock ∷ []) (occupancy_becomes p x (Taken d true true) ∷ []))
+          rw e (rule_step p s (with_trains s (s.trains ++ new_train_on x d ∷ [])) (is_clear s x) (rule (no_train_at p x ∷ lock_is p x FreeLock ∷ []) (set_occupancy p x (Taken d true true) ∷ []))
           (ap (λ b. b && (tree_holds (image_of p s) (lock_is p x FreeLock) && true)) vacant ∙ ap (λ b. not (is_occupied s x) && (b && true)) lock ∙ shuffle (not (is_occupied s x)) (has_lock s x FreeLock))
-          (λ h. by_image p s (with_trains s (s.trains ++ train_on x d ∷ []))
-          (occupancy_becomes p x (Taken d true true) ∷ []) (ap
+          (λ h. by_image p s (with_trains s (s.trains ++ new_train_on x d ∷ []))
+          (set_occupancy p x (Taken d true true) ∷ []) (ap
           (λ o. set (image_with s (occupancy_values p s)) (occupancy_var p x) (occupancy_value o))
           (sym (entered-here x d e (free (has_lock s x FreeLock) (is_occupied s x) h)))
-          ∙ one-written p s (s.trains ++ train_on x d ∷ []) x shape within (λ y apart. entered-other x y d apart))))
+          ∙ one-written p s (s.trains ++ new_train_on x d ∷ []) x shape within (λ y apart. entered-other x y d apart))))
 
-  -- where a train that stands on x alone leaves
+  -- A train that is only on `x` leaves.
   left-other : (i x y : ℕ) (t : Train) → slice_get s.trains i ≡ Some t → has_section y t.body ≡ false → occupancy_of p (with_trains s (remove s.trains i)) y ≡ occupancy_of p s y
   left-other i x y t at away =
       let none : ◌≡◌ {A = ℕ} (cond (has_section y t.body) 1 0) 0 = ap (λ b. cond b 1 0) away in
       let counted = removed-count (has_x y) s.trains i t 0 at none in
       let count : count_by (has_x y) (remove s.trains i) ≡ count_by (has_x y) s.trains = omega (arith, counted) in
-      let two : is_two (with_trains s (remove s.trains i)) y ≡ is_two s y = ap (λ n. nat_lt 1 n) count in
-      let wrong : is_wrong p (with_trains s (remove s.trains i)) y ≡ is_wrong p s y = by_section (slice_get p.sections y) refl in
+      let two : has_two_trains (with_trains s (remove s.trains i)) y ≡ has_two_trains s y = ap (λ n. nat_lt 1 n) count in
+      let wrong : is_wrong_under_train p (with_trains s (remove s.trains i)) y ≡ is_wrong_under_train p s y = by_section (slice_get p.sections y) refl in
       let found = removed-find (has_x y) s.trains i t at away in
       rw (two, wrong, found) refl
     where
-      right : (plus minus : ℕ) → strays y plus minus (lie_of p s y) t.body ≡ false
-      right plus minus = elim (cases_Bool (strays y plus minus (lie_of p s y) t.body)) [
-        | inl aye ↦ absurd (false≢true (sym away ∙ strays-has y plus minus (lie_of p s y) t.body aye))
+      right : (plus minus : ℕ) → is_wrong_under_body y plus minus (detected_position p s y) t.body ≡ false
+      right plus minus = elim (cases_Bool (is_wrong_under_body y plus minus (detected_position p s y) t.body)) [
+        | inl aye ↦ absurd (false≢true (sym away ∙ is_wrong_under_body-has y plus minus (detected_position p s y) t.body aye))
         | inr nay ↦ nay
       ]
 
-      by_section : (o : Option Section) → slice_get p.sections y ≡ o → is_wrong p (with_trains s (remove s.trains i)) y ≡ is_wrong p s y
+      by_section : (o : Option Section) → slice_get p.sections y ≡ o → is_wrong_under_train p (with_trains s (remove s.trains i)) y ≡ is_wrong_under_train p s y
       by_section None e = rw e refl
       by_section (Some (Linear a b c f)) e = rw e refl
       by_section (Some (Point stem plus minus faces)) e =
-          rw e (removed-any (λ (train : Train). strays y plus minus (lie_of p s y) train.body) s.trains i t at (right plus minus))
+          rw e (removed-any (λ (train : Train). is_wrong_under_body y plus minus (detected_position p s y) train.body) s.trains i t at (right plus minus))
 
   left-here : (i x : ℕ) (t : Train) → slice_get s.trains i ≡ Some t → has_section x t.body ≡ true → x < length p.sections → occupancy_of p (with_trains s (remove s.trains i)) x ≡ Vacant
   left-here i x t at has within =
       let one : ◌≡◌ {A = ℕ} (cond (has_section x t.body) 1 0) 1 = ap (λ b. cond b 1 0) has in
       let counted = removed-count (has_x x) s.trains i t 1 at one in
-      let few : count_by (has_x x) s.trains ≤ 1 = ltb-false 1 (count_by (has_x x) s.trains) (or_parts (is_two s x) (is_wrong p s x) (calm-at p s x calm within)).0 in
+      let few : count_by (has_x x) s.trains ≤ 1 = ltb-false 1 (count_by (has_x x) s.trains) (or_parts (has_two_trains s x) (is_wrong_under_train p s x) (calm-at p s x calm within)).0 in
       let none : count_by (has_x x) (remove s.trains i) ≡ 0 = omega (arith, counted, few) in
       vacant-as p (with_trains s (remove s.trains i)) x (none-counted (has_x x) (remove s.trains i) none)
 
@@ -140,11 +140,11 @@ module _ (p : PlantLists) (plant : IsPlant p) (never : NeverReturns p) (s : Stat
       ap (λ o. set (image_with s (occupancy_values p s)) (occupancy_var p x) (occupancy_value o)) (sym here)
       ∙ one-written p s (remove s.trains i) x shape within (λ y apart. left-other i x y t at (ap (has_section y) body ∙ (let nay : (x == y) ≡ false = ne_eqb x y (λ e. apart (sym e)) in rw nay refl)))
 
-  pub leave-steps : (x : ℕ) → StepAs p s (after_leave p s x) (rules_of_leave p x)
+  pub leave-steps : (x : ℕ) → StepLikeEvent p s (after_leave p s x) (rules_of_leave p x)
   leave-steps x = by_section (slice_get p.sections x) refl
     where
-      -- no train stands on x alone
-      nay-other : (d : Dir) → position (stands_on x) s.trains ≡ None → (occupancy_value (occupancy_of p s x) == occupancy_value (Taken d true true)) ≡ false
+      -- No train is only on `x`.
+      nay-other : (d : Dir) → position (occupies_only x) s.trains ≡ None → (occupancy_value (occupancy_of p s x) == occupancy_value (Taken d true true)) ≡ false
       nay-other d none = by_value (occupancy_of p s x) refl
         where
           stands : (e : Dir) → occupancy_of p s x ≡ Taken e true true → ⊥
@@ -153,8 +153,8 @@ module _ (p : PlantLists) (plant : IsPlant p) (never : NeverReturns p) (s : Stat
               let same = sym (occupancy-in p plant never s shape calm found.0 found.2 x found.1 found.3 found.4) ∙ is in
               let ends = taken-parts found.1.dir e (found.2 == 0) (found.2 + 1 == length found.1.body) same in
               let alone = only-of x found.2 found.1.body found.4 ends.0 ends.1 in
-              let some = list_any-from (stands_on x) s.trains found.0 found.1 found.3 alone in
-              let is_it : is_some (position (stands_on x) s.trains) ≡ true = is_some-position (stands_on x) s.trains ∙ some in
+              let some = list_any-from (occupies_only x) s.trains found.0 found.1 found.3 alone in
+              let is_it : is_some (position (occupies_only x) s.trains) ≡ true = is_some-position (occupies_only x) s.trains ∙ some in
               (let bad : false ≡ true = rw none at is_it in false≢true bad)
 
           by_value : (o : Occupancy) → occupancy_of p s x ≡ o → (occupancy_value o == occupancy_value (Taken d true true)) ≡ false
@@ -199,7 +199,6 @@ module _ (p : PlantLists) (plant : IsPlant p) (never : NeverReturns p) (s : Stat
       guard : (d : Dir) → x < length p.sections → can_fire p s (leave_rule p x d) ≡ (occupancy_value (occupancy_of p s x) == occupancy_value (Taken d true true))
       guard d within = and-true (tree_holds (image_of p s) (occupancy_is p x (Taken d true true))) ∙ occupancy-holds p s shape x (Taken d true true) within
 
-      -- the rules of the directions that pass a test
       passing : (f : Dir → Bool) (e : Dir) → list_any (λ d. occupancy_value (Taken e true true) == occupancy_value (Taken d true true)) (filter f (Up ∷ Down ∷ [])) ≡ f e
       passing f e = by_tests (f Up) (f Down) refl refl e
         where
@@ -218,21 +217,21 @@ module _ (p : PlantLists) (plant : IsPlant p) (never : NeverReturns p) (s : Stat
       any-rule within (d ∷ ds) =
           ap (λ b. b || list_any (can_fire p s) (map (leave_rule p x) ds)) (guard d within) ∙ ap (λ b. (occupancy_value (occupancy_of p s x) == occupancy_value (Taken d true true)) || b) (any-rule within ds)
 
-      none-fires : x < length p.sections → position (stands_on x) s.trains ≡ None → (ds : List Dir) → list_any (λ d. occupancy_value (occupancy_of p s x) == occupancy_value (Taken d true true)) ds ≡ false
+      none-fires : x < length p.sections → position (occupies_only x) s.trains ≡ None → (ds : List Dir) → list_any (λ d. occupancy_value (occupancy_of p s x) == occupancy_value (Taken d true true)) ds ≡ false
       none-fires within none [] = refl
       none-fires within none (d ∷ ds) = (let nay = nay-other d none in rw nay (none-fires within none ds))
 
-      rule-sets : (ds : List Dir) (i : ℕ) (r : RuleTree) → slice_get (map (leave_rule p x) ds) i ≡ Some r → r.sets ≡ occupancy_becomes p x Vacant ∷ []
+      rule-sets : (ds : List Dir) (i : ℕ) (r : RuleTree) → slice_get (map (leave_rule p x) ds) i ≡ Some r → r.sets ≡ set_occupancy p x Vacant ∷ []
       rule-sets [] i r at = cc
       rule-sets (d ∷ ds) zero r at = (let same : leave_rule p x d ≡ r = same_Some (leave_rule p x d) r at in ap (λ (q : RuleTree). q.sets) (sym same))
       rule-sets (d ∷ ds) (suc i) r at = rule-sets ds i r at
 
       by_train : (section : Section) (i : ℕ) (t : Train) → x < length p.sections →
-          position (stands_on x) s.trains ≡ Some i → slice_get s.trains i ≡ Some t →
-          StepAs p s (only_if (not (has_neighbour section t.dir)) (with_trains s (remove s.trains i)))
+          position (occupies_only x) s.trains ≡ Some i → slice_get s.trains i ≡ Some t →
+          StepLikeEvent p s (only_if (not (has_neighbour section t.dir)) (with_trains s (remove s.trains i)))
           (map (leave_rule p x) (filter (λ d. not (has_neighbour section d)) (Up ∷ Down ∷ [])))
       by_train section i t within first at =
-          let body = only-body x t.body (position-at (stands_on x) s.trains i t first at) in
+          let body = only-body x t.body (position-at (occupies_only x) s.trains i t first at) in
           let place : slice_get t.body 0 ≡ Some x = ap (λ b. slice_get b 0) body in
           let long : length t.body ≡ 1 = ap length body in
           let ends : (0 + 1 == length t.body) ≡ true = grind (arith, nat_tests) in
@@ -244,14 +243,14 @@ module _ (p : PlantLists) (plant : IsPlant p) (never : NeverReturns p) (s : Stat
           (filter (λ d. not (has_neighbour section d)) (Up ∷ Down ∷ []))) is
           ∙ passing (λ d. not (has_neighbour section d)) t.dir)
           (λ k r there h.
-          ap (set_all (image_of p s))
+          ap (after_settings (image_of p s))
           (rule-sets (filter (λ d. not (has_neighbour section d)) (Up ∷ Down ∷ [])) k r there)
-          ∙ by_image p s (with_trains s (remove s.trains i)) (occupancy_becomes p x Vacant ∷ [])
+          ∙ by_image p s (with_trains s (remove s.trains i)) (set_occupancy p x Vacant ∷ [])
           (leave-sets i x t at body within))
 
       by_place : (section : Section) (o : Option ℕ) → x < length p.sections →
-          position (stands_on x) s.trains ≡ o →
-          StepAs p s
+          position (occupies_only x) s.trains ≡ o →
+          StepLikeEvent p s
           (o >>=
           (λ i. slice_get s.trains i >>=
           (λ t. only_if (not (has_neighbour section t.dir)) (with_trains s (remove s.trains i)))))
@@ -263,13 +262,13 @@ module _ (p : PlantLists) (plant : IsPlant p) (never : NeverReturns p) (s : Stat
       by_place section (Some i) within first = by_item (slice_get s.trains i) refl
         where
           by_item : (o : Option Train) → slice_get s.trains i ≡ o →
-              StepAs p s
+              StepLikeEvent p s
               (o >>=
               (λ t. only_if (not (has_neighbour section t.dir)) (with_trains s (remove s.trains i))))
               (map (leave_rule p x) (filter (λ d. not (has_neighbour section d)) (Up ∷ Down ∷ [])))
-          by_item None e = absurd (none-some ((position-some (stands_on x) s.trains i first).0) (sym e ∙ (position-some (stands_on x) s.trains i first).1))
+          by_item None e = absurd (none-some ((position-some (occupies_only x) s.trains i first).0) (sym e ∙ (position-some (occupies_only x) s.trains i first).1))
           by_item (Some t) e = by_train section i t within first e
 
-      by_section : (o : Option Section) → slice_get p.sections x ≡ o → StepAs p s (after_leave p s x) (rules_of_leave p x)
+      by_section : (o : Option Section) → slice_get p.sections x ≡ o → StepLikeEvent p s (after_leave p s x) (rules_of_leave p x)
       by_section None e = rw e (no_rules p s)
-      by_section (Some section) e = rw e (by_place section (position (stands_on x) s.trains) (slice_get_within p.sections x section e) refl)
+      by_section (Some section) e = rw e (by_place section (position (occupies_only x) s.trains) (slice_get_within p.sections x section e) refl)

@@ -1,4 +1,4 @@
--- Rules of which each that can be fired tells the state that follows; and rules for the neighbours of a section.
+-- Rules whose settings determine the next state, and rules for the neighbours of a section.
 use Rattle.std.proofs.Common.{◌≡◌, ℕ, zero, suc, ◌<◌, ◌==◌, Bool, true, position, Option, Some, None, List, [], ◌∷◌, length, slice_get, inl, inr, refl, sym, ◌∙◌, ap, is_some}
 use Rattle.std.specs.List.{flat_map, list_any}
 use Rattle.std.proofs.lemmas.Bool.{eq-eqb, eqb-true, false≢true, or_left, or_right, false_from_ne_true}
@@ -7,7 +7,7 @@ use Rattle.std.proofs.lemmas.Option.{none-some, same_Some}
 use Rattle.ilk_base.proofs.Lists.{at-either}
 use Rattle.ilk_base.proofs.Positions.{is_some-position, position-at}
 use Rattle.ilk_base.proofs.Tested.{list_any-from, none-pass}
-use Rattle.ilk_ir.specs.System.{RuleTree, set_all}
+use Rattle.ilk_ir.specs.System.{RuleTree, after_settings}
 use Rattle.ilk_ir.specs.Tree.{tree_holds}
 use Rattle.ilk_plant.specs.Network.{has_section}
 use Rattle.ilk_plant.specs.NetworkRules.{opposite_direction}
@@ -20,26 +20,25 @@ use Rattle.ilk_plant.proofs.Sides.{back-opposite}
 use Rattle.ilk_plant.proofs.InLists.{section-at}
 use Rattle.ilk_layout.specs.Image.{image_of}
 use Rattle.ilk_layout.specs.Occupancy.{occupancy_of}
-use Rattle.ilk_layout.specs.Values.{occupancy_of_value, occupancy_value}
+use Rattle.ilk_layout.specs.Values.{occupancy_from_value, occupancy_value}
 use Rattle.ilk_layout.specs.declared.values.Occupancy.{Occupancy}
 use Rattle.ilk_layout.specs.declared.values.Occupancy.TheVariants.{Taken}
 use Rattle.ilk_layout.proofs.Read.{occupancy-back}
-use Rattle.ilk_conditions.specs.Conditions.{occupancy_is}
-use Rattle.ilk_conditions.proofs.Values.{occupancy-holds}
-use Rattle.ilk_behave.specs.Steps.{StepAs, can_fire}
+use Rattle.ilk_layout.specs.Conditions.{occupancy_is}
+use Rattle.ilk_layout.proofs.ConditionValues.{occupancy-holds}
+use Rattle.ilk_behave.specs.Steps.{StepLikeEvent, can_fire}
 use Rattle.ilk_behave.proofs.OneSection.{position-some}
 
--- what the rule sets gives the image of the state that follows
+-- The settings of the rule give the image of the next state.
 pub record Tells (p : PlantLists) (s : State) (following : Option State) (rule : RuleTree) : Type 0 where
   pub state : State
   pub follows : following ≡ Some state
-  pub image : set_all (image_of p s) rule.sets ≡ image_of p state
+  pub image : after_settings (image_of p s) rule.sets ≡ image_of p state
 
--- rules of which each that can be fired tells what follows, and some can where something follows
 pub told_step : (p : PlantLists) (s : State) (following : Option State) (rules : List RuleTree) →
     ((i : ℕ) (rule : RuleTree) → slice_get rules i ≡ Some rule → can_fire p s rule ≡ true →
     Tells p s following rule) →
-    ((t : State) → following ≡ Some t → list_any (can_fire p s) rules ≡ true) → StepAs p s following rules
+    ((t : State) → following ≡ Some t → list_any (can_fire p s) rules ≡ true) → StepLikeEvent p s following rules
 told_step p s following rules told some =
     record {
       enabled = by_following following refl;
@@ -51,7 +50,6 @@ told_step p s following rules told some =
         none-pass (can_fire p s) rules (λ i rule at. false_from_ne_true (can_fire p s rule) (λ h. (let f = told i rule at h in none-some f.state (sym e ∙ f.follows)))) ∙ ap is_some (sym e)
     by_following (Some t) e = some t e ∙ ap is_some (sym e)
 
--- what stands in the lists of all items stands in that of one
 pub in-one : {X Y : Type 0} (f : X → List Y) (xs : List X) (i : ℕ) (y : Y) → slice_get (flat_map f xs) i ≡ Some y → (k : ℕ) × (x : X) × (j : ℕ) × (slice_get xs k ≡ Some x) × (slice_get (f x) j ≡ Some y)
 in-one f [] i y at = cc
 in-one f (x ∷ xs) i y at =
@@ -60,7 +58,6 @@ in-one f (x ∷ xs) i y at =
       | inr h ↦ (let later = in-one f xs h.0 y h.1 in (suc later.0, later.1, later.2, later.3, later.4))
     ]
 
--- what passes in the list of one item passes in those of all
 pub any-of-all : {X Y : Type 0} (test : Y → Bool) (f : X → List Y) (xs : List X) (k : ℕ) (x : X) → slice_get xs k ≡ Some x → list_any test (f x) ≡ true → list_any test (flat_map f xs) ≡ true
 any-of-all test f [] k x at h = cc
 any-of-all test f (z ∷ xs) zero x at h =
@@ -72,20 +69,20 @@ direction-at : (d : Dir) → (k : ℕ) × (slice_get (Up ∷ Down ∷ []) k ≡ 
 direction-at Up = (zero, refl)
 direction-at Down = (suc zero, refl)
 
--- a neighbour that some rules with a rule that can be fired are for
+-- A neighbour for which some rule can fire.
 pub record IsFor (p : PlantLists) (s : State) (x : ℕ) (rules : Dir → ℕ → List RuleTree) : Type 0 where
   pub dir : Dir
   pub neighbour : ℕ
   pub beside : has_section neighbour (next_to p x dir) ≡ true
   pub fires : list_any (can_fire p s) (rules dir neighbour) ≡ true
 
--- rules for each neighbour of x, in each direction
+-- Rules for each neighbour of `x`, in each direction.
 pub neighbour_steps :
     (p : PlantLists) (s : State) (following : Option State) (x : ℕ) (rules : Dir → ℕ → List RuleTree) →
     ((d : Dir) (y j : ℕ) (rule : RuleTree) → has_section y (next_to p x d) ≡ true →
     slice_get (rules d y) j ≡ Some rule → can_fire p s rule ≡ true → Tells p s following rule) →
     ((t : State) → following ≡ Some t → IsFor p s x rules) →
-    StepAs p s following (flat_map (λ d. flat_map (rules d) (next_to p x d)) (Up ∷ Down ∷ []))
+    StepLikeEvent p s following (flat_map (λ d. flat_map (rules d) (next_to p x d)) (Up ∷ Down ∷ []))
 neighbour_steps p s following x rules told some =
     told_step p s following (flat_map (λ d. flat_map (rules d) (next_to p x d)) (Up ∷ Down ∷ []))
     (λ i rule at h.
@@ -98,7 +95,7 @@ neighbour_steps p s following x rules told some =
     let place = section-at found.neighbour (next_to p x found.dir) found.beside in
     any-of-all (can_fire p s) (λ d. flat_map (rules d) (next_to p x d)) (Up ∷ Down ∷ []) dir.0 found.dir dir.1 (any-of-all (can_fire p s) (rules found.dir) (next_to p x found.dir) place.0 found.neighbour place.1 found.fires)))
 
--- the position of the only one that passes
+-- The position of the only item that passes.
 pub only-position : {X : Type 0} (f : X → Bool) (xs : List X) (i : ℕ) (x : X) → slice_get xs i ≡ Some x → f x ≡ true → ((j : ℕ) (y : X) → slice_get xs j ≡ Some y → f y ≡ true → j ≡ i) → position f xs ≡ Some i
 only-position f xs i x at h only = by_position (position f xs) refl
   where
@@ -108,15 +105,13 @@ only-position f xs i x at h only = by_position (position f xs) refl
         let found = position-some f xs j e in
         e ∙ ap Some (only j found.0 found.1 (position-at f xs j found.0 e found.1))
 
--- a section with a neighbour is a section of the plant
 pub has-neighbour-known : (p : PlantLists) → IsPlant p → (x y : ℕ) (d : Dir) → has_section y (next_to p x d) ≡ true → x < length p.sections
 has-neighbour-known p plant x y d beside = plant.neighbours y x (opposite_direction d) (back-opposite p plant x y d beside)
 
--- a condition on an occupancy
 pub occupancy-known : (p : PlantLists) (s : State) → HasShape p s → (x : ℕ) (o : Occupancy) → x < length p.sections → tree_holds (image_of p s) (occupancy_is p x o) ≡ true → occupancy_of p s x ≡ o
 occupancy-known p s shape x o within h =
     let same = eqb-true (occupancy_value (occupancy_of p s x)) (occupancy_value o) (sym (occupancy-holds p s shape x o within) ∙ h) in
-    same_Some (occupancy_of p s x) o (sym (occupancy-back (occupancy_of p s x)) ∙ ap occupancy_of_value same ∙ occupancy-back o)
+    same_Some (occupancy_of p s x) o (sym (occupancy-back (occupancy_of p s x)) ∙ ap occupancy_from_value same ∙ occupancy-back o)
 
 pub occupancy-is : (p : PlantLists) (s : State) → HasShape p s → (x : ℕ) (o : Occupancy) → x < length p.sections → occupancy_of p s x ≡ o → tree_holds (image_of p s) (occupancy_is p x o) ≡ true
 occupancy-is p s shape x o within e =

@@ -1,4 +1,4 @@
--- A train whose head goes on to the next section: what follows, and its image.
+-- The next state and its image, if a train's head moves to the next section.
 use Rattle.std.proofs.Common.{◌≡◌, ℕ, suc, ◌+◌, ◌<◌, ◌==◌, Bool, true, false, ◌||◌, count_by, map, position, set, Option, Some, None, [], ◌∷◌, ◌++◌, length, length-append, slice_get, inl, inr, ◌⊎◌, refl, sym, ◌∙◌, ap, arith}
 use Rattle.std.specs.List.{list_all}
 use Rattle.std.specs.Option.{option_to_list}
@@ -9,12 +9,12 @@ use Rattle.ilk_base.specs.Option.{◌>>=◌, is_some_and, only_if}
 use Rattle.ilk_base.proofs.Lists.{at-before, at-past, slice_get-set_other}
 use Rattle.ilk_base.proofs.Ranges.{below_or_past}
 use Rattle.ilk_base.proofs.Tested.{count-one, list_all-slice_get, list_any-at, list_any-none}
-use Rattle.ilk_ir.specs.System.{set_all}
+use Rattle.ilk_ir.specs.System.{after_settings}
 use Rattle.ilk_plant.specs.Network.{has_section}
 use Rattle.ilk_plant.specs.Plant.{IsPlant, PlantLists, board_of}
-use Rattle.ilk_plant.specs.Shape.{HasShape, is_body}
-use Rattle.ilk_plant.specs.Sound.{NeverReturns}
-use Rattle.ilk_plant.specs.State.{is_occupied, lie_of}
+use Rattle.ilk_plant.specs.Shape.{HasShape, has_valid_body}
+use Rattle.ilk_plant.specs.Sound.{NoWalkReturns}
+use Rattle.ilk_plant.specs.State.{is_occupied, detected_position}
 use Rattle.ilk_plant.specs.declared.network.Dir.{Dir}
 use Rattle.ilk_plant.specs.declared.network.Section.{Section}
 use Rattle.ilk_plant.specs.declared.network.Section.TheVariants.{Linear, Point}
@@ -28,7 +28,7 @@ use Rattle.ilk_motion.specs.Ahead.{ahead}
 use Rattle.ilk_motion.specs.Body.{has_head, with_new_head}
 use Rattle.ilk_motion.specs.Trains.{after_head, may_pass, with_board_closed, with_train}
 use Rattle.ilk_motion.proofs.Shape.{after_head-shape, ahead-next_to}
-use Rattle.ilk_model.specs.Hazard.{hazard, is_hazardous, is_two, is_wrong}
+use Rattle.ilk_model.specs.Hazard.{hazard, is_hazardous, has_two_trains, is_wrong_under_train}
 use Rattle.ilk_layout.specs.Image.{image_of}
 use Rattle.ilk_layout.specs.Occupancy.{occupancy_of}
 use Rattle.ilk_layout.specs.Standing.{is_wrong_between, is_wrong_under, section_before}
@@ -42,23 +42,23 @@ use Rattle.ilk_layout.proofs.Changes.{image-board, image-two, occupied}
 use Rattle.ilk_layout.proofs.Made.{other-leg}
 use Rattle.ilk_layout.proofs.Plants.{body-known, body-once}
 use Rattle.ilk_layout.proofs.Trains.{has_x, with_trains, wrong-at, wrong-has}
-use Rattle.ilk_behave.specs.Settings.{board_becomes, board_closes}
-use Rattle.ilk_behave.specs.TrainRules.{gone_on}
+use Rattle.ilk_behave.specs.Settings.{set_board, close_board}
+use Rattle.ilk_behave.specs.TrainRules.{head_settings}
 use Rattle.ilk_behave.proofs.Fired.{only-position}
 use Rattle.ilk_behave.proofs.Moved.{kept, now-at, now-there, occupancy-there, right-under, safe-from, some-wrong, still-safe}
 use Rattle.ilk_behave.proofs.LongerBody.{before-more, had-before, same-place}
 
-module _ (p : PlantLists) (plant : IsPlant p) (never : NeverReturns p) (s : State) (shape : HasShape p s) (calm : hazard p s ≡ None) where
-  -- a train that goes on to what lies ahead of x isn't wrong on x
+module _ (p : PlantLists) (plant : IsPlant p) (never : NoWalkReturns p) (s : State) (shape : HasShape p s) (calm : hazard p s ≡ None) where
+  -- A train that moves to the section ahead of `x` is not wrong on `x`.
   right-on : (x y : ℕ) (d : Dir) (before : Option ℕ) → ahead p s x d ≡ Some y → is_wrong_between p s x before None ≡ false → is_wrong_between p s x before (Some y) ≡ false
   right-on x y d before led right = by_section (slice_get p.sections x) refl
     where
       by_section : (o : Option Section) → slice_get p.sections x ≡ o → is_wrong_between p s x before (Some y) ≡ false
       by_section None e = rw e refl
       by_section (Some (Linear a b c f)) e = rw e refl
-      by_section (Some (Point stem plus minus faces)) e = lies (lie_of p s x) refl
+      by_section (Some (Point stem plus minus faces)) e = lies (detected_position p s x) refl
         where
-          lies : (o : Option Lie) → lie_of p s x ≡ o → is_wrong_between p s x before (Some y) ≡ false
+          lies : (o : Option Lie) → detected_position p s x ≡ o → is_wrong_between p s x before (Some y) ≡ false
           lies None f = rw (e, f) refl
           lies (Some Moving) f = absurd (false≢true (sym (rw (e, f) at right)))
           lies (Some LiesPlus) f =
@@ -67,7 +67,7 @@ module _ (p : PlantLists) (plant : IsPlant p) (never : NeverReturns p) (s : Stat
               (or_from (is_some_and before (λ z. z == minus)) (y == minus)
               (or_parts (is_some_and before (λ z. z == minus)) false none).0
               (ne_eqb y minus
-              (λ same. (other-leg p plant (lie_of p s) x stem plus minus faces d e).0 f
+              (λ same. (other-leg p plant (detected_position p s) x stem plus minus faces d e).0 f
               (led ∙ ap Some same))))
           lies (Some LiesMinus) f =
               let none : (is_some_and before (λ z. z == plus) || false) ≡ false = rw (e, f) at right in
@@ -75,12 +75,12 @@ module _ (p : PlantLists) (plant : IsPlant p) (never : NeverReturns p) (s : Stat
               (or_from (is_some_and before (λ z. z == plus)) (y == plus)
               (or_parts (is_some_and before (λ z. z == plus)) false none).0
               (ne_eqb y plus
-              (λ same. (other-leg p plant (lie_of p s) x stem plus minus faces d e).1 f
+              (λ same. (other-leg p plant (detected_position p s) x stem plus minus faces d e).1 f
               (led ∙ ap Some same))))
 
-  -- the train with its head at x, from where it may go on to y
+  -- The train with its head at `x`, which may move to `y`.
   module _ (i k x y : ℕ) (t : Train) (at : slice_get s.trains i ≡ Some t) (place : slice_get t.body k ≡ Some x) (last : k + 1 ≡ length t.body) (led : ahead p s x t.dir ≡ Some y) (open_board : may_pass s (board_of p x t.dir) ≡ true) where
-    body : is_body p t ≡ true
+    body : has_valid_body p t ≡ true
     body = body-of p plant never s shape calm i t at
 
     once : (j m v : ℕ) → slice_get t.body j ≡ Some v → slice_get t.body m ≡ Some v → j ≡ m
@@ -115,7 +115,7 @@ module _ (p : PlantLists) (plant : IsPlant p) (never : NeverReturns p) (s : Stat
           bodies = bodies-of (board_of p x t.dir) (after_head-shape p s (with_board_closed (board_of p x t.dir) (with_trains s (set s.trains i (with_new_head y t)))) x shape head-follows);
         }
       where
-        bodies-of : (o : Option ℕ) → HasShape p (with_board_closed o (with_trains s (set s.trains i (with_new_head y t)))) → list_all (is_body p) (set s.trains i (with_new_head y t)) ≡ true
+        bodies-of : (o : Option ℕ) → HasShape p (with_board_closed o (with_trains s (set s.trains i (with_new_head y t)))) → list_all (has_valid_body p) (set s.trains i (with_new_head y t)) ≡ true
         bodies-of None h = h.bodies
         bodies-of (Some m) h = h.bodies
 
@@ -123,7 +123,7 @@ module _ (p : PlantLists) (plant : IsPlant p) (never : NeverReturns p) (s : Stat
     head-now = now-at p plant never s shape calm i t (with_new_head y t) at head-moved
 
     once-more : (j m v : ℕ) → slice_get (t.body ++ y ∷ []) j ≡ Some v → slice_get (t.body ++ y ∷ []) m ≡ Some v → j ≡ m
-    once-more = body-once p (with_new_head y t) never (list_all-slice_get (is_body p) (set s.trains i (with_new_head y t)) i (with_new_head y t) head-moved.bodies head-now)
+    once-more = body-once p (with_new_head y t) never (list_all-slice_get (has_valid_body p) (set s.trains i (with_new_head y t)) i (with_new_head y t) head-moved.bodies head-now)
 
     place-y : slice_get (t.body ++ y ∷ []) (length t.body) ≡ Some y
     place-y =
@@ -133,7 +133,6 @@ module _ (p : PlantLists) (plant : IsPlant p) (never : NeverReturns p) (s : Stat
     longer : length (t.body ++ y ∷ []) ≡ length t.body + 1
     longer = length-append t.body (y ∷ [])
 
-    -- y isn't in the train's own body
     not-own : has_section y t.body ≡ false
     not-own =
         false_from_ne_true (has_section y t.body) (λ h.
@@ -145,7 +144,6 @@ module _ (p : PlantLists) (plant : IsPlant p) (never : NeverReturns p) (s : Stat
     apart : x ≡ y → ⊥
     apart same = false≢true (sym not-own ∙ ap (λ v. has_section v t.body) (sym same) ∙ section-from t.body k x place)
 
-    -- the train is wrong on no section but y
     right-more : (z : ℕ) → z < length p.sections → (z ≡ y → ⊥) → is_wrong_under p s z (t.body ++ y ∷ []) ≡ false
     right-more z within not_y =
         elim (cases_Bool (has_section z t.body)) [
@@ -182,7 +180,7 @@ module _ (p : PlantLists) (plant : IsPlant p) (never : NeverReturns p) (s : Stat
             ∙ sym (wrong-at p s t.body m z once e)
             ∙ right
 
-    -- what y is to the longer body
+    -- The longer body on `y`.
     wrong-new : is_wrong_under p s y (t.body ++ y ∷ []) ≡ is_wrong_between p s y (Some x) None
     wrong-new =
         let long = longer in
@@ -196,15 +194,14 @@ module _ (p : PlantLists) (plant : IsPlant p) (never : NeverReturns p) (s : Stat
     has-new : has_section y (t.body ++ y ∷ []) ≡ true
     has-new = section-from (t.body ++ y ∷ []) (length t.body) y place-y
 
-    -- where y isn't free, that is a crash
     pub head-crash : (is_occupied s y || is_wrong_between p s y (Some x) None) ≡ true → occupancy_of p (with_trains s (set s.trains i (with_new_head y t))) y ≡ Crash
     head-crash h = (let bad = hazards in rw bad refl)
       where
-        gone_on_two : is_occupied s y ≡ true → is_two (with_trains s (set s.trains i (with_new_head y t))) y ≡ true
+        gone_on_two : is_occupied s y ≡ true → has_two_trains (with_trains s (set s.trains i (with_new_head y t))) y ≡ true
         gone_on_two taken =
             let other : (j : ℕ) × (v : Train) × (slice_get s.trains j ≡ Some v) × (has_section y v.body ≡ true) = list_any-at (has_x y) s.trains taken in
             let differ : i ≡ other.0 → ⊥ = λ same. (let own : t ≡ other.1 = same_Some t other.1 (sym at ∙ ap (slice_get s.trains) same ∙ other.2) in false≢true (sym not-own ∙ ap (λ (w : Train). has_section y w.body) own ∙ other.3)) in
-            elim (cases_Bool (is_two (with_trains s (set s.trains i (with_new_head y t))) y)) [
+            elim (cases_Bool (has_two_trains (with_trains s (set s.trains i (with_new_head y t))) y)) [
               | inl two ↦ two
               | inr one ↦ absurd
                   (differ
@@ -218,14 +215,13 @@ module _ (p : PlantLists) (plant : IsPlant p) (never : NeverReturns p) (s : Stat
         hazards : is_hazardous p (with_trains s (set s.trains i (with_new_head y t))) y ≡ true
         hazards =
             elim (or_cases (is_occupied s y) (is_wrong_between p s y (Some x) None) h) [
-              | inl taken ↦ or_left (is_two (with_trains s (set s.trains i (with_new_head y t))) y) (is_wrong p (with_trains s (set s.trains i (with_new_head y t))) y) (gone_on_two taken)
-              | inr wrong ↦ or_right (is_two (with_trains s (set s.trains i (with_new_head y t))) y)
-                  (is_wrong p (with_trains s (set s.trains i (with_new_head y t))) y)
+              | inl taken ↦ or_left (has_two_trains (with_trains s (set s.trains i (with_new_head y t))) y) (is_wrong_under_train p (with_trains s (set s.trains i (with_new_head y t))) y) (gone_on_two taken)
+              | inr wrong ↦ or_right (has_two_trains (with_trains s (set s.trains i (with_new_head y t))) y)
+                  (is_wrong_under_train p (with_trains s (set s.trains i (with_new_head y t))) y)
                   (some-wrong p (with_trains s (set s.trains i (with_new_head y t))) i y (with_new_head y t)
                   head-now (wrong-new ∙ wrong))
             ]
 
-    -- where it is free, the train's head is there
     pub head-clear : (is_occupied s y || is_wrong_between p s y (Some x) None) ≡ false → occupancy_of p (with_trains s (set s.trains i (with_new_head y t))) y ≡ Taken t.dir false true
     head-clear h =
         let there = occupancy-there p never (with_trains s (set s.trains i (with_new_head y t))) head-moved i (length t.body) y (with_new_head y t) head-now place-y safe in
@@ -258,7 +254,7 @@ module _ (p : PlantLists) (plant : IsPlant p) (never : NeverReturns p) (s : Stat
         safe : is_hazardous p (with_trains s (set s.trains i (with_new_head y t))) y ≡ false
         safe = safe-from p (with_trains s (set s.trains i (with_new_head y t))) y (λ j m v w e f hv hw. sym (is-own j v e hv) ∙ is-own m w f hw) right
 
-    -- x and the others
+    -- The occupancies of `x` and of the other sections.
     head-left : occupancy_of p (with_trains s (set s.trains i (with_new_head y t))) x ≡ Taken t.dir (k == 0) false
     head-left =
         let still = still-safe p plant never s shape calm i t (with_new_head y t) at head-moved x within-x (had-before x y t.body apart) (right-more x within-x apart) in
@@ -279,21 +275,21 @@ module _ (p : PlantLists) (plant : IsPlant p) (never : NeverReturns p) (s : Stat
             (m, at-before t.body (y ∷ []) m z e, refl, there ∙ sym here)
 
     closes : (o : Option ℕ) → ((m : ℕ) → o ≡ Some m → m < length p.boards) →
-        set_all (image_of p (with_trains s (set s.trains i (with_new_head y t))))
-        (map (λ m. board_becomes p m Closed) (option_to_list o))
+        after_settings (image_of p (with_trains s (set s.trains i (with_new_head y t))))
+        (map (λ m. set_board p m Closed) (option_to_list o))
         ≡ image_of p (with_board_closed o (with_trains s (set s.trains i (with_new_head y t))))
     closes None known = refl
     closes (Some m) known = image-board p (with_trains s (set s.trains i (with_new_head y t))) head-moved m Closed (known m refl)
 
     pub head-image : (tail : Bool) (there : Occupancy) → (k == 0) ≡ tail →
         occupancy_of p (with_trains s (set s.trains i (with_new_head y t))) y ≡ there →
-        set_all (image_of p s) (gone_on p x t.dir y tail there)
+        after_settings (image_of p s) (head_settings p x t.dir y tail there)
         ≡ image_of p
         (with_board_closed (board_of p x t.dir) (with_trains s (set s.trains i (with_new_head y t))))
     head-image tail there begins is =
         let after = with_trains s (set s.trains i (with_new_head y t)) in
         let here : occupancy_of p after x ≡ Taken t.dir tail false = head-left ∙ ap (λ b. Taken t.dir b false) begins in
-        ap (λ o. set_all (set (set (image_of p s) (occupancy_var p x) (occupancy_value o)) (occupancy_var p y) (occupancy_value there)) (board_closes p x t.dir)) (sym here)
-        ∙ ap (λ o. set_all (set (set (image_of p s) (occupancy_var p x) (occupied p after x)) (occupancy_var p y) (occupancy_value o)) (board_closes p x t.dir)) (sym is)
-        ∙ ap (λ values. set_all values (board_closes p x t.dir)) (image-two p s shape (set s.trains i (with_new_head y t)) x y within-x within-y apart (λ z within not_x not_y. head-kept z within not_x not_y))
+        ap (λ o. after_settings (set (set (image_of p s) (occupancy_var p x) (occupancy_value o)) (occupancy_var p y) (occupancy_value there)) (close_board p x t.dir)) (sym here)
+        ∙ ap (λ o. after_settings (set (set (image_of p s) (occupancy_var p x) (occupied p after x)) (occupancy_var p y) (occupancy_value o)) (close_board p x t.dir)) (sym is)
+        ∙ ap (λ values. after_settings values (close_board p x t.dir)) (image-two p s shape (set s.trains i (with_new_head y t)) x y within-x within-y apart (λ z within not_x not_y. head-kept z within not_x not_y))
         ∙ closes (board_of p x t.dir) (λ m e. plant.boards_known x m t.dir e)

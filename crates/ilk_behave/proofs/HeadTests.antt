@@ -1,5 +1,4 @@
--- What the rules of head ask, of a state: whether the train may pass, how the next section is taken, and
--- whether it is free.
+-- The meaning of head's guards for a state.
 use Rattle.std.proofs.Common.{◌≡◌, ℕ, ◌+◌, ◌<◌, ◌==◌, Bool, true, false, ◌&&◌, ◌||◌, not, map, Option, Some, None, List, [], ◌∷◌, ◌++◌, length, slice_get, refl, sym, ◌∙◌, ap, arith, cond}
 use Rattle.std.specs.List.{list_all, list_any}
 use Rattle.std.specs.Option.{option_to_list}
@@ -14,8 +13,8 @@ use Rattle.ilk_ir.proofs.Trees.{any_of-holds}
 use Rattle.ilk_plant.specs.Network.{has_section, same_direction}
 use Rattle.ilk_plant.specs.Plant.{IsPlant, PlantLists, board_of, next_to, point_number}
 use Rattle.ilk_plant.specs.Shape.{HasShape}
-use Rattle.ilk_plant.specs.Sound.{NeverReturns}
-use Rattle.ilk_plant.specs.State.{is_occupied, lie_of}
+use Rattle.ilk_plant.specs.Sound.{NoWalkReturns}
+use Rattle.ilk_plant.specs.State.{is_occupied, detected_position}
 use Rattle.ilk_plant.specs.declared.network.Dir.{Dir}
 use Rattle.ilk_plant.specs.declared.network.Dir.TheVariants.{Up, Down}
 use Rattle.ilk_plant.specs.declared.network.Section.{Section}
@@ -33,40 +32,39 @@ use Rattle.ilk_plant.proofs.InLists.{only-one}
 use Rattle.ilk_motion.specs.Ahead.{ahead}
 use Rattle.ilk_motion.specs.Trains.{is_open, may_pass}
 use Rattle.ilk_routes.specs.Boards.{same_aspect}
-use Rattle.ilk_routes.specs.Lies.{is_moving, lie_in, lies_at}
+use Rattle.ilk_routes.specs.Lies.{is_moving, lie_from_position, is_lie_at_position}
 use Rattle.ilk_model.specs.Hazard.{hazard}
 use Rattle.ilk_layout.specs.Image.{image_of}
 use Rattle.ilk_layout.specs.Standing.{is_wrong_between}
 use Rattle.ilk_layout.specs.declared.values.Occupancy.TheVariants.{Taken}
 use Rattle.ilk_layout.proofs.Calm.{lie-known, occupancy-in, taken-in}
 use Rattle.ilk_layout.proofs.Made.{legs-differ}
-use Rattle.ilk_conditions.specs.Conditions.{board_is, lie_is, occupancy_is}
-use Rattle.ilk_conditions.proofs.Values.{at-holds, board-holds, moving-test, vacant-holds}
-use Rattle.ilk_behave.specs.Guards.{leads_towards, leg_position, passable, takes_from}
-use Rattle.ilk_behave.specs.TrainRules.{free_from, may_go_on}
+use Rattle.ilk_layout.specs.Conditions.{board_is, is_detected, occupancy_is}
+use Rattle.ilk_layout.proofs.ConditionValues.{at-holds, board-holds, moving-test, vacant-holds}
+use Rattle.ilk_behave.specs.Guards.{leads_towards, leg_position, passable, is_right_from}
+use Rattle.ilk_behave.specs.TrainRules.{is_free_for_train, head_conditions}
 use Rattle.ilk_behave.proofs.AllocateSteps.{lie-holds}
 use Rattle.ilk_behave.proofs.Fired.{has-neighbour-known, occupancy-known, parts-of-taken}
 use Rattle.ilk_behave.proofs.TailSteps.{leads-holds}
 use Rattle.ilk_behave.proofs.TailTests.{lies-nowhere}
 
--- what y asks for if it is right for a train that comes from x, by its section
+-- The conditions under which a train from `x` would be right on `y`, by the kind of `y`.
 abbrev taking : PlantLists → ℕ → ℕ → Dir → Option Section → List Tree
 taking p x y d None = []
 taking p x y d (Some (Linear down up b c)) = []
-taking p x y d (Some (Point stem plus minus faces)) = cond (same_direction faces d) (negation (lie_is p y Moving)) (lie_is p y (lie_in (leg_position plus x))) ∷ []
+taking p x y d (Some (Point stem plus minus faces)) = cond (same_direction faces d) (negation (is_detected p y Moving)) (is_detected p y (lie_from_position (leg_position plus x))) ∷ []
 
-takes-by : (p : PlantLists) (x y : ℕ) (d : Dir) (o : Option Section) → slice_get p.sections y ≡ o → takes_from p x d y ≡ taking p x y d (slice_get p.sections y)
+takes-by : (p : PlantLists) (x y : ℕ) (d : Dir) (o : Option Section) → slice_get p.sections y ≡ o → is_right_from p x d y ≡ taking p x y d (slice_get p.sections y)
 takes-by p x y d None e = rw e refl
 takes-by p x y d (Some (Linear down up b c)) e = rw e refl
 takes-by p x y d (Some (Point stem plus minus faces)) e = rw e refl
 
--- whether a train that comes from x is wrong on a point with these legs, which lies so
+-- Returns whether a train from `x` is wrong on a point with these legs in this position.
 abbrev wrong_from : ℕ → ℕ → ℕ → Lie → Bool
 wrong_from x plus minus Moving = true
 wrong_from x plus minus LiesPlus = (x == minus) || false
 wrong_from x plus minus LiesMinus = (x == plus) || false
 
--- some fails exactly where not all hold
 some-fails : (holds : Tree → Bool) (ts : List Tree) → list_any (λ t. not (holds t)) ts ≡ not (list_all holds ts)
 some-fails holds [] = refl
 some-fails holds (t ∷ ts) = ap (λ b. not (holds t) || b) (some-fails holds ts) ∙ either (holds t) (list_all holds ts)
@@ -75,7 +73,7 @@ some-fails holds (t ∷ ts) = ap (λ b. not (holds t) || b) (some-fails holds ts
     either true b = refl
     either false b = refl
 
--- a train in direction d with its head at x, which has or hasn't its tail there, and may go on to y
+-- A train in direction `d` with its head at `x` that may move to `y`.
 pub record IsHead (p : PlantLists) (s : State) (x y : ℕ) (d : Dir) (tail : Bool) : Type 0 where
   pub number : ℕ
   pub train : Train
@@ -88,8 +86,7 @@ pub record IsHead (p : PlantLists) (s : State) (x y : ℕ) (d : Dir) (tail : Boo
   pub led : ahead p s x train.dir ≡ Some y
   pub passes : may_pass s (board_of p x train.dir) ≡ true
 
-module _ (p : PlantLists) (plant : IsPlant p) (never : NeverReturns p) (s : State) (shape : HasShape p s) (calm : hazard p s ≡ None) where
-  -- a board may be passed exactly where it is open, by the image
+module _ (p : PlantLists) (plant : IsPlant p) (never : NoWalkReturns p) (s : State) (shape : HasShape p s) (calm : hazard p s ≡ None) where
   pub passes-holds : (o : Option ℕ) → ((m : ℕ) → o ≡ Some m → m < length p.boards) → list_all (tree_holds (image_of p s)) (map (λ m. board_is p m Open) (option_to_list o)) ≡ may_pass s o
   passes-holds None known = refl
   passes-holds (Some m) known = ap (λ b. b && true) (board-holds p s shape m Open (known m refl)) ∙ same (slice_get s.boards m)
@@ -99,33 +96,32 @@ module _ (p : PlantLists) (plant : IsPlant p) (never : NeverReturns p) (s : Stat
       same (Some Open) = refl
       same (Some Closed) = refl
 
-  moving-holds : (x : ℕ) → tree_holds (image_of p s) (lie_is p x Moving) ≡ is_some_and (lie_of p s x) is_moving
+  moving-holds : (x : ℕ) → tree_holds (image_of p s) (is_detected p x Moving) ≡ is_some_and (detected_position p s x) is_moving
   moving-holds x = by_number (point_number p x) refl
     where
-      by_number : (o : Option ℕ) → point_number p x ≡ o → tree_holds (image_of p s) (lie_is p x Moving) ≡ is_some_and (lie_of p s x) is_moving
+      by_number : (o : Option ℕ) → point_number p x ≡ o → tree_holds (image_of p s) (is_detected p x Moving) ≡ is_some_and (detected_position p s x) is_moving
       by_number None e = rw e refl
       by_number (Some n) e =
           let below : n < length s.points = (let known = point_number-below p x in let less = rw e at known in let count = shape.points in omega (arith, less)) in
           let point = item_at s.points n below in
           rw (e, point.1) (at-holds p s shape n point.0 Moving point.1 ∙ moving-test point.0.at)
 
-  -- a train that comes from x is right on y, by the image
-  pub takes-holds : (x y : ℕ) (d : Dir) → has_section y (next_to p x d) ≡ true → list_all (tree_holds (image_of p s)) (takes_from p x d y) ≡ not (is_wrong_between p s y (Some x) None)
+  pub takes-holds : (x y : ℕ) (d : Dir) → has_section y (next_to p x d) ≡ true → list_all (tree_holds (image_of p s)) (is_right_from p x d y) ≡ not (is_wrong_between p s y (Some x) None)
   takes-holds x y d near = by_section (slice_get p.sections y) refl (back-opposite p plant x y d near)
     where
-      wrong-known : (stem plus minus : ℕ) (faces : Dir) (l : Lie) → slice_get p.sections y ≡ Some (Point stem plus minus faces) → lie_of p s y ≡ Some l → is_wrong_between p s y (Some x) None ≡ wrong_from x plus minus l
+      wrong-known : (stem plus minus : ℕ) (faces : Dir) (l : Lie) → slice_get p.sections y ≡ Some (Point stem plus minus faces) → detected_position p s y ≡ Some l → is_wrong_between p s y (Some x) None ≡ wrong_from x plus minus l
       wrong-known stem plus minus faces Moving e f = rw (e, f) refl
       wrong-known stem plus minus faces LiesPlus e f = rw (e, f) refl
       wrong-known stem plus minus faces LiesMinus e f = rw (e, f) refl
 
-      -- from its stem
+      -- From the stem.
       stem : (plus minus : ℕ) (l : Lie) → (x == minus) ≡ false → (x == plus) ≡ false → (not (is_moving l) && true) ≡ not (wrong_from x plus minus l)
       stem plus minus Moving not_minus not_plus = refl
       stem plus minus LiesPlus not_minus not_plus = rw not_minus refl
       stem plus minus LiesMinus not_minus not_plus = rw not_plus refl
 
-      -- from a leg
-      leg : (plus minus : ℕ) (l : Lie) (b : Bool) → (plus == x) ≡ b → (plus ≡ minus → ⊥) → has_section x (plus ∷ minus ∷ []) ≡ true → (lies_at l (leg_position plus x) && true) ≡ not (wrong_from x plus minus l)
+      -- From a leg.
+      leg : (plus minus : ℕ) (l : Lie) (b : Bool) → (plus == x) ≡ b → (plus ≡ minus → ⊥) → has_section x (plus ∷ minus ∷ []) ≡ true → (is_lie_at_position l (leg_position plus x) && true) ≡ not (wrong_from x plus minus l)
       leg plus minus LiesPlus true e apart h = (let other : (x == minus) ≡ false = ne_eqb x minus (λ same. apart (eqb-true plus x e ∙ same)) in rw (e, other) refl)
       leg plus minus LiesPlus false e apart h = (let rest : ((minus == x) || false) ≡ true = rw e at h in let own : (x == minus) ≡ true = eq-eqb x minus (sym (only-one x minus rest)) in rw (e, own) refl)
       leg plus minus LiesMinus true e apart h = (let own : (x == plus) ≡ true = eq-eqb x plus (sym (eqb-true plus x e)) in rw (e, own) refl)
@@ -134,8 +130,8 @@ module _ (p : PlantLists) (plant : IsPlant p) (never : NeverReturns p) (s : Stat
 
       from-stem : (stem_of plus minus : ℕ) (faces : Dir) →
           slice_get p.sections y ≡ Some (Point stem_of plus minus faces) →
-          has_section x (stem_of ∷ []) ≡ true → takes_from p x d y ≡ negation (lie_is p y Moving) ∷ [] →
-          list_all (tree_holds (image_of p s)) (takes_from p x d y)
+          has_section x (stem_of ∷ []) ≡ true → is_right_from p x d y ≡ negation (is_detected p y Moving) ∷ [] →
+          list_all (tree_holds (image_of p s)) (is_right_from p x d y)
           ≡ not (is_wrong_between p s y (Some x) None)
       from-stem stem_of plus minus faces e h takes =
           let differ = legs-differ p plant y stem_of plus minus faces e in
@@ -149,18 +145,19 @@ module _ (p : PlantLists) (plant : IsPlant p) (never : NeverReturns p) (s : Stat
       from-leg : (stem_of plus minus : ℕ) (faces : Dir) →
           slice_get p.sections y ≡ Some (Point stem_of plus minus faces) →
           has_section x (plus ∷ minus ∷ []) ≡ true →
-          takes_from p x d y ≡ lie_is p y (lie_in (leg_position plus x)) ∷ [] →
-          list_all (tree_holds (image_of p s)) (takes_from p x d y)
+          is_right_from p x d y ≡ is_detected p y (lie_from_position (leg_position plus x)) ∷ [] →
+          list_all (tree_holds (image_of p s)) (is_right_from p x d y)
           ≡ not (is_wrong_between p s y (Some x) None)
       from-leg stem_of plus minus faces e h takes =
           let differ = legs-differ p plant y stem_of plus minus faces e in
           let lie = lie-known p plant never s shape calm y stem_of plus minus faces e in
           ap (list_all (tree_holds (image_of p s))) takes
-          ∙ ap (λ b. b && true) (lie-holds p plant s shape calm y (leg_position plus x) ∙ ap (λ o. is_some_and o (λ l. lies_at l (leg_position plus x))) lie.1)
+          ∙ ap (λ b. b && true) (lie-holds p plant s shape calm y (leg_position plus x) ∙ ap (λ o. is_some_and o (λ l. is_lie_at_position l (leg_position plus x))) lie.1)
           ∙ leg plus minus lie.0 (plus == x) refl differ.0 h
           ∙ ap not (sym (wrong-known stem_of plus minus faces lie.0 e lie.1))
 
-      takes : (stem_of plus minus : ℕ) (faces : Dir) → slice_get p.sections y ≡ Some (Point stem_of plus minus faces) → takes_from p x d y ≡ cond (same_direction faces d) (negation (lie_is p y Moving)) (lie_is p y (lie_in (leg_position plus x))) ∷ []
+      takes : (stem_of plus minus : ℕ) (faces : Dir) → slice_get p.sections y ≡ Some (Point stem_of plus minus faces)
+          → is_right_from p x d y ≡ cond (same_direction faces d) (negation (is_detected p y Moving)) (is_detected p y (lie_from_position (leg_position plus x))) ∷ []
       takes stem_of plus minus faces e = takes-by p x y d (slice_get p.sections y) refl ∙ ap (taking p x y d) e
 
       turned : (stem_of plus minus : ℕ) (faces e : Dir) → slice_get p.sections y ≡ Some (Point stem_of plus minus faces) → same_direction faces e ≡ true → has_section x (next_to p y (opposite_direction e)) ≡ true → has_section x (stem_of ∷ []) ≡ true
@@ -177,19 +174,21 @@ module _ (p : PlantLists) (plant : IsPlant p) (never : NeverReturns p) (s : Stat
       straight stem_of plus minus Up Up e f h = cc
       straight stem_of plus minus Down Down e f h = cc
 
-      by_section : (o : Option Section) → slice_get p.sections y ≡ o → has_section x (next_to p y (opposite_direction d)) ≡ true → list_all (tree_holds (image_of p s)) (takes_from p x d y) ≡ not (is_wrong_between p s y (Some x) None)
+      by_section : (o : Option Section) → slice_get p.sections y ≡ o → has_section x (next_to p y (opposite_direction d)) ≡ true → list_all (tree_holds (image_of p s)) (is_right_from p x d y) ≡ not (is_wrong_between p s y (Some x) None)
       by_section None e h = rw e refl
       by_section (Some (Linear a b c f)) e h = rw e refl
       by_section (Some (Point stem_of plus minus faces)) e h = facing (same_direction faces d) refl
         where
-          facing : (b : Bool) → same_direction faces d ≡ b → list_all (tree_holds (image_of p s)) (takes_from p x d y) ≡ not (is_wrong_between p s y (Some x) None)
-          facing true f = from-stem stem_of plus minus faces e (turned stem_of plus minus faces d e f h) (takes stem_of plus minus faces e ∙ ap (λ b. cond b (negation (lie_is p y Moving)) (lie_is p y (lie_in (leg_position plus x))) ∷ []) f)
-          facing false f = from-leg stem_of plus minus faces e (straight stem_of plus minus faces d e f h) (takes stem_of plus minus faces e ∙ ap (λ b. cond b (negation (lie_is p y Moving)) (lie_is p y (lie_in (leg_position plus x))) ∷ []) f)
+          facing : (b : Bool) → same_direction faces d ≡ b → list_all (tree_holds (image_of p s)) (is_right_from p x d y) ≡ not (is_wrong_between p s y (Some x) None)
+          facing true f = from-stem stem_of plus minus faces e (turned stem_of plus minus faces d e f h)
+              (takes stem_of plus minus faces e ∙ ap (λ b. cond b (negation (is_detected p y Moving)) (is_detected p y (lie_from_position (leg_position plus x))) ∷ []) f)
+          facing false f = from-leg stem_of plus minus faces e (straight stem_of plus minus faces d e f h)
+              (takes stem_of plus minus faces e ∙ ap (λ b. cond b (negation (is_detected p y Moving)) (is_detected p y (lie_from_position (leg_position plus x))) ∷ []) f)
 
-  -- y is free exactly where no hazard would stand there
-  pub free-holds : (x y : ℕ) (d : Dir) → has_section y (next_to p x d) ≡ true → list_all (tree_holds (image_of p s)) (free_from p x d y) ≡ not (is_occupied s y || is_wrong_between p s y (Some x) None)
+  -- `y` is free if and only if the train would cause no hazard there.
+  pub free-holds : (x y : ℕ) (d : Dir) → has_section y (next_to p x d) ≡ true → list_all (tree_holds (image_of p s)) (is_free_for_train p x d y) ≡ not (is_occupied s y || is_wrong_between p s y (Some x) None)
   free-holds x y d near =
-      ap (λ b. b && list_all (tree_holds (image_of p s)) (takes_from p x d y)) (vacant-holds p s shape calm y (plant.neighbours x y d near))
+      ap (λ b. b && list_all (tree_holds (image_of p s)) (is_right_from p x d y)) (vacant-holds p s shape calm y (plant.neighbours x y d near))
       ∙ ap (λ b. not (is_occupied s y) && b) (takes-holds x y d near)
       ∙ neither (is_occupied s y) (is_wrong_between p s y (Some x) None)
     where
@@ -197,11 +196,11 @@ module _ (p : PlantLists) (plant : IsPlant p) (never : NeverReturns p) (s : Stat
       neither true b = refl
       neither false b = refl
 
-  pub bars-holds : (x y : ℕ) (d : Dir) → has_section y (next_to p x d) ≡ true → tree_holds (image_of p s) (any_of (trees (map negation (free_from p x d y)))) ≡ (is_occupied s y || is_wrong_between p s y (Some x) None)
+  pub bars-holds : (x y : ℕ) (d : Dir) → has_section y (next_to p x d) ≡ true → tree_holds (image_of p s) (any_of (trees (map negation (is_free_for_train p x d y)))) ≡ (is_occupied s y || is_wrong_between p s y (Some x) None)
   bars-holds x y d near =
-      any_of-holds (image_of p s) (map negation (free_from p x d y))
-      ∙ list_any-map (tree_holds (image_of p s)) negation (free_from p x d y)
-      ∙ some-fails (tree_holds (image_of p s)) (free_from p x d y)
+      any_of-holds (image_of p s) (map negation (is_free_for_train p x d y))
+      ∙ list_any-map (tree_holds (image_of p s)) negation (is_free_for_train p x d y)
+      ∙ some-fails (tree_holds (image_of p s)) (is_free_for_train p x d y)
       ∙ ap not (free-holds x y d near)
       ∙ twice (is_occupied s y || is_wrong_between p s y (Some x) None)
     where
@@ -209,8 +208,7 @@ module _ (p : PlantLists) (plant : IsPlant p) (never : NeverReturns p) (s : Stat
       twice true = refl
       twice false = refl
 
-  -- where a train may go on, by the image, there is one that does
-  pub goes-on : (x y : ℕ) (d : Dir) (tail : Bool) → has_section y (next_to p x d) ≡ true → list_all (tree_holds (image_of p s)) (may_go_on p x d y tail) ≡ true → IsHead p s x y d tail
+  pub goes-on : (x y : ℕ) (d : Dir) (tail : Bool) → has_section y (next_to p x d) ≡ true → list_all (tree_holds (image_of p s)) (head_conditions p x d y tail) ≡ true → IsHead p s x y d tail
   goes-on x y d tail near h =
       let within_x = has-neighbour-known p plant x y d near in
       let one = and_parts (tree_holds (image_of p s) (occupancy_is p x (Taken d tail true))) (list_all (tree_holds (image_of p s)) (passable p x d ++ leads_towards p x d y)) h in

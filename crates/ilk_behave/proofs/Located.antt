@@ -1,4 +1,4 @@
--- The events of rules, one event after another.
+-- The events of rules, in order.
 use Rattle.std.proofs.Common.{◌≡◌, ℕ, suc, ◌+◌, ◌-◌, ◌<◌, ◌≤◌, Option, Some, None, List, [], ◌∷◌, ◌++◌, drop, get_or, length, map, slice_get, take, refl, sym, ◌∙◌, ap, arith, length-append}
 use Rattle.std.specs.Prelude.{◌↔◌}
 use Rattle.std.specs.List.{flat_map}
@@ -11,7 +11,6 @@ use Rattle.ilk_model.specs.declared.event.Event.{Event}
 use Rattle.ilk_behave.specs.Behaviour.{event_of_rule, events_of, events_of_route, events_of_rules, events_of_section, rules_of, system_of}
 use Rattle.ilk_behave.proofs.PlantEvents.{Begins, events_before_route, events_before_section, routes-begin, routes-more, sections-begin, sections-more, sections-start}
 
--- what stands past a first list
 pub past : {X : Type 0} (xs ys : List X) (i : ℕ) → slice_get (xs ++ ys) (length xs + i) ≡ slice_get ys i
 past [] ys i = ap (slice_get ys) (omega arith)
 past (x ∷ xs) ys i =
@@ -26,7 +25,7 @@ past-of xs ys i beyond =
 pub joined : (p : PlantLists) (xs ys : List Event) → events_of_rules p (xs ++ ys) ≡ events_of_rules p xs ++ events_of_rules p ys
 joined p xs ys = flat_map-append (λ event. map (λ rule. event) (rules_of p event)) xs ys
 
--- there are as many as there are rules
+-- There are as many as rules.
 pub as_many : (p : PlantLists) (events : List Event) → length (events_of_rules p events) ≡ length (flat_map (rules_of p) events)
 as_many p [] = refl
 as_many p (event ∷ rest) =
@@ -34,50 +33,43 @@ as_many p (event ∷ rest) =
     let here : length (map (λ rule. event) (rules_of p event)) ≡ length (rules_of p event) = length-map (rules_of p event) (λ rule. event) in
     length-append (map (λ rule. event) (rules_of p event)) (events_of_rules p rest) ∙ (let sum = length-append (rules_of p event) (flat_map (rules_of p) rest) in omega (arith, later, here, sum))
 
--- a number below the count of the first event's rules is that event's
 pub of_first : (p : PlantLists) (event : Event) (rest : List Event) (i : ℕ) → i < length (rules_of p event) → slice_get (events_of_rules p (event ∷ rest)) i ≡ Some event
 of_first p event rest i within =
     let found = item_at (rules_of p event) i within in
     at-before (map (λ rule. event) (rules_of p event)) (events_of_rules p rest) i event (slice_get-map (λ rule. event) (rules_of p event) i ∙ (let here = found.1 in rw here refl))
 
--- another number is of the rest
 pub of_rest : (p : PlantLists) (event : Event) (rest : List Event) (i : ℕ) → length (rules_of p event) ≤ i → slice_get (events_of_rules p (event ∷ rest)) i ≡ slice_get (events_of_rules p rest) (i - length (rules_of p event))
 of_rest p event rest i beyond =
     let count : length (map (λ rule. event) (rules_of p event)) ≡ length (rules_of p event) = length-map (rules_of p event) (λ rule. event) in
     past-of (map (λ rule. event) (rules_of p event)) (events_of_rules p rest) i (omega (arith, count)) ∙ ap (λ n. slice_get (events_of_rules p rest) (i - n)) count
 
--- place i of these events' rules is place j past those of the events before
+-- Index `i` of these rules is index `j` after those of the events `before`.
 abbrev pub IsPast : PlantLists → List Event → ℕ → ℕ → Type 0
 IsPast p before i j = i ≡ length (events_of_rules p before) + j
 
--- past more events
 pub past-more : (p : PlantLists) (before events after : List Event) (i j k : ℕ) → after ≡ before ++ events → IsPast p before i j → IsPast p events j k → IsPast p after i k
 past-more p before events after i j k is far here =
     let long : length (events_of_rules p after) ≡ length (events_of_rules p before) + length (events_of_rules p events) =
     ap (λ es. length (events_of_rules p es)) is ∙ ap length (joined p before events) ∙ length-append (events_of_rules p before) (events_of_rules p events) in
     omega (arith, long, far, here)
 
--- past one more event
 pub past-one : (p : PlantLists) (event : Event) (j count : ℕ) → count ≡ length (rules_of p event) → count ≤ j → IsPast p (event ∷ []) j (j - count)
 past-one p event j count is beyond =
     let long = as_many p (event ∷ []) in
     let sum = length-append (rules_of p event) [] in
     omega (arith, long, sum, is, beyond)
 
--- found in the events after these
 pub found-next : (p : PlantLists) (before events after : List Event) (i j : ℕ) (event : Event) → after ≡ before ++ events → IsPast p before i j → slice_get (events_of_rules p events) j ≡ Some event → slice_get (events_of_rules p after) i ≡ Some event
 found-next p before events after i j event is far here =
     ap (λ es. slice_get (events_of_rules p es) i) is ∙ ap (λ es. slice_get es i) (joined p before events)
     ∙ ap (slice_get (events_of_rules p before ++ events_of_rules p events)) far
     ∙ past (events_of_rules p before) (events_of_rules p events) j ∙ here
 
--- what is found in the first events is found in all
 pub found-first : (p : PlantLists) (first rest events : List Event) (i : ℕ) (event : Event) → events ≡ first ++ rest → slice_get (events_of_rules p first) i ≡ Some event → slice_get (events_of_rules p events) i ≡ Some event
 found-first p first rest events i event is found =
     ap (λ es. slice_get (events_of_rules p es) i) is ∙ ap (λ es. slice_get es i) (joined p first rest)
     ∙ at-before (events_of_rules p first) (events_of_rules p rest) i event found
 
--- at one of some events
 pub past-at : (p : PlantLists) (events : List Event) (n : ℕ) (d : Event) (i j count : ℕ) → n < length events → count ≡ length (rules_of p (get_or events n d)) → count ≤ j → IsPast p (take n events) i j → IsPast p (take (n + 1) events) i (j - count)
 past-at p events n d i j count within is beyond far =
     let event = get_or events n d in
@@ -96,11 +88,10 @@ past-all p events n i j all far =
     let same : length (events_of_rules p (take n events)) ≡ length (events_of_rules p events) = ap (λ es. length (events_of_rules p es)) (take_all n events all) in
     omega (arith, far, same)
 
--- past all routes
 pub past-routes : (p : PlantLists) (n i j : ℕ) → n ≡ length p.routes → IsPast p (events_before_route n) i j → IsPast p (events_before_section p 0) i j
 past-routes p n i j all far = far ∙ ap (λ es. length (events_of_rules p es) + j) (sections-start p n all)
 
--- this is the event of rule i, and none is exactly where there is no such rule
+-- The event of rule `i`, or `None` if and only if it does not exist.
 abbrev pub IsEventOf : PlantLists → ℕ → Option Event → Type 0
 IsEventOf p i answer = (answer ≡ event_of_rule p i) × ((answer ≡ None) ↔ (length (system_of p).rules ≤ i))
 

@@ -1,4 +1,4 @@
--- The settings of the locks and commands of a route: they fit, and no variable is set twice.
+-- The settings of a route's locks and commands fit, and set no variable twice.
 use Rattle.std.proofs.Common.{◌≡◌, ℕ, zero, suc, ◌+◌, ◌<◌, true, false, Option, Some, None, option_map, List, [], ◌∷◌, ◌++◌, length, map, slice_get, refl, sym, ◌∙◌, ap, subst, arith, inl, inr, IsTrue}
 use Rattle.std.specs.List.{flat_map, list_all}
 use Rattle.std.proofs.lemmas.Bool.{false≢true}
@@ -15,13 +15,13 @@ use Rattle.ilk_plant.specs.TableRules.{sections_locked_for}
 use Rattle.ilk_plant.specs.declared.state.Hold.{Hold}
 use Rattle.ilk_plant.specs.declared.table.Listed.{Listed}
 use Rattle.ilk_plant.specs.declared.table.Route.{Route}
-use Rattle.ilk_plant.proofs.Once.{none_twice-places}
+use Rattle.ilk_plant.proofs.Once.{numbers_differ-places}
 use Rattle.ilk_plant.proofs.PointNumbers.{point_number-below}
 use Rattle.ilk_plant.proofs.Rows.{has_section-at}
-use Rattle.ilk_routes.specs.Claims.{sections_beside, wanted_points}
-use Rattle.ilk_layout.specs.Variables.{lock_var, to_var}
-use Rattle.ilk_conditions.proofs.Valid.{lock_is-valid, to_is-valid}
-use Rattle.ilk_behave.specs.Settings.{commanded, lock_becomes, locks_become, to_becomes}
+use Rattle.ilk_routes.specs.Claims.{sections_beside_path, required_points}
+use Rattle.ilk_layout.specs.Variables.{lock_var, commanded_var}
+use Rattle.ilk_layout.proofs.Valid.{lock_is-valid, is_point_commanded-valid}
+use Rattle.ilk_behave.specs.Settings.{set_as_listed, set_lock, set_locks, set_commanded}
 use Rattle.ilk_plant.proofs.PointNumbers.{number-once}
 use Rattle.ilk_behave.proofs.RulesValid.{all-flat_map, all-map, fits}
 use Rattle.ilk_behave.proofs.SetOnce.{SetElsewhere, SetOnce, elsewhere-flat_map, elsewhere-map, once-append, once-flat_map, once-map}
@@ -29,84 +29,82 @@ use Rattle.ilk_behave.proofs.Fired.{in-one}
 
 module _ (p : PlantLists) where
   abbrev locks : List ℕ → Hold → List Setting
-  locks xs hold = locks_become p xs hold
+  locks xs hold = set_locks p xs hold
 
   abbrev commands : List Listed → List Setting
-  commands entries = flat_map (commanded p) entries
+  commands entries = flat_map (set_as_listed p) entries
 
-  pub locks-fit : (xs : List ℕ) (hold : Hold) → ((i x : ℕ) → slice_get xs i ≡ Some x → x < length p.sections) → list_all (fits p) (locks_become p xs hold) ≡ true
+  pub locks-fit : (xs : List ℕ) (hold : Hold) → ((i x : ℕ) → slice_get xs i ≡ Some x → x < length p.sections) → list_all (fits p) (set_locks p xs hold) ≡ true
   locks-fit xs hold within =
-      all-map (fits p) (λ x. lock_becomes p x hold) xs (λ i x at. lock_is-valid p x hold (within i x at))
+      all-map (fits p) (λ x. set_lock p x hold) xs (λ i x at. lock_is-valid p x hold (within i x at))
 
-  pub locks-elsewhere : (v : ℕ) (xs : List ℕ) (hold : Hold) → ((i x : ℕ) → slice_get xs i ≡ Some x → lock_var p x ≡ v → ⊥) → SetElsewhere v (locks_become p xs hold)
-  locks-elsewhere v xs hold other = elsewhere-map v (λ x. lock_becomes p x hold) xs other
+  pub locks-elsewhere : (v : ℕ) (xs : List ℕ) (hold : Hold) → ((i x : ℕ) → slice_get xs i ≡ Some x → lock_var p x ≡ v → ⊥) → SetElsewhere v (set_locks p xs hold)
+  locks-elsewhere v xs hold other = elsewhere-map v (λ x. set_lock p x hold) xs other
 
-  pub locks-once : (xs : List ℕ) (hold : Hold) → EachOnce xs → SetOnce (locks_become p xs hold)
+  pub locks-once : (xs : List ℕ) (hold : Hold) → EachOnce xs → SetOnce (set_locks p xs hold)
   locks-once xs hold once =
-      once-map (λ x. lock_becomes p x hold) xs (λ i j x y at also same. (let one : x ≡ y = omega (arith, same) in once i j y (at ∙ ap Some one) also))
+      once-map (λ x. set_lock p x hold) xs (λ i j x y at also same. (let one : x ≡ y = omega (arith, same) in once i j y (at ∙ ap Some one) also))
 
-  -- a section of one list of locks isn't in the other
-  pub two_locks-once : (xs ys : List ℕ) (hold : Hold) → EachOnce xs → EachOnce ys → ((i j x : ℕ) → slice_get xs i ≡ Some x → slice_get ys j ≡ Some x → ⊥) → SetOnce (locks_become p (xs ++ ys) hold)
+  pub two_locks-once : (xs ys : List ℕ) (hold : Hold) → EachOnce xs → EachOnce ys → ((i j x : ℕ) → slice_get xs i ≡ Some x → slice_get ys j ≡ Some x → ⊥) → SetOnce (set_locks p (xs ++ ys) hold)
   two_locks-once xs ys hold once also apart =
-      subst SetOnce (sym (map-append (λ x. lock_becomes p x hold) xs ys))
+      subst SetOnce (sym (map-append (λ x. set_lock p x hold) xs ys))
       (once-append (locks xs hold) (locks ys hold) (locks-once xs hold once) (locks-once ys hold also)
       (λ i s at. locks-elsewhere s.var ys hold (λ j y there same. cross i s at j y there same)))
     where
-      cross : (i : ℕ) (s : Setting) → slice_get (locks_become p xs hold) i ≡ Some s → (j y : ℕ) → slice_get ys j ≡ Some y → lock_var p y ≡ s.var → ⊥
+      cross : (i : ℕ) (s : Setting) → slice_get (set_locks p xs hold) i ≡ Some s → (j y : ℕ) → slice_get ys j ≡ Some y → lock_var p y ≡ s.var → ⊥
       cross i s at j y there same =
-          let made = map-at (λ x. lock_becomes p x hold) xs i s at in
+          let made = map-at (λ x. set_lock p x hold) xs i s at in
           let var : lock_var p made.0 ≡ s.var = ap (λ (z : Setting). z.var) made.2 in
           let one : made.0 ≡ y = omega (arith, var, same) in
           apart i j y (made.1 ∙ ap Some one) there
 
-  pub commands-fit : (entries : List Listed) → list_all (fits p) (flat_map (commanded p) entries) ≡ true
+  pub commands-fit : (entries : List Listed) → list_all (fits p) (flat_map (set_as_listed p) entries) ≡ true
   commands-fit entries =
-      all-flat_map (fits p) (commanded p) entries (λ i listed at. one listed (point_number p listed.point) refl)
+      all-flat_map (fits p) (set_as_listed p) entries (λ i listed at. one listed (point_number p listed.point) refl)
     where
-      one : (listed : Listed) (o : Option ℕ) → point_number p listed.point ≡ o → list_all (fits p) (commanded p listed) ≡ true
+      one : (listed : Listed) (o : Option ℕ) → point_number p listed.point ≡ o → list_all (fits p) (set_as_listed p listed) ≡ true
       one listed None e = rw e refl
       one listed (Some n) e =
           let known = point_number-below p listed.point in
           let less = rw e at known in
-          rw e (all-map (fits p) (λ m. to_becomes p m listed.at) (n ∷ []) (λ i m at. to_is-valid p m listed.at (let same : n ≡ m = only i m at in omega (arith, same, less))))
+          rw e (all-map (fits p) (λ m. set_commanded p m listed.at) (n ∷ []) (λ i m at. is_point_commanded-valid p m listed.at (let same : n ≡ m = only i m at in omega (arith, same, less))))
         where
           only : (i m : ℕ) → slice_get (n ∷ []) i ≡ Some m → n ≡ m
           only zero m at = same_Some n m at
           only (suc i) m at = cc
 
-  commanded-elsewhere : (v : ℕ) (listed : Listed) → ((n : ℕ) → point_number p listed.point ≡ Some n → to_var p n ≡ v → ⊥) → SetElsewhere v (commanded p listed)
-  commanded-elsewhere v listed other = by_number (point_number p listed.point) refl
+  set_as_listed-elsewhere : (v : ℕ) (listed : Listed) → ((n : ℕ) → point_number p listed.point ≡ Some n → commanded_var p n ≡ v → ⊥) → SetElsewhere v (set_as_listed p listed)
+  set_as_listed-elsewhere v listed other = by_number (point_number p listed.point) refl
     where
-      by_number : (o : Option ℕ) → point_number p listed.point ≡ o → SetElsewhere v (commanded p listed)
+      by_number : (o : Option ℕ) → point_number p listed.point ≡ o → SetElsewhere v (set_as_listed p listed)
       by_number None e = rw e tt
       by_number (Some n) e = rw e (other n e, tt)
 
-  commanded-once : (listed : Listed) → SetOnce (commanded p listed)
-  commanded-once listed = by_number (point_number p listed.point) refl
+  set_as_listed-once : (listed : Listed) → SetOnce (set_as_listed p listed)
+  set_as_listed-once listed = by_number (point_number p listed.point) refl
     where
-      by_number : (o : Option ℕ) → point_number p listed.point ≡ o → SetOnce (commanded p listed)
+      by_number : (o : Option ℕ) → point_number p listed.point ≡ o → SetOnce (set_as_listed p listed)
       by_number None e = rw e tt
       by_number (Some n) e = rw e (tt, tt)
 
-  -- what a command sets
-  commanded-sets : (listed : Listed) (k : ℕ) (s : Setting) → slice_get (commanded p listed) k ≡ Some s → (n : ℕ) × (point_number p listed.point ≡ Some n) × (s.var ≡ to_var p n)
-  commanded-sets listed k s at = by_number (point_number p listed.point) refl k at
+  set_as_listed-sets : (listed : Listed) (k : ℕ) (s : Setting) → slice_get (set_as_listed p listed) k ≡ Some s → (n : ℕ) × (point_number p listed.point ≡ Some n) × (s.var ≡ commanded_var p n)
+  set_as_listed-sets listed k s at = by_number (point_number p listed.point) refl k at
     where
-      by_number : (o : Option ℕ) → point_number p listed.point ≡ o → (k : ℕ) → slice_get (commanded p listed) k ≡ Some s → (n : ℕ) × (point_number p listed.point ≡ Some n) × (s.var ≡ to_var p n)
+      by_number : (o : Option ℕ) → point_number p listed.point ≡ o → (k : ℕ) → slice_get (set_as_listed p listed) k ≡ Some s → (n : ℕ) × (point_number p listed.point ≡ Some n) × (s.var ≡ commanded_var p n)
       by_number None e k at = let none = rw e at at in cc
       by_number (Some n) e zero at =
-          let first : slice_get (to_becomes p n listed.at ∷ []) 0 ≡ Some s = rw e at at in
-          (n, e, ap (λ (z : Setting). z.var) (sym (same_Some (to_becomes p n listed.at) s first)))
+          let first : slice_get (set_commanded p n listed.at ∷ []) 0 ≡ Some s = rw e at at in
+          (n, e, ap (λ (z : Setting). z.var) (sym (same_Some (set_commanded p n listed.at) s first)))
       by_number (Some n) e (suc k) at = let none = rw e at at in cc
 
-  pub commands-elsewhere : (v : ℕ) (entries : List Listed) → ((n : ℕ) → n < point_count p → to_var p n ≡ v → ⊥) → SetElsewhere v (flat_map (commanded p) entries)
+  pub commands-elsewhere : (v : ℕ) (entries : List Listed) → ((n : ℕ) → n < point_count p → commanded_var p n ≡ v → ⊥) → SetElsewhere v (flat_map (set_as_listed p) entries)
   commands-elsewhere v entries other =
-      elsewhere-flat_map v (commanded p) entries (λ i listed at. commanded-elsewhere v listed (λ n e same. other n (let known = point_number-below p listed.point in rw e at known) same))
+      elsewhere-flat_map v (set_as_listed p) entries (λ i listed at. set_as_listed-elsewhere v listed (λ n e same. other n (let known = point_number-below p listed.point in rw e at known) same))
 
-  commands-once : (entries : List Listed) → EachOnce (map (λ (listed : Listed). listed.point) entries) → SetOnce (flat_map (commanded p) entries)
+  commands-once : (entries : List Listed) → EachOnce (map (λ (listed : Listed). listed.point) entries) → SetOnce (flat_map (set_as_listed p) entries)
   commands-once entries once =
-      once-flat_map (commanded p) entries (λ i listed at. commanded-once listed) (λ i j x y k s apart at also set. commanded-elsewhere s.var y (λ n e same. (
-      let first = commanded-sets x k s set in
+      once-flat_map (set_as_listed p) entries (λ i listed at. set_as_listed-once listed) (λ i j x y k s apart at also set. set_as_listed-elsewhere s.var y (λ n e same. (
+      let first = set_as_listed-sets x k s set in
       let number : first.0 ≡ n = (let var = first.2 in omega (arith, var, same)) in
       let section : x.point ≡ y.point = number-once p x.point y.point n (first.1 ∙ ap Some number) e in
       apart (once i j y.point (pointed entries i x at ∙ ap Some section) (pointed entries j y also)))))
@@ -115,7 +113,7 @@ module _ (p : PlantLists) where
       pointed entries i listed at = slice_get-map (λ (listed : Listed). listed.point) entries i ∙ ap (option_map (λ (listed : Listed). listed.point)) at
 
   module _ (route : Route) (of : IsRouteOf p route) where
-    -- a protecting point is on no section of path and overlap
+    -- A protecting point is on no section of path and overlap.
     pub protecting-apart : (i j x : ℕ) → slice_get (route.path ++ route.overlap) i ≡ Some x → slice_get (map (λ (listed : Listed). listed.point) route.protecting_points) j ≡ Some x → ⊥
     protecting-apart i j x at also =
         let listed = map-at (λ (listed : Listed). listed.point) route.protecting_points j x also in
@@ -123,22 +121,20 @@ module _ (p : PlantLists) where
         let there : has_section x (route.path ++ route.overlap) ≡ true = has_section-at (route.path ++ route.overlap) i x at in
         false≢true (sym away ∙ ap (λ y. has_section y (route.path ++ route.overlap)) listed.2 ∙ there)
 
-    -- the locks that a route takes are of different sections
-    pub all_locks-once : (hold : Hold) → SetOnce (locks_become p (sections_locked_for route) hold)
+    pub all_locks-once : (hold : Hold) → SetOnce (set_locks p (sections_locked_for route) hold)
     all_locks-once hold =
         two_locks-once (route.path ++ route.overlap)
         (map (λ (listed : Listed). listed.point) route.protecting_points) hold
-        (none_twice-places (route.path ++ route.overlap) of.sections_once)
-        (none_twice-places (map (λ (listed : Listed). listed.point) route.protecting_points)
+        (numbers_differ-places (route.path ++ route.overlap) of.sections_once)
+        (numbers_differ-places (map (λ (listed : Listed). listed.point) route.protecting_points)
         of.protecting_points_once) protecting-apart
 
-    -- those beside its path, and that of a section of the path
-    pub last_locks-once : (hold : Hold) (k x : ℕ) → slice_get route.path k ≡ Some x → SetOnce (locks_become p (x ∷ sections_beside route) hold)
+    pub last_locks-once : (hold : Hold) (k x : ℕ) → slice_get route.path k ≡ Some x → SetOnce (set_locks p (x ∷ sections_beside_path route) hold)
     last_locks-once hold k x there = (
       other,
       two_locks-once route.overlap (map (λ (listed : Listed). listed.point) route.protecting_points)
           hold overlap-once
-          (none_twice-places (map (λ (listed : Listed). listed.point) route.protecting_points)
+          (numbers_differ-places (map (λ (listed : Listed). listed.point) route.protecting_points)
           of.protecting_points_once)
           (λ i j y at also. protecting-apart (length route.path + i) j y
           (at-past route.path route.overlap i y at) also),
@@ -146,38 +142,37 @@ module _ (p : PlantLists) where
       where
         overlap-once : EachOnce route.overlap
         overlap-once i j y at also =
-            let places = none_twice-places (route.path ++ route.overlap) of.sections_once (length route.path + i) (length route.path + j) y (at-past route.path route.overlap i y at) (at-past route.path route.overlap j y also) in
+            let places = numbers_differ-places (route.path ++ route.overlap) of.sections_once (length route.path + i) (length route.path + j) y (at-past route.path route.overlap i y at) (at-past route.path route.overlap j y also) in
             omega (arith, places)
 
-        other : SetElsewhere (lock_var p x) (locks_become p (sections_beside route) hold)
+        other : SetElsewhere (lock_var p x) (set_locks p (sections_beside_path route) hold)
         other =
-            locks-elsewhere (lock_var p x) (sections_beside route) hold (λ i y at same. (
+            locks-elsewhere (lock_var p x) (sections_beside_path route) hold (λ i y at same. (
             let one : y ≡ x = omega (arith, same) in
             let here : slice_get (route.path ++ route.overlap) k ≡ Some x = at-before route.path route.overlap k x there in
             elim (at-either route.overlap (map (λ (listed : Listed). listed.point) route.protecting_points) i y at) [
-              | inl h ↦ (let places = none_twice-places (route.path ++ route.overlap) of.sections_once k (length route.path + h.0) x here (at-past route.path route.overlap h.0 x (h.1 ∙ ap Some one)) in
+              | inl h ↦ (let places = numbers_differ-places (route.path ++ route.overlap) of.sections_once k (length route.path + h.0) x here (at-past route.path route.overlap h.0 x (h.1 ∙ ap Some one)) in
                   let within = slice_get_within route.path k x there in
                   omega (arith, places, within))
               | inr h ↦ protecting-apart k h.0 x here (h.1 ∙ ap Some one)
             ]))
 
-    -- the points that a route wants are different points
-    pub wanted-once : SetOnce (flat_map (commanded p) (wanted_points route))
+    pub wanted-once : SetOnce (flat_map (set_as_listed p) (required_points route))
     wanted-once =
-        subst SetOnce (sym (flat_map-append (commanded p) route.points route.protecting_points))
+        subst SetOnce (sym (flat_map-append (set_as_listed p) route.points route.protecting_points))
         (once-append (commands route.points) (commands route.protecting_points)
         (commands-once route.points
-        (none_twice-places (map (λ (listed : Listed). listed.point) route.points)
+        (numbers_differ-places (map (λ (listed : Listed). listed.point) route.points)
         of.points_once))
         (commands-once route.protecting_points
-        (none_twice-places (map (λ (listed : Listed). listed.point) route.protecting_points)
+        (numbers_differ-places (map (λ (listed : Listed). listed.point) route.protecting_points)
         of.protecting_points_once)) cross)
       where
-        cross : (i : ℕ) (s : Setting) → slice_get (flat_map (commanded p) route.points) i ≡ Some s → SetElsewhere s.var (flat_map (commanded p) route.protecting_points)
+        cross : (i : ℕ) (s : Setting) → slice_get (flat_map (set_as_listed p) route.points) i ≡ Some s → SetElsewhere s.var (flat_map (set_as_listed p) route.protecting_points)
         cross i s at =
-            let found = in-one (commanded p) route.points i s at in
-            elsewhere-flat_map s.var (commanded p) route.protecting_points (λ j y there. commanded-elsewhere s.var y (λ n e same. (
-            let first = commanded-sets found.1 found.2 s found.4 in
+            let found = in-one (set_as_listed p) route.points i s at in
+            elsewhere-flat_map s.var (set_as_listed p) route.protecting_points (λ j y there. set_as_listed-elsewhere s.var y (λ n e same. (
+            let first = set_as_listed-sets found.1 found.2 s found.4 in
             let number : first.0 ≡ n = (let var = first.2 in omega (arith, var, same)) in
             let section : found.1.point ≡ y.point = number-once p found.1.point y.point n (first.1 ∙ ap Some number) e in
             let passed = all-at (λ (listed : Listed). IsTrue (has_section listed.point (route.path ++ route.overlap))) route.points found.0 found.1 of.points_passed found.3 in

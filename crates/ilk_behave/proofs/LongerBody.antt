@@ -9,7 +9,6 @@ use Rattle.ilk_plant.proofs.InLists.{only-one}
 use Rattle.ilk_layout.specs.Standing.{section_before}
 use Rattle.ilk_layout.proofs.Bodies.{before-suc}
 
--- a body with one more section
 pub had-before : (z y : ℕ) (body : List ℕ) → (z ≡ y → ⊥) → has_section z (body ++ y ∷ []) ≡ true → has_section z body ≡ true
 had-before z y body apart h =
     elim (or_cases (has_section z body) (has_section z (y ∷ [])) (sym (list_any-append (λ v. v == z) body (y ∷ [])) ∙ h)) [

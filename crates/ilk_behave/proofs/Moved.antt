@@ -1,4 +1,4 @@
--- The occupancies of sections where one train gets another body.
+-- The occupancies of sections if one train gets another body.
 use Rattle.std.proofs.Common.{◌≡◌, ℕ, ◌+◌, ◌<◌, ◌≤◌, ◌==◌, true, false, count_by, find, Option, Some, None, length, set, slice_get, inl, inr, ◌⊎◌, refl, sym, ◌∙◌, ap, arith}
 use Rattle.std.specs.List.{list_any}
 use Rattle.std.proofs.lemmas.Bool.{cases_Bool, cases_eq, false≢true, ltb-false, or_from, or_parts, false_from_ne_true}
@@ -8,15 +8,15 @@ use Rattle.ilk_base.proofs.Lists.{slice_get-set_other, slice_get-set_same}
 use Rattle.ilk_base.proofs.Tested.{count-one, few-from_places, find-at, list_all-slice_get, list_any-at, list_any-from, list_any-none, none-pass}
 use Rattle.ilk_plant.specs.Network.{has_section}
 use Rattle.ilk_plant.specs.Plant.{IsPlant, PlantLists}
-use Rattle.ilk_plant.specs.Shape.{HasShape, is_body}
-use Rattle.ilk_plant.specs.Sound.{NeverReturns}
-use Rattle.ilk_plant.specs.State.{is_occupied, lie_of}
+use Rattle.ilk_plant.specs.Shape.{HasShape, has_valid_body}
+use Rattle.ilk_plant.specs.Sound.{NoWalkReturns}
+use Rattle.ilk_plant.specs.State.{is_occupied, detected_position}
 use Rattle.ilk_plant.specs.declared.network.Section.{Section}
 use Rattle.ilk_plant.specs.declared.network.Section.TheVariants.{Linear, Point}
 use Rattle.ilk_plant.specs.declared.state.State.{State}
 use Rattle.ilk_plant.specs.declared.state.Train.{Train}
 use Rattle.ilk_plant.proofs.InLists.{section-from, section-at}
-use Rattle.ilk_model.specs.Hazard.{hazard, is_hazardous, is_two, is_wrong, strays}
+use Rattle.ilk_model.specs.Hazard.{hazard, is_hazardous, has_two_trains, is_wrong_under_train, is_wrong_under_body}
 use Rattle.ilk_layout.specs.Occupancy.{occupancy_of}
 use Rattle.ilk_layout.specs.Standing.{is_wrong_under}
 use Rattle.ilk_layout.specs.declared.values.Occupancy.TheVariants.{Taken}
@@ -26,37 +26,35 @@ use Rattle.ilk_layout.proofs.Plants.{body-once}
 use Rattle.ilk_layout.proofs.Trains.{find-some, has_x, with_trains}
 use Rattle.ilk_behave.proofs.OneSection.{vacant-as}
 
--- where no hazard stands at a section, no body is wrong on it
 pub right-under : (p : PlantLists) (s : State) (i x : ℕ) (t : Train) → is_hazardous p s x ≡ false → slice_get s.trains i ≡ Some t → is_wrong_under p s x t.body ≡ false
-right-under p s i x t safe at = by_section (slice_get p.sections x) refl (or_parts (is_two s x) (is_wrong p s x) safe).1
+right-under p s i x t safe at = by_section (slice_get p.sections x) refl (or_parts (has_two_trains s x) (is_wrong_under_train p s x) safe).1
   where
-    by_section : (o : Option Section) → slice_get p.sections x ≡ o → is_wrong p s x ≡ false → is_wrong_under p s x t.body ≡ false
+    by_section : (o : Option Section) → slice_get p.sections x ≡ o → is_wrong_under_train p s x ≡ false → is_wrong_under p s x t.body ≡ false
     by_section None e right = rw e refl
     by_section (Some (Linear a b c d)) e right = rw e refl
     by_section (Some (Point stem plus minus faces)) e right =
-        let none : list_any (λ (train : Train). strays x plus minus (lie_of p s x) train.body) s.trains ≡ false = rw e at right in
-        rw e (list_any-none (λ (train : Train). strays x plus minus (lie_of p s x) train.body) s.trains i t none at)
+        let none : list_any (λ (train : Train). is_wrong_under_body x plus minus (detected_position p s x) train.body) s.trains ≡ false = rw e at right in
+        rw e (list_any-none (λ (train : Train). is_wrong_under_body x plus minus (detected_position p s x) train.body) s.trains i t none at)
 
-pub none-wrong : (p : PlantLists) (s : State) (x : ℕ) → ((i : ℕ) (t : Train) → slice_get s.trains i ≡ Some t → is_wrong_under p s x t.body ≡ false) → is_wrong p s x ≡ false
+pub none-wrong : (p : PlantLists) (s : State) (x : ℕ) → ((i : ℕ) (t : Train) → slice_get s.trains i ≡ Some t → is_wrong_under p s x t.body ≡ false) → is_wrong_under_train p s x ≡ false
 none-wrong p s x right = by_section (slice_get p.sections x) refl
   where
-    by_section : (o : Option Section) → slice_get p.sections x ≡ o → is_wrong p s x ≡ false
+    by_section : (o : Option Section) → slice_get p.sections x ≡ o → is_wrong_under_train p s x ≡ false
     by_section None e = rw e refl
     by_section (Some (Linear a b c d)) e = rw e refl
     by_section (Some (Point stem plus minus faces)) e =
-        rw e (none-pass (λ (train : Train). strays x plus minus (lie_of p s x) train.body) s.trains (λ i t at. (let here = right i t at in rw e at here)))
+        rw e (none-pass (λ (train : Train). is_wrong_under_body x plus minus (detected_position p s x) train.body) s.trains (λ i t at. (let here = right i t at in rw e at here)))
 
--- where some body is wrong on a section, it is
-pub some-wrong : (p : PlantLists) (s : State) (i x : ℕ) (t : Train) → slice_get s.trains i ≡ Some t → is_wrong_under p s x t.body ≡ true → is_wrong p s x ≡ true
+pub some-wrong : (p : PlantLists) (s : State) (i x : ℕ) (t : Train) → slice_get s.trains i ≡ Some t → is_wrong_under p s x t.body ≡ true → is_wrong_under_train p s x ≡ true
 some-wrong p s i x t at wrong = by_section (slice_get p.sections x) refl
   where
-    by_section : (o : Option Section) → slice_get p.sections x ≡ o → is_wrong p s x ≡ true
+    by_section : (o : Option Section) → slice_get p.sections x ≡ o → is_wrong_under_train p s x ≡ true
     by_section None e = absurd (false≢true (rw e at wrong))
     by_section (Some (Linear a b c d)) e = absurd (false≢true (rw e at wrong))
     by_section (Some (Point stem plus minus faces)) e =
-        (let here : strays x plus minus (lie_of p s x) t.body ≡ true = rw e at wrong in rw e (list_any-from (λ (train : Train). strays x plus minus (lie_of p s x) train.body) s.trains i t at here))
+        (let here : is_wrong_under_body x plus minus (detected_position p s x) t.body ≡ true = rw e at wrong in rw e (list_any-from (λ (train : Train). is_wrong_under_body x plus minus (detected_position p s x) train.body) s.trains i t at here))
 
--- at a section that one train alone has, and no body is wrong on, stands no hazard
+-- A section with at most one train, on which no body is wrong, has no hazard.
 pub safe-from : (p : PlantLists) (s : State) (x : ℕ) →
     ((i j : ℕ) (t u : Train) → slice_get s.trains i ≡ Some t → slice_get s.trains j ≡ Some u →
     has_section x t.body ≡ true → has_section x u.body ≡ true → i ≡ j) →
@@ -64,19 +62,18 @@ pub safe-from : (p : PlantLists) (s : State) (x : ℕ) →
     is_hazardous p s x ≡ false
 safe-from p s x one right =
     let few : count_by (has_x x) s.trains ≤ 1 = few-from_places (has_x x) s.trains one in
-    let two : is_two s x ≡ false = grind (arith, nat_tests) in
-    or_from (is_two s x) (is_wrong p s x) two (none-wrong p s x right)
+    let two : has_two_trains s x ≡ false = grind (arith, nat_tests) in
+    or_from (has_two_trains s x) (is_wrong_under_train p s x) two (none-wrong p s x right)
 
--- the occupancy of a section of a body, where no hazard stands at it
-pub occupancy-there : (p : PlantLists) → NeverReturns p → (s : State) → HasShape p s →
+pub occupancy-there : (p : PlantLists) → NoWalkReturns p → (s : State) → HasShape p s →
     (i k x : ℕ) (t : Train) → slice_get s.trains i ≡ Some t → slice_get t.body k ≡ Some x →
     is_hazardous p s x ≡ false → occupancy_of p s x ≡ Taken t.dir (k == 0) (k + 1 == length t.body)
 occupancy-there p never s shape i k x t at place safe =
     let has : has_section x t.body ≡ true = section-from t.body k x place in
-    let once = body-once p t never (list_all-slice_get (is_body p) s.trains i t shape.bodies at) in
+    let once = body-once p t never (list_all-slice_get (has_valid_body p) s.trains i t shape.bodies at) in
     let some = find-some (has_x x) s.trains (list_any-from (has_x x) s.trains i t at has) in
     let found = find-at (has_x x) s.trains some.0 some.1 in
-    let few : count_by (has_x x) s.trains ≤ 1 = ltb-false 1 (count_by (has_x x) s.trains) (or_parts (is_two s x) (is_wrong p s x) safe).0 in
+    let few : count_by (has_x x) s.trains ≤ 1 = ltb-false 1 (count_by (has_x x) s.trains) (or_parts (has_two_trains s x) (is_wrong_under_train p s x) safe).0 in
     let places : found.0 ≡ i = count-one (has_x x) s.trains few found.0 i some.0 t found.1 at found.2 has in
     let same : some.0 ≡ t = same_Some some.0 t (sym found.1 ∙ ap (slice_get s.trains) places ∙ at) in
     let it : find (has_x x) s.trains ≡ Some t = some.1 ∙ ap Some same in
@@ -84,14 +81,13 @@ occupancy-there p never s shape i k x t at place safe =
     let last = last-at t.body k x once place in
     rw (safe, it, first, last) refl
 
--- in a state without hazard, train i gets the body of u
-module _ (p : PlantLists) (plant : IsPlant p) (never : NeverReturns p) (s : State) (shape : HasShape p s)
+-- In a state without hazard, train `i` gets the body of `u`.
+module _ (p : PlantLists) (plant : IsPlant p) (never : NoWalkReturns p) (s : State) (shape : HasShape p s)
     (calm : hazard p s ≡ None) (i : ℕ) (t u : Train) (at : slice_get s.trains i ≡ Some t)
     (moved : HasShape p (with_trains s (set s.trains i u))) where
   pub now-at : slice_get (set s.trains i u) i ≡ Some u
   now-at = slice_get-set_same s.trains i u (slice_get_within s.trains i t at)
 
-  -- each train now there is u, or another that was there
   pub now-there : (j : ℕ) (v : Train) → slice_get (set s.trains i u) j ≡ Some v → ((i ≡ j) × (u ≡ v)) ⊎ ((i ≡ j → ⊥) × (slice_get s.trains j ≡ Some v))
   now-there j v e =
       elim (cases_eq i j) [
@@ -99,7 +95,6 @@ module _ (p : PlantLists) (plant : IsPlant p) (never : NeverReturns p) (s : Stat
         | inr apart ↦ inr (apart, sym (slice_get-set_other s.trains i j u apart) ∙ e)
       ]
 
-  -- a section that now a train has, had the train there
   pub was-there : (x : ℕ) → (has_section x u.body ≡ true → has_section x t.body ≡ true) →
       (j : ℕ) (v : Train) → slice_get (set s.trains i u) j ≡ Some v → has_section x v.body ≡ true →
       (w : Train) × (slice_get s.trains j ≡ Some w) × (has_section x w.body ≡ true)
@@ -118,7 +113,7 @@ module _ (p : PlantLists) (plant : IsPlant p) (never : NeverReturns p) (s : Stat
         | inr h ↦ right-under p s j x v (calm-at p s x calm within) h.1
       ])
 
-  -- a section keeps its occupancy, if it has the same place in both bodies or is in none of them
+  -- A section keeps its occupancy if it has the same place in both bodies or is in neither.
   pub kept : (x : ℕ) → x < length p.sections → u.dir ≡ t.dir →
       (has_section x u.body ≡ true → has_section x t.body ≡ true) → is_wrong_under p s x u.body ≡ false →
       ((k : ℕ) → slice_get t.body k ≡ Some x →

@@ -1,4 +1,4 @@
--- Where trains change one section alone, and what stands on a section alone.
+-- Changes of trains on only one section; trains on only one section.
 use Rattle.std.proofs.Common.{◌≡◌, ℕ, zero, suc, ◌+◌, ◌<◌, ◌==◌, Bool, true, false, ◌||◌, cond, count_by, find, position, Some, List, [], ◌∷◌, length, nat_lt, remove, set, slice_get, inl, inr, refl, ◌∙◌, ap, arith}
 use Rattle.std.specs.List.{list_any, position_or_len}
 use borrow.Author.Tests.{ltb-true}
@@ -13,8 +13,8 @@ use Rattle.ilk_plant.specs.State.{is_occupied}
 use Rattle.ilk_plant.specs.declared.network.Dir.{Dir}
 use Rattle.ilk_plant.specs.declared.state.State.{State}
 use Rattle.ilk_plant.specs.declared.state.Train.{Train}
-use Rattle.ilk_motion.specs.Body.{is_only}
-use Rattle.ilk_model.specs.Hazard.{is_two}
+use Rattle.ilk_motion.specs.Body.{is_only_section}
+use Rattle.ilk_model.specs.Hazard.{has_two_trains}
 use Rattle.ilk_layout.specs.Image.{occupancy_values}
 use Rattle.ilk_layout.specs.Occupancy.{occupancy_of}
 use Rattle.ilk_layout.specs.Values.{occupancy_value}
@@ -24,7 +24,6 @@ use Rattle.ilk_layout.proofs.Trains.{count-none, find-none, has_x, with_trains, 
 use Rattle.ilk_layout.proofs.Writes.{image_with, occupancy-written}
 use Rattle.ilk_layout.proofs.Changes.{table-one}
 
--- where trains change the occupancy of x alone, one write does it
 pub one-written : (p : PlantLists) (s : State) (trains : List Train) (x : ℕ) → HasShape p s →
     x < length p.sections →
     ((y : ℕ) → (y ≡ x → ⊥) → occupancy_of p (with_trains s trains) y ≡ occupancy_of p s y) →
@@ -35,16 +34,14 @@ one-written p s trains x shape within others =
     occupancy-written p s (occupancy_values p s) shape x (occupancy_value (occupancy_of p (with_trains s trains) x))
     ∙ ap (image_with s) (table-one (λ y. occupancy_value (occupancy_of p s y)) (λ y. occupancy_value (occupancy_of p (with_trains s trains) y)) (length p.sections) x within (λ y less apart. ap occupancy_value (others y apart)))
 
--- where no train has a section, it is vacant
 pub vacant-as : (p : PlantLists) (s : State) (x : ℕ) → is_occupied s x ≡ false → occupancy_of p s x ≡ Vacant
 vacant-as p s x none =
     let count = count-none (has_x x) s.trains none in
-    let two : is_two s x ≡ false = ap (λ n. nat_lt 1 n) count in
+    let two : has_two_trains s x ≡ false = ap (λ n. nat_lt 1 n) count in
     let wrong = wrong-none p s s.trains x none in
     let found = find-none (has_x x) s.trains none in
     rw (two, wrong, found) refl
 
--- a list without the item at an index
 pub removed-any : {X : Type 0} (f : X → Bool) (xs : List X) (i : ℕ) (x : X) → slice_get xs i ≡ Some x → f x ≡ false → list_any f (remove xs i) ≡ list_any f xs
 removed-any f [] i x at nay = cc
 removed-any f (z ∷ xs) zero x at nay = (let first : f z ≡ false = ap f (same_Some z x at) ∙ nay in rw first refl)
@@ -76,7 +73,6 @@ none-counted f (z ∷ xs) none =
       | inr nay ↦ (let first : ◌≡◌ {A = ℕ} (cond (f z) 1 0) 0 = ap (λ b. cond b 1 0) nay in rw nay (none-counted f xs (omega (arith, step, first, none))))
     ]
 
--- the position of the first that passes is of an item
 pub position-some : {X : Type 0} (f : X → Bool) (xs : List X) (i : ℕ) → position f xs ≡ Some i → (x : X) × (slice_get xs i ≡ Some x)
 position-some f xs i e =
     let parts = cond_some (nat_lt (position_or_len f xs) (length xs)) (position_or_len f xs) i e in
@@ -84,13 +80,12 @@ position-some f xs i e =
     let less : position_or_len f xs < length xs = ltb-true (position_or_len f xs) (length xs) test in
     item_at xs i (omega (arith, less, parts.1))
 
--- what stands on x alone
-pub only-body : (x : ℕ) (body : List ℕ) → is_only x body ≡ true → body ≡ x ∷ []
+pub only-body : (x : ℕ) (body : List ℕ) → is_only_section x body ≡ true → body ≡ x ∷ []
 only-body x [] h = cc
 only-body x (y ∷ []) h = ap (λ v. v ∷ []) (eqb-true y x h)
 only-body x (y ∷ z ∷ rest) h = cc
 
-pub only-of : (x k : ℕ) (body : List ℕ) → slice_get body k ≡ Some x → (k == 0) ≡ true → (k + 1 == length body) ≡ true → is_only x body ≡ true
+pub only-of : (x k : ℕ) (body : List ℕ) → slice_get body k ≡ Some x → (k == 0) ≡ true → (k + 1 == length body) ≡ true → is_only_section x body ≡ true
 only-of x k [] at first last = cc
 only-of x zero (y ∷ []) at first last = eq-eqb y x (same_Some y x at)
 only-of x zero (y ∷ z ∷ rest) at first last = absurd (grind (arith, nat_tests))

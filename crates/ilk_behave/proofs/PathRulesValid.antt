@@ -17,19 +17,18 @@ use Rattle.ilk_plant.specs.declared.state.Aspect.TheVariants.{Closed}
 use Rattle.ilk_plant.specs.declared.state.Hold.TheVariants.{Free as FreeLock, Locked as LockedLock, Used as UsedLock}
 use Rattle.ilk_plant.specs.declared.state.Mode.TheVariants.{Free, Locked, Occupied}
 use Rattle.ilk_plant.specs.declared.table.Route.{Route}
-use Rattle.ilk_routes.specs.Claims.{sections_beside}
+use Rattle.ilk_routes.specs.Claims.{sections_beside_path}
 use Rattle.ilk_layout.specs.Variables.{lock_var, ranges_of_plant}
-use Rattle.ilk_conditions.specs.Conditions.{lock_is, mode_is, no_train_at, rel_is, seen_is, train_at}
-use Rattle.ilk_conditions.proofs.Valid.{board_is-valid, lock_is-valid, mode_is-valid, no_train_at-valid, rel_is-valid, seen_is-valid, train_at-valid}
+use Rattle.ilk_layout.specs.Conditions.{lock_is, mode_is, no_train_at, rel_is, seen_is, train_at}
+use Rattle.ilk_layout.proofs.Valid.{board_is-valid, lock_is-valid, mode_is-valid, no_train_at-valid, rel_is-valid, seen_is-valid, train_at-valid}
 use Rattle.ilk_behave.specs.RouteRules.{finish_rule, release_rule, rules_of_finish, rules_of_release, rules_of_sense, seen_from, sense_rule}
-use Rattle.ilk_behave.specs.Settings.{board_becomes, lock_becomes, locks_become, mode_becomes, rel_becomes, rules_for, seen_becomes}
+use Rattle.ilk_behave.specs.Settings.{set_board, set_lock, set_locks, set_mode, set_rel, rules_for, set_seen}
 use Rattle.ilk_behave.proofs.LocksOnce.{last_locks-once, locks-fit}
 use Rattle.ilk_behave.proofs.RulesValid.{all-append, all-cons, all-map, fits, is_valid, is_valid_rule, one_rule-valid, rule-valid}
 use Rattle.ilk_behave.proofs.SetOnce.{SetOnce, once-append}
 use Rattle.ilk_routes.proofs.Shape.{beside-known}
 
 module _ (p : PlantLists) (plant : IsPlant p) where
-  -- rules that are made from a path with its places
   places-valid : (f : ℕ → ℕ → RuleTree) (path : List ℕ) → ((i x : ℕ) → slice_get path i ≡ Some x → is_valid_rule p (f i x) ≡ true) → list_all (is_valid_rule p) (map (λ place. f place.0 place.1) (enumerate_from 0 path)) ≡ true
   places-valid f path each =
       all-pass (is_valid_rule p) (map (λ place. f place.0 place.1) (enumerate_from 0 path)) (λ i rule at. (
@@ -55,19 +54,19 @@ module _ (p : PlantLists) (plant : IsPlant p) where
       (all-cons (is_valid p) (seen_is r k) (train_at p x ∷ lock_is p x LockedLock ∷ []) (seen_is-valid p r k route known (omega (arith, few)))
       (all-cons (is_valid p) (train_at p x) (lock_is p x LockedLock ∷ []) (train_at-valid p x inside)
       (all-cons (is_valid p) (lock_is p x LockedLock) [] (lock_is-valid p x LockedLock inside) refl))))
-      (all-cons (fits p) (lock_becomes p x UsedLock) (seen_becomes r (k + 1) ∷ mode_becomes r Occupied ∷ closes (k == 0)) (lock_is-valid p x UsedLock inside)
-      (all-cons (fits p) (seen_becomes r (k + 1)) (mode_becomes r Occupied ∷ closes (k == 0)) (seen_is-valid p r (k + 1) route known (omega (arith, few)))
-      (all-cons (fits p) (mode_becomes r Occupied) (closes (k == 0)) (mode_is-valid p r Occupied within) (closes-fit of (k == 0)))))
+      (all-cons (fits p) (set_lock p x UsedLock) (set_seen r (k + 1) ∷ set_mode r Occupied ∷ closes (k == 0)) (lock_is-valid p x UsedLock inside)
+      (all-cons (fits p) (set_seen r (k + 1)) (set_mode r Occupied ∷ closes (k == 0)) (seen_is-valid p r (k + 1) route known (omega (arith, few)))
+      (all-cons (fits p) (set_mode r Occupied) (closes (k == 0)) (mode_is-valid p r Occupied within) (closes-fit of (k == 0)))))
       (once within of (k == 0))
     where
       closes : Bool → List Setting
-      closes first = cond first (board_becomes p route.source Closed ∷ []) []
+      closes first = cond first (set_board p route.source Closed ∷ []) []
 
       sets : Bool → List Setting
-      sets first = lock_becomes p x UsedLock ∷ seen_becomes r (k + 1) ∷ mode_becomes r Occupied ∷ closes first
+      sets first = set_lock p x UsedLock ∷ set_seen r (k + 1) ∷ set_mode r Occupied ∷ closes first
 
       closes-fit : IsRouteOf p route → (first : Bool) → list_all (fits p) (closes first) ≡ true
-      closes-fit of true = all-cons (fits p) (board_becomes p route.source Closed) [] (board_is-valid p route.source Closed of.source) refl
+      closes-fit of true = all-cons (fits p) (set_board p route.source Closed) [] (board_is-valid p route.source Closed of.source) refl
       closes-fit of false = refl
 
       once : r < length p.routes → IsRouteOf p route → (first : Bool) → SetOnce (sets first)
@@ -114,15 +113,15 @@ module _ (p : PlantLists) (plant : IsPlant p) where
       let few = slice_get_within route.path k x there in
       let seen : Tree = seen_from r (k + 2) (length route.path) in
       let conditions : List Tree = mode_is r Occupied ∷ rel_is r k ∷ seen ∷ no_train_at p x ∷ lock_is p x UsedLock ∷ [] in
-      let sets : List Setting = lock_becomes p x FreeLock ∷ rel_becomes r (k + 1) ∷ [] in
+      let sets : List Setting = set_lock p x FreeLock ∷ set_rel r (k + 1) ∷ [] in
       rule-valid p conditions sets
       (all-cons (is_valid p) (mode_is r Occupied) (rel_is r k ∷ seen ∷ no_train_at p x ∷ lock_is p x UsedLock ∷ []) (mode_is-valid p r Occupied within)
       (all-cons (is_valid p) (rel_is r k) (seen ∷ no_train_at p x ∷ lock_is p x UsedLock ∷ []) (rel_is-valid p r k route known (omega (arith, few)))
       (all-cons (is_valid p) seen (no_train_at p x ∷ lock_is p x UsedLock ∷ []) (seen_from-valid r route (k + 2) known)
       (all-cons (is_valid p) (no_train_at p x) (lock_is p x UsedLock ∷ []) (no_train_at-valid p x inside)
       (all-cons (is_valid p) (lock_is p x UsedLock) [] (lock_is-valid p x UsedLock inside) refl)))))
-      (all-cons (fits p) (lock_becomes p x FreeLock) (rel_becomes r (k + 1) ∷ []) (lock_is-valid p x FreeLock inside)
-      (all-cons (fits p) (rel_becomes r (k + 1)) [] (rel_is-valid p r (k + 1) route known (omega (arith, few))) refl))
+      (all-cons (fits p) (set_lock p x FreeLock) (set_rel r (k + 1) ∷ []) (lock_is-valid p x FreeLock inside)
+      (all-cons (fits p) (set_rel r (k + 1)) [] (rel_is-valid p r (k + 1) route known (omega (arith, few))) refl))
       (((λ same. omega (arith, within, same)), tt), (tt, tt))
 
   pub release-valid : (r : ℕ) → list_all (is_valid_rule p) (rules_of_release p r) ≡ true
@@ -137,23 +136,23 @@ module _ (p : PlantLists) (plant : IsPlant p) where
   finish_rule-valid r route k x known there =
       let within = slice_get_within p.routes r route known in
       let of = plant.routes_known r route known in
-      let locks : List Setting = locks_become p (x ∷ sections_beside route) FreeLock in
-      let counts : List Setting = mode_becomes r Free ∷ seen_becomes r 0 ∷ rel_becomes r 0 ∷ [] in
+      let locks : List Setting = set_locks p (x ∷ sections_beside_path route) FreeLock in
+      let counts : List Setting = set_mode r Free ∷ set_seen r 0 ∷ set_rel r 0 ∷ [] in
       let conditions : List Tree = mode_is r Occupied ∷ seen_is r (length route.path) ∷ rel_is r (length route.path - 1) ∷ [] in
       rule-valid p conditions (locks ++ counts)
       (all-cons (is_valid p) (mode_is r Occupied) (seen_is r (length route.path) ∷ rel_is r (length route.path - 1) ∷ []) (mode_is-valid p r Occupied within)
       (all-cons (is_valid p) (seen_is r (length route.path)) (rel_is r (length route.path - 1) ∷ []) (seen_is-valid p r (length route.path) route known (omega arith))
       (all-cons (is_valid p) (rel_is r (length route.path - 1)) [] (rel_is-valid p r (length route.path - 1) route known (omega arith)) refl)))
-      (all-append (fits p) locks counts (locks-fit p (x ∷ sections_beside route) FreeLock (inside of))
-      (all-cons (fits p) (mode_becomes r Free) (seen_becomes r 0 ∷ rel_becomes r 0 ∷ []) (mode_is-valid p r Free within)
-      (all-cons (fits p) (seen_becomes r 0) (rel_becomes r 0 ∷ []) (seen_is-valid p r 0 route known (omega arith))
-      (all-cons (fits p) (rel_becomes r 0) [] (rel_is-valid p r 0 route known (omega arith)) refl))))
+      (all-append (fits p) locks counts (locks-fit p (x ∷ sections_beside_path route) FreeLock (inside of))
+      (all-cons (fits p) (set_mode r Free) (set_seen r 0 ∷ set_rel r 0 ∷ []) (mode_is-valid p r Free within)
+      (all-cons (fits p) (set_seen r 0) (set_rel r 0 ∷ []) (seen_is-valid p r 0 route known (omega arith))
+      (all-cons (fits p) (set_rel r 0) [] (rel_is-valid p r 0 route known (omega arith)) refl))))
       (once-append locks counts (last_locks-once p route of FreeLock k x there) (((λ same. omega (arith, same)), ((λ same. omega (arith, same)), tt)), (((λ same. omega (arith, same)), tt), (tt, tt))) (λ i s at. (
-      let made = map-at (λ y. lock_becomes p y FreeLock) (x ∷ sections_beside route) i s at in
+      let made = map-at (λ y. set_lock p y FreeLock) (x ∷ sections_beside_path route) i s at in
       let var : lock_var p made.0 ≡ s.var = ap (λ (z : Setting). z.var) made.2 in
       ((λ same. omega (arith, within, var, same)), ((λ same. omega (arith, within, var, same)), ((λ same. omega (arith, within, var, same)), tt))))))
     where
-      inside : IsRouteOf p route → (i y : ℕ) → slice_get (x ∷ sections_beside route) i ≡ Some y → y < length p.sections
+      inside : IsRouteOf p route → (i y : ℕ) → slice_get (x ∷ sections_beside_path route) i ≡ Some y → y < length p.sections
       inside of zero y at = all-at (λ x. x < length p.sections) route.path k y of.path (there ∙ at)
       inside of (suc i) y at = beside-known p route of i y at
 

@@ -10,16 +10,15 @@ use Rattle.ilk_plant.specs.Plant.{PlantLists}
 use Rattle.ilk_model.specs.declared.event.Event.{Event}
 use Rattle.ilk_model.specs.declared.event.Event.TheVariants.{Mark, Allocate, Lock, Sense, Release, Finish, Throw, Settle, Enter, Head, Tail, Leave, Cancel}
 use Rattle.ilk_behave.specs.Behaviour.{events_of, events_of_route, events_of_section}
-use Rattle.ilk_behave.specs.Numbered.{HasNumber, HaveNumbers}
+use Rattle.ilk_behave.specs.Numbered.{IsEventOfPlant, AreEventsOfPlant}
 
--- the events of the routes with numbers below n; and the events of all routes and of the sections with numbers below n
+-- The events of the routes below `n`; the events of all routes and of the sections below `n`.
 abbrev pub events_before_route : ℕ → List Event
 events_before_route n = flat_map events_of_route (range_with_len 0 n)
 
 abbrev pub events_before_section : PlantLists → ℕ → List Event
 events_before_section p n = events_before_route (length p.routes) ++ flat_map events_of_section (range_with_len 0 n)
 
--- and of one more route, or section
 pub routes-more : (n : ℕ) (events : List Event) → events ≡ events_of_route n → events_before_route (n + 1) ≡ events_before_route n ++ events
 routes-more n events is = listed_all-more events_of_route n ∙ ap (λ es. events_before_route n ++ es) (sym is)
 
@@ -31,20 +30,18 @@ sections-more p n events is =
     before : List Event
     before = flat_map events_of_section (range_with_len 0 n)
 
--- with all routes the sections begin
 pub sections-start : (p : PlantLists) (n : ℕ) → n ≡ length p.routes → events_before_route n ≡ events_before_section p 0
 sections-start p n all = ap events_before_route all ∙ sym (append-nil (events_before_route (length p.routes)))
 
--- they have the numbers of routes and sections
-pub route-numbered : (p : PlantLists) (r : ℕ) (events : List Event) → r < length p.routes → events ≡ events_of_route r → HaveNumbers p events
+pub route-numbered : (p : PlantLists) (r : ℕ) (events : List Event) → r < length p.routes → events ≡ events_of_route r → AreEventsOfPlant p events
 route-numbered p r events within is =
-    All-same (HasNumber p) events (events_of_route r) is (All-from_recursion (HasNumber p) (events_of_route r) (within, (within, (within, (within, (within, (within, (within, tt))))))))
+    All-same (IsEventOfPlant p) events (events_of_route r) is (All-from_recursion (IsEventOfPlant p) (events_of_route r) (within, (within, (within, (within, (within, (within, (within, tt))))))))
 
-pub section-numbered : (p : PlantLists) (x : ℕ) (events : List Event) → x < length p.sections → events ≡ events_of_section x → HaveNumbers p events
+pub section-numbered : (p : PlantLists) (x : ℕ) (events : List Event) → x < length p.sections → events ≡ events_of_section x → AreEventsOfPlant p events
 section-numbered p x events within is =
-    All-same (HasNumber p) events (events_of_section x) is (All-from_recursion (HasNumber p) (events_of_section x) (within, (within, (within, (within, (within, (within, tt)))))))
+    All-same (IsEventOfPlant p) events (events_of_section x) is (All-from_recursion (IsEventOfPlant p) (events_of_section x) (within, (within, (within, (within, (within, (within, tt)))))))
 
--- the events of a plant begin with these
+-- The events of a plant begin with these.
 pub record Begins (p : PlantLists) (events : List Event) : Type 0 where
   pub rest : List Event
   pub is : events_of p ≡ events ++ rest
@@ -56,7 +53,6 @@ range-split a (suc n) k =
     let next : (a + 1) + n ≡ a + suc n = omega arith in
     ap (range_with_len a) count ∙ ap (λ ns. a ∷ ns) (range-split (a + 1) n k ∙ ap (λ b. range_with_len (a + 1) n ++ range_with_len b k) next)
 
--- what is made of the first of some numbers, and of the others
 made-split : {X : Type 0} (f : ℕ → List X) (n m : ℕ) → n ≤ m → flat_map f (range_with_len 0 m) ≡ flat_map f (range_with_len 0 n) ++ flat_map f (range_with_len n (m - n))
 made-split f n m less =
     let count : m ≡ n + (m - n) = omega arith in
@@ -84,7 +80,6 @@ sections-begin p n less =
       is = ap (λ es. routes ++ es) (made-split events_of_section n (length p.sections) less) ∙ sym (append_assoc routes before later);
     }
 
--- what stands in the list of one item stands in those of all
 of-one : {X Y : Type 0} (f : X → List Y) (xs : List X) (k : ℕ) (x : X) (j : ℕ) (y : Y) → slice_get xs k ≡ Some x → slice_get (f x) j ≡ Some y → (i : ℕ) × (slice_get (flat_map f xs) i ≡ Some y)
 of-one f [] k x j y at there = cc
 of-one f (z ∷ xs) zero x j y at there = (j, at-before (f z) (flat_map f xs) j y (ap (λ v. slice_get (f v) j) (same_Some z x at) ∙ there))
@@ -92,7 +87,7 @@ of-one f (z ∷ xs) (suc k) x j y at there =
     let later = of-one f xs k x j y at there in
     (length (f z) + later.0, at-past (f z) (flat_map f xs) later.0 y later.1)
 
--- the event is one of the plant's
+-- The event is one of the plant's.
 abbrev pub IsListed : PlantLists → Event → Type 0
 IsListed p event = (i : ℕ) × (slice_get (events_of p) i ≡ Some event)
 
@@ -106,8 +101,7 @@ of-section p x k event within here =
     let found = of-one events_of_section (range_with_len 0 (length p.sections)) x x k event (range-at (length p.sections) x within) here in
     (length (events_before_route (length p.routes)) + found.0, at-past (events_before_route (length p.routes)) (flat_map events_of_section (range_with_len 0 (length p.sections))) found.0 event found.1)
 
--- an event with the number of a route, or of a section, is
-pub listed : (p : PlantLists) (event : Event) → HasNumber p event → IsListed p event
+pub listed : (p : PlantLists) (event : Event) → IsEventOfPlant p event → IsListed p event
 listed p (Mark r) within = of-route p r 0 (Mark r) within refl
 listed p (Allocate r) within = of-route p r 1 (Allocate r) within refl
 listed p (Lock r) within = of-route p r 2 (Lock r) within refl

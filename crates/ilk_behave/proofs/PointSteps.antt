@@ -1,16 +1,16 @@
--- throw and settle, by their rules.
+-- The steps of throw and settle.
 use Rattle.std.proofs.Common.{◌≡◌, ℕ, ◌==◌, Bool, true, false, not, ◌&&◌, ◌||◌, Option, Some, None, List, [], ◌∷◌, ◌++◌, set, slice_get, refl, sym, ◌∙◌, ap, length-set}
 use Rattle.std.proofs.lemmas.Bool.{and_parts, or_parts}
 use Rattle.std.proofs.lemmas.Option.{same_Some, slice_get_within}
 use Rattle.ilk_base.proofs.Lists.{slice_get-set_same}
 use Rattle.ilk_base.proofs.Truth.{or-true}
 use Rattle.ilk_ir.specs.Tree.{Tree, tree_holds}
-use Rattle.ilk_ir.specs.System.{set_all}
+use Rattle.ilk_ir.specs.System.{after_settings}
 use Rattle.ilk_ir.specs.declared.system.Setting.{Setting}
 use Rattle.ilk_plant.specs.Network.{is_point}
 use Rattle.ilk_plant.specs.Plant.{IsPlant, PlantLists, point_number}
 use Rattle.ilk_plant.specs.Shape.{HasShape}
-use Rattle.ilk_plant.specs.State.{is_occupied, lie_of}
+use Rattle.ilk_plant.specs.State.{is_occupied, detected_position}
 use Rattle.ilk_plant.specs.declared.network.Position.{Position}
 use Rattle.ilk_plant.specs.declared.network.Position.TheVariants.{Plus, Minus}
 use Rattle.ilk_plant.specs.declared.network.Section.{Section}
@@ -19,8 +19,8 @@ use Rattle.ilk_plant.specs.declared.state.Lie.{Lie}
 use Rattle.ilk_plant.specs.declared.state.Lie.TheVariants.{Plus as LiesPlus, Minus as LiesMinus, Moving}
 use Rattle.ilk_plant.specs.declared.state.PointState.{PointState}
 use Rattle.ilk_plant.specs.declared.state.State.{State}
-use Rattle.ilk_model.specs.Hazard.{hazard, is_hazardous, is_two, is_wrong}
-use Rattle.ilk_routes.specs.Lies.{is_moving, lie_in, lies_at}
+use Rattle.ilk_model.specs.Hazard.{hazard, is_hazardous, has_two_trains, is_wrong_under_train}
+use Rattle.ilk_routes.specs.Lies.{is_moving, lie_from_position, is_lie_at_position}
 use Rattle.ilk_routes.specs.Points.{after_settle, after_throw}
 use Rattle.ilk_layout.specs.Image.{image_of, occupancy_values}
 use Rattle.ilk_layout.specs.Occupancy.{occupancy_of}
@@ -28,45 +28,45 @@ use Rattle.ilk_layout.specs.Values.{lie_value, occupancy_value, position_value}
 use Rattle.ilk_layout.specs.Variables.{occupancy_var}
 use Rattle.ilk_layout.specs.declared.values.Occupancy.TheVariants.{Crash}
 use Rattle.ilk_layout.proofs.Writes.{at-written, image_with, occupancy-written}
-use Rattle.ilk_conditions.specs.Conditions.{at_is, no_train_at, to_is, train_at}
-use Rattle.ilk_behave.specs.PointRules.{lies_elsewhere, rules_of_settle, rules_of_throw}
-use Rattle.ilk_behave.specs.Settings.{at_becomes, occupancy_becomes, rule}
-use Rattle.ilk_behave.specs.Steps.{StepAs, can_fire}
+use Rattle.ilk_layout.specs.Conditions.{is_point_detected, no_train_at, is_point_commanded, train_at}
+use Rattle.ilk_behave.specs.PointRules.{is_out_of_position, rules_of_settle, rules_of_throw}
+use Rattle.ilk_behave.specs.Settings.{set_detected, set_occupancy, rule}
+use Rattle.ilk_behave.specs.Steps.{StepLikeEvent, can_fire}
 use Rattle.ilk_layout.proofs.Calm.{calm-at}
 use Rattle.ilk_plant.proofs.PointNumbers.{numbered-section}
 use Rattle.ilk_behave.proofs.Occupancies.{occupancies-alone, occupancies-set, point-of, with_point}
 use Rattle.ilk_behave.proofs.Tools.{no_rules, two_rules_step}
-use Rattle.ilk_conditions.proofs.Values.{at-holds, to-holds, vacant-holds}
+use Rattle.ilk_layout.proofs.ConditionValues.{at-holds, to-holds, vacant-holds}
 use Rattle.ilk_behave.proofs.Writing.{by_image, with_lists}
 
 module _ (p : PlantLists) (plant : IsPlant p) (s : State) (shape : HasShape p s) (calm : hazard p s ≡ None) where
-  -- no train is on a point that moves
-  moving-alone : (x n : ℕ) → point_number p x ≡ Some n → lie_of p s x ≡ Some Moving → is_occupied s x ≡ false
+  -- No train is on a moving point.
+  moving-alone : (x n : ℕ) → point_number p x ≡ Some n → detected_position p s x ≡ Some Moving → is_occupied s x ≡ false
   moving-alone x n number moves =
       let section = numbered-section p x n number in
       let within = slice_get_within p.sections x section.0 section.1 in
-      by_section section.0 section.1 section.2 (or_parts (is_two s x) (is_wrong p s x) (calm-at p s x calm within)).1
+      by_section section.0 section.1 section.2 (or_parts (has_two_trains s x) (is_wrong_under_train p s x) (calm-at p s x calm within)).1
     where
-      by_section : (section : Section) → slice_get p.sections x ≡ Some section → is_point section ≡ true → is_wrong p s x ≡ false → is_occupied s x ≡ false
+      by_section : (section : Section) → slice_get p.sections x ≡ Some section → is_point section ≡ true → is_wrong_under_train p s x ≡ false → is_occupied s x ≡ false
       by_section (Linear a b c d) e is right = cc
       by_section (Point stem plus minus faces) e is right = rw (e, moves) at right
 
   settle-sets : (x n : ℕ) (point : PointState) (to : Position) → point_number p x ≡ Some n →
       slice_get s.points n ≡ Some point → is_occupied s x ≡ false → point.to ≡ to →
-      set_all (image_with s (occupancy_values p s)) (at_becomes p n (lie_in to) ∷ [])
-      ≡ image_with (with_point s n (record point { at = lie_in point.to }))
-      (occupancy_values p (with_point s n (record point { at = lie_in point.to })))
+      after_settings (image_with s (occupancy_values p s)) (set_detected p n (lie_from_position to) ∷ [])
+      ≡ image_with (with_point s n (record point { at = lie_from_position point.to }))
+      (occupancy_values p (with_point s n (record point { at = lie_from_position point.to })))
   settle-sets x n point to number at none is =
-      let goes : record point { at = lie_in to } ≡ record point { at = lie_in point.to } = ap (λ t. record point { at = lie_in t }) (sym is) in
-      at-written p s (occupancy_values p s) shape n point (lie_in to) at
+      let goes : record point { at = lie_from_position to } ≡ record point { at = lie_from_position point.to } = ap (λ t. record point { at = lie_from_position t }) (sym is) in
+      at-written p s (occupancy_values p s) shape n point (lie_from_position to) at
       ∙ ap (λ q. image_with (with_point s n q) (occupancy_values p s)) goes
-      ∙ ap (image_with (with_point s n (record point { at = lie_in point.to }))) (sym (occupancies-alone p s x n (record point { at = lie_in point.to }) number none))
+      ∙ ap (image_with (with_point s n (record point { at = lie_from_position point.to }))) (sym (occupancies-alone p s x n (record point { at = lie_from_position point.to }) number none))
 
-  pub settle-steps : (x : ℕ) → StepAs p s (after_settle p s x) (rules_of_settle p x)
+  pub settle-steps : (x : ℕ) → StepLikeEvent p s (after_settle p s x) (rules_of_settle p x)
   settle-steps x = by_number (point_number p x) refl
     where
       guard : (n : ℕ) (point : PointState) (to : Position) → slice_get s.points n ≡ Some point →
-          can_fire p s (rule (at_is p n Moving ∷ to_is p n to ∷ []) (at_becomes p n (lie_in to) ∷ []))
+          can_fire p s (rule (is_point_detected p n Moving ∷ is_point_commanded p n to ∷ []) (set_detected p n (lie_from_position to) ∷ []))
           ≡ ((lie_value point.at == 2) && ((position_value point.to == position_value to) && true))
       guard n point to at =
           let one = at-holds p s shape n point Moving at in
@@ -93,20 +93,19 @@ module _ (p : PlantLists) (plant : IsPlant p) (s : State) (shape : HasShape p s)
       is-to true Minus Plus h = cc
       is-to false to at h = cc
 
-      by_number : (o : Option ℕ) → point_number p x ≡ o → StepAs p s (after_settle p s x) (rules_of_settle p x)
+      by_number : (o : Option ℕ) → point_number p x ≡ o → StepLikeEvent p s (after_settle p s x) (rules_of_settle p x)
       by_number None e = rw e (no_rules p s)
       by_number (Some n) e =
           let point = point-of p s shape x n e in
           let alone : (b : Bool) → ((lie_value point.0.at == 2) && b) ≡ true → is_occupied s x ≡ false = λ b h. moving-alone x n e (point.2 ∙ ap Some (is-moving point.0.at b h)) in
-          let t = with_point s n (record point.0 { at = lie_in point.0.to }) in
-          let at_plus = rule (at_is p n Moving ∷ to_is p n Plus ∷ []) (at_becomes p n (lie_in Plus) ∷ []) in
-          let at_minus = rule (at_is p n Moving ∷ to_is p n Minus ∷ []) (at_becomes p n (lie_in Minus) ∷ []) in
+          let t = with_point s n (record point.0 { at = lie_from_position point.0.to }) in
+          let at_plus = rule (is_point_detected p n Moving ∷ is_point_commanded p n Plus ∷ []) (set_detected p n (lie_from_position Plus) ∷ []) in
+          let at_minus = rule (is_point_detected p n Moving ∷ is_point_commanded p n Minus ∷ []) (set_detected p n (lie_from_position Minus) ∷ []) in
           rw (e, point.1) (two_rules_step p s t ((lie_value point.0.at == 2) && ((position_value point.0.to == 0) && true)) ((lie_value point.0.at == 2) && ((position_value point.0.to == 1) && true)) (is_moving point.0.at) at_plus at_minus
           (guard n point.0 Plus point.1) (guard n point.0 Minus point.1) (moves point.0.at point.0.to)
-          (λ h. by_image p s t (at_becomes p n (lie_in Plus) ∷ []) (settle-sets x n point.0 Plus e point.1 (alone ((position_value point.0.to == 0) && true) h) (is-to (lie_value point.0.at == 2) point.0.to Plus h)))
-          (λ h. by_image p s t (at_becomes p n (lie_in Minus) ∷ []) (settle-sets x n point.0 Minus e point.1 (alone ((position_value point.0.to == 1) && true) h) (is-to (lie_value point.0.at == 2) point.0.to Minus h))))
+          (λ h. by_image p s t (set_detected p n (lie_from_position Plus) ∷ []) (settle-sets x n point.0 Plus e point.1 (alone ((position_value point.0.to == 0) && true) h) (is-to (lie_value point.0.at == 2) point.0.to Plus h)))
+          (λ h. by_image p s t (set_detected p n (lie_from_position Minus) ∷ []) (settle-sets x n point.0 Minus e point.1 (alone ((position_value point.0.to == 1) && true) h) (is-to (lie_value point.0.at == 2) point.0.to Minus h))))
 
-  -- under a train that is a crash
   crashes : (x n : ℕ) (point : PointState) → point_number p x ≡ Some n → slice_get s.points n ≡ Some point → is_occupied s x ≡ true → occupancy_of p (with_point s n (record point { at = Moving })) x ≡ Crash
   crashes x n point number at some =
       let t = with_point s n (record point { at = Moving }) in
@@ -114,17 +113,18 @@ module _ (p : PlantLists) (plant : IsPlant p) (s : State) (shape : HasShape p s)
       let there = point-of p t shaped x n number in
       let stays : slice_get t.points n ≡ Some (record point { at = Moving }) = slice_get-set_same s.points n (record point { at = Moving }) (slice_get_within s.points n point at) in
       let is : there.0 ≡ record point { at = Moving } = same_Some there.0 (record point { at = Moving }) (sym there.1 ∙ stays) in
-      let moves : lie_of p t x ≡ Some Moving = there.2 ∙ ap (λ (q : PointState). Some q.at) is in
+      let moves : detected_position p t x ≡ Some Moving = there.2 ∙ ap (λ (q : PointState). Some q.at) is in
       let section = numbered-section p x n number in
-      let wrong : is_wrong p t x ≡ true = by_section section.0 section.1 section.2 moves in
-      let hazard : is_hazardous p t x ≡ true = ap (λ b. is_two t x || b) wrong ∙ or-true (is_two t x) in
+      let wrong : is_wrong_under_train p t x ≡ true = by_section section.0 section.1 section.2 moves in
+      let hazard : is_hazardous p t x ≡ true = ap (λ b. has_two_trains t x || b) wrong ∙ or-true (has_two_trains t x) in
       rw hazard refl
     where
-      by_section : (section : Section) → slice_get p.sections x ≡ Some section → is_point section ≡ true → lie_of p (with_point s n (record point { at = Moving })) x ≡ Some Moving → is_wrong p (with_point s n (record point { at = Moving })) x ≡ true
+      by_section : (section : Section) → slice_get p.sections x ≡ Some section → is_point section ≡ true → detected_position p (with_point s n (record point { at = Moving })) x ≡ Some Moving
+          → is_wrong_under_train p (with_point s n (record point { at = Moving })) x ≡ true
       by_section (Linear a b c d) e is moves = cc
       by_section (Point stem plus minus faces) e is moves = rw (e, moves) some
 
-  pub throw-steps : (x : ℕ) → StepAs p s (after_throw p s x) (rules_of_throw p x)
+  pub throw-steps : (x : ℕ) → StepLikeEvent p s (after_throw p s x) (rules_of_throw p x)
   throw-steps x = by_number (point_number p x) refl
     where
       elsewhere : (at : Lie) (to : Position) (v : Bool) →
@@ -134,7 +134,7 @@ module _ (p : PlantLists) (plant : IsPlant p) (s : State) (shape : HasShape p s)
           &&
           ((not (lie_value at == 1) || (not (position_value to == 1) || false))
           && (v && true))))
-          ≡ ((not (is_moving at) && not (lies_at at to)) && v)
+          ≡ ((not (is_moving at) && not (is_lie_at_position at to)) && v)
       elsewhere LiesPlus Plus v = refl
       elsewhere LiesPlus Minus true = refl
       elsewhere LiesPlus Minus false = refl
@@ -150,8 +150,8 @@ module _ (p : PlantLists) (plant : IsPlant p) (s : State) (shape : HasShape p s)
 
       parts : (n : ℕ) (point : PointState) → slice_get s.points n ≡ Some point → (v : Bool) (last : Tree) →
           tree_holds (image_of p s) last ≡ v →
-          can_fire p s (rule (lies_elsewhere p n ++ last ∷ []) [])
-          ≡ ((not (is_moving point.at) && not (lies_at point.at point.to)) && v)
+          can_fire p s (rule (is_out_of_position p n ++ last ∷ []) [])
+          ≡ ((not (is_moving point.at) && not (is_lie_at_position point.at point.to)) && v)
       parts n point at v last is =
           let moving = at-holds p s shape n point Moving at in
           let plus = at-holds p s shape n point LiesPlus at in
@@ -160,7 +160,7 @@ module _ (p : PlantLists) (plant : IsPlant p) (s : State) (shape : HasShape p s)
           let to_minus = to-holds p s shape n point Minus at in
           rw (moving, plus, minus, to_plus, to_minus, is) (elsewhere point.at point.to v)
 
-      by_number : (o : Option ℕ) → point_number p x ≡ o → StepAs p s (after_throw p s x) (rules_of_throw p x)
+      by_number : (o : Option ℕ) → point_number p x ≡ o → StepLikeEvent p s (after_throw p s x) (rules_of_throw p x)
       by_number None e = rw e (no_rules p s)
       by_number (Some n) e =
           let point = point-of p s shape x n e in
@@ -171,10 +171,10 @@ module _ (p : PlantLists) (plant : IsPlant p) (s : State) (shape : HasShape p s)
           let t = with_point s n thrown in
           let written = at-written p s (occupancy_values p s) shape n point.0 Moving point.1 in
           let shaped : HasShape p t = with_lists p s (set s.points n thrown) s.boards s.locks shape (length-set s.points n thrown) refl refl in
-          let off = not (is_moving point.0.at) && not (lies_at point.0.at point.0.to) in
-          let clear_sets : List Setting = at_becomes p n Moving ∷ [] in
-          let crash_sets : List Setting = at_becomes p n Moving ∷ occupancy_becomes p x Crash ∷ [] in
-          rw (e, point.1) (two_rules_step p s t (off && not (is_occupied s x)) (off && not (not (is_occupied s x))) off (rule (lies_elsewhere p n ++ no_train_at p x ∷ []) clear_sets) (rule (lies_elsewhere p n ++ train_at p x ∷ []) crash_sets)
+          let off = not (is_moving point.0.at) && not (is_lie_at_position point.0.at point.0.to) in
+          let clear_sets : List Setting = set_detected p n Moving ∷ [] in
+          let crash_sets : List Setting = set_detected p n Moving ∷ set_occupancy p x Crash ∷ [] in
+          rw (e, point.1) (two_rules_step p s t (off && not (is_occupied s x)) (off && not (not (is_occupied s x))) off (rule (is_out_of_position p n ++ no_train_at p x ∷ []) clear_sets) (rule (is_out_of_position p n ++ train_at p x ∷ []) crash_sets)
           (parts n point.0 point.1 (not (is_occupied s x)) (no_train_at p x) vacant)
           (parts n point.0 point.1 (not (not (is_occupied s x))) (train_at p x) (ap not vacant))
           (either off (not (is_occupied s x)))

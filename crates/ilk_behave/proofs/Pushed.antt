@@ -1,4 +1,4 @@
--- Lists of forms and of rules to which one more, or those of one more thing, were added.
+-- Lists of forms and of rules after additions.
 use Rattle.std.proofs.Common.{◌≡◌, ℕ, suc, ◌+◌, ◌<◌, Some, None, Option, List, [], ◌∷◌, ◌++◌, get_or, length, map, slice_get, take, refl, sym, ◌∙◌, ap, arith, append_assoc}
 use Rattle.std.specs.List.{flat_map, range_with_len}
 use Rattle.std.specs.Option.{option_to_list}
@@ -8,14 +8,13 @@ use Rattle.ilk_base.proofs.Ranges.{range-suc}
 use Rattle.ilk_ir.specs.Form.{tree_of}
 use Rattle.ilk_ir.specs.Tree.{Tree}
 use Rattle.ilk_ir.specs.declared.form.Form.{Form}
-use Rattle.ilk_plant.specs.Network.{beside}
+use Rattle.ilk_plant.specs.Network.{neighbours_on}
 use Rattle.ilk_plant.specs.Plant.{PlantLists, next_to}
 use Rattle.ilk_plant.specs.declared.network.Dir.{Dir}
 use Rattle.ilk_plant.specs.declared.network.Dir.TheVariants.{Up, Down}
 use Rattle.ilk_plant.specs.declared.network.Section.{Section}
 use Rattle.ilk_plant.specs.declared.network.Section.TheVariants.{Linear, Point}
 
--- the forms of the numbers from k on, and one more
 pub pushed_form : (f : ℕ → Tree) (k n : ℕ) (now next : List Form) (form : Form) → map tree_of now ≡ map f (range_with_len k n) → next ≡ now ++ form ∷ [] → tree_of form ≡ f (k + n) → map tree_of next ≡ map f (range_with_len k (n + 1))
 pushed_form f k n now next form sofar grown is =
     ap (map tree_of) grown ∙ map-append tree_of now (form ∷ []) ∙ ap (λ ts. ts ++ tree_of form ∷ []) sofar ∙ ap (λ t. map f (range_with_len k n) ++ t ∷ []) is
@@ -24,7 +23,6 @@ pushed_form f k n now next form sofar grown is =
     one : n + 1 ≡ suc n
     one = omega arith
 
--- what is made of the first things of a list, and of one more
 pub made_more :
     {E R : Type 0} (made : E → List R) (things : List E) (n : ℕ) (d : E) (start now next : List R) →
     n < length things → now ≡ start ++ flat_map made (take n things) →
@@ -33,13 +31,12 @@ made_more made things n d start now next within sofar grown =
     grown ∙ ap (λ rs. rs ++ made (get_or things n d)) sofar ∙ flat_map_more made start (take n things) (get_or things n d)
     ∙ ap (λ es. start ++ flat_map made es) (sym (take_more things n d within))
 
--- what is made of some things, and of those after them
 pub made_next : {E R : Type 0} (made : E → List R) (before these after : List E) (now next : List R) → after ≡ before ++ these → now ≡ flat_map made before → next ≡ now ++ flat_map made these → next ≡ flat_map made after
 made_next made before these after now next is sofar grown =
     grown ∙ ap (λ rs. rs ++ flat_map made these) sofar ∙ sym (ap (flat_map made) is ∙ flat_map-append made before these)
 
--- at most two sections lie on one side of a section
-pub two_beside : (section : Section) (d : Dir) → beside section d ≡ option_to_list (slice_get (beside section d) 0) ++ option_to_list (slice_get (beside section d) 1)
+-- A section has at most two neighbours on each side.
+pub two_beside : (section : Section) (d : Dir) → neighbours_on section d ≡ option_to_list (slice_get (neighbours_on section d) 0) ++ option_to_list (slice_get (neighbours_on section d) 1)
 two_beside (Linear None up b c) Down = refl
 two_beside (Linear (Some y) up b c) Down = refl
 two_beside (Linear down None b c) Up = refl

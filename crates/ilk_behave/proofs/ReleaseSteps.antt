@@ -1,4 +1,4 @@
--- release and finish, by their rules.
+-- The steps of release and finish.
 use Rattle.std.proofs.Common.{◌≡◌, ℕ, zero, suc, ◌+◌, ◌-◌, ◌<◌, ◌≤◌, ◌==◌, Bool, true, false, not, ◌&&◌, Option, Some, None, List, [], ◌∷◌, length, map, set, slice_get, take, refl, sym, ◌∙◌, ap, subst, arith, inl, inr, nat_le, length-set}
 use Rattle.std.specs.List.{enumerate_from, last_or, range_with_len}
 use Rattle.std.proofs.lemmas.Bool.{cases_Bool, eq-eqb, ne_eqb}
@@ -10,7 +10,7 @@ use Rattle.ilk_base.proofs.Lists.{item_at, slice_get-set_same}
 use Rattle.ilk_base.proofs.Ranges.{below_or_past}
 use Rattle.ilk_base.proofs.Tested.{list_any-map}
 use Rattle.ilk_ir.specs.Tree.{tree_holds}
-use Rattle.ilk_ir.specs.System.{RuleTree, set_all}
+use Rattle.ilk_ir.specs.System.{RuleTree, after_settings}
 use Rattle.ilk_ir.proofs.Trees.{any_of-holds}
 use Rattle.ilk_plant.specs.ColumnRules.{all_but_last}
 use Rattle.ilk_plant.specs.Plant.{IsPlant, PlantLists}
@@ -21,9 +21,9 @@ use Rattle.ilk_plant.specs.declared.state.Mode.TheVariants.{Free, Occupied}
 use Rattle.ilk_plant.specs.declared.state.RouteState.{RouteState}
 use Rattle.ilk_plant.specs.declared.state.State.{State}
 use Rattle.ilk_plant.specs.declared.table.Route.{Route}
-use Rattle.ilk_plant.proofs.Shapes.{fits_path-counts, fits_path-from_counts}
+use Rattle.ilk_plant.proofs.Shapes.{counts_fit_path-counts, counts_fit_path-from_counts}
 use Rattle.ilk_model.specs.Hazard.{hazard}
-use Rattle.ilk_routes.specs.Claims.{sections_beside}
+use Rattle.ilk_routes.specs.Claims.{sections_beside_path}
 use Rattle.ilk_routes.specs.Locks.{with_locks}
 use Rattle.ilk_routes.specs.Modes.{same_mode}
 use Rattle.ilk_routes.specs.Routes.{after_finish, after_release}
@@ -31,18 +31,17 @@ use Rattle.ilk_routes.proofs.Locks.{length-with_locks, with_locks-first}
 use Rattle.ilk_layout.specs.Image.{image_of, occupancy_values}
 use Rattle.ilk_layout.specs.Variables.{mode_var, rel_var, seen_var}
 use Rattle.ilk_layout.proofs.Writes.{image_with, lock-written, mode-written, rel-written, seen-written}
-use Rattle.ilk_conditions.specs.Conditions.{mode_is, rel_is, seen_is}
+use Rattle.ilk_layout.specs.Conditions.{mode_is, rel_is, seen_is}
 use Rattle.ilk_behave.specs.RouteRules.{finish_rule, release_rule, rules_of_finish, rules_of_release, seen_from}
-use Rattle.ilk_behave.specs.Settings.{locks_become, mode_becomes, rel_becomes, rules_for, seen_becomes}
-use Rattle.ilk_behave.specs.Steps.{StepAs, can_fire}
+use Rattle.ilk_behave.specs.Settings.{set_locks, set_mode, set_rel, rules_for, set_seen}
+use Rattle.ilk_behave.specs.Steps.{StepLikeEvent, can_fire}
 use Rattle.ilk_behave.proofs.RouteSteps.{state-of}
 use Rattle.ilk_base.proofs.ListTests.{all-at, counted-from, last-at, list_any-alike}
 use Rattle.ilk_behave.proofs.Tools.{no_rules, place_steps, rule_step}
-use Rattle.ilk_conditions.proofs.Values.{lock-holds, mode-holds, rel-holds, seen-holds, vacant-holds}
-use Rattle.ilk_behave.proofs.Writing.{by_image, locks-written, set_all-append, with_lists, with_route}
+use Rattle.ilk_layout.proofs.ConditionValues.{lock-holds, mode-holds, rel-holds, seen-holds, vacant-holds}
+use Rattle.ilk_behave.proofs.Writing.{by_image, locks-written, after_settings-append, with_lists, with_route}
 use Rattle.ilk_routes.proofs.Shape.{beside-known}
 
--- what stands before an index stands in the list up to there
 take-get : {X : Type 0} (xs : List X) (i j : ℕ) → i < j → slice_get (take j xs) i ≡ slice_get xs i
 take-get [] i zero less = absurd (omega arith)
 take-get [] i (suc j) less = refl
@@ -58,7 +57,6 @@ take-none (x ∷ xs) zero (suc j) less = absurd (omega arith)
 take-none (x ∷ xs) (suc i) (suc j) less = take-none xs i j (omega arith)
 
 module _ (p : PlantLists) (plant : IsPlant p) (s : State) (shape : HasShape p s) (calm : hazard p s ≡ None) where
-  -- at least k of n path sections are seen
   seen-enough : (r : ℕ) (now : RouteState) (k n : ℕ) → slice_get s.routes r ≡ Some now → now.seen ≤ n → k ≤ n → tree_holds (image_of p s) (seen_from r k n) ≡ nat_le k now.seen
   seen-enough r now k n here few less =
       any_of-holds (image_of p s) (map (seen_is r) (range_with_len k (n + 1 - k)))
@@ -98,7 +96,7 @@ module _ (p : PlantLists) (plant : IsPlant p) (s : State) (shape : HasShape p s)
 
   release-sets : (r : ℕ) (route : Route) (now : RouteState) (x : ℕ) → slice_get s.routes r ≡ Some now →
       x < length p.sections →
-      set_all (image_with s (occupancy_values p s)) (release_rule p r route now.rel x).sets
+      after_settings (image_with s (occupancy_values p s)) (release_rule p r route now.rel x).sets
       ≡ image_with
       (record s {
         routes = set s.routes r (record now { rel = now.rel + 1 });
@@ -112,12 +110,12 @@ module _ (p : PlantLists) (plant : IsPlant p) (s : State) (shape : HasShape p s)
       ap (λ values. set values (rel_var r) (now.rel + 1)) (lock-written p s e shape x FreeLock inside)
       ∙ rel-written p s1 e shape1 r now (now.rel + 1) here
 
-  pub release-steps : (r : ℕ) → StepAs p s (after_release p s r) (rules_of_release p r)
+  pub release-steps : (r : ℕ) → StepLikeEvent p s (after_release p s r) (rules_of_release p r)
   release-steps r = by_route (slice_get p.routes r) refl
     where
-      by_route : (o : Option Route) → slice_get p.routes r ≡ o → StepAs p s (after_release p s r) (rules_of_release p r)
+      by_route : (o : Option Route) → slice_get p.routes r ≡ o → StepLikeEvent p s (after_release p s r) (rules_of_release p r)
       by_route None e = rw e (no_rules p s)
-      by_route (Some route) e = rw (e, now.1) (subst (λ o. StepAs p s o rules) same steps)
+      by_route (Some route) e = rw (e, now.1) (subst (λ o. StepLikeEvent p s o rules) same steps)
         where
           now : (now : RouteState) × (slice_get s.routes r ≡ Some now)
           now = state-of p plant s shape calm r route e
@@ -135,7 +133,7 @@ module _ (p : PlantLists) (plant : IsPlant p) (s : State) (shape : HasShape p s)
           then x = record s { routes = set s.routes r (record now.0 { rel = now.0.rel + 1 }); locks = set s.locks x FreeLock }
 
           counts : (now.0.seen ≤ length route.path) × (now.0.rel ≤ length route.path)
-          counts = fits_path-counts route now.0 (shape.counts r route now.0 e now.1)
+          counts = counts_fit_path-counts route now.0 (shape.counts r route now.0 e now.1)
 
           inside : (i x : ℕ) → slice_get route.path i ≡ Some x → x < length p.sections
           inside i x at = all-at (λ x. x < length p.sections) route.path i x (plant.routes_known r route e).path at
@@ -147,7 +145,7 @@ module _ (p : PlantLists) (plant : IsPlant p) (s : State) (shape : HasShape p s)
                 | inr past ↦ absurd (none-some x (sym (take-none route.path i (length route.path - 1) past) ∙ at))
               ]
 
-          steps : StepAs p s (slice_get (all_but_last route.path) now.0.rel >>= (λ x. only_if (test x) (then x))) rules
+          steps : StepLikeEvent p s (slice_get (all_but_last route.path) now.0.rel >>= (λ x. only_if (test x) (then x))) rules
           steps =
               place_steps p s (release_rule p r route) (all_but_last route.path) now.0.rel test then
               (λ k x apart. release-other r route now.0 k x now.1 apart)
@@ -199,47 +197,47 @@ module _ (p : PlantLists) (plant : IsPlant p) (s : State) (shape : HasShape p s)
 
   finish-sets : (r : ℕ) (route : Route) (now : RouteState) (x : ℕ) → slice_get p.routes r ≡ Some route →
       slice_get s.routes r ≡ Some now → x < length p.sections →
-      set_all (image_with s (occupancy_values p s)) (finish_rule p r route x).sets
+      after_settings (image_with s (occupancy_values p s)) (finish_rule p r route x).sets
       ≡ image_with
       (record s {
         routes = set s.routes r (record { mode = Free; seen = 0; rel = 0 });
-        locks = with_locks (set s.locks x FreeLock) (sections_beside route) FreeLock;
+        locks = with_locks (set s.locks x FreeLock) (sections_beside_path route) FreeLock;
       })
       (occupancy_values p s)
   finish-sets r route now x known here inside =
       let e = occupancy_values p s in
-      let locks = with_locks s.locks (x ∷ sections_beside route) FreeLock in
+      let locks = with_locks s.locks (x ∷ sections_beside_path route) FreeLock in
       let s0 = record s { locks = locks } in
-      let shape0 = with_lists p s s.points s.boards locks shape refl refl (length-with_locks s.locks (x ∷ sections_beside route) FreeLock) in
-      let counts = fits_path-counts route now (shape.counts r route now known here) in
+      let shape0 = with_lists p s s.points s.boards locks shape refl refl (length-with_locks s.locks (x ∷ sections_beside_path route) FreeLock) in
+      let counts = counts_fit_path-counts route now (shape.counts r route now known here) in
       let count = shape.locks in
       let lock = item_at s.locks x (omega arith) in
       let within = slice_get_within s.routes r now here in
       let now1 = record now { mode = Free } in
       let s1 = record s0 { routes = set s.routes r now1 } in
-      let shape1 : HasShape p s1 = with_route p s0 r route now1 shape0 known (fits_path-from_counts route now1 counts.0 counts.1) in
+      let shape1 : HasShape p s1 = with_route p s0 r route now1 shape0 known (counts_fit_path-from_counts route now1 counts.0 counts.1) in
       let now2 = record now1 { seen = 0 } in
       let s2 = record s0 { routes = set s.routes r now2 } in
-      let shape2 : HasShape p s2 = with_route p s0 r route now2 shape0 known (fits_path-from_counts route now2 (omega arith) counts.1) in
+      let shape2 : HasShape p s2 = with_route p s0 r route now2 shape0 known (counts_fit_path-from_counts route now2 (omega arith) counts.1) in
       let now3 = record now2 { rel = 0 } in
       let one = mode-written p s0 e shape0 r now Free here in
       let two = seen-written p s1 e shape1 r now1 0 (slice_get-set_same s.routes r now1 within) ∙ ap (λ routes. image_with (record s0 { routes = routes }) e) (set-set s.routes r now1 now2) in
       let three = rel-written p s2 e shape2 r now2 0 (slice_get-set_same s.routes r now2 within) ∙ ap (λ routes. image_with (record s0 { routes = routes }) e) (set-set s.routes r now2 now3) in
-      set_all-append (image_with s e) (locks_become p (x ∷ sections_beside route) FreeLock) (mode_becomes r Free ∷ seen_becomes r 0 ∷ rel_becomes r 0 ∷ [])
-      ∙ ap (λ values. set (set (set values (mode_var r) 0) (seen_var r) 0) (rel_var r) 0) (locks-written p s e (x ∷ sections_beside route) FreeLock shape (λ i y at. listed i y at))
+      after_settings-append (image_with s e) (set_locks p (x ∷ sections_beside_path route) FreeLock) (set_mode r Free ∷ set_seen r 0 ∷ set_rel r 0 ∷ [])
+      ∙ ap (λ values. set (set (set values (mode_var r) 0) (seen_var r) 0) (rel_var r) 0) (locks-written p s e (x ∷ sections_beside_path route) FreeLock shape (λ i y at. listed i y at))
       ∙ ap (λ values. set (set values (seen_var r) 0) (rel_var r) 0) one
       ∙ ap (λ values. set values (rel_var r) 0) two
       ∙ three
-      ∙ ap (λ locks. image_with (record s { routes = set s.routes r now3; locks = locks }) e) (sym (with_locks-first s.locks x (sections_beside route) FreeLock lock.0 lock.1))
+      ∙ ap (λ locks. image_with (record s { routes = set s.routes r now3; locks = locks }) e) (sym (with_locks-first s.locks x (sections_beside_path route) FreeLock lock.0 lock.1))
     where
-      listed : (i y : ℕ) → slice_get (x ∷ sections_beside route) i ≡ Some y → y < length p.sections
+      listed : (i y : ℕ) → slice_get (x ∷ sections_beside_path route) i ≡ Some y → y < length p.sections
       listed zero y at = (let same : x ≡ y = cc in omega (arith, inside, same))
       listed (suc i) y at = beside-known p route (plant.routes_known r route known) i y at
 
-  pub finish-steps : (r : ℕ) → StepAs p s (after_finish p s r) (rules_of_finish p r)
+  pub finish-steps : (r : ℕ) → StepLikeEvent p s (after_finish p s r) (rules_of_finish p r)
   finish-steps r = by_route (slice_get p.routes r) refl
     where
-      by_route : (o : Option Route) → slice_get p.routes r ≡ o → StepAs p s (after_finish p s r) (rules_of_finish p r)
+      by_route : (o : Option Route) → slice_get p.routes r ≡ o → StepLikeEvent p s (after_finish p s r) (rules_of_finish p r)
       by_route None e = rw e (no_rules p s)
       by_route (Some route) e =
           rw (e, now.1) (by_last (last_or None route.path) refl)
@@ -248,17 +246,17 @@ module _ (p : PlantLists) (plant : IsPlant p) (s : State) (shape : HasShape p s)
           now = state-of p plant s shape calm r route e
 
           finished : ℕ → State
-          finished x = record s { routes = set s.routes r (record { mode = Free; seen = 0; rel = 0 }); locks = with_locks (set s.locks x FreeLock) (sections_beside route) FreeLock }
+          finished x = record s { routes = set s.routes r (record { mode = Free; seen = 0; rel = 0 }); locks = with_locks (set s.locks x FreeLock) (sections_beside_path route) FreeLock }
 
           by_last : (o : Option ℕ) → last_or None route.path ≡ o →
-              StepAs p s
+              StepLikeEvent p s
               (o >>=
               (λ x. only_if
               ((same_mode now.0.mode Occupied && (now.0.seen == length route.path))
               && (now.0.rel + 1 == length route.path))
               (record s {
                 routes = set s.routes r (record { mode = Free; seen = 0; rel = 0 });
-                locks = with_locks (set s.locks x FreeLock) (sections_beside route)
+                locks = with_locks (set s.locks x FreeLock) (sections_beside_path route)
                     FreeLock;
               })))
               (rules_for o (λ x. finish_rule p r route x ∷ []))

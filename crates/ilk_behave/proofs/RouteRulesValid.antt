@@ -13,14 +13,14 @@ use Rattle.ilk_plant.specs.declared.state.Aspect.TheVariants.{Closed, Open}
 use Rattle.ilk_plant.specs.declared.state.Hold.TheVariants.{Free as FreeLock, Locked as LockedLock}
 use Rattle.ilk_plant.specs.declared.state.Mode.TheVariants.{Free, Marked, Allocating, Locked}
 use Rattle.ilk_plant.specs.declared.table.Route.{Route}
-use Rattle.ilk_routes.specs.Boards.{protects_by}
-use Rattle.ilk_routes.specs.Claims.{wanted_points}
+use Rattle.ilk_routes.specs.Boards.{has_protecting_board}
+use Rattle.ilk_routes.specs.Claims.{required_points}
 use Rattle.ilk_layout.specs.Variables.{lock_var, mode_var}
-use Rattle.ilk_conditions.specs.Conditions.{board_is, lies_at_listed, lock_is, mode_is, no_train_at}
-use Rattle.ilk_conditions.proofs.Valid.{board_is-valid, lies_at_listed-valid, lock_is-valid, mode_is-valid, no_train_at-valid}
+use Rattle.ilk_layout.specs.Conditions.{board_is, lies_at_listed, lock_is, mode_is, no_train_at}
+use Rattle.ilk_layout.proofs.Valid.{board_is-valid, lies_at_listed-valid, lock_is-valid, mode_is-valid, no_train_at-valid}
 use Rattle.ilk_behave.specs.Guards.{clear_at, unclaimed}
 use Rattle.ilk_behave.specs.RouteRules.{protectors, rules_of_allocate, rules_of_cancel, rules_of_lock, rules_of_mark}
-use Rattle.ilk_behave.specs.Settings.{board_becomes, commanded, lock_becomes, locks_become, mode_becomes, rule}
+use Rattle.ilk_behave.specs.Settings.{set_board, set_as_listed, set_lock, set_locks, set_mode, rule}
 use Rattle.ilk_behave.proofs.LocksOnce.{all_locks-once, commands-elsewhere, commands-fit, locks-elsewhere, locks-fit, wanted-once}
 use Rattle.ilk_behave.proofs.RouteSteps.{locked-known}
 use Rattle.ilk_behave.proofs.RulesValid.{all-append, all-cons, all-flat_map, all-map, fits, is_valid, is_valid_rule, one_rule-valid, rule-valid, two_rules-valid}
@@ -35,15 +35,15 @@ module _ (p : PlantLists) (plant : IsPlant p) where
       by_route (Some route) e =
           let within = slice_get_within p.routes r route e in
           let conditions : List Tree = mode_is r Free ∷ [] in
-          let sets : List Setting = mode_becomes r Marked ∷ [] in
+          let sets : List Setting = set_mode r Marked ∷ [] in
           rw e (one_rule-valid p (rule conditions sets) (rule-valid p conditions sets
           (all-cons (is_valid p) (mode_is r Free) [] (mode_is-valid p r Free within) refl)
-          (all-cons (fits p) (mode_becomes r Marked) [] (mode_is-valid p r Marked within) refl)
+          (all-cons (fits p) (set_mode r Marked) [] (mode_is-valid p r Marked within) refl)
           (tt, tt)))
 
-  freed-fit : (r : ℕ) (route : Route) → slice_get p.routes r ≡ Some route → list_all (fits p) (mode_becomes r Free ∷ locks_become p (sections_locked_for route) FreeLock) ≡ true
+  freed-fit : (r : ℕ) (route : Route) → slice_get p.routes r ≡ Some route → list_all (fits p) (set_mode r Free ∷ set_locks p (sections_locked_for route) FreeLock) ≡ true
   freed-fit r route e =
-      all-cons (fits p) (mode_becomes r Free) (locks_become p (sections_locked_for route) FreeLock)
+      all-cons (fits p) (set_mode r Free) (set_locks p (sections_locked_for route) FreeLock)
       (mode_is-valid p r Free (slice_get_within p.routes r route e))
       (locks-fit p (sections_locked_for route) FreeLock
       (locked-known p route (plant.routes_known r route e)))
@@ -58,12 +58,12 @@ module _ (p : PlantLists) (plant : IsPlant p) where
           let of = plant.routes_known r route e in
           let marked : List Tree = mode_is r Marked ∷ [] in
           let allocating : List Tree = mode_is r Allocating ∷ [] in
-          let first : List Setting = mode_becomes r Free ∷ [] in
-          let second : List Setting = mode_becomes r Free ∷ locks_become p (sections_locked_for route) FreeLock in
+          let first : List Setting = set_mode r Free ∷ [] in
+          let second : List Setting = set_mode r Free ∷ set_locks p (sections_locked_for route) FreeLock in
           rw e (two_rules-valid p (rule marked first) (rule allocating second)
           (rule-valid p marked first
           (all-cons (is_valid p) (mode_is r Marked) [] (mode_is-valid p r Marked within) refl)
-          (all-cons (fits p) (mode_becomes r Free) [] (mode_is-valid p r Free within) refl)
+          (all-cons (fits p) (set_mode r Free) [] (mode_is-valid p r Free within) refl)
           (tt, tt))
           (rule-valid p allocating second
           (all-cons (is_valid p) (mode_is r Allocating) [] (mode_is-valid p r Allocating within) refl)
@@ -79,19 +79,19 @@ module _ (p : PlantLists) (plant : IsPlant p) where
           let within = slice_get_within p.routes r route e in
           let of = plant.routes_known r route e in
           let known = locked-known p route of in
-          let locks : List Setting = locks_become p (sections_locked_for route) LockedLock in
-          let commands : List Setting = flat_map (commanded p) (wanted_points route) in
+          let locks : List Setting = set_locks p (sections_locked_for route) LockedLock in
+          let commands : List Setting = flat_map (set_as_listed p) (required_points route) in
           let conditions : List Tree = mode_is r Marked ∷ flat_map unclaimed route.conflicts ++ flat_map (clear_at p) (sections_locked_for route) in
-          let sets : List Setting = mode_becomes r Allocating ∷ locks_become p (sections_locked_for route) LockedLock ++ flat_map (commanded p) (wanted_points route) in
+          let sets : List Setting = set_mode r Allocating ∷ set_locks p (sections_locked_for route) LockedLock ++ flat_map (set_as_listed p) (required_points route) in
           rw e (one_rule-valid p (rule conditions sets) (rule-valid p conditions sets
           (all-append (is_valid p) (mode_is r Marked ∷ flat_map unclaimed route.conflicts) (flat_map (clear_at p) (sections_locked_for route))
           (all-cons (is_valid p) (mode_is r Marked) (flat_map unclaimed route.conflicts) (mode_is-valid p r Marked within)
           (all-flat_map (is_valid p) unclaimed route.conflicts (λ i q at. unclaimed-valid q (all-at (λ q. q < length p.routes) route.conflicts i q of.conflicts at))))
           (all-flat_map (is_valid p) (clear_at p) (sections_locked_for route) (λ i x at. clear-valid x (known i x at))))
-          (all-append (fits p) (mode_becomes r Allocating ∷ locks) commands
-          (all-cons (fits p) (mode_becomes r Allocating) locks (mode_is-valid p r Allocating within) (locks-fit p (sections_locked_for route) LockedLock known))
-          (commands-fit p (wanted_points route)))
-          (once-append (mode_becomes r Allocating ∷ locks) commands
+          (all-append (fits p) (set_mode r Allocating ∷ locks) commands
+          (all-cons (fits p) (set_mode r Allocating) locks (mode_is-valid p r Allocating within) (locks-fit p (sections_locked_for route) LockedLock known))
+          (commands-fit p (required_points route)))
+          (once-append (set_mode r Allocating ∷ locks) commands
           (locks-elsewhere p (mode_var r) (sections_locked_for route) LockedLock (λ i x at same. omega (arith, within, same)), all_locks-once p route of LockedLock)
           (wanted-once p route of)
           (cross within route))))
@@ -105,14 +105,14 @@ module _ (p : PlantLists) (plant : IsPlant p) where
               all-cons (is_valid p) (lock_is p x FreeLock) (no_train_at p x ∷ []) (lock_is-valid p x FreeLock inside) (all-cons (is_valid p) (no_train_at p x) [] (no_train_at-valid p x inside) refl)
 
           cross : r < length p.routes → (route : Route) → (i : ℕ) (s : Setting) →
-              slice_get (mode_becomes r Allocating ∷ locks_become p (sections_locked_for route) LockedLock) i
+              slice_get (set_mode r Allocating ∷ set_locks p (sections_locked_for route) LockedLock) i
               ≡ Some s →
-              SetElsewhere s.var (flat_map (commanded p) (wanted_points route))
+              SetElsewhere s.var (flat_map (set_as_listed p) (required_points route))
           cross within route zero s at =
-              commands-elsewhere p s.var (wanted_points route) (λ n less same. (let var : mode_var r ≡ s.var = ap (λ (z : Setting). z.var) (same_Some (mode_becomes r Allocating) s at) in omega (arith, within, less, same, var)))
+              commands-elsewhere p s.var (required_points route) (λ n less same. (let var : mode_var r ≡ s.var = ap (λ (z : Setting). z.var) (same_Some (set_mode r Allocating) s at) in omega (arith, within, less, same, var)))
           cross within route (suc i) s at =
-              commands-elsewhere p s.var (wanted_points route) (λ n less same. (
-              let made = map-at (λ x. lock_becomes p x LockedLock) (sections_locked_for route) i s at in
+              commands-elsewhere p s.var (required_points route) (λ n less same. (
+              let made = map-at (λ x. set_lock p x LockedLock) (sections_locked_for route) i s at in
               let var : lock_var p made.0 ≡ s.var = ap (λ (z : Setting). z.var) made.2 in
               omega (arith, less, same, var)))
 
@@ -124,18 +124,19 @@ module _ (p : PlantLists) (plant : IsPlant p) where
       by_route (Some route) e =
           let within = slice_get_within p.routes r route e in
           let of = plant.routes_known r route e in
-          let lies : List Tree = map (lies_at_listed p) (wanted_points route) in
+          let lies : List Tree = map (lies_at_listed p) (required_points route) in
           let boards : List Tree = map (λ m. board_is p m Closed) route.protecting_boards in
           let free : List Tree = map (λ q. negation (mode_is q Locked)) (protectors p route.source) in
           let conditions : List Tree = mode_is r Allocating ∷ ((lies ++ boards) ++ free) in
-          let sets : List Setting = mode_becomes r Locked ∷ board_becomes p route.source Open ∷ [] in
+          let sets : List Setting = set_mode r Locked ∷ set_board p route.source Open ∷ [] in
           rw e (one_rule-valid p (rule conditions sets) (rule-valid p conditions sets
           (all-cons (is_valid p) (mode_is r Allocating) ((lies ++ boards) ++ free) (mode_is-valid p r Allocating within)
           (all-append (is_valid p) (lies ++ boards) free
           (all-append (is_valid p) lies boards
-          (all-map (is_valid p) (lies_at_listed p) (wanted_points route) (λ i listed at. lies_at_listed-valid p listed))
+          (all-map (is_valid p) (lies_at_listed p) (required_points route) (λ i listed at. lies_at_listed-valid p listed))
           (all-map (is_valid p) (λ m. board_is p m Closed) route.protecting_boards (λ i m at. board_is-valid p m Closed (all-at (λ m. m < length p.boards) route.protecting_boards i m of.protecting_boards at))))
-          (all-map (is_valid p) (λ q. negation (mode_is q Locked)) (protectors p route.source) (λ i q at. mode_is-valid p q Locked (let less = passing_within (λ q. protects_by p q route.source) 0 (length p.routes) i q at in omega (arith, less))))))
-          (all-cons (fits p) (mode_becomes r Locked) (board_becomes p route.source Open ∷ []) (mode_is-valid p r Locked within)
-          (all-cons (fits p) (board_becomes p route.source Open) [] (board_is-valid p route.source Open of.source) refl))
+          (all-map (is_valid p) (λ q. negation (mode_is q Locked)) (protectors p route.source)
+          (λ i q at. mode_is-valid p q Locked (let less = passing_within (λ q. has_protecting_board p q route.source) 0 (length p.routes) i q at in omega (arith, less))))))
+          (all-cons (fits p) (set_mode r Locked) (set_board p route.source Open ∷ []) (mode_is-valid p r Locked within)
+          (all-cons (fits p) (set_board p route.source Open) [] (board_is-valid p route.source Open of.source) refl))
           (((λ same. omega (arith, within, same)), tt), (tt, tt))))

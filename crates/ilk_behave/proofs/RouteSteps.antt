@@ -1,4 +1,4 @@
--- The events of routes, by their rules.
+-- The steps of the events of routes.
 use Rattle.std.proofs.Common.{◌≡◌, ℕ, ◌+◌, ◌<◌, ◌==◌, Bool, true, false, not, ◌&&◌, ◌||◌, Option, Some, None, [], ◌∷◌, ◌++◌, length, map, set, slice_get, refl, sym, ◌∙◌, ap, arith, cond, length-set}
 use Rattle.std.proofs.lemmas.Bool.{eq-eqb, ne_eqb}
 use Rattle.std.proofs.lemmas.List.{set-set}
@@ -7,7 +7,7 @@ use Rattle.std.proofs.lemmas.Option.{slice_get_within}
 use Rattle.std.proofs.Math.Bool.{and-true}
 use Rattle.ilk_base.proofs.Lists.{item_at, slice_get-set_same}
 use Rattle.ilk_ir.specs.Tree.{any_of, tree_holds, trees}
-use Rattle.ilk_ir.specs.System.{set_all}
+use Rattle.ilk_ir.specs.System.{after_settings}
 use Rattle.ilk_plant.specs.Plant.{IsPlant, IsRouteOf, PlantLists}
 use Rattle.ilk_plant.specs.Shape.{HasShape}
 use Rattle.ilk_plant.specs.State.{has_lock, is_occupied}
@@ -20,24 +20,23 @@ use Rattle.ilk_plant.specs.declared.state.RouteState.{RouteState}
 use Rattle.ilk_plant.specs.declared.state.State.{State}
 use Rattle.ilk_plant.specs.declared.table.Listed.{Listed}
 use Rattle.ilk_plant.specs.declared.table.Route.{Route}
-use Rattle.ilk_plant.proofs.Shapes.{fits_path-counts, fits_path-from_counts}
+use Rattle.ilk_plant.proofs.Shapes.{counts_fit_path-counts, counts_fit_path-from_counts}
 use Rattle.ilk_model.specs.Hazard.{hazard}
 use Rattle.ilk_routes.specs.Locks.{with_locks}
 use Rattle.ilk_routes.specs.Modes.{same_mode}
 use Rattle.ilk_routes.specs.Routes.{after_cancel, after_mark, after_sense}
 use Rattle.ilk_layout.specs.Image.{image_of, occupancy_values}
 use Rattle.ilk_layout.proofs.Writes.{board-written, image_with, lock-written, mode-written, seen-written}
-use Rattle.ilk_conditions.specs.Conditions.{mode_is}
+use Rattle.ilk_layout.specs.Conditions.{mode_is}
 use Rattle.ilk_behave.specs.RouteRules.{rules_of_cancel, rules_of_mark, rules_of_sense, sense_rule}
 use Rattle.ilk_layout.specs.Variables.{mode_var, seen_var}
-use Rattle.ilk_behave.specs.Settings.{board_becomes, locks_become, mode_becomes, rule}
-use Rattle.ilk_behave.specs.Steps.{StepAs, can_fire}
+use Rattle.ilk_behave.specs.Settings.{set_board, set_locks, set_mode, rule}
+use Rattle.ilk_behave.specs.Steps.{StepLikeEvent, can_fire}
 use Rattle.ilk_base.proofs.ListTests.{all-at}
 use Rattle.ilk_behave.proofs.Tools.{no_rules, place_steps, rule_step, two_rules_step}
-use Rattle.ilk_conditions.proofs.Values.{lock-holds, mode-holds, seen-holds, vacant-holds}
+use Rattle.ilk_layout.proofs.ConditionValues.{lock-holds, mode-holds, seen-holds, vacant-holds}
 use Rattle.ilk_behave.proofs.Writing.{by_image, locks-written, with_lists, with_route}
 
--- the sections that are locked for a route are sections
 pub locked-known : (p : PlantLists) (route : Route) → IsRouteOf p route → (i x : ℕ) → slice_get (sections_locked_for route) i ≡ Some x → x < length p.sections
 locked-known p route of i x at =
     all-at (λ x. x < length p.sections) (sections_locked_for route) i x
@@ -48,26 +47,25 @@ locked-known p route of i x at =
     route.protecting_points of.protecting_points)) at
 
 module _ (p : PlantLists) (plant : IsPlant p) (s : State) (shape : HasShape p s) (calm : hazard p s ≡ None) where
-  -- each route has a state
   pub state-of : (r : ℕ) (route : Route) → slice_get p.routes r ≡ Some route → (now : RouteState) × (slice_get s.routes r ≡ Some now)
   state-of r route known =
       let within = slice_get_within p.routes r route known in
       let count = shape.routes in
       item_at s.routes r (omega arith)
 
-  pub mark-steps : (r : ℕ) → StepAs p s (after_mark p s r) (rules_of_mark p r)
+  pub mark-steps : (r : ℕ) → StepLikeEvent p s (after_mark p s r) (rules_of_mark p r)
   mark-steps r = by_route (slice_get p.routes r) refl
     where
-      by_route : (o : Option Route) → slice_get p.routes r ≡ o → StepAs p s (after_mark p s r) (rules_of_mark p r)
+      by_route : (o : Option Route) → slice_get p.routes r ≡ o → StepLikeEvent p s (after_mark p s r) (rules_of_mark p r)
       by_route None e = rw e (no_rules p s)
       by_route (Some route) e =
           let now = state-of r route e in
           let marked = record s { routes = set s.routes r (record now.0 { mode = Marked }) } in
-          rw (e, now.1) (rule_step p s marked (same_mode now.0.mode Free) (rule (mode_is r Free ∷ []) (mode_becomes r Marked ∷ []))
+          rw (e, now.1) (rule_step p s marked (same_mode now.0.mode Free) (rule (mode_is r Free ∷ []) (set_mode r Marked ∷ []))
           (and-true (tree_holds (image_of p s) (mode_is r Free)) ∙ mode-holds p s shape r now.0 Free now.1)
-          (λ h. by_image p s marked (mode_becomes r Marked ∷ []) (mode-written p s (occupancy_values p s) shape r now.0 Marked now.1)))
+          (λ h. by_image p s marked (set_mode r Marked ∷ []) (mode-written p s (occupancy_values p s) shape r now.0 Marked now.1)))
 
-  pub cancel-steps : (r : ℕ) → StepAs p s (after_cancel p s r) (rules_of_cancel p r)
+  pub cancel-steps : (r : ℕ) → StepLikeEvent p s (after_cancel p s r) (rules_of_cancel p r)
   cancel-steps r = by_route (slice_get p.routes r) refl
     where
       not-both : (m : Mode) → same_mode m Marked ≡ true → same_mode m Allocating ≡ false
@@ -77,13 +75,14 @@ module _ (p : PlantLists) (plant : IsPlant p) (s : State) (shape : HasShape p s)
       not-both Locked h = refl
       not-both Occupied h = refl
 
-      by_route : (o : Option Route) → slice_get p.routes r ≡ o → StepAs p s (after_cancel p s r) (rules_of_cancel p r)
+      by_route : (o : Option Route) → slice_get p.routes r ≡ o → StepLikeEvent p s (after_cancel p s r) (rules_of_cancel p r)
       by_route None e = rw e (no_rules p s)
       by_route (Some route) e =
           let now = state-of r route e in
           let freed = record s { routes = set s.routes r (record now.0 { mode = Free }) } in
           let fits = shape.counts r route now.0 e now.1 in
-          let shaped : HasShape p freed = with_route p s r route (record now.0 { mode = Free }) shape e (fits_path-from_counts route (record now.0 { mode = Free }) (fits_path-counts route now.0 fits).0 (fits_path-counts route now.0 fits).1) in
+          let shaped : HasShape p freed = with_route p s r route (record now.0 { mode = Free }) shape e
+          (counts_fit_path-from_counts route (record now.0 { mode = Free }) (counts_fit_path-counts route now.0 fits).0 (counts_fit_path-counts route now.0 fits).1) in
           let moded = mode-written p s (occupancy_values p s) shape r now.0 Free now.1 in
           let unlocked = locks-written p freed (occupancy_values p s) (sections_locked_for route) FreeLock shaped (locked-known p route (plant.routes_known r route e)) in
           let unlocked_all = record freed { locks = with_locks s.locks (sections_locked_for route) FreeLock } in
@@ -94,15 +93,15 @@ module _ (p : PlantLists) (plant : IsPlant p) (s : State) (shape : HasShape p s)
           })
           (same_mode now.0.mode Marked) (same_mode now.0.mode Allocating)
           (same_mode now.0.mode Marked || same_mode now.0.mode Allocating)
-          (rule (mode_is r Marked ∷ []) (mode_becomes r Free ∷ [])) (rule (mode_is r Allocating ∷ []) (mode_becomes r Free ∷ locks_become p (sections_locked_for route) FreeLock))
+          (rule (mode_is r Marked ∷ []) (set_mode r Free ∷ [])) (rule (mode_is r Allocating ∷ []) (set_mode r Free ∷ set_locks p (sections_locked_for route) FreeLock))
           (and-true (tree_holds (image_of p s) (mode_is r Marked)) ∙ mode-holds p s shape r now.0 Marked now.1)
           (and-true (tree_holds (image_of p s) (mode_is r Allocating)) ∙ mode-holds p s shape r now.0 Allocating now.1)
           refl
-          (λ h. by_image p s freed (mode_becomes r Free ∷ []) moded ∙ ap (λ b. image_of p (record freed { locks = cond b (with_locks s.locks (sections_locked_for route) FreeLock) s.locks })) (sym (not-both now.0.mode h)))
+          (λ h. by_image p s freed (set_mode r Free ∷ []) moded ∙ ap (λ b. image_of p (record freed { locks = cond b (with_locks s.locks (sections_locked_for route) FreeLock) s.locks })) (sym (not-both now.0.mode h)))
           (λ h.
           by_image p s unlocked_all
-          (mode_becomes r Free ∷ locks_become p (sections_locked_for route) FreeLock)
-          (ap (λ values. set_all values (locks_become p (sections_locked_for route) FreeLock))
+          (set_mode r Free ∷ set_locks p (sections_locked_for route) FreeLock)
+          (ap (λ values. after_settings values (set_locks p (sections_locked_for route) FreeLock))
           moded ∙ unlocked)
           ∙ ap
           (λ b. image_of p
@@ -111,7 +110,6 @@ module _ (p : PlantLists) (plant : IsPlant p) (s : State) (shape : HasShape p s)
                 s.locks;
           })) (sym h)))
 
-  -- the parts of sense's guard, where k sections are seen and the next is x
   sense-guard : (r : ℕ) (route : Route) (now : RouteState) (k x : ℕ) → slice_get s.routes r ≡ Some now →
       x < length p.sections →
       can_fire p s (sense_rule p r route k x)
@@ -140,7 +138,7 @@ module _ (p : PlantLists) (plant : IsPlant p) (s : State) (shape : HasShape p s)
       shuffle false false true d e = refl
       shuffle false false false d e = refl
 
-  -- a guard for another number of seen sections fails
+  -- A guard for another number of seen sections fails.
   sense-other : (r : ℕ) (route : Route) (now : RouteState) (k x : ℕ) → slice_get s.routes r ≡ Some now → (now.seen ≡ k → ⊥) → can_fire p s (sense_rule p r route k x) ≡ false
   sense-other r route now k x here apart =
       let seen = seen-holds p s shape r now k here in
@@ -151,10 +149,9 @@ module _ (p : PlantLists) (plant : IsPlant p) (s : State) (shape : HasShape p s)
       fails true = refl
       fails false = refl
 
-  -- what sense sets
   sense-sets : (r : ℕ) (route : Route) (now : RouteState) (x : ℕ) → slice_get p.routes r ≡ Some route →
       slice_get s.routes r ≡ Some now → slice_get route.path now.seen ≡ Some x → x < length p.sections →
-      set_all (image_with s (occupancy_values p s)) (sense_rule p r route now.seen x).sets
+      after_settings (image_with s (occupancy_values p s)) (sense_rule p r route now.seen x).sets
       ≡ image_with
       (record s {
         routes = set s.routes r (record now { mode = Occupied; seen = now.seen + 1 });
@@ -164,7 +161,7 @@ module _ (p : PlantLists) (plant : IsPlant p) (s : State) (shape : HasShape p s)
       (occupancy_values p s)
   sense-sets r route now x known here at inside =
       let e = occupancy_values p s in
-      let fits = fits_path-counts route now (shape.counts r route now known here) in
+      let fits = counts_fit_path-counts route now (shape.counts r route now known here) in
       let less = slice_get_within route.path now.seen x at in
       let count = shape.routes in
       let within = slice_get_within s.routes r now here in
@@ -172,31 +169,31 @@ module _ (p : PlantLists) (plant : IsPlant p) (s : State) (shape : HasShape p s)
       let shape1 = with_lists p s s.points s.boards (set s.locks x UsedLock) shape refl refl (length-set s.locks x UsedLock) in
       let now2 = record now { seen = now.seen + 1 } in
       let s2 = record s1 { routes = set s.routes r now2 } in
-      let shape2 : HasShape p s2 = with_route p s1 r route now2 shape1 known (fits_path-from_counts route now2 (omega arith) fits.1) in
+      let shape2 : HasShape p s2 = with_route p s1 r route now2 shape1 known (counts_fit_path-from_counts route now2 (omega arith) fits.1) in
       let now3 = record now2 { mode = Occupied } in
       let s3 = record s1 { routes = set s.routes r now3 } in
-      let shape3 : HasShape p s3 = with_route p s1 r route now3 shape1 known (fits_path-from_counts route now3 (omega arith) fits.1) in
+      let shape3 : HasShape p s3 = with_route p s1 r route now3 shape1 known (counts_fit_path-from_counts route now3 (omega arith) fits.1) in
       let one = lock-written p s e shape x UsedLock inside in
       let two = seen-written p s1 e shape1 r now (now.seen + 1) here in
       let three = mode-written p s2 e shape2 r now2 Occupied (slice_get-set_same s.routes r now2 within) ∙ ap (λ routes. image_with (record s1 { routes = routes }) e) (set-set s.routes r now2 now3) in
-      let rest = cond (now.seen == 0) (board_becomes p route.source Closed ∷ []) [] in
-      ap (λ values. set_all (set (set values (seen_var r) (now.seen + 1)) (mode_var r) 4) rest) one
-      ∙ ap (λ values. set_all (set values (mode_var r) 4) rest) two
-      ∙ ap (λ values. set_all values rest) three
+      let rest = cond (now.seen == 0) (set_board p route.source Closed ∷ []) [] in
+      ap (λ values. after_settings (set (set values (seen_var r) (now.seen + 1)) (mode_var r) 4) rest) one
+      ∙ ap (λ values. after_settings (set values (mode_var r) 4) rest) two
+      ∙ ap (λ values. after_settings values rest) three
       ∙ last s3 shape3 (now.seen == 0)
     where
       last : (s3 : State) → HasShape p s3 → (b : Bool) →
-          set_all (image_with s3 (occupancy_values p s))
-          (cond b (board_becomes p route.source Closed ∷ []) [])
+          after_settings (image_with s3 (occupancy_values p s))
+          (cond b (set_board p route.source Closed ∷ []) [])
           ≡ image_with (record s3 { boards = cond b (set s3.boards route.source Closed) s3.boards })
           (occupancy_values p s)
       last s3 shape3 true = board-written p s3 (occupancy_values p s) shape3 route.source Closed (plant.routes_known r route known).source
       last s3 shape3 false = refl
 
-  pub sense-steps : (r : ℕ) → StepAs p s (after_sense p s r) (rules_of_sense p r)
+  pub sense-steps : (r : ℕ) → StepLikeEvent p s (after_sense p s r) (rules_of_sense p r)
   sense-steps r = by_route (slice_get p.routes r) refl
     where
-      by_route : (o : Option Route) → slice_get p.routes r ≡ o → StepAs p s (after_sense p s r) (rules_of_sense p r)
+      by_route : (o : Option Route) → slice_get p.routes r ≡ o → StepLikeEvent p s (after_sense p s r) (rules_of_sense p r)
       by_route None e = rw e (no_rules p s)
       by_route (Some route) e =
           let now = state-of r route e in

@@ -1,4 +1,4 @@
--- How many rules an event has at most, and how many rules there are.
+-- Bounds on the rules of an event, and on all rules.
 use Rattle.std.proofs.Common.{◌≡◌, ℕ, ◌*◌, ◌≤◌, Bool, true, false, not, Option, Some, None, List, [], ◌∷◌, ◌++◌, cond, filter, length, map, slice_get, refl, arith}
 use Rattle.std.specs.List.{flat_map, range_with_len}
 use Rattle.std.specs.Option.{option_to_list}
@@ -6,7 +6,7 @@ use Rattle.std.proofs.lemmas.List.{length-append, length-map}
 use Rattle.std.proofs.lemmas.List.FromFn.{length-range_with_len}
 use Rattle.std.proofs.lemmas.List.Sums.{count_by-le-length, length-filter}
 use Rattle.ilk_ir.specs.System.{RuleTree}
-use Rattle.ilk_plant.specs.Network.{beside, same_direction}
+use Rattle.ilk_plant.specs.Network.{neighbours_on, same_direction}
 use Rattle.ilk_plant.specs.Plant.{IsPlant, PlantLists, border, next_to, point_number}
 use Rattle.ilk_plant.specs.declared.network.Dir.{Dir}
 use Rattle.ilk_plant.specs.declared.network.Dir.TheVariants.{Up, Down}
@@ -22,7 +22,6 @@ use Rattle.ilk_behave.specs.RouteRules.{rules_of_allocate, rules_of_cancel, rule
 use Rattle.ilk_behave.specs.TrainRules.{both_directions, head_rules, leave_rule, rules_of_enter, rules_of_head, rules_of_leave, rules_of_tail, tail_rule}
 use Rattle.ilk_behave.proofs.RuleCounts.{cancel-count, finish-count, release-count, sense-count}
 
--- lists of which each has at most so many items, one after another
 flat_map-few : {X Y : Type 0} (f : X → List Y) (most : ℕ) (xs : List X) → ((x : X) → length (f x) ≤ most) → length (flat_map f xs) ≤ most * length xs
 flat_map-few f most [] few = omega arith
 flat_map-few f most (x ∷ xs) few =
@@ -32,7 +31,7 @@ flat_map-few f most (x ∷ xs) few =
     omega (arith, sum, first, later)
 
 module _ (p : PlantLists) (plant : IsPlant p) where
-  -- events of routes
+  -- Events of routes.
   few-mark : (r : ℕ) → length (rules_of_mark p r) ≤ 1
   few-mark r = by_route (slice_get p.routes r) refl
     where
@@ -90,7 +89,7 @@ module _ (p : PlantLists) (plant : IsPlant p) where
       by_route None e = rw e (omega arith)
       by_route (Some route) e = let count = cancel-count p r route e in omega (arith, count)
 
-  -- events of points
+  -- Events of points.
   few-throw : (x : ℕ) → length (rules_of_throw p x) ≤ 2
   few-throw x = by_number (point_number p x) refl
     where
@@ -105,7 +104,7 @@ module _ (p : PlantLists) (plant : IsPlant p) where
       by_number None e = rw e (omega arith)
       by_number (Some n) e = rw e (omega arith)
 
-  -- events of trains
+  -- Events of trains.
   few-enter : (x : ℕ) → length (rules_of_enter p x) ≤ 1
   few-enter x = by_inward (border p x) refl
     where
@@ -113,7 +112,6 @@ module _ (p : PlantLists) (plant : IsPlant p) where
       by_inward None e = rw e (omega arith)
       by_inward (Some d) e = rw e (omega arith)
 
-  -- a section has at most two neighbours on a side
   few-next : (x : ℕ) (d : Dir) → length (next_to p x d) ≤ 2
   few-next x d = by_section (slice_get p.sections x) refl
     where
@@ -125,7 +123,7 @@ module _ (p : PlantLists) (plant : IsPlant p) where
       legs true stem plus minus = omega arith
       legs false stem plus minus = omega arith
 
-      on_side : (section : Section) (d : Dir) → length (beside section d) ≤ 2
+      on_side : (section : Section) (d : Dir) → length (neighbours_on section d) ≤ 2
       on_side (Linear down up board_down board_up) Up = option up
       on_side (Linear down up board_down board_up) Down = option down
       on_side (Point stem plus minus faces) d = legs (same_direction faces d) stem plus minus
@@ -176,7 +174,6 @@ module _ (p : PlantLists) (plant : IsPlant p) where
           let most = count_by-le-length ends both_directions in
           rw e (omega (arith, made, kept, most))
 
-  -- no event has more than this
   pub few-rules : (event : Event) → length (rules_of p event) ≤ 256
   few-rules (event.Mark r) = let few = few-mark r in omega (arith, few)
   few-rules (event.Allocate r) = let few = few-allocate r in omega (arith, few)

@@ -1,4 +1,4 @@
--- How many rules the events of routes have.
+-- The numbers of rules of the events of routes.
 use Rattle.std.proofs.Common.{◌≡◌, ℕ, ◌-◌, ◌<◌, Some, None, List, length, map, slice_get, take, refl, ◌∙◌, arith}
 use Rattle.std.specs.List.{enumerate_from, last_or}
 use Rattle.std.proofs.lemmas.List.{length-map, length-take-le}

@@ -1,9 +1,9 @@
--- Rules that are valid over the ranges of a plant, by their conditions and settings.
+-- Rules are valid over the ranges of a plant if their conditions and settings are.
 use Rattle.std.proofs.Common.{◌≡◌, ℕ, suc, Bool, true, ◌&&◌, Some, List, [], ◌∷◌, ◌++◌, map, slice_get, refl, ◌∙◌}
 use Rattle.std.specs.List.{flat_map, list_all}
 use Rattle.std.proofs.lemmas.Bool.{and_from}
 use Rattle.std.proofs.lemmas.List.Folds.{list_all-append}
-use Rattle.ilk_ir.specs.System.{RuleTree, rule_valid, sets_apart}
+use Rattle.ilk_ir.specs.System.{RuleTree, rule_valid, sets_distinct_vars}
 use Rattle.ilk_ir.specs.Tree.{Tree, tree_valid, value_valid}
 use Rattle.ilk_ir.specs.declared.system.Setting.{Setting}
 use Rattle.ilk_ir.proofs.Trees.{all_of-valid}
@@ -12,7 +12,7 @@ use Rattle.ilk_layout.specs.Variables.{ranges_of_plant}
 use Rattle.ilk_behave.specs.Settings.{rule}
 use Rattle.ilk_behave.proofs.SetOnce.{SetOnce, set_once-apart}
 
--- a condition, a setting and a rule are valid over the ranges of the plant
+-- A condition, a setting or a rule is valid over the ranges of the plant.
 abbrev pub is_valid : PlantLists → Tree → Bool
 is_valid p tree = tree_valid (ranges_of_plant p) tree
 
@@ -36,11 +36,10 @@ pub all-flat_map : {X Y : Type 0} (f : Y → Bool) (g : X → List Y) (xs : List
 all-flat_map f g [] each = refl
 all-flat_map f g (x ∷ xs) each = all-append f (g x) (flat_map g xs) (each 0 x refl) (all-flat_map f g xs (λ i y at. each (suc i) y at))
 
--- a rule of valid conditions and settings that sets no variable twice is valid
 pub rule-valid : (p : PlantLists) (conditions : List Tree) (sets : List Setting) → list_all (is_valid p) conditions ≡ true → list_all (fits p) sets ≡ true → SetOnce sets → is_valid_rule p (rule conditions sets) ≡ true
 rule-valid p conditions sets h k once =
     and_from (tree_valid (ranges_of_plant p) (rule conditions sets).guard && list_all (fits p) sets)
-    (sets_apart sets)
+    (sets_distinct_vars sets)
     (and_from (tree_valid (ranges_of_plant p) (rule conditions sets).guard) (list_all (fits p) sets)
     (all_of-valid (ranges_of_plant p) conditions ∙ h) k)
     (set_once-apart sets once)

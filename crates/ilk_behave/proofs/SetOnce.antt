@@ -1,16 +1,16 @@
--- Settings of which no two set one variable.
+-- Settings that set no variable twice.
 use Rattle.std.proofs.Common.{◌≡◌, ℕ, suc, true, false, ◌==◌, Some, List, [], ◌∷◌, ◌++◌, map, slice_get, refl, arith}
 use Rattle.std.specs.List.{flat_map, list_any}
 use Rattle.std.proofs.lemmas.Bool.{ne_eqb}
-use Rattle.ilk_ir.specs.System.{sets_apart}
+use Rattle.ilk_ir.specs.System.{sets_distinct_vars}
 use Rattle.ilk_ir.specs.declared.system.Setting.{Setting}
 
--- none of the settings sets the variable
+-- None of the settings sets the variable.
 abbrev pub SetElsewhere : ℕ → List Setting → Type 0
 SetElsewhere v [] = Unit {0}
 SetElsewhere v (s ∷ ss) = (s.var ≡ v → ⊥) × SetElsewhere v ss
 
--- no variable is set twice
+-- No variable is set twice.
 abbrev pub SetOnce : List Setting → Type 0
 SetOnce [] = Unit {0}
 SetOnce (s ∷ ss) = SetElsewhere s.var ss × SetOnce ss
@@ -20,7 +20,7 @@ none-sets v [] h = refl
 none-sets v (s ∷ ss) h =
     let nay : (s.var == v) ≡ false = ne_eqb s.var v h.0 in rw nay (none-sets v ss h.1)
 
-pub set_once-apart : (ss : List Setting) → SetOnce ss → sets_apart ss ≡ true
+pub set_once-apart : (ss : List Setting) → SetOnce ss → sets_distinct_vars ss ≡ true
 set_once-apart [] h = refl
 set_once-apart (s ∷ ss) h = let none = none-sets s.var ss h.0 in rw none (set_once-apart ss h.1)
 
@@ -33,7 +33,6 @@ once-append [] ys h k cross = k
 once-append (x ∷ xs) ys h k cross =
     (elsewhere-append x.var xs ys h.0 (cross 0 x refl), once-append xs ys h.1 k (λ i s at. cross (suc i) s at))
 
--- settings that are made from the items of a list
 pub elsewhere-map : {X : Type 0} (v : ℕ) (f : X → Setting) (xs : List X) → ((i : ℕ) (x : X) → slice_get xs i ≡ Some x → (f x).var ≡ v → ⊥) → SetElsewhere v (map f xs)
 elsewhere-map v f [] other = tt
 elsewhere-map v f (x ∷ xs) other = (other 0 x refl, elsewhere-map v f xs (λ i y at. other (suc i) y at))

@@ -10,7 +10,7 @@ use Rattle.ilk_plant.specs.Plant.{IsPlant, PlantLists}
 use Rattle.ilk_model.specs.declared.event.Event.{Event}
 use Rattle.ilk_model.specs.declared.event.Event.TheVariants.{Mark, Allocate, Lock, Sense, Release, Finish, Throw, Settle, Enter, Head, Tail, Leave, Cancel}
 use Rattle.ilk_layout.specs.Variables.{ranges_of_plant}
-use Rattle.ilk_conditions.proofs.Valid.{length-ranges, ranges-positive}
+use Rattle.ilk_layout.proofs.Valid.{length-ranges, ranges-positive}
 use Rattle.ilk_behave.specs.Behaviour.{events_of, rules_of, system_of}
 use Rattle.ilk_behave.proofs.PathRulesValid.{finish-valid, release-valid, sense-valid}
 use Rattle.ilk_behave.proofs.RouteRulesValid.{allocate-valid, cancel-valid, lock-valid, mark-valid}

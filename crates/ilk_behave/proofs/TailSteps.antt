@@ -1,4 +1,4 @@
--- tail, by its rules.
+-- The steps of tail.
 use Rattle.std.proofs.Common.{◌≡◌, ℕ, zero, suc, ◌+◌, ◌<◌, ◌==◌, Bool, true, false, ◌&&◌, ◌||◌, map, position, remove, set, Option, Some, None, [], ◌∷◌, ◌++◌, length, slice_get, inl, inr, subst, refl, sym, ◌∙◌, ap, arith, cond}
 use Rattle.std.specs.List.{list_all}
 use Rattle.std.specs.Option.{option_to_list}
@@ -12,13 +12,13 @@ use Rattle.ilk_base.proofs.Options.{bind_some, some-and}
 use Rattle.ilk_base.proofs.Positions.{position-at}
 use Rattle.ilk_base.proofs.Tested.{list_any-from, none-pass}
 use Rattle.ilk_ir.specs.Tree.{tree_holds}
-use Rattle.ilk_ir.specs.System.{set_all}
+use Rattle.ilk_ir.specs.System.{after_settings}
 use Rattle.ilk_ir.proofs.Trees.{all_of-holds}
 use Rattle.ilk_plant.specs.Network.{has_section, same_direction}
 use Rattle.ilk_plant.specs.Plant.{IsPlant, PlantLists, next_to}
 use Rattle.ilk_plant.specs.Shape.{HasShape}
-use Rattle.ilk_plant.specs.Sound.{NeverReturns}
-use Rattle.ilk_plant.specs.State.{lie_of}
+use Rattle.ilk_plant.specs.Sound.{NoWalkReturns}
+use Rattle.ilk_plant.specs.State.{detected_position}
 use Rattle.ilk_plant.specs.declared.network.Dir.{Dir}
 use Rattle.ilk_plant.specs.declared.network.Dir.TheVariants.{Up, Down}
 use Rattle.ilk_plant.specs.declared.network.Section.{Section}
@@ -28,11 +28,11 @@ use Rattle.ilk_plant.specs.declared.state.Lie.TheVariants.{Plus as LiesPlus, Min
 use Rattle.ilk_plant.specs.declared.state.State.{State}
 use Rattle.ilk_plant.specs.declared.state.Train.{Train}
 use Rattle.ilk_plant.proofs.InLists.{section-from, section-at, only-one, rest-has}
-use Rattle.ilk_motion.specs.Ahead.{ahead, leg_at, leads_to}
+use Rattle.ilk_motion.specs.Ahead.{ahead, leg_by_lie, section_led_to}
 use Rattle.ilk_motion.specs.Body.{has_tail_before_head, without_tail}
 use Rattle.ilk_motion.specs.Trains.{after_tail}
 use Rattle.ilk_motion.proofs.Shape.{after_tail-shape}
-use Rattle.ilk_routes.specs.Lies.{lies_at, lie_in}
+use Rattle.ilk_routes.specs.Lies.{is_lie_at_position, lie_from_position}
 use Rattle.ilk_model.specs.Hazard.{hazard}
 use Rattle.ilk_layout.specs.Image.{image_of}
 use Rattle.ilk_layout.specs.Occupancy.{occupancy_of}
@@ -40,14 +40,14 @@ use Rattle.ilk_layout.specs.Standing.{is_wrong_under}
 use Rattle.ilk_layout.specs.Values.{occupancy_value}
 use Rattle.ilk_layout.specs.Variables.{occupancy_var}
 use Rattle.ilk_layout.specs.declared.values.Occupancy.TheVariants.{Vacant, Taken}
-use Rattle.ilk_layout.proofs.Calm.{alone, body-beside, body-of, calm-at, led-on, occupancy-in, pair-of, taken-in}
+use Rattle.ilk_layout.proofs.Calm.{alone, body-neighbours_on, body-of, calm-at, led-on, occupancy-in, pair-of, taken-in}
 use Rattle.ilk_layout.proofs.Changes.{image-two, occupied}
 use Rattle.ilk_layout.proofs.Made.{legs-differ}
 use Rattle.ilk_layout.proofs.Plants.{body-known, body-once}
 use Rattle.ilk_layout.proofs.Trains.{has_x, with_trains}
-use Rattle.ilk_conditions.specs.Conditions.{occupancy_is, lie_is}
+use Rattle.ilk_layout.specs.Conditions.{occupancy_is, is_detected}
 use Rattle.ilk_behave.specs.Guards.{leads_towards, leg_position}
-use Rattle.ilk_behave.specs.Steps.{StepAs, can_fire}
+use Rattle.ilk_behave.specs.Steps.{StepLikeEvent, can_fire}
 use Rattle.ilk_behave.specs.TrainRules.{rules_of_tail, tail_rule}
 use Rattle.ilk_behave.proofs.AllocateSteps.{lie-holds}
 use Rattle.ilk_behave.proofs.OneSection.{vacant-as}
@@ -56,7 +56,7 @@ use Rattle.ilk_behave.proofs.Moved.{kept, now-at, now-there, occupancy-there, ri
 use Rattle.ilk_behave.proofs.TailTests.{first-two, has-first, leading, leads-by, lies-nowhere, rest-at, rest-length, rest-wrong, several}
 
 module _ (p : PlantLists) (plant : IsPlant p) (s : State) (shape : HasShape p s) (calm : hazard p s ≡ None) where
-  -- x leads to its neighbour y exactly where y lies ahead of it
+  -- `x` leads to its neighbour `y` if and only if `y` is ahead of it.
   pub leads-holds : (x y : ℕ) (d : Dir) → has_section y (next_to p x d) ≡ true → list_all (tree_holds (image_of p s)) (leads_towards p x d y) ≡ is_some_and (ahead p s x d) (λ z. z == y)
   leads-holds x y d near = by_section (slice_get p.sections x) refl d near
     where
@@ -64,22 +64,22 @@ module _ (p : PlantLists) (plant : IsPlant p) (s : State) (shape : HasShape p s)
       only None h = cc
       only (Some z) h = sym (eq-eqb z y (only-one y z h))
 
-      lies : (plus minus : ℕ) (l : Lie) (b : Bool) → (plus == y) ≡ b → (plus ≡ minus → ⊥) → has_section y (plus ∷ minus ∷ []) ≡ true → (lies_at l (leg_position plus y) && true) ≡ is_some_and (leg_at plus minus l) (λ z. z == y)
+      lies : (plus minus : ℕ) (l : Lie) (b : Bool) → (plus == y) ≡ b → (plus ≡ minus → ⊥) → has_section y (plus ∷ minus ∷ []) ≡ true → (is_lie_at_position l (leg_position plus y) && true) ≡ is_some_and (leg_by_lie plus minus l) (λ z. z == y)
       lies plus minus LiesPlus true e apart h = rw e refl
       lies plus minus LiesPlus false e apart h = rw e refl
       lies plus minus LiesMinus true e apart h = (let other : (minus == y) ≡ false = ne_eqb minus y (λ same. apart (eqb-true plus y e ∙ sym same)) in rw (e, other) refl)
       lies plus minus LiesMinus false e apart h = (let other : ((minus == y) || false) ≡ true = rw e at h in let same : minus ≡ y = only-one y minus other in rw (e, eq-eqb minus y same) refl)
       lies plus minus Moving b e apart h = ap (λ v. v && true) (lies-nowhere (leg_position plus y))
 
-      by_lie : (plus minus : ℕ) (o : Option Lie) → (plus ≡ minus → ⊥) → has_section y (plus ∷ minus ∷ []) ≡ true → (is_some_and o (λ l. lies_at l (leg_position plus y)) && true) ≡ is_some_and (o >>= leg_at plus minus) (λ z. z == y)
+      by_lie : (plus minus : ℕ) (o : Option Lie) → (plus ≡ minus → ⊥) → has_section y (plus ∷ minus ∷ []) ≡ true → (is_some_and o (λ l. is_lie_at_position l (leg_position plus y)) && true) ≡ is_some_and (o >>= leg_by_lie plus minus) (λ z. z == y)
       by_lie plus minus None apart h = refl
       by_lie plus minus (Some l) apart h = lies plus minus l (plus == y) refl apart h
 
-      towards : (stem plus minus : ℕ) (faces d : Dir) → slice_get p.sections x ≡ Some (Point stem plus minus faces) → leads_towards p x d y ≡ cond (same_direction faces d) (lie_is p x (lie_in (leg_position plus y)) ∷ []) []
+      towards : (stem plus minus : ℕ) (faces d : Dir) → slice_get p.sections x ≡ Some (Point stem plus minus faces) → leads_towards p x d y ≡ cond (same_direction faces d) (is_detected p x (lie_from_position (leg_position plus y)) ∷ []) []
       towards stem plus minus faces d e = leads-by p x y d (slice_get p.sections x) refl ∙ ap (leading p x y d) e
 
-      goes : (stem plus minus : ℕ) (faces d : Dir) → slice_get p.sections x ≡ Some (Point stem plus minus faces) → ahead p s x d ≡ cond (same_direction faces d) (lie_of p s x >>= leg_at plus minus) (Some stem)
-      goes stem plus minus faces d e = ap (λ o. o >>= (λ section. leads_to section d (lie_of p s x))) e
+      goes : (stem plus minus : ℕ) (faces d : Dir) → slice_get p.sections x ≡ Some (Point stem plus minus faces) → ahead p s x d ≡ cond (same_direction faces d) (detected_position p s x >>= leg_by_lie plus minus) (Some stem)
+      goes stem plus minus faces d e = ap (λ o. o >>= (λ section. section_led_to section d (detected_position p s x))) e
 
       facing : (stem plus minus : ℕ) (faces d : Dir) (b : Bool) → same_direction faces d ≡ b →
           slice_get p.sections x ≡ Some (Point stem plus minus faces) → has_section y (next_to p x d) ≡ true →
@@ -89,15 +89,15 @@ module _ (p : PlantLists) (plant : IsPlant p) (s : State) (shape : HasShape p s)
           let near : has_section y (plus ∷ minus ∷ []) ≡ true = rw (e, f) at h in
           let apart = legs-differ p plant x stem plus minus faces e in
           let lie = lie-holds p plant s shape calm x (leg_position plus y) in
-          ap (list_all (tree_holds (image_of p s))) (towards stem plus minus faces d e ∙ ap (λ b. cond b (lie_is p x (lie_in (leg_position plus y)) ∷ []) []) f)
+          ap (list_all (tree_holds (image_of p s))) (towards stem plus minus faces d e ∙ ap (λ b. cond b (is_detected p x (lie_from_position (leg_position plus y)) ∷ []) []) f)
           ∙ ap (λ b. b && true) lie
-          ∙ by_lie plus minus (lie_of p s x) apart.0 near
-          ∙ ap (λ o. is_some_and o (λ z. z == y)) (sym (goes stem plus minus faces d e ∙ ap (λ b. cond b (lie_of p s x >>= leg_at plus minus) (Some stem)) f))
+          ∙ by_lie plus minus (detected_position p s x) apart.0 near
+          ∙ ap (λ o. is_some_and o (λ z. z == y)) (sym (goes stem plus minus faces d e ∙ ap (λ b. cond b (detected_position p s x >>= leg_by_lie plus minus) (Some stem)) f))
       facing stem plus minus faces d false f e h =
           let near : has_section y (stem ∷ []) ≡ true = rw (e, f) at h in
-          ap (list_all (tree_holds (image_of p s))) (towards stem plus minus faces d e ∙ ap (λ b. cond b (lie_is p x (lie_in (leg_position plus y)) ∷ []) []) f)
+          ap (list_all (tree_holds (image_of p s))) (towards stem plus minus faces d e ∙ ap (λ b. cond b (is_detected p x (lie_from_position (leg_position plus y)) ∷ []) []) f)
           ∙ sym (eq-eqb stem y (only-one y stem near))
-          ∙ ap (λ o. is_some_and o (λ z. z == y)) (sym (goes stem plus minus faces d e ∙ ap (λ b. cond b (lie_of p s x >>= leg_at plus minus) (Some stem)) f))
+          ∙ ap (λ o. is_some_and o (λ z. z == y)) (sym (goes stem plus minus faces d e ∙ ap (λ b. cond b (detected_position p s x >>= leg_by_lie plus minus) (Some stem)) f))
 
       by_section : (o : Option Section) → slice_get p.sections x ≡ o → (d : Dir) → has_section y (next_to p x d) ≡ true → list_all (tree_holds (image_of p s)) (leads_towards p x d y) ≡ is_some_and (ahead p s x d) (λ z. z == y)
       by_section None e d h = (let bad : false ≡ true = rw e at h in absurd (false≢true bad))
@@ -105,8 +105,8 @@ module _ (p : PlantLists) (plant : IsPlant p) (s : State) (shape : HasShape p s)
       by_section (Some (Linear down up b c)) e Up h = rw e (only up (rw e at h))
       by_section (Some (Point stem plus minus faces)) e d h = facing stem plus minus faces d (same_direction faces d) refl e h
 
-module _ (p : PlantLists) (plant : IsPlant p) (never : NeverReturns p) (s : State) (shape : HasShape p s) (calm : hazard p s ≡ None) where
-  -- the train with its tail at x and another section, y, after it
+module _ (p : PlantLists) (plant : IsPlant p) (never : NoWalkReturns p) (s : State) (shape : HasShape p s) (calm : hazard p s ≡ None) where
+  -- The train with its tail at `x` and its next section `y`.
   module _ (i x y : ℕ) (t : Train) (at : slice_get s.trains i ≡ Some t) (first : slice_get t.body 0 ≡ Some x) (second : slice_get t.body 1 ≡ Some y) where
     within-x : x < length p.sections
     within-x = body-known p t 0 x plant (body-of p plant never s shape calm i t at) first
@@ -169,7 +169,7 @@ module _ (p : PlantLists) (plant : IsPlant p) (never : NeverReturns p) (s : Stat
             let begin : (suc k == 0) ≡ (suc (suc k) == 0) = grind (arith, nat_tests) in
             (suc k, rest-at t.body (suc k) ∙ e, begin, last)
 
-    tail-image : (head : Bool) → (1 + 1 == length t.body) ≡ head → set_all (image_of p s) (tail_rule p x t.dir y head).sets ≡ image_of p (with_trains s (set s.trains i (without_tail t)))
+    tail-image : (head : Bool) → (1 + 1 == length t.body) ≡ head → after_settings (image_of p s) (tail_rule p x t.dir y head).sets ≡ image_of p (with_trains s (set s.trains i (without_tail t)))
     tail-image head is =
         let after = with_trains s (set s.trains i (without_tail t)) in
         let there : occupancy_of p after y ≡ Taken t.dir true head = tail-taken ∙ ap (Taken t.dir true) is in
@@ -177,7 +177,6 @@ module _ (p : PlantLists) (plant : IsPlant p) (never : NeverReturns p) (s : Stat
         ∙ ap (λ o. set (set (image_of p s) (occupancy_var p x) (occupied p after x)) (occupancy_var p y) (occupancy_value o)) (sym there)
         ∙ image-two p s shape (set s.trains i (without_tail t)) x y within-x within-y apart (λ z within not_x not_y. tail-kept z within not_x not_y)
 
-  -- a rule that can be fired tells what follows
   tail-told : (x y : ℕ) (d : Dir) (head : Bool) → has_section y (next_to p x d) ≡ true → can_fire p s (tail_rule p x d y head) ≡ true → Tells p s (after_tail p s x) (tail_rule p x d y head)
   tail-told x y d head near h =
       let holds = tree_holds (image_of p s) in
@@ -205,7 +204,7 @@ module _ (p : PlantLists) (plant : IsPlant p) (never : NeverReturns p) (s : Stat
           let longer : 1 < length t.body = grind (arith, nat_tests) in
           let next = item_at t.body 1 longer in
           let body = body-of p plant never s shape calm i t at in
-          let near_it = body-beside p t 0 x next.0 body first next.1 in
+          let near_it = body-neighbours_on p t 0 x next.0 body first next.1 in
           let pair = pair-of t.body 0 x next.0 first next.1 in
           let led : ahead p s x t.dir ≡ Some next.0 = led-on p plant never s shape calm i t x next.0 t.dir at (body-known p t 0 x plant body first) near_it pair.0 in
           let same : next.0 ≡ y = same_Some next.0 y (sym led ∙ ap (ahead p s x) dir ∙ leads) in
@@ -214,10 +213,9 @@ module _ (p : PlantLists) (plant : IsPlant p) (never : NeverReturns p) (s : Stat
           record {
             state = with_trains s (set s.trains i (without_tail t));
             follows = tail-follows i x y t at first second;
-            image = ap (λ e. set_all (image_of p s) (tail_rule p x e y head).sets) (sym dir) ∙ tail-image i x y t at first second head is.2;
+            image = ap (λ e. after_settings (image_of p s) (tail_rule p x e y head).sets) (sym dir) ∙ tail-image i x y t at first second head is.2;
           }
 
-  -- and where something follows, some rule can be fired
   tail-fires : (x : ℕ) (after : State) → after_tail p s x ≡ Some after → IsFor p s x (λ d y. map (tail_rule p x d y) (true ∷ false ∷ []))
   tail-fires x after e =
       let section = bind_some (slice_get p.sections x) _ after e in
@@ -236,7 +234,7 @@ module _ (p : PlantLists) (plant : IsPlant p) (never : NeverReturns p) (s : Stat
           let head = 1 + 1 == length t.body in
           let d = t.dir in
           let body = body-of p plant never s shape calm i t at in
-          let near = body-beside p t 0 x y body first second in
+          let near = body-neighbours_on p t 0 x y body first second in
           let pair = pair-of t.body 0 x y first second in
           let within_x = within-x i x y t at first second in
           let within_y = within-y i x y t at first second in
@@ -267,7 +265,7 @@ module _ (p : PlantLists) (plant : IsPlant p) (never : NeverReturns p) (s : Stat
             fires = list_any-from (can_fire p s) (map (tail_rule p x d y) (true ∷ false ∷ [])) place.0 (tail_rule p x d y head) (slice_get-map (tail_rule p x d y) (true ∷ false ∷ []) place.0 ∙ (let there = place.1 in rw there refl)) fires;
           }
 
-  pub tail-steps : (x : ℕ) → StepAs p s (after_tail p s x) (rules_of_tail p x)
+  pub tail-steps : (x : ℕ) → StepLikeEvent p s (after_tail p s x) (rules_of_tail p x)
   tail-steps x =
       neighbour_steps p s (after_tail p s x) x (λ d y. map (tail_rule p x d y) (true ∷ false ∷ []))
       (λ d y j rule near at h.

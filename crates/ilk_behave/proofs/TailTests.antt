@@ -1,11 +1,11 @@
--- What the rules of tail ask, of a point that lies and of a body.
+-- The meaning of tail's guards for a point and a body.
 use Rattle.std.proofs.Common.{◌≡◌, ℕ, suc, ◌+◌, true, false, remove, Option, Some, None, List, [], ◌∷◌, length, slice_get, refl, sym, ◌∙◌, ap, arith, cond}
 use Rattle.std.proofs.lemmas.Bool.{eq-eqb, eqb-true, false≢true, false_from_ne_true}
 use Rattle.std.proofs.lemmas.Option.{same_Some}
 use Rattle.ilk_ir.specs.Tree.{Tree}
 use Rattle.ilk_plant.specs.Network.{has_section, same_direction}
 use Rattle.ilk_plant.specs.Plant.{PlantLists}
-use Rattle.ilk_plant.specs.State.{lie_of}
+use Rattle.ilk_plant.specs.State.{detected_position}
 use Rattle.ilk_plant.specs.declared.network.Dir.{Dir}
 use Rattle.ilk_plant.specs.declared.network.Position.{Position}
 use Rattle.ilk_plant.specs.declared.network.Position.TheVariants.{Plus, Minus}
@@ -15,30 +15,28 @@ use Rattle.ilk_plant.specs.declared.state.Lie.TheVariants.{Moving}
 use Rattle.ilk_plant.specs.declared.state.State.{State}
 use Rattle.ilk_plant.proofs.InLists.{section-from}
 use Rattle.ilk_motion.specs.Body.{is_first_of_several}
-use Rattle.ilk_routes.specs.Lies.{lies_at, lie_in}
-use Rattle.ilk_model.specs.Hazard.{strays}
-use Rattle.ilk_model.proofs.Straying.{rest-strays}
+use Rattle.ilk_routes.specs.Lies.{is_lie_at_position, lie_from_position}
+use Rattle.ilk_model.specs.Hazard.{is_wrong_under_body}
+use Rattle.ilk_model.proofs.Straying.{rest-is_wrong_under_body}
 use Rattle.ilk_layout.specs.Standing.{is_wrong_under}
-use Rattle.ilk_conditions.specs.Conditions.{lie_is}
+use Rattle.ilk_layout.specs.Conditions.{is_detected}
 use Rattle.ilk_behave.specs.Guards.{leads_towards, leg_position}
 
--- a point that moves lies at no position
-pub lies-nowhere : (at : Position) → lies_at Moving at ≡ false
+pub lies-nowhere : (at : Position) → is_lie_at_position Moving at ≡ false
 lies-nowhere Plus = refl
 lies-nowhere Minus = refl
 
--- what x asks for if it leads to y, by its section
+-- The conditions under which `x` leads to `y`, by the kind of `x`.
 abbrev pub leading : PlantLists → ℕ → ℕ → Dir → Option Section → List Tree
 leading p x y d None = []
 leading p x y d (Some (Linear down up b c)) = []
-leading p x y d (Some (Point stem plus minus faces)) = cond (same_direction faces d) (lie_is p x (lie_in (leg_position plus y)) ∷ []) []
+leading p x y d (Some (Point stem plus minus faces)) = cond (same_direction faces d) (is_detected p x (lie_from_position (leg_position plus y)) ∷ []) []
 
 pub leads-by : (p : PlantLists) (x y : ℕ) (d : Dir) (o : Option Section) → slice_get p.sections x ≡ o → leads_towards p x d y ≡ leading p x y d (slice_get p.sections x)
 leads-by p x y d None e = rw e refl
 leads-by p x y d (Some (Linear down up b c)) e = rw e refl
 leads-by p x y d (Some (Point stem plus minus faces)) e = rw e refl
 
--- a body without its first section
 pub rest-at : (body : List ℕ) (k : ℕ) → slice_get (remove body 0) k ≡ slice_get body (suc k)
 rest-at [] k = refl
 rest-at (x ∷ body) k = refl
@@ -54,10 +52,9 @@ rest-wrong p s x body right = by_section (slice_get p.sections x) refl
     by_section None e = rw e refl
     by_section (Some (Linear a b c d)) e = rw e refl
     by_section (Some (Point stem plus minus faces)) e =
-        let none : strays x plus minus (lie_of p s x) body ≡ false = rw e at right in
-        rw e (false_from_ne_true (strays x plus minus (lie_of p s x) (remove body 0)) (λ h. false≢true (sym none ∙ rest-strays x plus minus (lie_of p s x) body h)))
+        let none : is_wrong_under_body x plus minus (detected_position p s x) body ≡ false = rw e at right in
+        rw e (false_from_ne_true (is_wrong_under_body x plus minus (detected_position p s x) (remove body 0)) (λ h. false≢true (sym none ∙ rest-is_wrong_under_body x plus minus (detected_position p s x) body h)))
 
--- a body of several sections has a first and a second
 pub first-two : (x : ℕ) (body : List ℕ) → is_first_of_several x body ≡ true → (y : ℕ) × (slice_get body 0 ≡ Some x) × (slice_get body 1 ≡ Some y)
 first-two x [] h = cc
 first-two x (a ∷ []) h = cc

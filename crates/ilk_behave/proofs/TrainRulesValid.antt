@@ -20,16 +20,16 @@ use Rattle.ilk_plant.specs.declared.state.Lie.TheVariants.{Plus as LiesPlus, Min
 use Rattle.ilk_plant.proofs.PointNumbers.{point_number-below}
 use Rattle.ilk_plant.proofs.Rows.{has_section-at}
 use Rattle.ilk_motion.specs.Trains.{has_neighbour}
-use Rattle.ilk_routes.specs.Lies.{lie_in}
+use Rattle.ilk_routes.specs.Lies.{lie_from_position}
 use Rattle.ilk_layout.specs.Variables.{occupancy_var, ranges_of_plant}
 use Rattle.ilk_layout.specs.declared.values.Occupancy.{Occupancy}
 use Rattle.ilk_layout.specs.declared.values.Occupancy.TheVariants.{Vacant, Taken, Crash}
-use Rattle.ilk_conditions.specs.Conditions.{at_is, board_is, lie_is, lock_is, no_train_at, occupancy_is, to_is, train_at}
-use Rattle.ilk_conditions.proofs.Valid.{at_is-valid, board_is-valid, lie_is-valid, lock_is-valid, no_train_at-valid, occupancy_is-valid, to_is-valid, train_at-valid}
-use Rattle.ilk_behave.specs.Guards.{leads_towards, leg_position, passable, right_on_point, takes_from}
-use Rattle.ilk_behave.specs.PointRules.{lies_elsewhere, rules_of_settle, rules_of_throw}
-use Rattle.ilk_behave.specs.Settings.{at_becomes, board_becomes, board_closes, occupancy_becomes, rule}
-use Rattle.ilk_behave.specs.TrainRules.{both_directions, free_from, gone_on, head_rules, leave_rule, may_go_on, rules_of_enter, rules_of_head, rules_of_leave, rules_of_tail, tail_rule}
+use Rattle.ilk_layout.specs.Conditions.{is_point_detected, board_is, is_detected, lock_is, no_train_at, occupancy_is, is_point_commanded, train_at}
+use Rattle.ilk_layout.proofs.Valid.{is_point_detected-valid, board_is-valid, is_detected-valid, lock_is-valid, no_train_at-valid, occupancy_is-valid, is_point_commanded-valid, train_at-valid}
+use Rattle.ilk_behave.specs.Guards.{leads_towards, leg_position, passable, right_on_point, is_right_from}
+use Rattle.ilk_behave.specs.PointRules.{is_out_of_position, rules_of_settle, rules_of_throw}
+use Rattle.ilk_behave.specs.Settings.{set_detected, set_board, close_board, set_occupancy, rule}
+use Rattle.ilk_behave.specs.TrainRules.{both_directions, is_free_for_train, head_settings, head_rules, leave_rule, head_conditions, rules_of_enter, rules_of_head, rules_of_leave, rules_of_tail, tail_rule}
 use Rattle.ilk_plant.proofs.PointNumbers.{numbered-section}
 use Rattle.ilk_behave.proofs.RulesValid.{all-append, all-cons, all-flat_map, all-map, fits, is_valid, is_valid_rule, one_rule-valid, rule-valid, two_rules-valid}
 use Rattle.ilk_behave.proofs.SetOnce.{SetElsewhere, SetOnce}
@@ -45,23 +45,23 @@ module _ (p : PlantLists) (plant : IsPlant p) where
   number-known x n e =
       let section = numbered-section p x n e in slice_get_within p.sections x section.0 section.1
 
-  -- the events of points
+  -- Events of points.
 
-  lies_elsewhere-valid : (n : ℕ) → n < point_count p → list_all (is_valid p) (lies_elsewhere p n) ≡ true
-  lies_elsewhere-valid n less =
-      let plus : List Tree = negation (at_is p n LiesPlus) ∷ negation (to_is p n Plus) ∷ [] in
-      let minus : List Tree = negation (at_is p n LiesMinus) ∷ negation (to_is p n Minus) ∷ [] in
-      all-cons (is_valid p) (negation (at_is p n Moving)) (any_of (trees plus) ∷ any_of (trees minus) ∷ []) (at_is-valid p n Moving less)
+  is_out_of_position-valid : (n : ℕ) → n < point_count p → list_all (is_valid p) (is_out_of_position p n) ≡ true
+  is_out_of_position-valid n less =
+      let plus : List Tree = negation (is_point_detected p n LiesPlus) ∷ negation (is_point_commanded p n Plus) ∷ [] in
+      let minus : List Tree = negation (is_point_detected p n LiesMinus) ∷ negation (is_point_commanded p n Minus) ∷ [] in
+      all-cons (is_valid p) (negation (is_point_detected p n Moving)) (any_of (trees plus) ∷ any_of (trees minus) ∷ []) (is_point_detected-valid p n Moving less)
       (all-cons (is_valid p) (any_of (trees plus)) (any_of (trees minus) ∷ [])
       (any_of-valid ranges plus
-      ∙ all-cons (is_valid p) (negation (at_is p n LiesPlus)) (negation (to_is p n Plus) ∷ [])
-      (at_is-valid p n LiesPlus less)
-      (all-cons (is_valid p) (negation (to_is p n Plus)) [] (to_is-valid p n Plus less) refl))
+      ∙ all-cons (is_valid p) (negation (is_point_detected p n LiesPlus)) (negation (is_point_commanded p n Plus) ∷ [])
+      (is_point_detected-valid p n LiesPlus less)
+      (all-cons (is_valid p) (negation (is_point_commanded p n Plus)) [] (is_point_commanded-valid p n Plus less) refl))
       (all-cons (is_valid p) (any_of (trees minus)) []
       (any_of-valid ranges minus
-      ∙ all-cons (is_valid p) (negation (at_is p n LiesMinus)) (negation (to_is p n Minus) ∷ [])
-      (at_is-valid p n LiesMinus less)
-      (all-cons (is_valid p) (negation (to_is p n Minus)) [] (to_is-valid p n Minus less) refl))
+      ∙ all-cons (is_valid p) (negation (is_point_detected p n LiesMinus)) (negation (is_point_commanded p n Minus) ∷ [])
+      (is_point_detected-valid p n LiesMinus less)
+      (all-cons (is_valid p) (negation (is_point_commanded p n Minus)) [] (is_point_commanded-valid p n Minus less) refl))
       refl))
 
   pub throw-valid : (x : ℕ) → list_all (is_valid_rule p) (rules_of_throw p x) ≡ true
@@ -72,35 +72,35 @@ module _ (p : PlantLists) (plant : IsPlant p) where
       by_number (Some n) e =
           let less = number-less x n e in
           let inside = number-known x n e in
-          let elsewhere : List Tree = lies_elsewhere p n in
-          let moves : List Setting = at_becomes p n Moving ∷ [] in
-          let crashes : List Setting = at_becomes p n Moving ∷ occupancy_becomes p x Crash ∷ [] in
+          let elsewhere : List Tree = is_out_of_position p n in
+          let moves : List Setting = set_detected p n Moving ∷ [] in
+          let crashes : List Setting = set_detected p n Moving ∷ set_occupancy p x Crash ∷ [] in
           rw e (two_rules-valid p (rule (elsewhere ++ no_train_at p x ∷ []) moves) (rule (elsewhere ++ train_at p x ∷ []) crashes)
           (rule-valid p (elsewhere ++ no_train_at p x ∷ []) moves
-          (all-append (is_valid p) elsewhere (no_train_at p x ∷ []) (lies_elsewhere-valid n less) (all-cons (is_valid p) (no_train_at p x) [] (no_train_at-valid p x inside) refl))
-          (all-cons (fits p) (at_becomes p n Moving) [] (at_is-valid p n Moving less) refl)
+          (all-append (is_valid p) elsewhere (no_train_at p x ∷ []) (is_out_of_position-valid n less) (all-cons (is_valid p) (no_train_at p x) [] (no_train_at-valid p x inside) refl))
+          (all-cons (fits p) (set_detected p n Moving) [] (is_point_detected-valid p n Moving less) refl)
           (tt, tt))
           (rule-valid p (elsewhere ++ train_at p x ∷ []) crashes
-          (all-append (is_valid p) elsewhere (train_at p x ∷ []) (lies_elsewhere-valid n less) (all-cons (is_valid p) (train_at p x) [] (train_at-valid p x inside) refl))
-          (all-cons (fits p) (at_becomes p n Moving) (occupancy_becomes p x Crash ∷ []) (at_is-valid p n Moving less) (all-cons (fits p) (occupancy_becomes p x Crash) [] (occupancy_is-valid p x Crash inside) refl))
+          (all-append (is_valid p) elsewhere (train_at p x ∷ []) (is_out_of_position-valid n less) (all-cons (is_valid p) (train_at p x) [] (train_at-valid p x inside) refl))
+          (all-cons (fits p) (set_detected p n Moving) (set_occupancy p x Crash ∷ []) (is_point_detected-valid p n Moving less) (all-cons (fits p) (set_occupancy p x Crash) [] (occupancy_is-valid p x Crash inside) refl))
           (((λ same. omega (arith, less, same)), tt), (tt, tt))))
 
   pub settle-valid : (x : ℕ) → list_all (is_valid_rule p) (rules_of_settle p x) ≡ true
   settle-valid x = by_number (point_number p x) refl
     where
-      one : (n : ℕ) → n < point_count p → (to : Position) → is_valid_rule p (rule (at_is p n Moving ∷ to_is p n to ∷ []) (at_becomes p n (lie_in to) ∷ [])) ≡ true
+      one : (n : ℕ) → n < point_count p → (to : Position) → is_valid_rule p (rule (is_point_detected p n Moving ∷ is_point_commanded p n to ∷ []) (set_detected p n (lie_from_position to) ∷ [])) ≡ true
       one n less to =
-          rule-valid p (at_is p n Moving ∷ to_is p n to ∷ []) (at_becomes p n (lie_in to) ∷ [])
-          (all-cons (is_valid p) (at_is p n Moving) (to_is p n to ∷ []) (at_is-valid p n Moving less) (all-cons (is_valid p) (to_is p n to) [] (to_is-valid p n to less) refl))
-          (all-cons (fits p) (at_becomes p n (lie_in to)) [] (at_is-valid p n (lie_in to) less) refl)
+          rule-valid p (is_point_detected p n Moving ∷ is_point_commanded p n to ∷ []) (set_detected p n (lie_from_position to) ∷ [])
+          (all-cons (is_valid p) (is_point_detected p n Moving) (is_point_commanded p n to ∷ []) (is_point_detected-valid p n Moving less) (all-cons (is_valid p) (is_point_commanded p n to) [] (is_point_commanded-valid p n to less) refl))
+          (all-cons (fits p) (set_detected p n (lie_from_position to)) [] (is_point_detected-valid p n (lie_from_position to) less) refl)
           (tt, tt)
 
       by_number : (o : Option ℕ) → point_number p x ≡ o → list_all (is_valid_rule p) (rules_of_settle p x) ≡ true
       by_number None e = rw e refl
       by_number (Some n) e =
-          rw e (all-map (is_valid_rule p) (λ to. rule (at_is p n Moving ∷ to_is p n to ∷ []) (at_becomes p n (lie_in to) ∷ [])) (Plus ∷ Minus ∷ []) (λ i to at. one n (number-less x n e) to))
+          rw e (all-map (is_valid_rule p) (λ to. rule (is_point_detected p n Moving ∷ is_point_commanded p n to ∷ []) (set_detected p n (lie_from_position to) ∷ [])) (Plus ∷ Minus ∷ []) (λ i to at. one n (number-less x n e) to))
 
-  -- the events of trains
+  -- Events of trains.
 
   pub enter-valid : (x : ℕ) → list_all (is_valid_rule p) (rules_of_enter p x) ≡ true
   enter-valid x = by_section (slice_get p.sections x) refl
@@ -109,10 +109,10 @@ module _ (p : PlantLists) (plant : IsPlant p) where
       by_inward inside None e = rw e refl
       by_inward inside (Some d) e =
           let conditions : List Tree = no_train_at p x ∷ lock_is p x FreeLock ∷ [] in
-          let sets : List Setting = occupancy_becomes p x (Taken d true true) ∷ [] in
+          let sets : List Setting = set_occupancy p x (Taken d true true) ∷ [] in
           rw e (one_rule-valid p (rule conditions sets) (rule-valid p conditions sets
           (all-cons (is_valid p) (no_train_at p x) (lock_is p x FreeLock ∷ []) (no_train_at-valid p x inside) (all-cons (is_valid p) (lock_is p x FreeLock) [] (lock_is-valid p x FreeLock inside) refl))
-          (all-cons (fits p) (occupancy_becomes p x (Taken d true true)) [] (occupancy_is-valid p x (Taken d true true) inside) refl)
+          (all-cons (fits p) (set_occupancy p x (Taken d true true)) [] (occupancy_is-valid p x (Taken d true true) inside) refl)
           (tt, tt)))
 
       by_section : (o : Option Section) → slice_get p.sections x ≡ o → list_all (is_valid_rule p) (rules_of_enter p x) ≡ true
@@ -126,24 +126,24 @@ module _ (p : PlantLists) (plant : IsPlant p) where
       by_board None e = rw e refl
       by_board (Some m) e = rw e (all-cons (is_valid p) (board_is p m Open) [] (board_is-valid p m Open (plant.boards_known x m d e)) refl)
 
-  closes-fit : (x : ℕ) (d : Dir) → list_all (fits p) (board_closes p x d) ≡ true
+  closes-fit : (x : ℕ) (d : Dir) → list_all (fits p) (close_board p x d) ≡ true
   closes-fit x d = by_board (board_of p x d) refl
     where
-      by_board : (o : Option ℕ) → board_of p x d ≡ o → list_all (fits p) (board_closes p x d) ≡ true
+      by_board : (o : Option ℕ) → board_of p x d ≡ o → list_all (fits p) (close_board p x d) ≡ true
       by_board None e = rw e refl
-      by_board (Some m) e = rw e (all-cons (fits p) (board_becomes p m Closed) [] (board_is-valid p m Closed (plant.boards_known x m d e)) refl)
+      by_board (Some m) e = rw e (all-cons (fits p) (set_board p m Closed) [] (board_is-valid p m Closed (plant.boards_known x m d e)) refl)
 
-  closes-elsewhere : (x y : ℕ) (d : Dir) → SetElsewhere (occupancy_var p y) (board_closes p x d)
+  closes-elsewhere : (x y : ℕ) (d : Dir) → SetElsewhere (occupancy_var p y) (close_board p x d)
   closes-elsewhere x y d = by_board (board_of p x d) refl
     where
-      by_board : (o : Option ℕ) → board_of p x d ≡ o → SetElsewhere (occupancy_var p y) (board_closes p x d)
+      by_board : (o : Option ℕ) → board_of p x d ≡ o → SetElsewhere (occupancy_var p y) (close_board p x d)
       by_board None e = rw e tt
       by_board (Some m) e = let known = plant.boards_known x m d e in rw e ((λ same. omega (arith, known, same)), tt)
 
-  closes-once : (x : ℕ) (d : Dir) → SetOnce (board_closes p x d)
+  closes-once : (x : ℕ) (d : Dir) → SetOnce (close_board p x d)
   closes-once x d = by_board (board_of p x d) refl
     where
-      by_board : (o : Option ℕ) → board_of p x d ≡ o → SetOnce (board_closes p x d)
+      by_board : (o : Option ℕ) → board_of p x d ≡ o → SetOnce (close_board p x d)
       by_board None e = rw e tt
       by_board (Some m) e = rw e (tt, tt)
 
@@ -158,22 +158,22 @@ module _ (p : PlantLists) (plant : IsPlant p) where
       by_section None e = rw e refl
       by_section (Some (Linear down up board_down board_up)) e = rw e refl
       by_section (Some (Point stem plus minus faces)) e =
-          rw e (by_facing (same_direction faces d) (lie_is p x (lie_in (leg_position plus y))) (lie_is-valid p x (lie_in (leg_position plus y))))
+          rw e (by_facing (same_direction faces d) (is_detected p x (lie_from_position (leg_position plus y))) (is_detected-valid p x (lie_from_position (leg_position plus y))))
 
-  takes_from-valid : (x : ℕ) (d : Dir) (y : ℕ) → list_all (is_valid p) (takes_from p x d y) ≡ true
-  takes_from-valid x d y = by_section (slice_get p.sections y) refl
+  is_right_from-valid : (x : ℕ) (d : Dir) (y : ℕ) → list_all (is_valid p) (is_right_from p x d y) ≡ true
+  is_right_from-valid x d y = by_section (slice_get p.sections y) refl
     where
-      by_facing : (plus : ℕ) (b : Bool) → is_valid p (cond b (negation (lie_is p y Moving)) (lie_is p y (lie_in (leg_position plus x)))) ≡ true
-      by_facing plus true = lie_is-valid p y Moving
-      by_facing plus false = lie_is-valid p y (lie_in (leg_position plus x))
+      by_facing : (plus : ℕ) (b : Bool) → is_valid p (cond b (negation (is_detected p y Moving)) (is_detected p y (lie_from_position (leg_position plus x)))) ≡ true
+      by_facing plus true = is_detected-valid p y Moving
+      by_facing plus false = is_detected-valid p y (lie_from_position (leg_position plus x))
 
-      by_section : (o : Option Section) → slice_get p.sections y ≡ o → list_all (is_valid p) (takes_from p x d y) ≡ true
+      by_section : (o : Option Section) → slice_get p.sections y ≡ o → list_all (is_valid p) (is_right_from p x d y) ≡ true
       by_section None e = rw e refl
       by_section (Some (Linear down up board_down board_up)) e = rw e refl
       by_section (Some (Point stem plus minus faces)) e =
           rw e (all-cons (is_valid p) (right_on_point p x d y plus faces) [] (by_facing plus (same_direction faces d)) refl)
 
-  -- a section next to another: both are sections, and they differ
+  -- Two neighbours: both are sections, and they differ.
   abbrev AreNext : ℕ → ℕ → Type 0
   AreNext x y = (x < length p.sections) × (y < length p.sections) × (y ≡ x → ⊥)
 
@@ -186,40 +186,40 @@ module _ (p : PlantLists) (plant : IsPlant p) where
       by_section None e = let none : next_to p x d ≡ [] = rw e refl in let bad = rw none at at in cc
       by_section (Some section) e = slice_get_within p.sections x section e
 
-  may_go_on-valid : (x : ℕ) (d : Dir) (y : ℕ) (tail : Bool) → x < length p.sections → list_all (is_valid p) (may_go_on p x d y tail) ≡ true
-  may_go_on-valid x d y tail inside =
+  head_conditions-valid : (x : ℕ) (d : Dir) (y : ℕ) (tail : Bool) → x < length p.sections → list_all (is_valid p) (head_conditions p x d y tail) ≡ true
+  head_conditions-valid x d y tail inside =
       all-append (is_valid p) (occupancy_is p x (Taken d tail true) ∷ passable p x d) (leads_towards p x d y)
       (all-cons (is_valid p) (occupancy_is p x (Taken d tail true)) (passable p x d) (occupancy_is-valid p x (Taken d tail true) inside) (passable-valid x d))
       (leads_towards-valid x d y)
 
-  free_from-valid : (x : ℕ) (d : Dir) (y : ℕ) → y < length p.sections → list_all (is_valid p) (free_from p x d y) ≡ true
-  free_from-valid x d y inside =
-      all-cons (is_valid p) (no_train_at p y) (takes_from p x d y) (no_train_at-valid p y inside) (takes_from-valid x d y)
+  is_free_for_train-valid : (x : ℕ) (d : Dir) (y : ℕ) → y < length p.sections → list_all (is_valid p) (is_free_for_train p x d y) ≡ true
+  is_free_for_train-valid x d y inside =
+      all-cons (is_valid p) (no_train_at p y) (is_right_from p x d y) (no_train_at-valid p y inside) (is_right_from-valid x d y)
 
-  gone_on-fits : (x : ℕ) (d : Dir) (y : ℕ) (tail : Bool) (there : Occupancy) → AreNext x y → list_all (fits p) (gone_on p x d y tail there) ≡ true
-  gone_on-fits x d y tail there next =
-      all-cons (fits p) (occupancy_becomes p x (Taken d tail false)) (occupancy_becomes p y there ∷ board_closes p x d) (occupancy_is-valid p x (Taken d tail false) next.0)
-      (all-cons (fits p) (occupancy_becomes p y there) (board_closes p x d) (occupancy_is-valid p y there next.1) (closes-fit x d))
+  head_settings-fits : (x : ℕ) (d : Dir) (y : ℕ) (tail : Bool) (there : Occupancy) → AreNext x y → list_all (fits p) (head_settings p x d y tail there) ≡ true
+  head_settings-fits x d y tail there next =
+      all-cons (fits p) (set_occupancy p x (Taken d tail false)) (set_occupancy p y there ∷ close_board p x d) (occupancy_is-valid p x (Taken d tail false) next.0)
+      (all-cons (fits p) (set_occupancy p y there) (close_board p x d) (occupancy_is-valid p y there next.1) (closes-fit x d))
 
-  gone_on-once : (x : ℕ) (d : Dir) (y : ℕ) (tail : Bool) (there : Occupancy) → AreNext x y → SetOnce (gone_on p x d y tail there)
-  gone_on-once x d y tail there next =
+  head_settings-once : (x : ℕ) (d : Dir) (y : ℕ) (tail : Bool) (there : Occupancy) → AreNext x y → SetOnce (head_settings p x d y tail there)
+  head_settings-once x d y tail there next =
       (((λ same. next.2 (omega (arith, same))), closes-elsewhere x x d), (closes-elsewhere x y d, closes-once x d))
 
   head_rules-valid : (x : ℕ) (d : Dir) (y : ℕ) (tail : Bool) → AreNext x y → list_all (is_valid_rule p) (head_rules p x d y tail) ≡ true
   head_rules-valid x d y tail next =
-      let may : List Tree = may_go_on p x d y tail in
-      let free : List Tree = free_from p x d y in
+      let may : List Tree = head_conditions p x d y tail in
+      let free : List Tree = is_free_for_train p x d y in
       let not_free : Tree = any_of (trees (map negation free)) in
-      two_rules-valid p (rule (may ++ free) (gone_on p x d y tail (Taken d false true))) (rule (may ++ not_free ∷ []) (gone_on p x d y tail Crash))
-      (rule-valid p (may ++ free) (gone_on p x d y tail (Taken d false true))
-      (all-append (is_valid p) may free (may_go_on-valid x d y tail next.0) (free_from-valid x d y next.1))
-      (gone_on-fits x d y tail (Taken d false true) next)
-      (gone_on-once x d y tail (Taken d false true) next))
-      (rule-valid p (may ++ not_free ∷ []) (gone_on p x d y tail Crash)
-      (all-append (is_valid p) may (not_free ∷ []) (may_go_on-valid x d y tail next.0)
-      (all-cons (is_valid p) not_free [] (any_of-valid ranges (map negation free) ∙ list_all-map (is_valid p) negation free ∙ free_from-valid x d y next.1) refl))
-      (gone_on-fits x d y tail Crash next)
-      (gone_on-once x d y tail Crash next))
+      two_rules-valid p (rule (may ++ free) (head_settings p x d y tail (Taken d false true))) (rule (may ++ not_free ∷ []) (head_settings p x d y tail Crash))
+      (rule-valid p (may ++ free) (head_settings p x d y tail (Taken d false true))
+      (all-append (is_valid p) may free (head_conditions-valid x d y tail next.0) (is_free_for_train-valid x d y next.1))
+      (head_settings-fits x d y tail (Taken d false true) next)
+      (head_settings-once x d y tail (Taken d false true) next))
+      (rule-valid p (may ++ not_free ∷ []) (head_settings p x d y tail Crash)
+      (all-append (is_valid p) may (not_free ∷ []) (head_conditions-valid x d y tail next.0)
+      (all-cons (is_valid p) not_free [] (any_of-valid ranges (map negation free) ∙ list_all-map (is_valid p) negation free ∙ is_free_for_train-valid x d y next.1) refl))
+      (head_settings-fits x d y tail Crash next)
+      (head_settings-once x d y tail Crash next))
 
   pub head-valid : (x : ℕ) → list_all (is_valid_rule p) (rules_of_head p x) ≡ true
   head-valid x =
@@ -231,13 +231,13 @@ module _ (p : PlantLists) (plant : IsPlant p) where
   tail_rule-valid x d y head next =
       let before : Tree = occupancy_is p x (Taken d true false) in
       let after : Tree = occupancy_is p y (Taken d false head) in
-      let sets : List Setting = occupancy_becomes p x Vacant ∷ occupancy_becomes p y (Taken d true head) ∷ [] in
+      let sets : List Setting = set_occupancy p x Vacant ∷ set_occupancy p y (Taken d true head) ∷ [] in
       rule-valid p ((before ∷ leads_towards p x d y) ++ after ∷ []) sets
       (all-append (is_valid p) (before ∷ leads_towards p x d y) (after ∷ [])
       (all-cons (is_valid p) before (leads_towards p x d y) (occupancy_is-valid p x (Taken d true false) next.0) (leads_towards-valid x d y))
       (all-cons (is_valid p) after [] (occupancy_is-valid p y (Taken d false head) next.1) refl))
-      (all-cons (fits p) (occupancy_becomes p x Vacant) (occupancy_becomes p y (Taken d true head) ∷ []) (occupancy_is-valid p x Vacant next.0)
-      (all-cons (fits p) (occupancy_becomes p y (Taken d true head)) [] (occupancy_is-valid p y (Taken d true head) next.1) refl))
+      (all-cons (fits p) (set_occupancy p x Vacant) (set_occupancy p y (Taken d true head) ∷ []) (occupancy_is-valid p x Vacant next.0)
+      (all-cons (fits p) (set_occupancy p y (Taken d true head)) [] (occupancy_is-valid p y (Taken d true head) next.1) refl))
       (((λ same. next.2 (omega (arith, same))), tt), (tt, tt))
 
   pub tail-valid : (x : ℕ) → list_all (is_valid_rule p) (rules_of_tail p x) ≡ true
@@ -248,9 +248,9 @@ module _ (p : PlantLists) (plant : IsPlant p) where
 
   leave_rule-valid : (x : ℕ) (d : Dir) → x < length p.sections → is_valid_rule p (leave_rule p x d) ≡ true
   leave_rule-valid x d inside =
-      rule-valid p (occupancy_is p x (Taken d true true) ∷ []) (occupancy_becomes p x Vacant ∷ [])
+      rule-valid p (occupancy_is p x (Taken d true true) ∷ []) (set_occupancy p x Vacant ∷ [])
       (all-cons (is_valid p) (occupancy_is p x (Taken d true true)) [] (occupancy_is-valid p x (Taken d true true) inside) refl)
-      (all-cons (fits p) (occupancy_becomes p x Vacant) [] (occupancy_is-valid p x Vacant inside) refl)
+      (all-cons (fits p) (set_occupancy p x Vacant) [] (occupancy_is-valid p x Vacant inside) refl)
       (tt, tt)
 
   pub leave-valid : (x : ℕ) → list_all (is_valid_rule p) (rules_of_leave p x) ≡ true

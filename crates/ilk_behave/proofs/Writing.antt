@@ -1,15 +1,15 @@
--- What several settings together do to the image of a state.
+-- The effect of several settings on the image of a state.
 use Rattle.std.proofs.Common.{◌≡◌, ℕ, suc, ◌<◌, true, Option, Some, None, option_map, unwrap_or, List, [], ◌∷◌, ◌++◌, length, set, slice_get, refl, sym, ◌∙◌, ap, arith, length-set, inl, inr}
 use Rattle.std.specs.List.{flat_map}
 use Rattle.std.proofs.lemmas.Option.{same_Some}
 use Rattle.ilk_base.specs.Option.{◌>>=◌}
 use Rattle.ilk_base.proofs.Lists.{item_at, slice_get_set}
 use Rattle.ilk_base.proofs.Ranges.{map-range-congr}
-use Rattle.ilk_ir.specs.System.{set_all}
+use Rattle.ilk_ir.specs.System.{after_settings}
 use Rattle.ilk_ir.specs.declared.system.Setting.{Setting}
 use Rattle.ilk_plant.specs.Plant.{PlantLists, point_number}
-use Rattle.ilk_plant.specs.Shape.{HasShape, fits_path}
-use Rattle.ilk_plant.specs.State.{lie_of}
+use Rattle.ilk_plant.specs.Shape.{HasShape, counts_fit_path}
+use Rattle.ilk_plant.specs.State.{detected_position}
 use Rattle.ilk_plant.specs.declared.state.Aspect.{Aspect}
 use Rattle.ilk_plant.specs.declared.state.Hold.{Hold}
 use Rattle.ilk_plant.specs.declared.state.PointState.{PointState}
@@ -28,18 +28,16 @@ use Rattle.ilk_layout.specs.Occupancy.{occupancy_of}
 use Rattle.ilk_layout.specs.Values.{occupancy_value}
 use Rattle.ilk_layout.proofs.Changes.{occupancy-kept}
 use Rattle.ilk_layout.proofs.Writes.{image_with, lock-written, to-written}
-use Rattle.ilk_conditions.proofs.Values.{image-is}
-use Rattle.ilk_behave.specs.Settings.{commanded, locks_become, to_becomes}
+use Rattle.ilk_layout.proofs.ConditionValues.{image-is}
+use Rattle.ilk_behave.specs.Settings.{set_as_listed, set_locks, set_commanded}
 
-pub by_image : (p : PlantLists) (s t : State) (sets : List Setting) → set_all (image_with s (occupancy_values p s)) sets ≡ image_with t (occupancy_values p t) → set_all (image_of p s) sets ≡ image_of p t
-by_image p s t sets h = ap (λ values. set_all values sets) (image-is p s) ∙ h ∙ sym (image-is p t)
+pub by_image : (p : PlantLists) (s t : State) (sets : List Setting) → after_settings (image_with s (occupancy_values p s)) sets ≡ image_with t (occupancy_values p t) → after_settings (image_of p s) sets ≡ image_of p t
+by_image p s t sets h = ap (λ values. after_settings values sets) (image-is p s) ∙ h ∙ sym (image-is p t)
 
--- some settings, and then others
-pub set_all-append : (values : List ℕ) (xs ys : List Setting) → set_all values (xs ++ ys) ≡ set_all (set_all values xs) ys
-set_all-append values [] ys = refl
-set_all-append values (x ∷ xs) ys = set_all-append (set values x.var x.value) xs ys
+pub after_settings-append : (values : List ℕ) (xs ys : List Setting) → after_settings values (xs ++ ys) ≡ after_settings (after_settings values xs) ys
+after_settings-append values [] ys = refl
+after_settings-append values (x ∷ xs) ys = after_settings-append (set values x.var x.value) xs ys
 
--- the shape of a state with other locks, boards or points, as many as before
 pub with_lists :
     (p : PlantLists) (s : State) (points : List PointState) (boards : List Aspect) (locks : List Hold) →
     HasShape p s → length points ≡ length s.points → length boards ≡ length s.boards →
@@ -53,8 +51,7 @@ with_lists p s points boards locks shape n b l = record {
   bodies = shape.bodies;
 }
 
--- the shape of a state in which one route has other counts, that fit its path
-pub with_route : (p : PlantLists) (s : State) (r : ℕ) (mine : Route) (now : RouteState) → HasShape p s → slice_get p.routes r ≡ Some mine → fits_path mine now ≡ true → HasShape p (record s { routes = set s.routes r now })
+pub with_route : (p : PlantLists) (s : State) (r : ℕ) (mine : Route) (now : RouteState) → HasShape p s → slice_get p.routes r ≡ Some mine → counts_fit_path mine now ≡ true → HasShape p (record s { routes = set s.routes r now })
 with_route p s r mine now shape known within = record {
   routes = length-set s.routes r now ∙ shape.routes;
   points = shape.points;
@@ -67,10 +64,9 @@ with_route p s r mine now shape known within = record {
   bodies = shape.bodies;
 }
 
--- the locks of some sections
 pub locks-written : (p : PlantLists) (s : State) (occupancies : List ℕ) (xs : List ℕ) (hold : Hold) →
     HasShape p s → ((i x : ℕ) → slice_get xs i ≡ Some x → x < length p.sections) →
-    set_all (image_with s occupancies) (locks_become p xs hold)
+    after_settings (image_with s occupancies) (set_locks p xs hold)
     ≡ image_with (record s { locks = with_locks s.locks xs hold }) occupancies
 locks-written p s occupancies [] hold shape within =
     ap (λ locks. image_with (record s { locks = locks }) occupancies) (sym (with_locks-none s.locks hold))
@@ -78,14 +74,13 @@ locks-written p s occupancies (x ∷ xs) hold shape within =
     let inside : x < length p.sections = within 0 x refl in
     let count = shape.locks in
     let lock = item_at s.locks x (omega arith) in
-    ap (λ values. set_all values (locks_become p xs hold)) (lock-written p s occupancies shape x hold inside)
+    ap (λ values. after_settings values (set_locks p xs hold)) (lock-written p s occupancies shape x hold inside)
     ∙ locks-written p (record s { locks = set s.locks x hold }) occupancies xs hold (with_lists p s s.points s.boards (set s.locks x hold) shape refl refl (length-set s.locks x hold)) (λ i y at. within (suc i) y at)
     ∙ ap (λ locks. image_with (record s { locks = locks }) occupancies) (with_locks-first s.locks x xs hold lock.0 lock.1)
 
--- the commands of some points
 pub commands-written : (p : PlantLists) (s : State) (occupancies : List ℕ) (entries : List Listed) →
     HasShape p s →
-    set_all (image_with s occupancies) (flat_map (commanded p) entries)
+    after_settings (image_with s occupancies) (flat_map (set_as_listed p) entries)
     ≡ image_with (record s { points = with_commands p s.points entries }) occupancies
 commands-written p s occupancies [] shape =
     ap (λ points. image_with (record s { points = points }) occupancies) (sym (with_commands-none p s.points))
@@ -94,30 +89,30 @@ commands-written p s occupancies (listed ∷ rest) shape =
   where
     by_number :
         ((points : List PointState) → HasShape p (record s { points = points }) →
-        set_all (image_with (record s { points = points }) occupancies) (flat_map (commanded p) rest)
+        after_settings (image_with (record s { points = points }) occupancies) (flat_map (set_as_listed p) rest)
         ≡ image_with (record s { points = with_commands p points rest }) occupancies) →
         (o : Option ℕ) → point_number p listed.point ≡ o →
-        set_all (image_with s occupancies) (flat_map (commanded p) (listed ∷ rest))
+        after_settings (image_with s occupancies) (flat_map (set_as_listed p) (listed ∷ rest))
         ≡ image_with (record s { points = with_commands p s.points (listed ∷ rest) }) occupancies
     by_number later None e =
-        let nothing : commanded p listed ≡ [] = rw e refl in
-        ap (λ ss. set_all (image_with s occupancies) (ss ++ flat_map (commanded p) rest)) nothing
+        let nothing : set_as_listed p listed ≡ [] = rw e refl in
+        ap (λ ss. after_settings (image_with s occupancies) (ss ++ flat_map (set_as_listed p) rest)) nothing
         ∙ later s.points shape ∙ ap (λ points. image_with (record s { points = points }) occupancies) (with_commands-no_point p s.points listed rest e)
     by_number later (Some n) e =
-        let one : commanded p listed ≡ to_becomes p n listed.at ∷ [] = rw e refl in
+        let one : set_as_listed p listed ≡ set_commanded p n listed.at ∷ [] = rw e refl in
         let below : n < length s.points = (let known = point_number-below p listed.point in let less = rw e at known in let count = shape.points in omega (arith, less)) in
         let point = item_at s.points n below in
         let next = set s.points n (record point.0 { to = listed.at }) in
-        ap (λ ss. set_all (image_with s occupancies) (ss ++ flat_map (commanded p) rest)) one
-        ∙ ap (λ values. set_all values (flat_map (commanded p) rest)) (to-written p s occupancies shape n point.0 listed.at point.1)
+        ap (λ ss. after_settings (image_with s occupancies) (ss ++ flat_map (set_as_listed p) rest)) one
+        ∙ ap (λ values. after_settings values (flat_map (set_as_listed p) rest)) (to-written p s occupancies shape n point.0 listed.at point.1)
         ∙ later next (with_lists p s next s.boards s.locks shape (length-set s.points n (record point.0 { to = listed.at })) refl refl)
         ∙ ap (λ points. image_with (record s { points = points }) occupancies) (with_commands-first p s.points listed rest n point.0 e point.1)
 
--- where points lie as before, the same trains have the same occupancies
+-- The same trains have the same occupancies if the points keep their positions.
 pub same-occupancies :
     (p : PlantLists) (s : State) (routes : List RouteState) (points : List PointState) (boards : List Aspect)
     (locks : List Hold) →
-    ((x : ℕ) → lie_of p (record s { points = points }) x ≡ lie_of p s x) →
+    ((x : ℕ) → detected_position p (record s { points = points }) x ≡ detected_position p s x) →
     occupancy_values p (record s { routes = routes; points = points; boards = boards; locks = locks })
     ≡ occupancy_values p s
 same-occupancies p s routes points boards locks same =
@@ -126,15 +121,14 @@ same-occupancies p s routes points boards locks same =
     t : State
     t = record s { routes = routes; points = points; boards = boards; locks = locks }
 
--- commands leave where points lie
-pub commanded-lies : (p : PlantLists) (s : State) (entries : List Listed) (x : ℕ) → lie_of p (record s { points = with_commands p s.points entries }) x ≡ lie_of p s x
-commanded-lies p s entries x = by_number (point_number p x) refl
+pub set_as_listed-lies : (p : PlantLists) (s : State) (entries : List Listed) (x : ℕ) → detected_position p (record s { points = with_commands p s.points entries }) x ≡ detected_position p s x
+set_as_listed-lies p s entries x = by_number (point_number p x) refl
   where
     kept : (n : ℕ) (o : Option PointState) → (option_map (λ (point : PointState). record point { to = unwrap_or (listed_position p n entries) point.to }) o >>= (λ (point : PointState). Some point.at)) ≡ (o >>= (λ (point : PointState). Some point.at))
     kept n None = refl
     kept n (Some point) = refl
 
-    by_number : (o : Option ℕ) → point_number p x ≡ o → lie_of p (record s { points = with_commands p s.points entries }) x ≡ lie_of p s x
+    by_number : (o : Option ℕ) → point_number p x ≡ o → detected_position p (record s { points = with_commands p s.points entries }) x ≡ detected_position p s x
     by_number None e = rw e refl
     by_number (Some n) e =
         let f : ℕ → PointState → PointState = λ k point. record point { to = unwrap_or (listed_position p k entries) point.to } in

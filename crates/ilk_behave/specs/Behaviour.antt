@@ -1,4 +1,4 @@
--- The behaviour of a plant as a finite system: for each event its rules, in the order of the events.
+-- The behaviour of a plant as a finite system: the rules of each event, in the order of the events.
 use Rattle.std.specs.Prelude.{ℕ, Option, List, [], ◌∷◌, ◌++◌, length, map, flat_map, slice_get}
 use Rattle.std.specs.List.{range_with_len}
 use Rattle.ilk_ir.specs.System.{RuleTree, SystemTree}
@@ -10,15 +10,15 @@ use Rattle.ilk_behave.specs.PointRules.{rules_of_settle, rules_of_throw}
 use Rattle.ilk_behave.specs.RouteRules.{rules_of_allocate, rules_of_cancel, rules_of_finish, rules_of_lock, rules_of_mark, rules_of_release, rules_of_sense}
 use Rattle.ilk_behave.specs.TrainRules.{rules_of_enter, rules_of_head, rules_of_leave, rules_of_tail}
 
--- the events of route r
+-- The events of route `r`.
 abbrev pub events_of_route : ℕ → List Event
 events_of_route r = Mark r ∷ Allocate r ∷ Lock r ∷ Sense r ∷ Release r ∷ Finish r ∷ Cancel r ∷ []
 
--- the events of section x, be it a point or not
+-- The events of section `x`, with or without a point.
 abbrev pub events_of_section : ℕ → List Event
 events_of_section x = Throw x ∷ Settle x ∷ Enter x ∷ Head x ∷ Tail x ∷ Leave x ∷ []
 
--- the events of a plant: route by route, and then section by section
+-- The events of a plant: route by route, and then section by section.
 abbrev pub events_of : PlantLists → List Event
 events_of p =
     flat_map events_of_route (range_with_len 0 (length p.routes))
@@ -42,10 +42,10 @@ rules_of p (Cancel r) = rules_of_cancel p r
 abbrev pub system_of : PlantLists → SystemTree
 system_of p = record { ranges = ranges_of_plant p; rules = flat_map (rules_of p) (events_of p) }
 
--- for each rule of these events its event
+-- The event of each rule of these events.
 abbrev pub events_of_rules : PlantLists → List Event → List Event
 events_of_rules p events = flat_map (λ event. map (λ rule. event) (rules_of p event)) events
 
--- the event of the rule with number i; none where there is no such rule
+-- The event of rule number `i`, or `None` if it does not exist.
 abbrev pub event_of_rule : PlantLists → ℕ → Option Event
 event_of_rule p i = slice_get (events_of_rules p (events_of p)) i

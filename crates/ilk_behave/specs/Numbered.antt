@@ -1,25 +1,25 @@
--- Cited by private contracts alone: events with the number of a route, or of a section.
+-- Used only in private contracts: events of existing routes and sections.
 use Rattle.std.specs.Prelude.{◌<◌, List, All, length}
 use Rattle.ilk_plant.specs.Plant.{PlantLists}
 use Rattle.ilk_model.specs.declared.event.Event.{Event}
 use Rattle.ilk_model.specs.declared.event.Event.TheVariants.{Mark, Allocate, Lock, Sense, Release, Finish, Throw, Settle, Enter, Head, Tail, Leave, Cancel}
 
--- the event has the number of a route, or of a section
-abbrev pub HasNumber : PlantLists → Event → Type 0
-HasNumber p (Mark r) = r < length p.routes
-HasNumber p (Allocate r) = r < length p.routes
-HasNumber p (Lock r) = r < length p.routes
-HasNumber p (Sense r) = r < length p.routes
-HasNumber p (Release r) = r < length p.routes
-HasNumber p (Finish r) = r < length p.routes
-HasNumber p (Throw x) = x < length p.sections
-HasNumber p (Settle x) = x < length p.sections
-HasNumber p (Enter x) = x < length p.sections
-HasNumber p (Head x) = x < length p.sections
-HasNumber p (Tail x) = x < length p.sections
-HasNumber p (Leave x) = x < length p.sections
-HasNumber p (Cancel r) = r < length p.routes
+-- Holds if the route or section of the event exists.
+abbrev pub IsEventOfPlant : PlantLists → Event → Type 0
+IsEventOfPlant p (Mark r) = r < length p.routes
+IsEventOfPlant p (Allocate r) = r < length p.routes
+IsEventOfPlant p (Lock r) = r < length p.routes
+IsEventOfPlant p (Sense r) = r < length p.routes
+IsEventOfPlant p (Release r) = r < length p.routes
+IsEventOfPlant p (Finish r) = r < length p.routes
+IsEventOfPlant p (Throw x) = x < length p.sections
+IsEventOfPlant p (Settle x) = x < length p.sections
+IsEventOfPlant p (Enter x) = x < length p.sections
+IsEventOfPlant p (Head x) = x < length p.sections
+IsEventOfPlant p (Tail x) = x < length p.sections
+IsEventOfPlant p (Leave x) = x < length p.sections
+IsEventOfPlant p (Cancel r) = r < length p.routes
 
--- each of these events has
-abbrev pub HaveNumbers : PlantLists → List Event → Type 0
-HaveNumbers p events = All (HasNumber p) events
+-- Holds if the route or section of each event exists.
+abbrev pub AreEventsOfPlant : PlantLists → List Event → Type 0
+AreEventsOfPlant p events = All (IsEventOfPlant p) events

@@ -5,30 +5,31 @@ use Rattle.ilk_ir.specs.Tree.{Tree, any_of, negation, trees}
 use Rattle.ilk_plant.specs.Plant.{PlantLists, point_number}
 use Rattle.ilk_plant.specs.declared.network.Position.TheVariants.{Plus, Minus}
 use Rattle.ilk_plant.specs.declared.state.Lie.TheVariants.{Plus as LiesPlus, Minus as LiesMinus, Moving}
-use Rattle.ilk_routes.specs.Lies.{lie_in}
+use Rattle.ilk_routes.specs.Lies.{lie_from_position}
 use Rattle.ilk_layout.specs.declared.values.Occupancy.TheVariants.{Crash}
-use Rattle.ilk_conditions.specs.Conditions.{at_is, train_at, to_is, no_train_at}
-use Rattle.ilk_behave.specs.Settings.{at_becomes, occupancy_becomes, rule, rules_for}
+use Rattle.ilk_layout.specs.Conditions.{is_point_detected, train_at, is_point_commanded, no_train_at}
+use Rattle.ilk_behave.specs.Settings.{set_detected, set_occupancy, rule, rules_for}
 
--- the point with number n doesn't move, and doesn't lie where it is commanded
-abbrev pub lies_elsewhere : PlantLists → ℕ → List Tree
-lies_elsewhere p n =
-    negation (at_is p n Moving)
-    ∷ any_of (trees (negation (at_is p n LiesPlus) ∷ negation (to_is p n Plus) ∷ []))
-    ∷ any_of (trees (negation (at_is p n LiesMinus) ∷ negation (to_is p n Minus) ∷ []))
+-- Point number `n` is not moving and is not in its commanded position.
+abbrev pub is_out_of_position : PlantLists → ℕ → List Tree
+is_out_of_position p n =
+    negation (is_point_detected p n Moving)
+    ∷ any_of (trees (negation (is_point_detected p n LiesPlus) ∷ negation (is_point_commanded p n Plus) ∷ []))
+    ∷ any_of (trees (negation (is_point_detected p n LiesMinus) ∷ negation (is_point_commanded p n Minus) ∷ []))
     ∷ []
 
--- throw x: the point on x doesn't move and doesn't lie where it is commanded; it moves, and under a train that is a crash
+-- `throw x`: if the point on `x` is not moving and not in its commanded position, it starts to
+-- move. Under a train this is a crash.
 abbrev pub rules_of_throw : PlantLists → ℕ → List RuleTree
 rules_of_throw p x =
     rules_for (point_number p x) (λ n.
-    rule (lies_elsewhere p n ++ no_train_at p x ∷ []) (at_becomes p n Moving ∷ [])
-    ∷ rule (lies_elsewhere p n ++ train_at p x ∷ []) (at_becomes p n Moving ∷ occupancy_becomes p x Crash ∷ [])
+    rule (is_out_of_position p n ++ no_train_at p x ∷ []) (set_detected p n Moving ∷ [])
+    ∷ rule (is_out_of_position p n ++ train_at p x ∷ []) (set_detected p n Moving ∷ set_occupancy p x Crash ∷ [])
     ∷ [])
 
--- settle x: the point on x moves; it lies where it is commanded
+-- `settle x`: if the point on `x` is moving, it is detected in its commanded position.
 abbrev pub rules_of_settle : PlantLists → ℕ → List RuleTree
 rules_of_settle p x =
     rules_for (point_number p x) (λ n.
-    map (λ position. rule (at_is p n Moving ∷ to_is p n position ∷ []) (at_becomes p n (lie_in position) ∷ []))
+    map (λ position. rule (is_point_detected p n Moving ∷ is_point_commanded p n position ∷ []) (set_detected p n (lie_from_position position) ∷ []))
     (Plus ∷ Minus ∷ []))

@@ -1,4 +1,4 @@
--- What rules set.
+-- The settings of rules.
 use Rattle.std.specs.Prelude.{ℕ, Option, Some, None, List, [], map}
 use Rattle.std.specs.Option.{option_to_list}
 use Rattle.ilk_ir.specs.System.{RuleTree}
@@ -14,56 +14,56 @@ use Rattle.ilk_plant.specs.declared.state.Lie.{Lie}
 use Rattle.ilk_plant.specs.declared.state.Mode.{Mode}
 use Rattle.ilk_plant.specs.declared.table.Listed.{Listed}
 use Rattle.ilk_layout.specs.Values.{aspect_value, hold_value, lie_value, mode_value, occupancy_value, position_value}
-use Rattle.ilk_layout.specs.Variables.{at_var, board_var, lock_var, mode_var, occupancy_var, rel_var, seen_var, to_var}
+use Rattle.ilk_layout.specs.Variables.{detected_var, board_var, lock_var, mode_var, occupancy_var, rel_var, seen_var, commanded_var}
 use Rattle.ilk_layout.specs.declared.values.Occupancy.{Occupancy}
 
--- a rule: where all of these hold, this is set
+-- The rule that makes the settings if all conditions hold.
 abbrev pub rule : List Tree → List Setting → RuleTree
 rule conditions settings = record { guard = all_of (trees conditions); sets = settings }
 
--- the rules for what there is; none where there is nothing
+-- The rules for the value, or none if there is no value.
 abbrev pub rules_for : {A : Type 0} → Option A → (A → List RuleTree) → List RuleTree
 rules_for None rules = []
 rules_for (Some x) rules = rules x
 
-abbrev pub becomes : ℕ → ℕ → Setting
-becomes v value = record { var = v; value = value }
+abbrev pub set_var : ℕ → ℕ → Setting
+set_var v value = record { var = v; value = value }
 
--- route r has this mode from now on; so many of its path sections are seen, or released
-abbrev pub mode_becomes : ℕ → Mode → Setting
-mode_becomes r mode = becomes (mode_var r) (mode_value mode)
+-- Sets the mode of route `r`, or its number of seen or of released path sections.
+abbrev pub set_mode : ℕ → Mode → Setting
+set_mode r mode = set_var (mode_var r) (mode_value mode)
 
-abbrev pub seen_becomes : ℕ → ℕ → Setting
-seen_becomes r count = becomes (seen_var r) count
+abbrev pub set_seen : ℕ → ℕ → Setting
+set_seen r count = set_var (seen_var r) count
 
-abbrev pub rel_becomes : ℕ → ℕ → Setting
-rel_becomes r count = becomes (rel_var r) count
+abbrev pub set_rel : ℕ → ℕ → Setting
+set_rel r count = set_var (rel_var r) count
 
--- the point with number n lies so, or is commanded so
-abbrev pub at_becomes : PlantLists → ℕ → Lie → Setting
-at_becomes p n lie = becomes (at_var p n) (lie_value lie)
+-- Sets the detected, or the commanded, position of point number `n`.
+abbrev pub set_detected : PlantLists → ℕ → Lie → Setting
+set_detected p n lie = set_var (detected_var p n) (lie_value lie)
 
-abbrev pub to_becomes : PlantLists → ℕ → Position → Setting
-to_becomes p n position = becomes (to_var p n) (position_value position)
+abbrev pub set_commanded : PlantLists → ℕ → Position → Setting
+set_commanded p n position = set_var (commanded_var p n) (position_value position)
 
--- board m shows this; section x has this lock, or this occupancy
-abbrev pub board_becomes : PlantLists → ℕ → Aspect → Setting
-board_becomes p m aspect = becomes (board_var p m) (aspect_value aspect)
+-- Sets the aspect of board `m`, or the lock or the occupancy of section `x`.
+abbrev pub set_board : PlantLists → ℕ → Aspect → Setting
+set_board p m aspect = set_var (board_var p m) (aspect_value aspect)
 
-abbrev pub lock_becomes : PlantLists → ℕ → Hold → Setting
-lock_becomes p x hold = becomes (lock_var p x) (hold_value hold)
+abbrev pub set_lock : PlantLists → ℕ → Hold → Setting
+set_lock p x hold = set_var (lock_var p x) (hold_value hold)
 
-abbrev pub occupancy_becomes : PlantLists → ℕ → Occupancy → Setting
-occupancy_becomes p x occupancy = becomes (occupancy_var p x) (occupancy_value occupancy)
+abbrev pub set_occupancy : PlantLists → ℕ → Occupancy → Setting
+set_occupancy p x occupancy = set_var (occupancy_var p x) (occupancy_value occupancy)
 
--- these sections have this lock
-abbrev pub locks_become : PlantLists → List ℕ → Hold → List Setting
-locks_become p sections hold = map (λ x. lock_becomes p x hold) sections
+-- Sets the locks of these sections.
+abbrev pub set_locks : PlantLists → List ℕ → Hold → List Setting
+set_locks p sections hold = map (λ x. set_lock p x hold) sections
 
--- a listed point is commanded to its listed position
-abbrev pub commanded : PlantLists → Listed → List Setting
-commanded p listed = map (λ n. to_becomes p n listed.at) (option_to_list (point_number p listed.point))
+-- Commands a listed point to its listed position.
+abbrev pub set_as_listed : PlantLists → Listed → List Setting
+set_as_listed p listed = map (λ n. set_commanded p n listed.at) (option_to_list (point_number p listed.point))
 
--- the board of x for direction d, if there is one, is closed
-abbrev pub board_closes : PlantLists → ℕ → Dir → List Setting
-board_closes p x d = map (λ m. board_becomes p m Closed) (option_to_list (board_of p x d))
+-- Closes the board of `x` for direction `d`, if any.
+abbrev pub close_board : PlantLists → ℕ → Dir → List Setting
+close_board p x d = map (λ m. set_board p m Closed) (option_to_list (board_of p x d))

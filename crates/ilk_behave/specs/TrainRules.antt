@@ -10,61 +10,63 @@ use Rattle.ilk_plant.specs.declared.state.Hold.TheVariants.{Free as FreeLock}
 use Rattle.ilk_motion.specs.Trains.{has_neighbour}
 use Rattle.ilk_layout.specs.declared.values.Occupancy.{Occupancy}
 use Rattle.ilk_layout.specs.declared.values.Occupancy.TheVariants.{Vacant, Taken, Crash}
-use Rattle.ilk_conditions.specs.Conditions.{lock_is, occupancy_is, no_train_at}
-use Rattle.ilk_behave.specs.Guards.{leads_towards, passable, takes_from}
-use Rattle.ilk_behave.specs.Settings.{board_closes, occupancy_becomes, rule, rules_for}
+use Rattle.ilk_layout.specs.Conditions.{lock_is, occupancy_is, no_train_at}
+use Rattle.ilk_behave.specs.Guards.{leads_towards, passable, is_right_from}
+use Rattle.ilk_behave.specs.Settings.{close_board, set_occupancy, rule, rules_for}
 
 abbrev pub both_directions : List Dir
 both_directions = Up ∷ Down ∷ []
 
--- enter x, where x is a border with this inward direction: x is vacant and has lock Free; a train in the inward direction
--- has its tail and its head at x
+-- `enter x`, if `x` is a border: `x` is vacant and has lock Free. Then a train in the inward
+-- direction has its tail and its head at `x`.
 abbrev pub rules_of_enter : PlantLists → ℕ → List RuleTree
 rules_of_enter p x =
     rules_for (border p x) (λ inward.
-    rule (no_train_at p x ∷ lock_is p x FreeLock ∷ []) (occupancy_becomes p x (Taken inward true true) ∷ []) ∷ [])
+    rule (no_train_at p x ∷ lock_is p x FreeLock ∷ []) (set_occupancy p x (Taken inward true true) ∷ []) ∷ [])
 
--- head x, to y: a train in direction d, which has or hasn't its tail at x, has its head at x; the board of x, if any, is
--- open; and x leads to y
-abbrev pub may_go_on : PlantLists → ℕ → Dir → ℕ → Bool → List Tree
-may_go_on p x d y tail = occupancy_is p x (Taken d tail true) ∷ passable p x d ++ leads_towards p x d y
+-- `head x`, to `y`: a train in direction `d` has its head at `x`, and its tail there or not
+-- (`tail`). The board of `x`, if any, is open, and `x` leads to `y`.
+abbrev pub head_conditions : PlantLists → ℕ → Dir → ℕ → Bool → List Tree
+head_conditions p x d y tail = occupancy_is p x (Taken d tail true) ∷ passable p x d ++ leads_towards p x d y
 
--- its head is at y, with this occupancy, and no more at x; the board, if any, is closed
-abbrev pub gone_on : PlantLists → ℕ → Dir → ℕ → Bool → Occupancy → List Setting
-gone_on p x d y tail there =
-    occupancy_becomes p x (Taken d tail false) ∷ occupancy_becomes p y there ∷ board_closes p x d
+-- The head leaves `x`, `y` gets the occupancy `there`, and the board of `x`, if any, closes.
+abbrev pub head_settings : PlantLists → ℕ → Dir → ℕ → Bool → Occupancy → List Setting
+head_settings p x d y tail there =
+    set_occupancy p x (Taken d tail false) ∷ set_occupancy p y there ∷ close_board p x d
 
--- y is free for a train that comes from x: it is vacant, and if it is a point, the train is right on it
-abbrev pub free_from : PlantLists → ℕ → Dir → ℕ → List Tree
-free_from p x d y = no_train_at p y ∷ takes_from p x d y
+-- `y` is free for a train from `x`: it is vacant, and if it is a point, the train would be right on
+-- it.
+abbrev pub is_free_for_train : PlantLists → ℕ → Dir → ℕ → List Tree
+is_free_for_train p x d y = no_train_at p y ∷ is_right_from p x d y
 
--- the train goes on to y; where y isn't free for it, that is a crash at y
+-- The train moves to `y`; if `y` is not free for it, there is a crash at `y`.
 abbrev pub head_rules : PlantLists → ℕ → Dir → ℕ → Bool → List RuleTree
 head_rules p x d y tail =
-    rule (may_go_on p x d y tail ++ free_from p x d y) (gone_on p x d y tail (Taken d false true))
-    ∷ rule (may_go_on p x d y tail ++ any_of (trees (map negation (free_from p x d y))) ∷ []) (gone_on p x d y tail Crash)
+    rule (head_conditions p x d y tail ++ is_free_for_train p x d y) (head_settings p x d y tail (Taken d false true))
+    ∷ rule (head_conditions p x d y tail ++ any_of (trees (map negation (is_free_for_train p x d y))) ∷ []) (head_settings p x d y tail Crash)
     ∷ []
 
--- head x: to each section next to x, in each direction
+-- `head x`: to each neighbour of `x`, in each direction.
 abbrev pub rules_of_head : PlantLists → ℕ → List RuleTree
 rules_of_head p x =
     flat_map (λ d. flat_map (λ y. flat_map (head_rules p x d y) (true ∷ false ∷ [])) (next_to p x d)) both_directions
 
--- tail x, to y: a train in direction d has its tail at x, and not its head; x leads to y, where it has or hasn't its head;
--- x is vacant, and its tail is at y
+-- `tail x`, to `y`: a train in direction `d` has its tail but not its head at `x`. Section `x`
+-- leads to `y`, which has its head or not (`head`). Then `x` is vacant and the tail is at `y`.
 abbrev pub tail_rule : PlantLists → ℕ → Dir → ℕ → Bool → RuleTree
 tail_rule p x d y head =
     rule (occupancy_is p x (Taken d true false) ∷ leads_towards p x d y ++ occupancy_is p y (Taken d false head) ∷ [])
-    (occupancy_becomes p x Vacant ∷ occupancy_becomes p y (Taken d true head) ∷ [])
+    (set_occupancy p x Vacant ∷ set_occupancy p y (Taken d true head) ∷ [])
 
--- tail x: to each section next to x, in each direction
+-- `tail x`: to each neighbour of `x`, in each direction.
 abbrev pub rules_of_tail : PlantLists → ℕ → List RuleTree
 rules_of_tail p x =
     flat_map (λ d. flat_map (λ y. map (tail_rule p x d y) (true ∷ false ∷ [])) (next_to p x d)) both_directions
 
--- leave x: a train in direction d has its tail and its head at x, which has no neighbour in that direction; x is vacant
+-- `leave x`: a train in direction `d`, in which `x` has no neighbour, has its tail and its head at
+-- `x`. Then `x` is vacant.
 abbrev pub leave_rule : PlantLists → ℕ → Dir → RuleTree
-leave_rule p x d = rule (occupancy_is p x (Taken d true true) ∷ []) (occupancy_becomes p x Vacant ∷ [])
+leave_rule p x d = rule (occupancy_is p x (Taken d true true) ∷ []) (set_occupancy p x Vacant ∷ [])
 
 abbrev pub rules_of_leave : PlantLists → ℕ → List RuleTree
 rules_of_leave p x =

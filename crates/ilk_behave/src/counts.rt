@@ -3,7 +3,7 @@ ghost use Rattle.ilk_motion.specs.Trains.{has_neighbour};
 ghost use Rattle.ilk_plant.specs.Plant.{next_to};
 ghost use Rattle.ilk_plant.specs.declared.network.Dir.TheVariants.{Up, Down};
 ghost use Rattle.ilk_behave.specs.Behaviour.{rules_of};
-ghost use Rattle.ilk_behave.specs.Numbered.{HasNumber};
+ghost use Rattle.ilk_behave.specs.Numbered.{IsEventOfPlant};
 ghost use Rattle.ilk_behave.specs.PointRules.{rules_of_throw};
 ghost use Rattle.ilk_behave.specs.RouteRules.{rules_of_cancel, rules_of_finish, rules_of_release, rules_of_sense};
 ghost use Rattle.ilk_behave.specs.TrainRules.{both_directions};
@@ -11,7 +11,7 @@ ghost use Rattle.ilk_behave.specs.TrainRules.{both_directions};
 use ilk_model::Event;
 use ilk_plant::{Dir, Plant, Section};
 
-// How many sections are next to section `x` on side `d`.
+// Returns the number of neighbours of section `x` on side `d`.
 fn neighbours(plant: &Plant, x: u32, d: Dir) -> u32
     requires { x < length plant.now.sections }
     ensures count { result ≡ length (next_to plant.now x d) }
@@ -26,7 +26,6 @@ fn neighbours(plant: &Plant, x: u32, d: Dir) -> u32
     }
 }
 
-// How many sections are next to section `x`.
 fn all_neighbours(plant: &Plant, x: u32) -> u32
     requires { x < length plant.now.sections }
     ensures count { result ≡ length (next_to plant.now x Up) + length (next_to plant.now x Down) }
@@ -35,16 +34,16 @@ fn all_neighbours(plant: &Plant, x: u32) -> u32
     neighbours(plant, x, Dir::Up) + neighbours(plant, x, Dir::Down)
 }
 
-// On how many sides section `x` has no neighbour.
+// Returns the number of sides on which the section has no neighbour.
 fn open_ends(section: &Section) -> u32
     ensures { result ≡ length (filter (λ d. not (has_neighbour section.now d)) both_directions) }
 {
-    let up = if section.beside(Dir::Up, 0).is_some() {
+    let up = if section.neighbour_on(Dir::Up, 0).is_some() {
         0
     } else {
         1
     };
-    let down = if section.beside(Dir::Down, 0).is_some() {
+    let down = if section.neighbour_on(Dir::Down, 0).is_some() {
         0
     } else {
         1
@@ -52,7 +51,7 @@ fn open_ends(section: &Section) -> u32
     up + down
 }
 
-// How many rules an event of a point has.
+// Returns the number of rules of `throw x`, and of `settle x`.
 fn point_rule_count(plant: &Plant, x: u32) -> u32
     requires { x < length plant.now.sections }
     ensures { result ≡ length (rules_of_throw plant.now x) }
@@ -63,7 +62,6 @@ fn point_rule_count(plant: &Plant, x: u32) -> u32
     }
 }
 
-// How many rules sense of route `r` has.
 fn sense_rule_count(plant: &Plant, r: u32) -> u32
     requires { r < length plant.now.routes }
     ensures { result ≡ length (rules_of_sense plant.now r) }
@@ -72,7 +70,6 @@ fn sense_rule_count(plant: &Plant, r: u32) -> u32
     route.path.len() as u32
 }
 
-// How many rules release of route `r` has.
 fn release_rule_count(plant: &Plant, r: u32) -> u32
     requires { r < length plant.now.routes }
     ensures { result ≡ length (rules_of_release plant.now r) }
@@ -81,7 +78,6 @@ fn release_rule_count(plant: &Plant, r: u32) -> u32
     route.path.len() as u32 - 1
 }
 
-// How many rules finish of route `r` has.
 fn finish_rule_count(plant: &Plant, r: u32) -> u32
     requires { r < length plant.now.routes }
     ensures { result ≡ length (rules_of_finish plant.now r) }
@@ -90,7 +86,6 @@ fn finish_rule_count(plant: &Plant, r: u32) -> u32
     1
 }
 
-// How many rules cancel of route `r` has.
 fn cancel_rule_count(plant: &Plant, r: u32) -> u32
     requires { r < length plant.now.routes }
     ensures { result ≡ length (rules_of_cancel plant.now r) }
@@ -99,9 +94,9 @@ fn cancel_rule_count(plant: &Plant, r: u32) -> u32
     2
 }
 
-/// How many rules an event of the plant has.
+/// Returns the number of rules of an event.
 pub fn rule_count(plant: &Plant, event: Event) -> u32
-    requires { HasNumber plant.now event }
+    requires { IsEventOfPlant plant.now event }
     ensures { result ≡ length (rules_of plant.now event) }
 {
     match event {

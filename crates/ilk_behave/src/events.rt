@@ -1,13 +1,13 @@
 ghost use Rattle.std.specs.Prelude.{◌≡◌, ◌↔◌, ◌≤◌, ◌+◌, None, Some, IfErr, IfOk, length, slice_get};
 ghost use Rattle.ilk_behave.specs.Behaviour as behaviour;
 ghost use Rattle.ilk_behave.specs.Behaviour.{event_of_rule, events_of_rules, system_of};
-ghost use Rattle.ilk_behave.specs.Numbered.{HaveNumbers};
+ghost use Rattle.ilk_behave.specs.Numbered.{AreEventsOfPlant};
 
 use crate::counts::rule_count;
 use ilk_model::Event;
 use ilk_plant::Plant;
 
-/// The events of route `r`, in their order.
+/// Returns the events of route `r`, in order.
 pub fn events_of_route(r: u32) -> [Event; 7]
     ensures { result ≡ behaviour.events_of_route r }
 {
@@ -22,7 +22,7 @@ pub fn events_of_route(r: u32) -> [Event; 7]
     ]
 }
 
-/// The events of section `x`, in their order; throw and settle too where it is no point.
+/// Returns the events of section `x`, in order, with throw and settle even if `x` has no point.
 pub fn events_of_section(x: u32) -> [Event; 6]
     ensures { result ≡ behaviour.events_of_section x }
 {
@@ -36,10 +36,10 @@ pub fn events_of_section(x: u32) -> [Event; 6]
     ]
 }
 
-// Of these events, the one to which the rule at this place of theirs belongs; else how many places
-// past their last it is.
+// Returns the event of rule number `place` among the rules of `events`. If there are too few,
+// returns `Err` with `place` minus their count.
 fn find_event(plant: &Plant, events: &[Event], place: u32) -> Result<Event, u32>
-    requires { HaveNumbers plant.now events.now }
+    requires { AreEventsOfPlant plant.now events.now }
     ensures found { IfOk result
         (λ event. slice_get (events_of_rules plant.now events.now) place ≡ Some event) }
     ensures past { IfErr result
@@ -56,8 +56,8 @@ fn find_event(plant: &Plant, events: &[Event], place: u32) -> Result<Event, u32>
     Err(left)
 }
 
-/// The event to which a rule of the plant's behaviour belongs. None exactly where there is no rule
-/// with this number.
+/// Returns the event of a rule of the plant's behaviour. Returns `None` if and only if no rule has
+/// this number.
 pub fn event_of(plant: &Plant, rule: u32) -> Option<Event>
     ensures event { result ≡ event_of_rule plant.now rule }
     ensures none { (result ≡ None) ↔ (length (system_of plant.now).rules ≤ rule) }

@@ -1,16 +1,16 @@
 ghost use Rattle.std.specs.Prelude.{◌≡◌, ◌<◌, ◌++◌, length, map, flat_map, All, IfOk, OnOk};
 ghost use Rattle.ilk_ir.specs.Form.{tree_of};
 ghost use Rattle.ilk_ir.specs.Tree.{negation};
-ghost use Rattle.ilk_conditions.specs.Conditions as conditions;
+ghost use Rattle.ilk_layout.specs.Conditions as conditions;
 ghost use Rattle.ilk_behave.specs.Guards as guards;
 
-use ilk_conditions::{board_is, lie_is, lies_at_listed, lock_is, mode_is, negated, no_train_at};
 use ilk_ir::Form;
+use ilk_layout::{board_is, is_detected, lies_at_listed, lock_is, mode_is, negated, no_train_at};
 use ilk_plant::{Aspect, Dir, Hold, Lie, Listed, Mode, Plant, Position, Row, Section};
-use ilk_routes::lie_in;
+use ilk_routes::lie_from_position;
 use std::alloc::{AllocError, Global};
 
-// The position at which `y` is the leg of a point whose leg plus is this.
+// Returns the position that leads to leg `y`, for points whose plus leg is `plus`.
 fn leg_position(plus: u32, y: u32) -> Position
     ensures { result ≡ guards.leg_position plus y }
 {
@@ -21,7 +21,7 @@ fn leg_position(plus: u32, y: u32) -> Position
     }
 }
 
-/// Adds that section `x`, if it is a point that faces `d`, lies at its leg `y`.
+/// Adds the condition that section `x`, if it is a point facing `d`, is set for its leg `y`.
 pub fn push_leads_towards(
     forms: &mut Vec<Form>,
     plant: &Plant,
@@ -36,14 +36,13 @@ pub fn push_leads_towards(
 {
     if let Section::Point { plus, faces, .. } = *plant.section(x) {
         if faces == d {
-            forms.push(lie_is(plant, x, lie_in(leg_position(plus, y))))?;
+            forms.push(is_detected(plant, x, lie_from_position(leg_position(plus, y))))?;
         }
     }
     Ok(())
 }
 
-// A train that comes from `x` in direction `d` is right on the point `y`, which has this leg plus and
-// faces so.
+// Returns the condition that a train from `x` in direction `d` would be right on the point `y`.
 fn right_on_point(
     alloc: Global,
     plant: &Plant,
@@ -57,15 +56,15 @@ fn right_on_point(
         (λ made. tree_of made ≡ guards.right_on_point plant.now x d y plus faces) }
 {
     if faces == d {
-        negated(alloc, lie_is(plant, y, Lie::Moving))
+        negated(alloc, is_detected(plant, y, Lie::Moving))
     } else {
-        Ok(lie_is(plant, y, lie_in(leg_position(plus, x))))
+        Ok(is_detected(plant, y, lie_from_position(leg_position(plus, x))))
     }
 }
 
-/// Adds that a train that comes from `x` in direction `d` is right on `y`: if `y` is a point that
-/// faces `d`, it doesn't move; if it is another point, it lies at its leg `x`.
-pub fn push_takes_from(
+/// Adds the condition that a train from `x` in direction `d` would be right on `y`. If `y` is a
+/// point facing `d`, it is not moving; any other point is set for its leg `x`.
+pub fn push_is_right_from(
     alloc: Global,
     forms: &mut Vec<Form>,
     plant: &Plant,
@@ -76,7 +75,7 @@ pub fn push_takes_from(
     requires { y < length plant.now.sections }
     ensures { OnOk result
         (map tree_of forms.new.items
-        ≡ map tree_of forms.old.items ++ guards.takes_from plant.now x d y) }
+        ≡ map tree_of forms.old.items ++ guards.is_right_from plant.now x d y) }
 {
     if let Section::Point { plus, faces, .. } = *plant.section(y) {
         forms.push(right_on_point(alloc, plant, x, d, y, plus, faces)?)?;
@@ -84,8 +83,9 @@ pub fn push_takes_from(
     Ok(())
 }
 
-/// Adds, if `y` is a point, that a train that comes from `x` in direction `d` isn't right on it.
-pub fn push_not_takes_from(
+/// Adds, if `y` is a point, the condition that a train from `x` in direction `d` would not be right
+/// on it.
+pub fn push_is_wrong_from(
     alloc: Global,
     forms: &mut Vec<Form>,
     plant: &Plant,
@@ -96,7 +96,7 @@ pub fn push_not_takes_from(
     requires { y < length plant.now.sections }
     ensures { OnOk result
         (map tree_of forms.new.items
-        ≡ map tree_of forms.old.items ++ map negation (guards.takes_from plant.now x d y)) }
+        ≡ map tree_of forms.old.items ++ map negation (guards.is_right_from plant.now x d y)) }
 {
     if let Section::Point { plus, faces, .. } = *plant.section(y) {
         let right = right_on_point(alloc, plant, x, d, y, plus, faces)?;
@@ -105,7 +105,7 @@ pub fn push_not_takes_from(
     Ok(())
 }
 
-/// Adds that the board of section `x` for direction `d`, if there is one, is open.
+/// Adds the condition that the board of `x` for direction `d`, if any, is open.
 pub fn push_passable(forms: &mut Vec<Form>, plant: &Plant, x: u32, d: Dir) -> Result<(), AllocError>
     requires { x < length plant.now.sections }
     ensures { OnOk result
@@ -118,7 +118,7 @@ pub fn push_passable(forms: &mut Vec<Form>, plant: &Plant, x: u32, d: Dir) -> Re
     Ok(())
 }
 
-/// Adds of each of the routes that it is neither Allocating nor Locked.
+/// Adds the condition that none of the routes is Allocating or Locked.
 pub fn push_unclaimed(
     alloc: Global,
     forms: &mut Vec<Form>,
@@ -137,7 +137,6 @@ pub fn push_unclaimed(
     Ok(())
 }
 
-// Adds that section `x` has lock Free and is vacant.
 fn push_clear_at(forms: &mut Vec<Form>, plant: &Plant, x: u32) -> Result<(), AllocError>
     requires { x < length plant.now.sections }
     ensures { OnOk result
@@ -148,7 +147,7 @@ fn push_clear_at(forms: &mut Vec<Form>, plant: &Plant, x: u32) -> Result<(), All
     Ok(())
 }
 
-/// Adds of each of the sections that it has lock Free and is vacant.
+/// Adds the condition that each section has lock Free and is vacant.
 pub fn push_clear(
     forms: &mut Vec<Form>,
     plant: &Plant,
@@ -165,7 +164,7 @@ pub fn push_clear(
     Ok(())
 }
 
-/// Adds of each of the points' sections that it has lock Free and is vacant.
+/// Adds the condition that the section of each point has lock Free and is vacant.
 pub fn push_points_clear(
     forms: &mut Vec<Form>,
     plant: &Plant,
@@ -183,8 +182,8 @@ pub fn push_points_clear(
     Ok(())
 }
 
-/// Adds of each of the points that it lies at its listed position.
-pub fn push_lies(
+/// Adds the condition that each point is detected in its listed position.
+pub fn push_detected_as_listed(
     forms: &mut Vec<Form>,
     plant: &Plant,
     points: &Row<Listed>,

@@ -8,15 +8,14 @@ ghost use Rattle.ilk_layout.specs.declared.values.Occupancy.TheVariants.{Crash, 
 ghost use Rattle.ilk_behave.specs.Settings as settings;
 ghost use Rattle.ilk_behave.specs.TrainRules as definitions;
 
-use crate::guards::{push_leads_towards, push_not_takes_from, push_passable, push_takes_from};
-use crate::settings::{occupancy_becomes, push_board_closes, push_rule};
-use ilk_conditions::{no_train_at, occupancy_is, train_at};
+use crate::guards::{push_is_right_from, push_is_wrong_from, push_leads_towards, push_passable};
+use crate::settings::{push_close_board, push_rule, set_occupancy};
 use ilk_ir::{Form, Rules, Sets};
-use ilk_layout::Occupancy;
+use ilk_layout::{Occupancy, no_train_at, occupancy_is, train_at};
 use ilk_plant::{Dir, Plant, Row};
 use std::alloc::{AllocError, Global};
 
-// What head asks of `x` for a train in direction `d` that goes on to `y`.
+// Returns the conditions of `head x` for a train in direction `d` that moves to `y`.
 fn may_go_on(
     alloc: Global,
     plant: &Plant,
@@ -27,7 +26,7 @@ fn may_go_on(
 ) -> Result<Vec<Form>, AllocError>
     requires { x < length plant.now.sections }
     ensures { IfOk result
-        (λ forms. map tree_of forms.items ≡ definitions.may_go_on plant.now x d y tail) }
+        (λ forms. map tree_of forms.items ≡ definitions.head_conditions plant.now x d y tail) }
 {
     let train = Occupancy::Taken {
         dir: d,
@@ -41,8 +40,8 @@ fn may_go_on(
     Ok(forms)
 }
 
-// What head sets for a train in direction `d` that goes on from `x` to `y`, which then has this
-// occupancy.
+// Returns the settings of `head x` for a train in direction `d` that moves to `y`, which then has
+// occupancy `there`.
 fn gone_on(
     alloc: Global,
     plant: &Plant,
@@ -54,7 +53,7 @@ fn gone_on(
 ) -> Result<Sets, AllocError>
     requires here { x < length plant.now.sections }
     requires ahead { y < length plant.now.sections }
-    ensures { IfOk result (λ sets. sets ≡ definitions.gone_on plant.now x d y tail there) }
+    ensures { IfOk result (λ sets. sets ≡ definitions.head_settings plant.now x d y tail there) }
 {
     let left = Occupancy::Taken {
         dir: d,
@@ -62,13 +61,13 @@ fn gone_on(
         head: false,
     };
     let mut sets = Row::new(alloc);
-    sets.push(occupancy_becomes(plant, x, left))?;
-    sets.push(occupancy_becomes(plant, y, there))?;
-    push_board_closes(&mut sets, plant, x, d)?;
+    sets.push(set_occupancy(plant, x, left))?;
+    sets.push(set_occupancy(plant, y, there))?;
+    push_close_board(&mut sets, plant, x, d)?;
     Ok(sets)
 }
 
-// Adds that `y` is free for a train that comes from `x` in direction `d`.
+// Adds the condition that `y` is free for a train from `x` in direction `d`.
 fn push_free_from(
     alloc: Global,
     forms: &mut Vec<Form>,
@@ -80,26 +79,25 @@ fn push_free_from(
     requires { y < length plant.now.sections }
     ensures { OnOk result
         (map tree_of forms.new.items
-        ≡ map tree_of forms.old.items ++ definitions.free_from plant.now x d y) }
+        ≡ map tree_of forms.old.items ++ definitions.is_free_for_train plant.now x d y) }
 {
     forms.push(no_train_at(plant, y))?;
-    push_takes_from(alloc, forms, plant, x, d, y)
+    push_is_right_from(alloc, forms, plant, x, d, y)
 }
 
-// `y` isn't free for a train that comes from `x` in direction `d`.
 fn not_free_from(alloc: Global, plant: &Plant, x: u32, d: Dir, y: u32) -> Result<Form, AllocError>
     requires { y < length plant.now.sections }
     ensures { IfOk result
         (λ form. tree_of form
-        ≡ any_of (trees (map negation (definitions.free_from plant.now x d y)))) }
+        ≡ any_of (trees (map negation (definitions.is_free_for_train plant.now x d y)))) }
 {
     let mut forms = Vec::new(alloc);
     forms.push(train_at(alloc, plant, y)?)?;
-    push_not_takes_from(alloc, &mut forms, plant, x, d, y)?;
+    push_is_wrong_from(alloc, &mut forms, plant, x, d, y)?;
     Ok(Form::Or(forms))
 }
 
-// Adds the rule of head where `y` is free for the train.
+// Adds the rule of `head x` for a free `y`.
 fn push_head_free(
     alloc: Global,
     rules: &mut Rules,
@@ -115,9 +113,9 @@ fn push_head_free(
         (map rule_tree rules.new
         ≡ map rule_tree rules.old
         ++ settings.rule
-        (definitions.may_go_on plant.now x d y tail
-        ++ definitions.free_from plant.now x d y)
-        (definitions.gone_on plant.now x d y tail (Taken d false true)) ∷ []) }
+        (definitions.head_conditions plant.now x d y tail
+        ++ definitions.is_free_for_train plant.now x d y)
+        (definitions.head_settings plant.now x d y tail (Taken d false true)) ∷ []) }
 {
     let mut forms = may_go_on(alloc, plant, x, d, y, tail)?;
     push_free_from(alloc, &mut forms, plant, x, d, y)?;
@@ -130,7 +128,7 @@ fn push_head_free(
     push_rule(rules, forms, sets)
 }
 
-// Adds the rule of head where a crash at `y` comes of it.
+// Adds the rule of `head x` for a crash at `y`.
 fn push_head_crash(
     alloc: Global,
     rules: &mut Rules,
@@ -146,10 +144,10 @@ fn push_head_crash(
         (map rule_tree rules.new
         ≡ map rule_tree rules.old
         ++ settings.rule
-        (definitions.may_go_on plant.now x d y tail
-        ++ any_of (trees (map negation (definitions.free_from plant.now x d y)))
+        (definitions.head_conditions plant.now x d y tail
+        ++ any_of (trees (map negation (definitions.is_free_for_train plant.now x d y)))
         ∷ [])
-        (definitions.gone_on plant.now x d y tail Crash) ∷ []) }
+        (definitions.head_settings plant.now x d y tail Crash) ∷ []) }
 {
     let mut forms = may_go_on(alloc, plant, x, d, y, tail)?;
     forms.push(not_free_from(alloc, plant, x, d, y)?)?;
@@ -157,7 +155,7 @@ fn push_head_crash(
     push_rule(rules, forms, sets)
 }
 
-// Adds the rules of head for trains in direction `d` that go on from `x` to `y`.
+// Adds the rules of `head x` for trains in direction `d` that move to `y`.
 fn push_head_to(
     alloc: Global,
     rules: &mut Rules,
@@ -179,8 +177,7 @@ fn push_head_to(
     push_head_crash(alloc, rules, plant, x, d, y, false)
 }
 
-// Adds the rules of head for trains in direction `d` that go on to entry `i` of the sections next to
-// `x`, if there is one.
+// Adds the rules of `head x` for trains in direction `d` that move to neighbour `i`, if it exists.
 fn push_head_at(
     alloc: Global,
     rules: &mut Rules,
@@ -203,7 +200,6 @@ fn push_head_at(
     Ok(())
 }
 
-// Adds the rules of head for trains in direction `d`.
 fn push_head_in(
     alloc: Global,
     rules: &mut Rules,
@@ -224,7 +220,7 @@ fn push_head_in(
     Ok(())
 }
 
-/// Adds the rules of head for section `x`: in each direction, to each section next to it.
+/// Adds the rules of `head x`: in each direction, to each neighbour.
 pub fn push_head(alloc: Global, rules: &mut Rules, plant: &Plant, x: u32) -> Result<(), AllocError>
     requires { x < length plant.now.sections }
     ensures { OnOk result

@@ -1,111 +1,124 @@
-//! That the rules of each event step as the event does. Each function here does nothing, and tells a
-//! proof.
+//! Theorems: the rules of each event step as the event does.
 
 ghost use Rattle.std.specs.Prelude.{ℕ};
-ghost use Rattle.ilk_behave.specs.Steps.{AlwaysStepAs, StepsAs};
+ghost use Rattle.ilk_behave.specs.Steps.{AlwaysStepLikeEvent, StepsLikeEvents};
 ghost use Rattle.ilk_model.specs.declared.event.Event.TheVariants as event;
 
 use ilk_plant::Plant;
 
-/// The rules of mark step as it does.
+/// The rules of the event `mark` change images exactly as the event changes their states.
+/// Proof only; no run-time effect.
 pub fn mark_steps(plant: &Plant)
-    ensures { (r : ℕ) → AlwaysStepAs plant.now (event.Mark r) }
+    ensures { (r : ℕ) → AlwaysStepLikeEvent plant.now (event.Mark r) }
 {
     plant.is_sound();
 }
 
-/// The rules of cancel step as it does.
+/// The rules of the event `cancel` change images exactly as the event changes their states.
+/// Proof only; no run-time effect.
 pub fn cancel_steps(plant: &Plant)
-    ensures { (r : ℕ) → AlwaysStepAs plant.now (event.Cancel r) }
+    ensures { (r : ℕ) → AlwaysStepLikeEvent plant.now (event.Cancel r) }
 {
     plant.is_sound();
 }
 
-/// The rules of sense step as it does.
+/// The rules of the event `sense` change images exactly as the event changes their states.
+/// Proof only; no run-time effect.
 pub fn sense_steps(plant: &Plant)
-    ensures { (r : ℕ) → AlwaysStepAs plant.now (event.Sense r) }
+    ensures { (r : ℕ) → AlwaysStepLikeEvent plant.now (event.Sense r) }
 {
     plant.is_sound();
 }
 
-/// The rules of release step as it does.
+/// The rules of the event `release` change images exactly as the event changes their states.
+/// Proof only; no run-time effect.
 pub fn release_steps(plant: &Plant)
-    ensures { (r : ℕ) → AlwaysStepAs plant.now (event.Release r) }
+    ensures { (r : ℕ) → AlwaysStepLikeEvent plant.now (event.Release r) }
 {
     plant.is_sound();
 }
 
-/// The rules of finish step as it does.
+/// The rules of the event `finish` change images exactly as the event changes their states.
+/// Proof only; no run-time effect.
 pub fn finish_steps(plant: &Plant)
-    ensures { (r : ℕ) → AlwaysStepAs plant.now (event.Finish r) }
+    ensures { (r : ℕ) → AlwaysStepLikeEvent plant.now (event.Finish r) }
 {
     plant.is_sound();
 }
 
-/// The rules of allocate step as it does.
+/// The rules of the event `allocate` change images exactly as the event changes their states.
+/// Proof only; no run-time effect.
 pub fn allocate_steps(plant: &Plant)
-    ensures { (r : ℕ) → AlwaysStepAs plant.now (event.Allocate r) }
+    ensures { (r : ℕ) → AlwaysStepLikeEvent plant.now (event.Allocate r) }
 {
     plant.is_sound();
 }
 
-/// The rules of lock step as it does.
+/// The rules of the event `lock` change images exactly as the event changes their states.
+/// Proof only; no run-time effect.
 pub fn lock_steps(plant: &Plant)
-    ensures { (r : ℕ) → AlwaysStepAs plant.now (event.Lock r) }
+    ensures { (r : ℕ) → AlwaysStepLikeEvent plant.now (event.Lock r) }
 {
     plant.is_sound();
 }
 
-/// The rules of throw step as it does.
+/// The rules of the event `throw` change images exactly as the event changes their states.
+/// Proof only; no run-time effect.
 pub fn throw_steps(plant: &Plant)
-    ensures { (x : ℕ) → AlwaysStepAs plant.now (event.Throw x) }
+    ensures { (x : ℕ) → AlwaysStepLikeEvent plant.now (event.Throw x) }
 {
     plant.is_sound();
 }
 
-/// The rules of settle step as it does.
+/// The rules of the event `settle` change images exactly as the event changes their states.
+/// Proof only; no run-time effect.
 pub fn settle_steps(plant: &Plant)
-    ensures { (x : ℕ) → AlwaysStepAs plant.now (event.Settle x) }
+    ensures { (x : ℕ) → AlwaysStepLikeEvent plant.now (event.Settle x) }
 {
     plant.is_sound();
 }
 
-/// The rules of enter step as it does.
+/// The rules of the event `enter` change images exactly as the event changes their states.
+/// Proof only; no run-time effect.
 pub fn enter_steps(plant: &Plant)
-    ensures { (x : ℕ) → AlwaysStepAs plant.now (event.Enter x) }
+    ensures { (x : ℕ) → AlwaysStepLikeEvent plant.now (event.Enter x) }
 {
     plant.is_sound();
-    plant.is_of_drafts();
+    plant.is_from_drafts();
 }
 
-/// The rules of head step as it does.
+/// The rules of the event `head` change images exactly as the event changes their states.
+/// Proof only; no run-time effect.
 pub fn head_steps(plant: &Plant)
-    ensures { (x : ℕ) → AlwaysStepAs plant.now (event.Head x) }
+    ensures { (x : ℕ) → AlwaysStepLikeEvent plant.now (event.Head x) }
 {
     plant.is_sound();
-    plant.is_of_drafts();
+    plant.is_from_drafts();
 }
 
-/// The rules of tail step as it does.
+/// The rules of the event `tail` change images exactly as the event changes their states.
+/// Proof only; no run-time effect.
 pub fn tail_steps(plant: &Plant)
-    ensures { (x : ℕ) → AlwaysStepAs plant.now (event.Tail x) }
+    ensures { (x : ℕ) → AlwaysStepLikeEvent plant.now (event.Tail x) }
 {
     plant.is_sound();
-    plant.is_of_drafts();
+    plant.is_from_drafts();
 }
 
-/// The rules of leave step as it does.
+/// The rules of the event `leave` change images exactly as the event changes their states.
+/// Proof only; no run-time effect.
 pub fn leave_steps(plant: &Plant)
-    ensures { (x : ℕ) → AlwaysStepAs plant.now (event.Leave x) }
+    ensures { (x : ℕ) → AlwaysStepLikeEvent plant.now (event.Leave x) }
 {
     plant.is_sound();
-    plant.is_of_drafts();
+    plant.is_from_drafts();
 }
 
-/// The plant's system steps as its events do.
+/// The rules of the plant's system change images exactly as its events change their states.
+/// Proof only; no run-time effect.
 pub fn system_steps(plant: &Plant)
-    ensures { StepsAs plant.now }
+    ensures { StepsLikeEvents plant.now }
 {
     plant.is_sound();
-    plant.is_of_drafts();
+    plant.is_from_drafts();
 }

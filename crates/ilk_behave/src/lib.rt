@@ -1,21 +1,19 @@
-//! The behaviour of a plant as a finite system: for each event some guarded rules over the values of
-//! the plant's variables, which step exactly as the events do.
+//! The behaviour of a plant as a finite system: guarded rules for each event, over the plant's
+//! variables, that step exactly as the event does.
 //!
-//! A state's image (`ilk_layout`) has a small value for each thing that the state says. For each
-//! event the system has rules whose guards ask of the image what the event asks of the state, and
-//! whose settings change in the image what the event changes. `specs/RouteRules`, `PointRules` and
-//! `TrainRules` have a function for each event, that reads as its row of the table of events;
-//! `specs/Behaviour` joins them to the system: route by route, and then section by section, since a
-//! search over formulas is shorter where the rules of one route are next to each other. A guard is a
-//! conjunction, whose parts are single values, negations of these, and disjunctions: a search over
-//! formulas takes it apart so.
+//! A state's image (`ilk_layout`) has a small value for each part of the state. The guard of a rule
+//! tests in the image the condition of the event, and its settings make the changes of the event.
+//! `specs/RouteRules`, `PointRules` and `TrainRules` define the rules of each event, like its row
+//! in the event table. `specs/Behaviour` joins them, route by route and then section by section,
+//! because a solver is faster if the rules of a route are adjacent. A guard is a conjunction of
+//! single values, their negations and disjunctions, so that the encoding can split it.
 //!
-//! `behaviour` makes the system of a plant, and `event_of` tells which event a rule belongs to. An
-//! event has a rule for each case that its change depends on: for each place of a path, for each
-//! section to which a train may go on, and for whether a crash comes of it. That the rules of an event
-//! step as it does (`specs/Steps`) is told, event by event, by the functions `mark_steps` and so on;
-//! that the whole system does, by the numbers of its rules, is a clause of `behaviour`, and so is that
-//! the system is valid. `few_rules_of_events` tells that an event has few rules.
+//! `behaviour` builds the system of a plant, and `event_of` returns the event of a rule. An event
+//! has one rule for each case: each index of a path, each section to which a train may move, and
+//! whether a crash results. `mark_steps` and its siblings prove that the rules of each event step
+//! as the event does (`specs/Steps`). The contract of `behaviour` states this for the whole system,
+//! by rule numbers, and that the system is valid. `few_rules_of_events` bounds the number of rules
+//! of an event.
 #![tactic(auto)]
 
 mod counts;

@@ -7,22 +7,21 @@ ghost use Rattle.ilk_plant.specs.declared.limits.TheConstants.{MAX_PATH};
 ghost use Rattle.ilk_plant.specs.declared.state.Aspect.TheVariants.{Closed};
 ghost use Rattle.ilk_plant.specs.declared.state.Hold.TheVariants.{Free as FreeLock, Locked as LockedLock, Used as UsedLock};
 ghost use Rattle.ilk_plant.specs.declared.state.Mode.TheVariants.{Free, Locked, Occupied};
-ghost use Rattle.ilk_routes.specs.Claims.{sections_beside};
-ghost use Rattle.ilk_conditions.specs.Conditions as conditions;
+ghost use Rattle.ilk_routes.specs.Claims.{sections_beside_path};
+ghost use Rattle.ilk_layout.specs.Conditions as conditions;
 ghost use Rattle.ilk_behave.specs.Settings as settings;
 ghost use Rattle.ilk_behave.specs.RouteRules as definitions;
 
 use crate::settings::{
-    board_becomes, lock_becomes, mode_becomes, push_locks_become, push_point_locks_become,
-    push_rule, rel_becomes, seen_becomes,
+    push_rule, push_set_locks, push_set_point_locks, set_board, set_lock, set_mode, set_rel,
+    set_seen,
 };
-use ilk_conditions::{lock_is, mode_is, no_train_at, rel_is, seen_is, train_at};
 use ilk_ir::{Form, Rules, Sets};
+use ilk_layout::{lock_is, mode_is, no_train_at, rel_is, seen_is, train_at};
 use ilk_plant::{Aspect, Hold, Mode, Plant, Route, Row};
 use ilk_routes::last_of;
 use std::alloc::{AllocError, Global};
 
-// Route `r` is Locked or Occupied.
 fn locked_or_occupied(alloc: Global, plant: &Plant, r: u32) -> Result<Form, AllocError>
     requires { r < length plant.now.routes }
     ensures { IfOk result
@@ -35,7 +34,7 @@ fn locked_or_occupied(alloc: Global, plant: &Plant, r: u32) -> Result<Form, Allo
     Ok(Form::Or(forms))
 }
 
-// What sense asks where `k` path sections are seen and the next is `x`.
+// Returns the conditions of `sense r` if `k` path sections are seen and the next is `x`.
 fn sense_forms(alloc: Global, plant: &Plant, r: u32, k: u8, x: u32) -> Result<Vec<Form>, AllocError>
     requires known { r < length plant.now.routes }
     requires section { x < length plant.now.sections }
@@ -54,7 +53,7 @@ fn sense_forms(alloc: Global, plant: &Plant, r: u32, k: u8, x: u32) -> Result<Ve
     Ok(forms)
 }
 
-// What sense sets where `k` path sections are seen and the next is `x`.
+// Returns the settings of `sense r` if `k` path sections are seen and the next is `x`.
 fn sense_sets(
     alloc: Global,
     plant: &Plant,
@@ -67,22 +66,22 @@ fn sense_sets(
     requires section { x < length plant.now.sections }
     requires source { source < length plant.now.boards }
     requires place { k < MAX_PATH }
-    ensures { IfOk result (λ sets. sets ≡ settings.lock_becomes plant.now x UsedLock
-        ∷ settings.seen_becomes r (k + 1)
-        ∷ settings.mode_becomes r Occupied
-        ∷ (if k == 0 then settings.board_becomes plant.now source Closed ∷ [] else [])) }
+    ensures { IfOk result (λ sets. sets ≡ settings.set_lock plant.now x UsedLock
+        ∷ settings.set_seen r (k + 1)
+        ∷ settings.set_mode r Occupied
+        ∷ (if k == 0 then settings.set_board plant.now source Closed ∷ [] else [])) }
 {
     let mut sets = Row::new(alloc);
-    sets.push(lock_becomes(plant, x, Hold::Used))?;
-    sets.push(seen_becomes(plant, r, k + 1))?;
-    sets.push(mode_becomes(plant, r, Mode::Occupied))?;
+    sets.push(set_lock(plant, x, Hold::Used))?;
+    sets.push(set_seen(plant, r, k + 1))?;
+    sets.push(set_mode(plant, r, Mode::Occupied))?;
     if k == 0 {
-        sets.push(board_becomes(plant, source, Aspect::Closed))?;
+        sets.push(set_board(plant, source, Aspect::Closed))?;
     }
     Ok(sets)
 }
 
-/// Adds the rules of sense for route `r`, one for each place of its path.
+/// Adds the rules of `sense r`, one for each index of its path.
 pub fn push_sense(alloc: Global, rules: &mut Rules, plant: &Plant, r: u32) -> Result<(), AllocError>
     requires { r < length plant.now.routes }
     ensures { OnOk result
@@ -100,7 +99,7 @@ pub fn push_sense(alloc: Global, rules: &mut Rules, plant: &Plant, r: u32) -> Re
     Ok(())
 }
 
-// Of the `n` path sections of route `r`, at least `k` are seen.
+// Returns the condition that `k` or more of the `n` path sections of route `r` are seen.
 fn seen_from(alloc: Global, plant: &Plant, r: u32, k: u8, n: u8) -> Result<Form, AllocError>
     requires known { r < length plant.now.routes }
     requires place { k ≤ n }
@@ -114,7 +113,7 @@ fn seen_from(alloc: Global, plant: &Plant, r: u32, k: u8, n: u8) -> Result<Form,
     Ok(Form::Or(forms))
 }
 
-// What release asks where `k` path sections are released and the next is `x`.
+// Returns the conditions of `release r` if `k` path sections are released and the next is `x`.
 fn release_forms(
     alloc: Global,
     plant: &Plant,
@@ -143,22 +142,22 @@ fn release_forms(
     Ok(forms)
 }
 
-// What release sets where `k` path sections are released and the next is `x`.
+// Returns the settings of `release r` if `k` path sections are released and the next is `x`.
 fn release_sets(alloc: Global, plant: &Plant, r: u32, k: u8, x: u32) -> Result<Sets, AllocError>
     requires known { r < length plant.now.routes }
     requires section { x < length plant.now.sections }
     requires place { k < MAX_PATH }
     ensures { IfOk result
         (λ sets. sets
-        ≡ settings.lock_becomes plant.now x FreeLock ∷ settings.rel_becomes r (k + 1) ∷ []) }
+        ≡ settings.set_lock plant.now x FreeLock ∷ settings.set_rel r (k + 1) ∷ []) }
 {
     let mut sets = Row::new(alloc);
-    sets.push(lock_becomes(plant, x, Hold::Free))?;
-    sets.push(rel_becomes(plant, r, k + 1))?;
+    sets.push(set_lock(plant, x, Hold::Free))?;
+    sets.push(set_rel(plant, r, k + 1))?;
     Ok(sets)
 }
 
-/// Adds the rules of release for route `r`, one for each place of its path but the last.
+/// Adds the rules of `release r`, one for each index of its path except the last.
 pub fn push_release(
     alloc: Global,
     rules: &mut Rules,
@@ -181,7 +180,6 @@ pub fn push_release(
     Ok(())
 }
 
-// What finish asks.
 fn finish_forms(alloc: Global, plant: &Plant, r: u32, n: u8) -> Result<Vec<Form>, AllocError>
     requires known { r < length plant.now.routes }
     requires path { 0 < n }
@@ -197,7 +195,7 @@ fn finish_forms(alloc: Global, plant: &Plant, r: u32, n: u8) -> Result<Vec<Form>
     Ok(forms)
 }
 
-// What finish sets, where `x` is the last section of the path.
+// Returns the settings of `finish r`, if `x` is the last path section.
 fn finish_sets(
     alloc: Global,
     plant: &Plant,
@@ -209,23 +207,23 @@ fn finish_sets(
     requires route { IsRouteOf plant.now route.now }
     requires section { x < length plant.now.sections }
     ensures { IfOk result (λ sets. sets
-        ≡ settings.locks_become plant.now (x ∷ sections_beside route.now) FreeLock
-        ++ settings.mode_becomes r Free
-        ∷ settings.seen_becomes r 0
-        ∷ settings.rel_becomes r 0
+        ≡ settings.set_locks plant.now (x ∷ sections_beside_path route.now) FreeLock
+        ++ settings.set_mode r Free
+        ∷ settings.set_seen r 0
+        ∷ settings.set_rel r 0
         ∷ []) }
 {
     let mut sets = Row::new(alloc);
-    sets.push(lock_becomes(plant, x, Hold::Free))?;
-    push_locks_become(&mut sets, plant, &route.overlap, Hold::Free)?;
-    push_point_locks_become(&mut sets, plant, &route.protecting_points, Hold::Free)?;
-    sets.push(mode_becomes(plant, r, Mode::Free))?;
-    sets.push(seen_becomes(plant, r, 0))?;
-    sets.push(rel_becomes(plant, r, 0))?;
+    sets.push(set_lock(plant, x, Hold::Free))?;
+    push_set_locks(&mut sets, plant, &route.overlap, Hold::Free)?;
+    push_set_point_locks(&mut sets, plant, &route.protecting_points, Hold::Free)?;
+    sets.push(set_mode(plant, r, Mode::Free))?;
+    sets.push(set_seen(plant, r, 0))?;
+    sets.push(set_rel(plant, r, 0))?;
     Ok(sets)
 }
 
-/// Adds the rule of finish for route `r`.
+/// Adds the rule of `finish r`.
 pub fn push_finish(
     alloc: Global,
     rules: &mut Rules,

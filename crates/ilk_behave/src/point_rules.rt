@@ -4,21 +4,22 @@ ghost use Rattle.ilk_ir.specs.System.{rule_tree};
 ghost use Rattle.ilk_plant.specs.Plant.{point_count};
 ghost use Rattle.ilk_ir.specs.Tree.{any_of, negation, trees};
 ghost use Rattle.ilk_plant.specs.declared.state.Lie.TheVariants.{Moving};
-ghost use Rattle.ilk_routes.specs.Lies.{lie_in};
+ghost use Rattle.ilk_routes.specs.Lies.{lie_from_position};
 ghost use Rattle.ilk_layout.specs.declared.values.Occupancy.TheVariants.{Crash};
-ghost use Rattle.ilk_conditions.specs.Conditions as conditions;
+ghost use Rattle.ilk_layout.specs.Conditions as conditions;
 ghost use Rattle.ilk_behave.specs.PointRules as definitions;
 ghost use Rattle.ilk_behave.specs.Settings as settings;
 
-use crate::settings::{at_becomes, occupancy_becomes, push_rule};
-use ilk_conditions::{at_is, negated, no_train_at, to_is, train_at};
+use crate::settings::{push_rule, set_detected, set_occupancy};
 use ilk_ir::{Form, Rules};
-use ilk_layout::Occupancy;
+use ilk_layout::{
+    Occupancy, is_point_commanded, is_point_detected, negated, no_train_at, train_at,
+};
 use ilk_plant::{Lie, Plant, Position, Row};
-use ilk_routes::lie_in;
+use ilk_routes::lie_from_position;
 use std::alloc::{AllocError, Global};
 
-// Point `n` doesn't lie at this position, or isn't commanded to it.
+// Returns the condition that point `n` is not both detected in `position` and commanded to it.
 fn lies_or_is_commanded_elsewhere(
     alloc: Global,
     plant: &Plant,
@@ -30,29 +31,32 @@ fn lies_or_is_commanded_elsewhere(
         (λ form. tree_of form
         ≡ any_of
         (trees
-        (negation (conditions.at_is plant.now n (lie_in position))
-        ∷ negation (conditions.to_is plant.now n position) ∷ []))) }
+        (negation (conditions.is_point_detected plant.now n (lie_from_position position))
+        ∷ negation (conditions.is_point_commanded plant.now n position) ∷ []))) }
 {
     let mut forms = Vec::new(alloc);
-    forms.push(negated(alloc, at_is(plant, n, lie_in(position)))?)?;
-    forms.push(negated(alloc, to_is(plant, n, position))?)?;
+    forms.push(negated(
+        alloc,
+        is_point_detected(plant, n, lie_from_position(position)),
+    )?)?;
+    forms.push(negated(alloc, is_point_commanded(plant, n, position))?)?;
     Ok(Form::Or(forms))
 }
 
-// Point `n` doesn't move, and doesn't lie where it is commanded.
+// Returns the conditions that point `n` is not moving and is not in its commanded position.
 fn lies_elsewhere(alloc: Global, plant: &Plant, n: u32) -> Result<Vec<Form>, AllocError>
     requires { n < point_count plant.now }
     ensures { IfOk result
-        (λ forms. map tree_of forms.items ≡ definitions.lies_elsewhere plant.now n) }
+        (λ forms. map tree_of forms.items ≡ definitions.is_out_of_position plant.now n) }
 {
     let mut forms = Vec::new(alloc);
-    forms.push(negated(alloc, at_is(plant, n, Lie::Moving))?)?;
+    forms.push(negated(alloc, is_point_detected(plant, n, Lie::Moving))?)?;
     forms.push(lies_or_is_commanded_elsewhere(alloc, plant, n, Position::Plus)?)?;
     forms.push(lies_or_is_commanded_elsewhere(alloc, plant, n, Position::Minus)?)?;
     Ok(forms)
 }
 
-// Adds the rule of throw where no train is on the point.
+// Adds the rule of throw for a point without train.
 fn push_throw_clear(
     alloc: Global,
     rules: &mut Rules,
@@ -66,18 +70,18 @@ fn push_throw_clear(
         (map rule_tree rules.new
         ≡ map rule_tree rules.old
         ++ settings.rule
-        (definitions.lies_elsewhere plant.now n
+        (definitions.is_out_of_position plant.now n
         ++ conditions.no_train_at plant.now x ∷ [])
-        (settings.at_becomes plant.now n Moving ∷ []) ∷ []) }
+        (settings.set_detected plant.now n Moving ∷ []) ∷ []) }
 {
     let mut forms = lies_elsewhere(alloc, plant, n)?;
     forms.push(no_train_at(plant, x))?;
     let mut sets = Row::new(alloc);
-    sets.push(at_becomes(plant, n, Lie::Moving))?;
+    sets.push(set_detected(plant, n, Lie::Moving))?;
     push_rule(rules, forms, sets)
 }
 
-// Adds the rule of throw where a train is on the point.
+// Adds the rule of throw for a point under a train.
 fn push_throw_under_train(
     alloc: Global,
     rules: &mut Rules,
@@ -91,20 +95,20 @@ fn push_throw_under_train(
         (map rule_tree rules.new
         ≡ map rule_tree rules.old
         ++ settings.rule
-        (definitions.lies_elsewhere plant.now n
+        (definitions.is_out_of_position plant.now n
         ++ conditions.train_at plant.now x ∷ [])
-        (settings.at_becomes plant.now n Moving
-        ∷ settings.occupancy_becomes plant.now x Crash ∷ []) ∷ []) }
+        (settings.set_detected plant.now n Moving
+        ∷ settings.set_occupancy plant.now x Crash ∷ []) ∷ []) }
 {
     let mut forms = lies_elsewhere(alloc, plant, n)?;
     forms.push(train_at(alloc, plant, x)?)?;
     let mut sets = Row::new(alloc);
-    sets.push(at_becomes(plant, n, Lie::Moving))?;
-    sets.push(occupancy_becomes(plant, x, Occupancy::Crash))?;
+    sets.push(set_detected(plant, n, Lie::Moving))?;
+    sets.push(set_occupancy(plant, x, Occupancy::Crash))?;
     push_rule(rules, forms, sets)
 }
 
-/// Adds the rules of throw for section `x`; none where it is no point.
+/// Adds the rules of `throw x`, or none if `x` has no point.
 pub fn push_throw(alloc: Global, rules: &mut Rules, plant: &Plant, x: u32) -> Result<(), AllocError>
     requires { x < length plant.now.sections }
     ensures { OnOk result
@@ -118,7 +122,7 @@ pub fn push_throw(alloc: Global, rules: &mut Rules, plant: &Plant, x: u32) -> Re
     Ok(())
 }
 
-// Adds the rule of settle where point `n` is commanded to this position.
+// Adds the rule of settle for a point `n` that is commanded to `position`.
 fn push_settle_at(
     alloc: Global,
     rules: &mut Rules,
@@ -131,19 +135,20 @@ fn push_settle_at(
         (map rule_tree rules.new
         ≡ map rule_tree rules.old
         ++ settings.rule
-        (conditions.at_is plant.now n Moving ∷ conditions.to_is plant.now n position
+        (conditions.is_point_detected plant.now n Moving
+        ∷ conditions.is_point_commanded plant.now n position
         ∷ [])
-        (settings.at_becomes plant.now n (lie_in position) ∷ []) ∷ []) }
+        (settings.set_detected plant.now n (lie_from_position position) ∷ []) ∷ []) }
 {
     let mut forms = Vec::new(alloc);
-    forms.push(at_is(plant, n, Lie::Moving))?;
-    forms.push(to_is(plant, n, position))?;
+    forms.push(is_point_detected(plant, n, Lie::Moving))?;
+    forms.push(is_point_commanded(plant, n, position))?;
     let mut sets = Row::new(alloc);
-    sets.push(at_becomes(plant, n, lie_in(position)))?;
+    sets.push(set_detected(plant, n, lie_from_position(position)))?;
     push_rule(rules, forms, sets)
 }
 
-/// Adds the rules of settle for section `x`; none where it is no point.
+/// Adds the rules of `settle x`, or none if `x` has no point.
 pub fn push_settle(
     alloc: Global,
     rules: &mut Rules,

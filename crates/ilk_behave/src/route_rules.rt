@@ -7,24 +7,23 @@ ghost use Rattle.ilk_plant.specs.TableRules.{sections_locked_for};
 ghost use Rattle.ilk_plant.specs.declared.state.Aspect.TheVariants.{Closed};
 ghost use Rattle.ilk_plant.specs.declared.state.Hold.TheVariants.{Free as FreeLock, Locked as LockedLock};
 ghost use Rattle.ilk_plant.specs.declared.state.Mode.TheVariants.{Free, Marked, Allocating, Locked};
-ghost use Rattle.ilk_routes.specs.Claims.{wanted_points};
-ghost use Rattle.ilk_conditions.specs.Conditions as conditions;
+ghost use Rattle.ilk_routes.specs.Claims.{required_points};
+ghost use Rattle.ilk_layout.specs.Conditions as conditions;
 ghost use Rattle.ilk_behave.specs.Guards as guards;
 ghost use Rattle.ilk_behave.specs.Settings as settings;
 ghost use Rattle.ilk_behave.specs.RouteRules as definitions;
 
-use crate::guards::{push_clear, push_lies, push_points_clear, push_unclaimed};
+use crate::guards::{push_clear, push_detected_as_listed, push_points_clear, push_unclaimed};
 use crate::settings::{
-    board_becomes, mode_becomes, push_commands, push_locks_become, push_point_locks_become,
-    push_rule,
+    push_commands, push_rule, push_set_locks, push_set_point_locks, set_board, set_mode,
 };
-use ilk_conditions::{board_is, mode_is, negated};
 use ilk_ir::{Form, Rules, Sets};
+use ilk_layout::{board_is, mode_is, negated};
 use ilk_plant::{Aspect, Hold, Mode, Plant, Route, Row};
-use ilk_routes::protects_by;
+use ilk_routes::has_protecting_board;
 use std::alloc::{AllocError, Global};
 
-/// Adds the rule of mark for route `r`.
+/// Adds the rule of `mark r`.
 pub fn push_mark(alloc: Global, rules: &mut Rules, plant: &Plant, r: u32) -> Result<(), AllocError>
     requires { r < length plant.now.routes }
     ensures { OnOk result
@@ -35,11 +34,10 @@ pub fn push_mark(alloc: Global, rules: &mut Rules, plant: &Plant, r: u32) -> Res
     let mut forms = Vec::new(alloc);
     forms.push(mode_is(plant, r, Mode::Free))?;
     let mut sets = Row::new(alloc);
-    sets.push(mode_becomes(plant, r, Mode::Marked))?;
+    sets.push(set_mode(plant, r, Mode::Marked))?;
     push_rule(rules, forms, sets)
 }
 
-// What allocate asks.
 fn allocate_forms(
     alloc: Global,
     plant: &Plant,
@@ -62,7 +60,7 @@ fn allocate_forms(
     Ok(forms)
 }
 
-// Adds that the locks of the route's path, overlap and protecting points are this from now on.
+// Adds the settings of the locks of the route's path, overlap and protecting points.
 fn push_all_locks(
     sets: &mut Sets,
     plant: &Plant,
@@ -72,32 +70,31 @@ fn push_all_locks(
     requires { IsRouteOf plant.now route.now }
     ensures { OnOk result
         (sets.new
-        ≡ sets.old ++ settings.locks_become plant.now (sections_locked_for route.now) hold) }
+        ≡ sets.old ++ settings.set_locks plant.now (sections_locked_for route.now) hold) }
 {
-    push_locks_become(sets, plant, &route.path, hold)?;
-    push_locks_become(sets, plant, &route.overlap, hold)?;
-    push_point_locks_become(sets, plant, &route.protecting_points, hold)
+    push_set_locks(sets, plant, &route.path, hold)?;
+    push_set_locks(sets, plant, &route.overlap, hold)?;
+    push_set_point_locks(sets, plant, &route.protecting_points, hold)
 }
 
-// What allocate sets.
 fn allocate_sets(alloc: Global, plant: &Plant, r: u32, route: &Route) -> Result<Sets, AllocError>
     requires known { r < length plant.now.routes }
     requires route { IsRouteOf plant.now route.now }
     ensures { IfOk result
         (λ sets. sets
-        ≡ settings.mode_becomes r Allocating
-        ∷ settings.locks_become plant.now (sections_locked_for route.now) LockedLock
-        ++ flat_map (settings.commanded plant.now) (wanted_points route.now)) }
+        ≡ settings.set_mode r Allocating
+        ∷ settings.set_locks plant.now (sections_locked_for route.now) LockedLock
+        ++ flat_map (settings.set_as_listed plant.now) (required_points route.now)) }
 {
     let mut sets = Row::new(alloc);
-    sets.push(mode_becomes(plant, r, Mode::Allocating))?;
+    sets.push(set_mode(plant, r, Mode::Allocating))?;
     push_all_locks(&mut sets, plant, route, Hold::Locked)?;
     push_commands(&mut sets, plant, &route.points)?;
     push_commands(&mut sets, plant, &route.protecting_points)?;
     Ok(sets)
 }
 
-/// Adds the rule of allocate for route `r`.
+/// Adds the rule of `allocate r`.
 pub fn push_allocate(
     alloc: Global,
     rules: &mut Rules,
@@ -115,7 +112,7 @@ pub fn push_allocate(
     push_rule(rules, forms, sets)
 }
 
-// Adds of each of the boards that it is Closed.
+// Adds the condition that each board is Closed.
 fn push_closed(forms: &mut Vec<Form>, plant: &Plant, boards: &Row<u32>) -> Result<(), AllocError>
     requires { All (λ m. m < length plant.now.boards) boards.now }
     ensures { OnOk result
@@ -129,7 +126,6 @@ fn push_closed(forms: &mut Vec<Form>, plant: &Plant, boards: &Row<u32>) -> Resul
     Ok(())
 }
 
-// Adds that route `q` isn't Locked, if it is to be asked.
 fn push_not_locked_if(
     alloc: Global,
     forms: &mut Vec<Form>,
@@ -149,7 +145,7 @@ fn push_not_locked_if(
     Ok(())
 }
 
-// Adds of each route that has board `m` among its protecting boards that it isn't Locked.
+// Adds the condition that no route with protecting board `m` is Locked.
 fn push_no_protector_locked(
     alloc: Global,
     forms: &mut Vec<Form>,
@@ -163,31 +159,30 @@ fn push_no_protector_locked(
         (definitions.protectors plant.now m)) }
 {
     for q in 0..plant.routes() {
-        push_not_locked_if(alloc, forms, plant, q, protects_by(plant, q, m))?;
+        push_not_locked_if(alloc, forms, plant, q, has_protecting_board(plant, q, m))?;
     }
     Ok(())
 }
 
-// What lock asks.
 fn lock_forms(alloc: Global, plant: &Plant, r: u32, route: &Route) -> Result<Vec<Form>, AllocError>
     requires known { r < length plant.now.routes }
     requires route { IsRouteOf plant.now route.now }
     ensures { IfOk result (λ forms. map tree_of forms.items ≡ conditions.mode_is r Allocating
-        ∷ map (conditions.lies_at_listed plant.now) (wanted_points route.now)
+        ∷ map (conditions.lies_at_listed plant.now) (required_points route.now)
         ++ map (λ m. conditions.board_is plant.now m Closed) route.now.protecting_boards
         ++ map (λ q. negation (conditions.mode_is q Locked))
         (definitions.protectors plant.now route.now.source)) }
 {
     let mut forms = Vec::new(alloc);
     forms.push(mode_is(plant, r, Mode::Allocating))?;
-    push_lies(&mut forms, plant, &route.points)?;
-    push_lies(&mut forms, plant, &route.protecting_points)?;
+    push_detected_as_listed(&mut forms, plant, &route.points)?;
+    push_detected_as_listed(&mut forms, plant, &route.protecting_points)?;
     push_closed(&mut forms, plant, &route.protecting_boards)?;
     push_no_protector_locked(alloc, &mut forms, plant, route.source)?;
     Ok(forms)
 }
 
-/// Adds the rule of lock for route `r`.
+/// Adds the rule of `lock r`.
 pub fn push_lock(alloc: Global, rules: &mut Rules, plant: &Plant, r: u32) -> Result<(), AllocError>
     requires { r < length plant.now.routes }
     ensures { OnOk result
@@ -197,12 +192,11 @@ pub fn push_lock(alloc: Global, rules: &mut Rules, plant: &Plant, r: u32) -> Res
     let route = plant.route(r);
     let forms = lock_forms(alloc, plant, r, route)?;
     let mut sets = Row::new(alloc);
-    sets.push(mode_becomes(plant, r, Mode::Locked))?;
-    sets.push(board_becomes(plant, route.source, Aspect::Open))?;
+    sets.push(set_mode(plant, r, Mode::Locked))?;
+    sets.push(set_board(plant, route.source, Aspect::Open))?;
     push_rule(rules, forms, sets)
 }
 
-// Adds the rule of cancel for route `r` where it is Marked.
 fn push_cancel_marked(
     alloc: Global,
     rules: &mut Rules,
@@ -214,16 +208,15 @@ fn push_cancel_marked(
         (map rule_tree rules.new
         ≡ map rule_tree rules.old
         ++ settings.rule (conditions.mode_is r Marked ∷ [])
-        (settings.mode_becomes r Free ∷ []) ∷ []) }
+        (settings.set_mode r Free ∷ []) ∷ []) }
 {
     let mut forms = Vec::new(alloc);
     forms.push(mode_is(plant, r, Mode::Marked))?;
     let mut sets = Row::new(alloc);
-    sets.push(mode_becomes(plant, r, Mode::Free))?;
+    sets.push(set_mode(plant, r, Mode::Free))?;
     push_rule(rules, forms, sets)
 }
 
-// Adds the rule of cancel for route `r` where it is Allocating.
 fn push_cancel_allocating(
     alloc: Global,
     rules: &mut Rules,
@@ -237,19 +230,19 @@ fn push_cancel_allocating(
         (map rule_tree rules.new
         ≡ map rule_tree rules.old
         ++ settings.rule (conditions.mode_is r Allocating ∷ [])
-        (settings.mode_becomes r Free
-        ∷ settings.locks_become plant.now (sections_locked_for route.now)
+        (settings.set_mode r Free
+        ∷ settings.set_locks plant.now (sections_locked_for route.now)
         FreeLock) ∷ []) }
 {
     let mut forms = Vec::new(alloc);
     forms.push(mode_is(plant, r, Mode::Allocating))?;
     let mut sets = Row::new(alloc);
-    sets.push(mode_becomes(plant, r, Mode::Free))?;
+    sets.push(set_mode(plant, r, Mode::Free))?;
     push_all_locks(&mut sets, plant, route, Hold::Free)?;
     push_rule(rules, forms, sets)
 }
 
-/// Adds the rules of cancel for route `r`.
+/// Adds the rules of `cancel r`.
 pub fn push_cancel(
     alloc: Global,
     rules: &mut Rules,

@@ -4,17 +4,16 @@ ghost use Rattle.ilk_ir.specs.System.{rule_tree};
 ghost use Rattle.ilk_plant.specs.Plant.{point_count};
 ghost use Rattle.ilk_behave.specs.Settings as settings;
 
-use ilk_conditions::{
-    at_var, board_var, lock_var, mode_var, occupancy_var, rel_var, seen_var, to_var,
-};
 use ilk_ir::{Form, Rule, Rules, Sets, Setting};
 use ilk_layout::{
-    Occupancy, aspect_value, hold_value, lie_value, mode_value, occupancy_value, position_value,
+    Occupancy, aspect_value, board_var, commanded_var, detected_var, hold_value, lie_value,
+    lock_var, mode_value, mode_var, occupancy_value, occupancy_var, position_value, rel_var,
+    seen_var,
 };
-use ilk_plant::{Aspect, Dir, Hold, Lie, Listed, Mode, Plant, Position, Row, point_on};
+use ilk_plant::{Aspect, Dir, Hold, Lie, Listed, Mode, Plant, Position, Row, point_number_at};
 use std::alloc::AllocError;
 
-/// Adds a rule: where all of the forms hold, this is set.
+/// Adds the rule that makes the settings `sets` if all `forms` hold.
 pub fn push_rule(rules: &mut Rules, forms: Vec<Form>, sets: Sets) -> Result<(), AllocError>
     ensures { OnOk result
         (map rule_tree rules.new
@@ -26,10 +25,10 @@ pub fn push_rule(rules: &mut Rules, forms: Vec<Form>, sets: Sets) -> Result<(), 
     })
 }
 
-/// Route `r` has the mode from now on.
-pub fn mode_becomes(plant: &Plant, r: u32, mode: Mode) -> Setting
+/// Returns the setting that puts route `r` in `mode`.
+pub fn set_mode(plant: &Plant, r: u32, mode: Mode) -> Setting
     requires { r < length plant.now.routes }
-    ensures { result ≡ settings.mode_becomes r mode }
+    ensures { result ≡ settings.set_mode r mode }
 {
     Setting {
         var: mode_var(plant, r),
@@ -37,10 +36,10 @@ pub fn mode_becomes(plant: &Plant, r: u32, mode: Mode) -> Setting
     }
 }
 
-/// So many path sections of route `r` are seen from now on.
-pub fn seen_becomes(plant: &Plant, r: u32, count: u8) -> Setting
+/// Returns the setting of route `r`'s number of seen path sections.
+pub fn set_seen(plant: &Plant, r: u32, count: u8) -> Setting
     requires { r < length plant.now.routes }
-    ensures { result ≡ settings.seen_becomes r count }
+    ensures { result ≡ settings.set_seen r count }
 {
     Setting {
         var: seen_var(plant, r),
@@ -48,10 +47,10 @@ pub fn seen_becomes(plant: &Plant, r: u32, count: u8) -> Setting
     }
 }
 
-/// So many path sections of route `r` are released from now on.
-pub fn rel_becomes(plant: &Plant, r: u32, count: u8) -> Setting
+/// Returns the setting of route `r`'s number of released path sections.
+pub fn set_rel(plant: &Plant, r: u32, count: u8) -> Setting
     requires { r < length plant.now.routes }
-    ensures { result ≡ settings.rel_becomes r count }
+    ensures { result ≡ settings.set_rel r count }
 {
     Setting {
         var: rel_var(plant, r),
@@ -59,32 +58,32 @@ pub fn rel_becomes(plant: &Plant, r: u32, count: u8) -> Setting
     }
 }
 
-/// Point `n` lies so from now on.
-pub fn at_becomes(plant: &Plant, n: u32, lie: Lie) -> Setting
+/// Returns the setting of point `n`'s detected position.
+pub fn set_detected(plant: &Plant, n: u32, lie: Lie) -> Setting
     requires { n < point_count plant.now }
-    ensures { result ≡ settings.at_becomes plant.now n lie }
+    ensures { result ≡ settings.set_detected plant.now n lie }
 {
     Setting {
-        var: at_var(plant, n),
+        var: detected_var(plant, n),
         value: lie_value(lie),
     }
 }
 
-/// Point `n` is commanded so from now on.
-pub fn to_becomes(plant: &Plant, n: u32, position: Position) -> Setting
+/// Returns the setting that makes `position` the commanded position of point `n`.
+pub fn set_commanded(plant: &Plant, n: u32, position: Position) -> Setting
     requires { n < point_count plant.now }
-    ensures { result ≡ settings.to_becomes plant.now n position }
+    ensures { result ≡ settings.set_commanded plant.now n position }
 {
     Setting {
-        var: to_var(plant, n),
+        var: commanded_var(plant, n),
         value: position_value(position),
     }
 }
 
-/// Board `m` shows this from now on.
-pub fn board_becomes(plant: &Plant, m: u32, aspect: Aspect) -> Setting
+/// Returns the setting of board `m`'s aspect.
+pub fn set_board(plant: &Plant, m: u32, aspect: Aspect) -> Setting
     requires { m < length plant.now.boards }
-    ensures { result ≡ settings.board_becomes plant.now m aspect }
+    ensures { result ≡ settings.set_board plant.now m aspect }
 {
     Setting {
         var: board_var(plant, m),
@@ -92,10 +91,10 @@ pub fn board_becomes(plant: &Plant, m: u32, aspect: Aspect) -> Setting
     }
 }
 
-/// Section `x` has the lock from now on.
-pub fn lock_becomes(plant: &Plant, x: u32, hold: Hold) -> Setting
+/// Returns the setting of section `x`'s lock.
+pub fn set_lock(plant: &Plant, x: u32, hold: Hold) -> Setting
     requires { x < length plant.now.sections }
-    ensures { result ≡ settings.lock_becomes plant.now x hold }
+    ensures { result ≡ settings.set_lock plant.now x hold }
 {
     Setting {
         var: lock_var(plant, x),
@@ -103,10 +102,10 @@ pub fn lock_becomes(plant: &Plant, x: u32, hold: Hold) -> Setting
     }
 }
 
-/// Section `x` has the occupancy from now on.
-pub fn occupancy_becomes(plant: &Plant, x: u32, occupancy: Occupancy) -> Setting
+/// Returns the setting of section `x`'s occupancy.
+pub fn set_occupancy(plant: &Plant, x: u32, occupancy: Occupancy) -> Setting
     requires { x < length plant.now.sections }
-    ensures { result ≡ settings.occupancy_becomes plant.now x occupancy }
+    ensures { result ≡ settings.set_occupancy plant.now x occupancy }
 {
     Setting {
         var: occupancy_var(plant, x),
@@ -114,8 +113,8 @@ pub fn occupancy_becomes(plant: &Plant, x: u32, occupancy: Occupancy) -> Setting
     }
 }
 
-/// Adds of each of the sections that it has the lock from now on.
-pub fn push_locks_become(
+/// Adds the setting of each section's lock.
+pub fn push_set_locks(
     sets: &mut Sets,
     plant: &Plant,
     sections: &Row<u32>,
@@ -123,16 +122,16 @@ pub fn push_locks_become(
 ) -> Result<(), AllocError>
     requires { All (λ x. x < length plant.now.sections) sections.now }
     ensures { OnOk result
-        (sets.new ≡ sets.old ++ settings.locks_become plant.now sections.now hold) }
+        (sets.new ≡ sets.old ++ settings.set_locks plant.now sections.now hold) }
 {
     for x in sections.as_slice() {
-        sets.push(lock_becomes(plant, *x, hold))?;
+        sets.push(set_lock(plant, *x, hold))?;
     }
     Ok(())
 }
 
-/// Adds of each of the points' sections that it has the lock from now on.
-pub fn push_point_locks_become(
+/// Adds the setting of the lock of each point's section.
+pub fn push_set_point_locks(
     sets: &mut Sets,
     plant: &Plant,
     points: &Row<Listed>,
@@ -142,28 +141,27 @@ pub fn push_point_locks_become(
     ensures { OnOk result
         (sets.new
         ≡ sets.old
-        ++ settings.locks_become plant.now (map (λ listed. listed.point) points.now) hold) }
+        ++ settings.set_locks plant.now (map (λ listed. listed.point) points.now) hold) }
 {
     for listed in points.as_slice() {
-        sets.push(lock_becomes(plant, listed.point, hold))?;
+        sets.push(set_lock(plant, listed.point, hold))?;
     }
     Ok(())
 }
 
-// Adds that a listed point is commanded to its listed position from now on.
 fn push_command(sets: &mut Sets, plant: &Plant, listed: &Listed) -> Result<(), AllocError>
-    ensures { OnOk result (sets.new ≡ sets.old ++ settings.commanded plant.now listed.now) }
+    ensures { OnOk result (sets.new ≡ sets.old ++ settings.set_as_listed plant.now listed.now) }
 {
-    if let Some(n) = point_on(plant, listed.point) {
-        sets.push(to_becomes(plant, n, listed.at))?;
+    if let Some(n) = point_number_at(plant, listed.point) {
+        sets.push(set_commanded(plant, n, listed.at))?;
     }
     Ok(())
 }
 
-/// Adds of each of the points that it is commanded to its listed position from now on.
+/// Adds the settings that command each point to its listed position.
 pub fn push_commands(sets: &mut Sets, plant: &Plant, points: &Row<Listed>) -> Result<(), AllocError>
     ensures { OnOk result
-        (sets.new ≡ sets.old ++ flat_map (settings.commanded plant.now) points.now) }
+        (sets.new ≡ sets.old ++ flat_map (settings.set_as_listed plant.now) points.now) }
 {
     for listed in points.as_slice() {
         push_command(sets, plant, listed)?;
@@ -171,13 +169,13 @@ pub fn push_commands(sets: &mut Sets, plant: &Plant, points: &Row<Listed>) -> Re
     Ok(())
 }
 
-/// Adds that the board of section `x` for direction `d`, if there is one, is closed from now on.
-pub fn push_board_closes(sets: &mut Sets, plant: &Plant, x: u32, d: Dir) -> Result<(), AllocError>
+/// Adds the setting that closes the board of `x` for direction `d`, if any.
+pub fn push_close_board(sets: &mut Sets, plant: &Plant, x: u32, d: Dir) -> Result<(), AllocError>
     requires { x < length plant.now.sections }
-    ensures { OnOk result (sets.new ≡ sets.old ++ settings.board_closes plant.now x d) }
+    ensures { OnOk result (sets.new ≡ sets.old ++ settings.close_board plant.now x d) }
 {
     if let Some(m) = plant.board_of(x, d) {
-        sets.push(board_becomes(plant, m, Aspect::Closed))?;
+        sets.push(set_board(plant, m, Aspect::Closed))?;
     }
     Ok(())
 }

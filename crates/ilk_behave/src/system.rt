@@ -3,8 +3,8 @@ ghost use Rattle.ilk_ir.specs.System.{rule_tree, system_tree, system_valid};
 ghost use Rattle.ilk_behave.specs.Behaviour.{rules_of, system_of};
 ghost use Rattle.std.specs.List.{flat_map};
 ghost use Rattle.ilk_behave.specs.Behaviour.{events_of};
-ghost use Rattle.ilk_behave.specs.Numbered.{HasNumber, HaveNumbers};
-ghost use Rattle.ilk_behave.specs.Steps.{StepsAs};
+ghost use Rattle.ilk_behave.specs.Numbered.{IsEventOfPlant, AreEventsOfPlant};
+ghost use Rattle.ilk_behave.specs.Steps.{StepsLikeEvents};
 
 use crate::events::{events_of_route, events_of_section};
 use crate::heads::push_head;
@@ -20,14 +20,13 @@ use ilk_model::Event;
 use ilk_plant::{Plant, Row};
 use std::alloc::{AllocError, Global};
 
-// Adds the rules of an event.
 fn push_rules_of(
     alloc: Global,
     rules: &mut Rules,
     plant: &Plant,
     event: Event,
 ) -> Result<(), AllocError>
-    requires { HasNumber plant.now event }
+    requires { IsEventOfPlant plant.now event }
     ensures { OnOk result
         (map rule_tree rules.new ≡ map rule_tree rules.old ++ rules_of plant.now event) }
 {
@@ -48,14 +47,13 @@ fn push_rules_of(
     }
 }
 
-// Adds the rules of these events, one event after another.
 fn push_rules_of_all(
     alloc: Global,
     rules: &mut Rules,
     plant: &Plant,
     events: &[Event],
 ) -> Result<(), AllocError>
-    requires { HaveNumbers plant.now events.now }
+    requires { AreEventsOfPlant plant.now events.now }
     ensures { OnOk result
         (map rule_tree rules.new
         ≡ map rule_tree rules.old ++ flat_map (rules_of plant.now) events.now) }
@@ -66,7 +64,7 @@ fn push_rules_of_all(
     Ok(())
 }
 
-// The rules of all events, in their order: route by route, and then section by section.
+// Returns the rules of all events, route by route and then section by section.
 fn all_rules(alloc: Global, plant: &Plant) -> Result<Rules, AllocError>
     ensures { IfOk result
         (λ rules. map rule_tree rules ≡ flat_map (rules_of plant.now) (events_of plant.now)) }
@@ -81,12 +79,12 @@ fn all_rules(alloc: Global, plant: &Plant) -> Result<Rules, AllocError>
     Ok(rules)
 }
 
-/// The behaviour of a plant as a finite system, which is valid and steps as the plant's events do. The
-/// only refusal is want of memory.
+/// Returns the behaviour of a plant as a finite system, which is valid and steps as the plant's
+/// events do. Fails only if memory runs out.
 pub fn behaviour(alloc: Global, plant: &Plant) -> Result<System, AllocError>
     ensures system { IfOk result (λ made. system_tree made ≡ system_of plant.now) }
     ensures valid { IsTrue (system_valid (system_of plant.now)) }
-    ensures steps { StepsAs plant.now }
+    ensures steps { StepsLikeEvents plant.now }
 {
     system_is_valid(plant);
     system_steps(plant);

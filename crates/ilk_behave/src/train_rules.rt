@@ -6,14 +6,13 @@ ghost use Rattle.ilk_layout.specs.declared.values.Occupancy.TheVariants.{Taken};
 ghost use Rattle.ilk_behave.specs.TrainRules as definitions;
 
 use crate::guards::push_leads_towards;
-use crate::settings::{occupancy_becomes, push_rule};
-use ilk_conditions::{lock_is, no_train_at, occupancy_is};
+use crate::settings::{push_rule, set_occupancy};
 use ilk_ir::Rules;
-use ilk_layout::Occupancy;
+use ilk_layout::{Occupancy, lock_is, no_train_at, occupancy_is};
 use ilk_plant::{Dir, Hold, Plant, Row, Section};
 use std::alloc::{AllocError, Global};
 
-/// Adds the rule of enter for section `x`; none where it is no border.
+/// Adds the rule of `enter x`, or none if `x` is not a border.
 pub fn push_enter(alloc: Global, rules: &mut Rules, plant: &Plant, x: u32) -> Result<(), AllocError>
     requires { x < length plant.now.sections }
     ensures { OnOk result
@@ -30,14 +29,14 @@ pub fn push_enter(alloc: Global, rules: &mut Rules, plant: &Plant, x: u32) -> Re
             head: true,
         };
         let mut sets = Row::new(alloc);
-        sets.push(occupancy_becomes(plant, x, train))?;
+        sets.push(set_occupancy(plant, x, train))?;
         push_rule(rules, forms, sets)?;
     }
     Ok(())
 }
 
-// Adds the rule of tail for trains in direction `d` whose next section is `y`, where they have their
-// head or not.
+// Adds the rule of `tail x` for trains in direction `d` whose next section is `y`; `head` says
+// whether their head is at `y`.
 fn push_tail_rule(
     alloc: Global,
     rules: &mut Rules,
@@ -68,17 +67,16 @@ fn push_tail_rule(
     };
     forms.push(occupancy_is(plant, y, next))?;
     let mut sets = Row::new(alloc);
-    sets.push(occupancy_becomes(plant, x, Occupancy::Vacant))?;
+    sets.push(set_occupancy(plant, x, Occupancy::Vacant))?;
     let tail = Occupancy::Taken {
         dir: d,
         tail: true,
         head,
     };
-    sets.push(occupancy_becomes(plant, y, tail))?;
+    sets.push(set_occupancy(plant, y, tail))?;
     push_rule(rules, forms, sets)
 }
 
-// Adds the rules of tail for trains in direction `d` whose next section is `y`.
 fn push_tail_to(
     alloc: Global,
     rules: &mut Rules,
@@ -98,7 +96,6 @@ fn push_tail_to(
     push_tail_rule(alloc, rules, plant, x, d, y, false)
 }
 
-// Adds the rules of tail for trains in direction `d`.
 fn push_tail_in(
     alloc: Global,
     rules: &mut Rules,
@@ -123,7 +120,7 @@ fn push_tail_in(
     Ok(())
 }
 
-/// Adds the rules of tail for section `x`: in each direction, to each section next to it.
+/// Adds the rules of `tail x`: in each direction, to each neighbour.
 pub fn push_tail(alloc: Global, rules: &mut Rules, plant: &Plant, x: u32) -> Result<(), AllocError>
     requires { x < length plant.now.sections }
     ensures { OnOk result
@@ -134,7 +131,7 @@ pub fn push_tail(alloc: Global, rules: &mut Rules, plant: &Plant, x: u32) -> Res
     push_tail_in(alloc, rules, plant, x, Dir::Down)
 }
 
-// Adds the rule of leave for trains in direction `d`, if `x` has no neighbour there.
+// Adds the rule of `leave x` for direction `d`, if `x` has no neighbour there.
 fn push_leave_in(
     alloc: Global,
     rules: &mut Rules,
@@ -151,7 +148,7 @@ fn push_leave_in(
         ++ map (definitions.leave_rule plant.now x)
         (filter (λ e. not (has_neighbour section.now e)) (d ∷ []))) }
 {
-    if section.beside(d, 0).is_some() {
+    if section.neighbour_on(d, 0).is_some() {
         return Ok(());
     }
     let train = Occupancy::Taken {
@@ -162,11 +159,11 @@ fn push_leave_in(
     let mut forms = Vec::new(alloc);
     forms.push(occupancy_is(plant, x, train))?;
     let mut sets = Row::new(alloc);
-    sets.push(occupancy_becomes(plant, x, Occupancy::Vacant))?;
+    sets.push(set_occupancy(plant, x, Occupancy::Vacant))?;
     push_rule(rules, forms, sets)
 }
 
-/// Adds the rules of leave for section `x`, one for each direction in which it has no neighbour.
+/// Adds the rules of `leave x`, one for each direction in which it has no neighbour.
 pub fn push_leave(alloc: Global, rules: &mut Rules, plant: &Plant, x: u32) -> Result<(), AllocError>
     requires { x < length plant.now.sections }
     ensures { OnOk result

@@ -1,5 +1,4 @@
-//! That the system of a plant is valid, and that an event has few rules. Each function here does
-//! nothing, and tells a proof.
+//! Theorems: the system of a plant is valid, and an event has few rules.
 
 ghost use Rattle.std.specs.Prelude.{◌≤◌, length, IsTrue};
 ghost use Rattle.ilk_ir.specs.System.{system_valid};
@@ -9,18 +8,18 @@ ghost use Rattle.ilk_model.specs.declared.event.Event.{Event};
 
 use ilk_plant::Plant;
 
-/// The most rules of an event: of one kind of event with the number of one route or section.
+/// The maximum number of rules of an event of one route or section.
 pub const MAX_EVENT_RULES: u64 = 256;
 
-/// The system of a plant is valid: each rule asks and sets variables that there are, to values of
-/// their ranges, and sets none twice.
+/// The system of a plant is valid: its rules test and set only existing variables, to values in
+/// range, and set none twice. Proof only; no run-time effect.
 pub fn system_is_valid(plant: &Plant)
     ensures { IsTrue (system_valid (system_of plant.now)) }
 {
     plant.is_sound();
 }
 
-/// No event has more than `MAX_EVENT_RULES` rules.
+/// No event has more than `MAX_EVENT_RULES` rules. Proof only; no run-time effect.
 pub fn few_rules_of_events(plant: &Plant)
     ensures { (event : Event) → length (rules_of plant.now event) ≤ MAX_EVENT_RULES }
 {

@@ -1,4 +1,4 @@
--- Lines of a certificate begin one wherever they are cut.
+-- Lines of a certificate begin one, regardless of the cut.
 use Rattle.std.proofs.Common.{◌≡◌, ℕ, zero, suc, Bool, true, false, List, [], ◌∷◌, ◌++◌, refl, ap, ◌∙◌, take}
 use Rattle.ilk_cnf.specs.Literal.{Literal}
 use Rattle.ilk_ir.specs.System.{SystemTree}
@@ -8,7 +8,7 @@ use Rattle.ilk_unroll.specs.declared.queries.Wanted.{Wanted}
 use Rattle.ilk_unroll.specs.Goal.{GoalTree}
 use Rattle.ilk_unroll.specs.Query.{query_formula}
 use Rattle.ilk_certificate.specs.Certificate.{certified_queries}
-use Rattle.ilk_cert_audit.specs.Grammar.{CertificateLines, Either, QueryLines, StepLines, ToldLines}
+use Rattle.ilk_cert_audit.specs.Grammar.{CertificateLines, IfElse, QueryLines, StepLines, ToldLines}
 
 take-none : (m : ℕ) → take m (let xs : List Bytes = [] in xs) ≡ []
 take-none zero = refl
@@ -25,8 +25,8 @@ cut-steps may n clauses After Cut cut (line ∷ lines) (suc m) h = (h.0, h.1, h.
     by_end : (b : Bool) →
         (StepLines may n (clauses ++ h.0.clause ∷ []) After lines →
         StepLines true n (clauses ++ h.0.clause ∷ []) Cut (take m lines)) →
-        Either b (After lines) (StepLines may n (clauses ++ h.0.clause ∷ []) After lines) →
-        Either b (Cut (take m lines)) (StepLines true n (clauses ++ h.0.clause ∷ []) Cut (take m lines))
+        IfElse b (After lines) (StepLines may n (clauses ++ h.0.clause ∷ []) After lines) →
+        IfElse b (Cut (take m lines)) (StepLines true n (clauses ++ h.0.clause ∷ []) Cut (take m lines))
     by_end true more after = cut lines m after
     by_end false more after = more after
 

@@ -1,4 +1,4 @@
--- What is answered after some lines, and at the end.
+-- The answers after some lines, and at the end.
 use Rattle.std.proofs.Common.{◌≡◌, ℕ, ◌+◌, ◌-◌, ◌<◌, ◌^◌, false, List, [], ◌∷◌, length, take, refl, sym, ap, ◌∙◌, subst, arith, Some, None}
 use Rattle.std.proofs.Math.Seq.{take-length}
 use Rattle.std.proofs.lemmas.List.{append-nil}
@@ -6,9 +6,9 @@ use Rattle.ilk_ir.specs.System.{SystemTree}
 use Rattle.ilk_lines.specs.Lines.{after_lines, Bytes, lines_of}
 use Rattle.ilk_unroll.specs.Goal.{GoalTree}
 use Rattle.ilk_certificate.specs.Certificate.{IsCertificate}
-use Rattle.ilk_cert_audit.specs.Answers.{EndsAs, in_64_bits}
+use Rattle.ilk_cert_audit.specs.Answers.{EndsAs, saturated_to_64_bits}
 use Rattle.ilk_cert_audit.specs.Fed.{IsAt}
-use Rattle.ilk_cert_audit.specs.FirstBad.{Begins, IsBadLine, IsFirstBad}
+use Rattle.ilk_cert_audit.specs.FirstBad.{BeginsCertificate, IsFirstBadOfLines, IsFirstBadOfText}
 use Rattle.ilk_cert_audit.specs.Grammar.{CertificateLines}
 use Rattle.ilk_cert_audit.specs.Stages.{FollowingLines}
 use Rattle.ilk_cert_audit.specs.declared.answers.Ended.TheVariants.{Rejected}
@@ -19,7 +19,6 @@ use Rattle.ilk_cert_audit.proofs.Pieces.{lines-few}
 use Rattle.ilk_cert_audit.proofs.Stages.{safe-same}
 use Rattle.ilk_cert_audit.proofs.Whole.{certificate_lines-whole, whole-certificate}
 
--- whole lines end at the last stage alone
 only-ended : (s : SystemTree) (g : GoalTree) (k : ℕ) (stage : Stage) → FollowingLines false s g k stage [] → stage ≡ Ended k
 only-ended s g k Head h = absurd (cc)
 only-ended s g k Told h = absurd (cc)
@@ -40,13 +39,13 @@ accepted-at s g bytes n k at ends =
     let P : List Bytes → Type 0 = λ xs. CertificateLines false s g k xs in
     whole-certificate s g k bytes (subst P (append-nil (lines_of bytes)) ((at.follows false k []).1 (refl, refl))) ends
 
--- where the next line is missing
-pub missing-at : (s : SystemTree) (g : GoalTree) (stage : Stage) (bytes : Bytes) (n : ℕ) → IsAt s g stage (lines_of bytes) n → ((k : ℕ) → stage ≡ Ended k → after_lines bytes ≡ [] → ⊥) → (m : ℕ) × IsFirstBad s g bytes m × (n ≡ in_64_bits m)
+pub missing-at : (s : SystemTree) (g : GoalTree) (stage : Stage) (bytes : Bytes) (n : ℕ) → IsAt s g stage (lines_of bytes) n → ((k : ℕ) → stage ≡ Ended k → after_lines bytes ≡ [] → ⊥)
+    → (m : ℕ) × IsFirstBadOfText s g bytes m × (n ≡ saturated_to_64_bits m)
 missing-at s g stage bytes n at open_ =
     let lines = lines_of bytes in
     let one : length lines + 1 - 1 ≡ length lines = omega arith in
     let before : take (length lines + 1 - 1) lines ≡ lines = ap (λ k. take k lines) one ∙ take-length lines in
-    let P : List Bytes → Type 0 = λ xs. Begins s g xs in (
+    let P : List Bytes → Type 0 = λ xs. BeginsCertificate s g xs in (
       length lines + 1,
       record {
         none = λ k c. (let w = whole-at s g stage bytes n k at c in open_ k w.0 w.1);
@@ -58,8 +57,7 @@ missing-at s g stage bytes n at open_ =
       at.number_is,
     )
 
--- where a line was bad
-pub bad-first : (s : SystemTree) (g : GoalTree) (bytes : Bytes) (m : ℕ) → IsBadLine s g (lines_of bytes) m → IsFirstBad s g bytes m
+pub bad-first : (s : SystemTree) (g : GoalTree) (bytes : Bytes) (m : ℕ) → IsFirstBadOfLines s g (lines_of bytes) m → IsFirstBadOfText s g bytes m
 bad-first s g bytes m b = record {
   none = λ k c. b.bad (k, cut-certificate false s g k (lines_of bytes) m (certificate_lines-whole s g k bytes c).0);
   from_one = b.from_one;
@@ -68,7 +66,6 @@ bad-first s g bytes m b = record {
   bad = λ within. b.bad;
 }
 
--- lines are those of a certificate for one number
 one-line : (s : SystemTree) (g : GoalTree) (k m : ℕ) (lines : List Bytes) → CertificateLines false s g k lines → CertificateLines false s g m lines → k ≡ m
 one-line s g k m [] a b = absurd (cc)
 one-line s g k m (head ∷ []) a b = absurd (let z = a.1 in cc)
@@ -77,10 +74,9 @@ one-line s g k m (head ∷ (told ∷ lines)) a b = safe-same k m a.1.2 b.1.2 (sy
 pub one_number : (s : SystemTree) (g : GoalTree) (k m : ℕ) (bytes : Bytes) → IsCertificate s g k bytes → IsCertificate s g m bytes → k ≡ m
 one_number s g k m bytes a b = one-line s g k m (lines_of bytes) (certificate_lines-whole s g k bytes a).0 (certificate_lines-whole s g m bytes b).0
 
--- the number of a line of fewer than 2^63 bytes fits
-pub number_fits : (s : SystemTree) (g : GoalTree) (bytes : Bytes) (n : ℕ) → length bytes < 2 ^ 63 → EndsAs s g bytes (Rejected n) → IsFirstBad s g bytes n
+pub number_fits : (s : SystemTree) (g : GoalTree) (bytes : Bytes) (n : ℕ) → length bytes < 2 ^ 63 → EndsAs s g bytes (Rejected n) → IsFirstBadOfText s g bytes n
 number_fits s g bytes n small e =
     let few = lines-few bytes in
     let same : e.0 ≡ n = omega (arith, e.2, e.1.within, few, small) in
-    let P : ℕ → Type 0 = λ k. IsFirstBad s g bytes k in
+    let P : ℕ → Type 0 = λ k. IsFirstBadOfText s g bytes k in
     subst P same e.1

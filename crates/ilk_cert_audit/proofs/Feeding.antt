@@ -1,13 +1,13 @@
--- Bytes are fed.
+-- Feeding bytes.
 use Rattle.std.proofs.Common.{◌≡◌, ℕ, ◌+◌, ◌-◌, Bool, true, false, ◌==◌, None, List, [], ◌∷◌, ◌++◌, length, refl, sym, ap, ◌∙◌, subst, arith, append-nil, append_assoc, length-append}
 use Rattle.std.proofs.lemmas.Bool.{eq-eqb, eqb-true}
 use Rattle.std.proofs.lemmas.List.{take-append-le}
 use Rattle.ilk_ir.specs.System.{SystemTree}
 use Rattle.ilk_lines.specs.Lines.{after_lines, Bytes, lines_of}
-use Rattle.ilk_lines.specs.Written.{Lacks}
+use Rattle.ilk_lines.specs.Written.{LacksByte}
 use Rattle.ilk_unroll.specs.Goal.{GoalTree}
-use Rattle.ilk_cert_audit.specs.Fed.{HasTaken, IsFedTo, IsKept, IsReached, Keeps}
-use Rattle.ilk_cert_audit.specs.FirstBad.{Begins, IsBadLine}
+use Rattle.ilk_cert_audit.specs.Fed.{HasTakenLines, IsFedTo, IsKept, IsStageAfter, Keeps}
+use Rattle.ilk_cert_audit.specs.FirstBad.{BeginsCertificate, IsFirstBadOfLines}
 use Rattle.ilk_cert_audit.specs.Stages.{IsNext, is_hopeless, is_refused}
 use Rattle.ilk_cert_audit.specs.declared.lines.LineAudit.{LineAudit}
 use Rattle.ilk_cert_audit.specs.declared.stage.Stage.{Stage}
@@ -40,15 +40,12 @@ keeps-is (Within m q a) u b h k = k
 keeps-is (Ended m) u b h k = k
 keeps-is (Refused n) u b h k = absurd (cc)
 
--- a whole line is kept
 kept-whole : (stage : Stage) (kept line : Bytes) → line ≡ kept → IsKept stage kept line
 kept-whole stage kept line same = record { rest = []; whole = same ∙ sym (append-nil kept); none_left = λ h. refl }
 
--- a line that may still become right is kept whole
 kept-is : (stage : Stage) (kept line : Bytes) → is_hopeless stage kept ≡ false → IsKept stage kept line → line ≡ kept
 kept-is stage kept line hope k = k.whole ∙ ap (λ (r : Bytes). kept ++ r) (k.none_left hope) ∙ append-nil kept
 
--- nothing is kept only of an empty line
 pub kept-none : (stage : Stage) (line : Bytes) → IsKept stage [] line → line ≡ []
 kept-none stage line k = kept-is stage [] line (no-bytes stage) k
   where
@@ -60,44 +57,39 @@ kept-none stage line k = kept-is stage [] line (no-bytes stage) k
     no-bytes (Ended k) = refl
     no-bytes (Refused n) = refl
 
--- and of an empty line nothing is
 pub kept-all : (stage : Stage) (kept line : Bytes) → IsKept stage kept line → line ≡ [] → kept ≡ []
 kept-all stage [] line k none = refl
 kept-all stage (x ∷ kept) line k none = (let h : [] ≡ x ∷ (kept ++ k.rest) = sym none ∙ k.whole in cc)
 
--- what is kept where no line was bad
 pub waits : (s : SystemTree) (g : GoalTree) (audit : LineAudit) (unfinished bytes : Bytes) → is_refused audit.stage ≡ false → IsFedTo s g audit unfinished bytes → IsKept audit.stage unfinished (after_lines bytes)
 waits s g audit unfinished bytes open_ fed = keeps-is audit.stage unfinished bytes open_ fed.kept
 
--- the end of a line is fed
 line-ended : (s : SystemTree) (g : GoalTree) (old new : LineAudit) (unfinished kept bytes rest : Bytes)
-    → Lacks 10 rest → IsFedTo s g old unfinished bytes
-    → ((lines : List Bytes) → HasTaken s g old lines → HasTaken s g new (lines ++ (after_lines bytes ++ rest) ∷ []))
+    → LacksByte 10 rest → IsFedTo s g old unfinished bytes
+    → ((lines : List Bytes) → HasTakenLines s g old lines → HasTakenLines s g new (lines ++ (after_lines bytes ++ rest) ∷ []))
     → Keeps new.stage kept (bytes ++ (rest ++ 10 ∷ [])) → IsFedTo s g new kept (bytes ++ (rest ++ 10 ∷ []))
 line-ended s g old new unfinished kept bytes rest lacks fed takes keeps =
-    let P : List Bytes → Type 0 = λ ls. HasTaken s g new ls in
+    let P : List Bytes → Type 0 = λ ls. HasTakenLines s g new ls in
     record {
       taken = subst P (sym (line-added bytes rest lacks).0) (takes (lines_of bytes) fed.taken);
       kept = keeps;
     }
 
--- of a line that was kept whole
 pub line-fed : (s : SystemTree) (g : GoalTree) (old new : LineAudit) (unfinished bytes rest : Bytes)
-    → is_refused old.stage ≡ false → is_hopeless old.stage unfinished ≡ false → Lacks 10 rest
+    → is_refused old.stage ≡ false → is_hopeless old.stage unfinished ≡ false → LacksByte 10 rest
     → IsFedTo s g old unfinished bytes
-    → ((lines : List Bytes) → HasTaken s g old lines → HasTaken s g new (lines ++ (unfinished ++ rest) ∷ []))
+    → ((lines : List Bytes) → HasTakenLines s g old lines → HasTakenLines s g new (lines ++ (unfinished ++ rest) ∷ []))
     → IsFedTo s g new [] (bytes ++ (rest ++ 10 ∷ []))
 line-fed s g old new unfinished bytes rest open_ hope lacks fed takes =
     let same = kept-is old.stage unfinished (after_lines bytes) hope (waits s g old unfinished bytes open_ fed) in
-    let P : Bytes → Type 0 = λ u. (lines : List Bytes) → HasTaken s g old lines → HasTaken s g new (lines ++ (u ++ rest) ∷ []) in
+    let P : Bytes → Type 0 = λ u. (lines : List Bytes) → HasTakenLines s g old lines → HasTakenLines s g new (lines ++ (u ++ rest) ∷ []) in
     line-ended s g old new unfinished [] bytes rest lacks fed (subst P (sym same) takes)
     (keeps-from new.stage [] (bytes ++ (rest ++ 10 ∷ [])) (kept-whole new.stage [] (after_lines (bytes ++ (rest ++ 10 ∷ []))) (line-added bytes rest lacks).1))
 
--- of a line that was bad whatever its last bytes are
 pub hopeless-fed : (s : SystemTree) (g : GoalTree) (old new : LineAudit) (unfinished bytes rest : Bytes)
     → is_refused old.stage ≡ false → is_hopeless old.stage unfinished ≡ true → is_refused new.stage ≡ true
-    → Lacks 10 rest → IsFedTo s g old unfinished bytes
-    → ((lines : List Bytes) (line : Bytes) → HasTaken s g old lines → IsNext s g old.stage line None → HasTaken s g new (lines ++ line ∷ []))
+    → LacksByte 10 rest → IsFedTo s g old unfinished bytes
+    → ((lines : List Bytes) (line : Bytes) → HasTakenLines s g old lines → IsNext s g old.stage line None → HasTakenLines s g new (lines ++ line ∷ []))
     → IsFedTo s g new unfinished (bytes ++ (rest ++ 10 ∷ []))
 hopeless-fed s g old new unfinished bytes rest open_ hopeless refused lacks fed takes =
     let kept = waits s g old unfinished bytes open_ fed in
@@ -107,27 +99,25 @@ hopeless-fed s g old new unfinished bytes rest open_ hopeless refused lacks fed 
     line-ended s g old new unfinished unfinished bytes rest lacks fed (λ lines taken. takes lines (after_lines bytes ++ rest) taken bad)
     (keeps-any new.stage unfinished (bytes ++ (rest ++ 10 ∷ [])) refused)
 
--- bytes of a line are fed that isn't ended: of one that may become right they are kept
 pub rest-fed : (s : SystemTree) (g : GoalTree) (audit : LineAudit) (unfinished bytes rest : Bytes)
-    → is_refused audit.stage ≡ false → is_hopeless audit.stage unfinished ≡ false → Lacks 10 rest
+    → is_refused audit.stage ≡ false → is_hopeless audit.stage unfinished ≡ false → LacksByte 10 rest
     → IsFedTo s g audit unfinished bytes → IsFedTo s g audit (unfinished ++ rest) (bytes ++ rest)
 rest-fed s g audit unfinished bytes rest open_ hope lacks fed =
     let same = kept-is audit.stage unfinished (after_lines bytes) hope (waits s g audit unfinished bytes open_ fed) in
     let added = bytes-added bytes rest lacks in
-    let P : List Bytes → Type 0 = λ ls. HasTaken s g audit ls in
+    let P : List Bytes → Type 0 = λ ls. HasTakenLines s g audit ls in
     record {
       taken = subst P (sym added.0) fed.taken;
       kept = keeps-from audit.stage (unfinished ++ rest) (bytes ++ rest) (kept-whole audit.stage (unfinished ++ rest) (after_lines (bytes ++ rest)) (added.1 ∙ ap (λ (u : Bytes). u ++ rest) same));
     }
 
--- of one that is bad whatever follows they aren't
 pub rest-dropped : (s : SystemTree) (g : GoalTree) (audit : LineAudit) (unfinished bytes rest : Bytes)
-    → is_refused audit.stage ≡ false → is_hopeless audit.stage unfinished ≡ true → Lacks 10 rest
+    → is_refused audit.stage ≡ false → is_hopeless audit.stage unfinished ≡ true → LacksByte 10 rest
     → IsFedTo s g audit unfinished bytes → IsFedTo s g audit unfinished (bytes ++ rest)
 rest-dropped s g audit unfinished bytes rest open_ hopeless lacks fed =
     let kept = waits s g audit unfinished bytes open_ fed in
     let added = bytes-added bytes rest lacks in
-    let P : List Bytes → Type 0 = λ ls. HasTaken s g audit ls in
+    let P : List Bytes → Type 0 = λ ls. HasTakenLines s g audit ls in
     record {
       taken = subst P (sym added.0) fed.taken;
       kept = keeps-from audit.stage unfinished (bytes ++ rest) (record {
@@ -137,12 +127,12 @@ rest-dropped s g audit unfinished bytes rest open_ hopeless lacks fed =
       });
     }
 
-bad-longer : (s : SystemTree) (g : GoalTree) (lines more : List Bytes) (m : ℕ) → IsBadLine s g lines m → IsBadLine s g (lines ++ more) m
+bad-longer : (s : SystemTree) (g : GoalTree) (lines more : List Bytes) (m : ℕ) → IsFirstBadOfLines s g lines m → IsFirstBadOfLines s g (lines ++ more) m
 bad-longer s g lines more m b =
     let long : length (lines ++ more) ≡ length lines + length more = length-append lines more in
     let before = take-append-le (m - 1) lines more (omega (arith, b.within)) in
     let here = take-append-le m lines more b.within in
-    let P : List Bytes → Type 0 = λ xs. Begins s g xs in
+    let P : List Bytes → Type 0 = λ xs. BeginsCertificate s g xs in
     record {
       from_one = b.from_one;
       within = omega (arith, b.within, long);
@@ -150,7 +140,6 @@ bad-longer s g lines more m b =
       bad = λ h. b.bad (subst P here h);
     }
 
--- after a bad line nothing changes
 pub refused-fed : (s : SystemTree) (g : GoalTree) (audit : LineAudit) (unfinished bytes rest : Bytes) → is_refused audit.stage ≡ true → IsFedTo s g audit unfinished bytes → IsFedTo s g audit unfinished (bytes ++ rest)
 refused-fed s g audit unfinished bytes rest refused fed =
     record {
@@ -162,17 +151,16 @@ refused-fed s g audit unfinished bytes rest refused fed =
       kept = keeps-any audit.stage unfinished (bytes ++ rest) refused;
     }
   where
-    by_stage : (stage : Stage) → is_refused stage ≡ true → IsReached s g stage (lines_of bytes) audit.line → IsReached s g stage (lines_of (bytes ++ rest)) audit.line
+    by_stage : (stage : Stage) → is_refused stage ≡ true → IsStageAfter s g stage (lines_of bytes) audit.line → IsStageAfter s g stage (lines_of (bytes ++ rest)) audit.line
     by_stage Head h r = absurd (cc)
     by_stage Told h r = absurd (cc)
     by_stage (Between k next) h r = absurd (cc)
     by_stage (Within k q a) h r = absurd (cc)
     by_stage (Ended k) h r = absurd (cc)
     by_stage (Refused n) h r = (let more = lines-more bytes rest in
-        let P : List Bytes → Type 0 = λ ls. IsBadLine s g ls r.0 in
+        let P : List Bytes → Type 0 = λ ls. IsFirstBadOfLines s g ls r.0 in
         (r.0, subst P (sym more.1) (bad-longer s g (lines_of bytes) more.0 r.0 r.1), r.2))
 
--- whether nothing waits, by the number of bytes
 pub none-waits : (b : Bool) (n : ℕ) (xs : Bytes) → b ≡ (n == 0) → n ≡ length xs → (b ≡ true → xs ≡ []) × (xs ≡ [] → b ≡ true)
 none-waits b n [] e long = ((λ t. refl), (λ none. e ∙ eq-eqb n 0 (omega (arith, long))))
 none-waits b n (x ∷ xs) e long = ((λ t. absurd (let z = eqb-true n 0 (sym e ∙ t) in omega (arith, z, long))), (λ none. absurd (cc)))

@@ -1,4 +1,4 @@
--- A line that is too long for its stage, or begins as no step does, is bad whatever follows.
+-- A line that is too long for its stage, or does not begin as a step, is bad whatever follows.
 use Rattle.std.proofs.Common.{◌≡◌, ℕ, ◌<◌, ◌≤◌, true, false, not, List, [], ◌∷◌, ◌++◌, codes, length, nat_le, nat_lt, take, refl, sym, ap, ◌∙◌, arith, length-append, Some, None}
 use Rattle.std.specs.Fmt.{decimal}
 use Rattle.std.specs.Str.{bytes_eq}
@@ -19,11 +19,10 @@ use Rattle.ilk_unroll.specs.declared.queries.Wanted.{Wanted}
 use Rattle.ilk_unroll.specs.declared.queries.Wanted.TheVariants.{Hazard, Breach, Step as StepOf}
 use Rattle.ilk_certificate.specs.CertificateText.{query_line}
 use Rattle.ilk_cert_audit.specs.Grammar.{safe_line}
-use Rattle.ilk_cert_audit.specs.Stages.{IsNext, begins_no_step, is_hopeless, is_number, is_stage, may_ask}
+use Rattle.ilk_cert_audit.specs.Stages.{IsNext, begins_no_step, is_hopeless, is_valid_k, is_valid_stage, may_have_query}
 use Rattle.ilk_cert_audit.specs.declared.stage.Stage.{Stage}
 use Rattle.ilk_cert_audit.specs.declared.stage.Stage.TheVariants.{Head, Told, Between, Within, Ended, Refused}
 
--- a line that begins with more bytes than another has isn't that
 too-long : (begun rest line : Bytes) → nat_lt 32 (length begun) ≡ true → begun ++ rest ≡ line → length line ≤ 32 → ⊥
 too-long begun rest line long same short =
     let more : 32 < length begun = grind (arith, nat_tests) in
@@ -40,7 +39,6 @@ query-short (Hazard n) valid = let small : n ≤ 16 = grind (arith, nat_tests) i
 query-short (Breach n) valid = let small : n ≤ 16 = grind (arith, nat_tests) in omega (arith, two-digits n small)
 query-short (StepOf n) valid = let small : n ≤ 16 = grind (arith, nat_tests) in omega (arith, two-digits n small)
 
--- the line of a step begins with its word
 step-begins : (front more : List Bytes) → (rest : Bytes) × (line_of (codes "step" ∷ (front ++ (codes "0" ∷ more))) ≡ codes "step " ++ rest)
 step-begins [] more = (line_of (codes "0" ∷ more), refl)
 step-begins (word ∷ front) more = (line_of (word ∷ (front ++ (codes "0" ∷ more))), refl)
@@ -55,13 +53,12 @@ no-step begun rest s h same =
     let never : false ≡ true = ap not (sym equal) ∙ parts.1 in
     cc
 
--- such a line may stand at no stage
-pub hopeless-bad : (s : SystemTree) (g : GoalTree) (stage : Stage) (begun rest : Bytes) → is_stage stage ≡ true → is_hopeless stage begun ≡ true → IsNext s g stage (begun ++ rest) None
+pub hopeless-bad : (s : SystemTree) (g : GoalTree) (stage : Stage) (begun rest : Bytes) → is_valid_stage stage ≡ true → is_hopeless stage begun ≡ true → IsNext s g stage (begun ++ rest) None
 hopeless-bad s g Head begun rest staged h may k lines f = too-long begun rest (codes "irv certificate 3") h f.0 (omega arith)
 hopeless-bad s g Told begun rest staged h may k lines f = too-long begun rest (safe_line k) h f.0 (safe-short k f.2)
 hopeless-bad s g (Between m None) begun rest staged h may k lines f = too-long begun rest (codes "end") h f.1.0 (omega arith)
 hopeless-bad s g (Between m (Some q)) begun rest staged h may k lines f =
-    let asked = and_parts (is_number m) (may_ask m q) staged in
+    let asked = and_parts (is_valid_k m) (may_have_query m q) staged in
     let valid = and_parts (nat_le (step_count q) m) (wanted_valid q) asked.1 in
     too-long begun rest (query_line q) h f.1.0 (query-short q valid.1)
 hopeless-bad s g (Within m q auditor) begun rest staged h may k lines f = no-step begun rest f.1.0 h f.1.1

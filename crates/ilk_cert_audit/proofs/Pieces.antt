@@ -1,4 +1,4 @@
--- What bytes are added to a text: to the line that isn't finished, or to its end.
+-- Adding bytes to the unfinished line of a text, or to its end.
 use Rattle.std.proofs.Common.{◌≡◌, ℕ, zero, suc, ◌+◌, ◌-◌, ◌<◌, ◌≤◌, Bool, true, false, ◌==◌, All, List, [], ◌∷◌, ◌++◌, cond, drop, get_or, length, take, refl, sym, ap, ◌∙◌, subst, arith, append_assoc, Some, None}
 use Rattle.std.specs.Prelude.{position}
 use Rattle.std.specs.List.{onto_first}
@@ -7,43 +7,40 @@ use Rattle.std.proofs.lemmas.List.{append-nil, drop_more, take-append-drop}
 use Rattle.std.proofs.lemmas.List.Elements.{All-nil, All-cons, All-append}
 use Rattle.std.proofs.lemmas.List.Quantifiers.{position-Some}
 use Rattle.ilk_lines.specs.Lines.{after_lines, Bytes, last_part, lines_of, parts_at, parts_but_last}
-use Rattle.ilk_lines.specs.Written.{has_byte, Lacks, text_of}
+use Rattle.ilk_lines.specs.Written.{has_byte, LacksByte, text_of}
 use Rattle.ilk_lines.proofs.Cuts.{parts-none, parts-some, parts_follow}
 use Rattle.ilk_lines.proofs.Lacking.{lacks_append}
 use Rattle.ilk_lines.proofs.TextLines.{lines_then, text-lines, text_of-append}
 
--- no part has the byte at which the text is cut
-parts-lack : (c : ℕ) (text : Bytes) → All (Lacks c) (parts_at c text)
-parts-lack c [] = All-cons (Lacks c) [] [] refl (All-nil (Lacks c))
+parts-lack : (c : ℕ) (text : Bytes) → All (LacksByte c) (parts_at c text)
+parts-lack c [] = All-cons (LacksByte c) [] [] refl (All-nil (LacksByte c))
 parts-lack c (x ∷ text) = by_byte (x == c) refl (parts_follow c text) (parts-lack c text)
   where
-    by_byte : (b : Bool) → (x == c) ≡ b → ((part : Bytes) × (parts : List Bytes) × (parts_at c text ≡ part ∷ parts)) → All (Lacks c) (parts_at c text) → All (Lacks c) (cond b ([] ∷ parts_at c text) (onto_first x (parts_at c text)))
-    by_byte true e f rest = All-cons (Lacks c) [] (parts_at c text) refl rest
+    by_byte : (b : Bool) → (x == c) ≡ b → ((part : Bytes) × (parts : List Bytes) × (parts_at c text ≡ part ∷ parts)) → All (LacksByte c) (parts_at c text) → All (LacksByte c) (cond b ([] ∷ parts_at c text) (onto_first x (parts_at c text)))
+    by_byte true e f rest = All-cons (LacksByte c) [] (parts_at c text) refl rest
     by_byte false e (part, parts, same) rest =
-        let P : List Bytes → Type 0 = λ ps. All (Lacks c) ps in
-        let Q : List Bytes → Type 0 = λ ps. All (Lacks c) (onto_first x ps) in
+        let P : List Bytes → Type 0 = λ ps. All (LacksByte c) ps in
+        let Q : List Bytes → Type 0 = λ ps. All (LacksByte c) (onto_first x ps) in
         let all = subst P same rest in
-        subst Q (sym same) (All-cons (Lacks c) (x ∷ part) parts (or_from (x == c) (has_byte c part) e (all zero part (omega arith))) (λ k d within. all (suc k) d (omega arith)))
+        subst Q (sym same) (All-cons (LacksByte c) (x ∷ part) parts (or_from (x == c) (has_byte c part) e (all zero part (omega arith))) (λ k d within. all (suc k) d (omega arith)))
 
-but-last-lack : (c : ℕ) (parts : List Bytes) → All (Lacks c) parts → All (Lacks c) (parts_but_last parts)
-but-last-lack c [] all = All-nil (Lacks c)
-but-last-lack c (part ∷ []) all = All-nil (Lacks c)
-but-last-lack c (part ∷ (next ∷ more)) all = All-cons (Lacks c) part (parts_but_last (next ∷ more)) (all zero part (omega arith)) (but-last-lack c (next ∷ more) (λ k d within. all (suc k) d (omega arith)))
+but-last-lack : (c : ℕ) (parts : List Bytes) → All (LacksByte c) parts → All (LacksByte c) (parts_but_last parts)
+but-last-lack c [] all = All-nil (LacksByte c)
+but-last-lack c (part ∷ []) all = All-nil (LacksByte c)
+but-last-lack c (part ∷ (next ∷ more)) all = All-cons (LacksByte c) part (parts_but_last (next ∷ more)) (all zero part (omega arith)) (but-last-lack c (next ∷ more) (λ k d within. all (suc k) d (omega arith)))
 
-last-lacks : (c : ℕ) (parts : List Bytes) → All (Lacks c) parts → Lacks c (last_part parts)
+last-lacks : (c : ℕ) (parts : List Bytes) → All (LacksByte c) parts → LacksByte c (last_part parts)
 last-lacks c [] all = refl
 last-lacks c (part ∷ []) all = all zero part (omega arith)
 last-lacks c (part ∷ (next ∷ more)) all = last-lacks c (next ∷ more) (λ k d within. all (suc k) d (omega arith))
 
--- bytes without a line feed are added to the line that isn't finished
-pub bytes-added : (bytes more : Bytes) → Lacks 10 more → (lines_of (bytes ++ more) ≡ lines_of bytes) × (after_lines (bytes ++ more) ≡ after_lines bytes ++ more)
+pub bytes-added : (bytes more : Bytes) → LacksByte 10 more → (lines_of (bytes ++ more) ≡ lines_of bytes) × (after_lines (bytes ++ more) ≡ after_lines bytes ++ more)
 bytes-added bytes more lacks =
     let whole : bytes ++ more ≡ text_of (lines_of bytes) ++ (after_lines bytes ++ more) = ap (λ (t : Bytes). t ++ more) (text-lines bytes) ∙ append_assoc (text_of (lines_of bytes)) (after_lines bytes) more in
     let back = lines_then (lines_of bytes) (after_lines bytes ++ more) (but-last-lack 10 (parts_at 10 bytes) (parts-lack 10 bytes)) (lacks_append 10 (after_lines bytes) more (last-lacks 10 (parts_at 10 bytes) (parts-lack 10 bytes)) lacks) in
     (ap lines_of whole ∙ back.0, ap after_lines whole ∙ back.1)
 
--- and a line feed after them finishes it
-pub line-added : (bytes more : Bytes) → Lacks 10 more → (lines_of (bytes ++ (more ++ 10 ∷ [])) ≡ lines_of bytes ++ (after_lines bytes ++ more) ∷ []) × (after_lines (bytes ++ (more ++ 10 ∷ [])) ≡ [])
+pub line-added : (bytes more : Bytes) → LacksByte 10 more → (lines_of (bytes ++ (more ++ 10 ∷ [])) ≡ lines_of bytes ++ (after_lines bytes ++ more) ∷ []) × (after_lines (bytes ++ (more ++ 10 ∷ [])) ≡ [])
 line-added bytes more lacks =
     let ls = lines_of bytes in
     let line = after_lines bytes ++ more in
@@ -53,16 +50,15 @@ line-added bytes more lacks =
     ∙ ap (λ (t : Bytes). text_of ls ++ t) (sym (append_assoc (after_lines bytes) more (10 ∷ [])))
     ∙ sym text
     ∙ sym (append-nil (text_of (ls ++ line ∷ []))) in
-    let plain = All-append (Lacks 10) ls (line ∷ [])
+    let plain = All-append (LacksByte 10) ls (line ∷ [])
     (but-last-lack 10 (parts_at 10 bytes) (parts-lack 10 bytes))
-    (All-cons (Lacks 10) line []
+    (All-cons (LacksByte 10) line []
     (lacks_append 10 (after_lines bytes) more
     (last-lacks 10 (parts_at 10 bytes) (parts-lack 10 bytes)) lacks)
-    (All-nil (Lacks 10))) in
+    (All-nil (LacksByte 10))) in
     let back = lines_then (ls ++ line ∷ []) [] plain refl in
     (ap lines_of whole ∙ back.0, ap after_lines whole ∙ back.1)
 
--- more bytes change no line that is ended
 pub lines-more : (bytes more : Bytes) → (others : List Bytes) × (lines_of (bytes ++ more) ≡ lines_of bytes ++ others)
 lines-more bytes more =
     let ls = lines_of bytes in
@@ -72,19 +68,18 @@ lines-more bytes more =
     ∙ ap (λ (t : Bytes). text_of ls ++ t) (text-lines rest)
     ∙ sym (append_assoc (text_of ls) (text_of (lines_of rest)) (after_lines rest))
     ∙ ap (λ (t : Bytes). t ++ after_lines rest) (sym (text_of-append ls (lines_of rest))) in
-    let plain = All-append (Lacks 10) ls (lines_of rest) (but-last-lack 10 (parts_at 10 bytes) (parts-lack 10 bytes)) (but-last-lack 10 (parts_at 10 rest) (parts-lack 10 rest)) in
+    let plain = All-append (LacksByte 10) ls (lines_of rest) (but-last-lack 10 (parts_at 10 bytes) (parts-lack 10 bytes)) (but-last-lack 10 (parts_at 10 rest) (parts-lack 10 rest)) in
     let back = lines_then (ls ++ lines_of rest) (after_lines rest) plain (last-lacks 10 (parts_at 10 rest) (parts-lack 10 rest)) in
     (lines_of rest, ap lines_of whole ∙ back.0)
 
--- where the first line feed stands
-pub feed_lacks : (text : Bytes) (i : ℕ) → position (λ b. b == 10) text ≡ Some i → Lacks 10 (take i text)
+pub feed_lacks : (text : Bytes) (i : ℕ) → position (λ b. b == 10) text ≡ Some i → LacksByte 10 (take i text)
 feed_lacks text i e =
-    let P : List Bytes → Type 0 = λ ps. All (Lacks 10) ps in
+    let P : List Bytes → Type 0 = λ ps. All (LacksByte 10) ps in
     (subst P (parts-some 10 text i e) (parts-lack 10 text)) zero (take i text) (omega arith)
 
-pub no-feed_lacks : (text : Bytes) → position (λ b. b == 10) text ≡ None → Lacks 10 text
+pub no-feed_lacks : (text : Bytes) → position (λ b. b == 10) text ≡ None → LacksByte 10 text
 no-feed_lacks text e =
-    let P : List Bytes → Type 0 = λ ps. All (Lacks 10) ps in
+    let P : List Bytes → Type 0 = λ ps. All (LacksByte 10) ps in
     (subst P (parts-none 10 text e) (parts-lack 10 text)) zero text (omega arith)
 
 pub feed_cut : (text : Bytes) (i : ℕ) → position (λ b. b == 10) text ≡ Some i → (i < length text) × (text ≡ (take i text ++ 10 ∷ []) ++ drop (i + 1) text)
@@ -93,7 +88,6 @@ feed_cut text i e =
     let byte : get_or text i 0 ≡ 10 = eqb-true (get_or text i 0) 10 p.1 in
     (p.0, sym (take-append-drop i text) ∙ ap (λ (t : Bytes). take i text ++ t) (drop_more text i 0 p.0 ∙ ap (λ x. x ∷ drop (i + 1) text) byte) ∙ sym (append_assoc (take i text) (10 ∷ []) (drop (i + 1) text)))
 
--- a text has no more lines than bytes
 parts-few : (c : ℕ) (text : Bytes) → length (parts_at c text) ≤ length text + 1
 parts-few c [] = omega arith
 parts-few c (x ∷ text) = by_byte (x == c) (parts_follow c text) (parts-few c text)

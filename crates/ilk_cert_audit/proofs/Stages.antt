@@ -1,4 +1,4 @@
--- The stage after a line: what may follow there is what may follow the line.
+-- The lines that may follow at the stage after a line are those that may follow the line.
 use Rattle.std.proofs.Common.{◌≡◌, ℕ, suc, ◌+◌, ◌-◌, ◌<◌, ◌≤◌, Bool, true, List, [], ◌∷◌, ◌++◌, codes, sym, ap, ◌∙◌, subst, arith, add-one, Option, Some, None}
 use Rattle.std.specs.Prelude.{flat_map, nat_le, nat_lt}
 use Rattle.std.specs.List.{range_with_len}
@@ -15,18 +15,16 @@ use Rattle.ilk_log.specs.Derived.{is_empty}
 use Rattle.ilk_unroll.specs.declared.queries.Wanted.{Wanted}
 use Rattle.ilk_unroll.specs.declared.queries.Wanted.TheVariants as wanted
 use Rattle.ilk_unroll.specs.Goal.{GoalTree}
-use Rattle.ilk_audit.specs.Audited.{Audited}
+use Rattle.ilk_audit.specs.Audited.{AuditState}
 use Rattle.ilk_certificate.specs.Certificate.{base_queries, certified_queries}
-use Rattle.ilk_cert_audit.specs.Grammar.{Either, QueryLines, safe_line, StepLines, ToldLines}
-use Rattle.ilk_cert_audit.specs.Stages.{IsLineOf, is_number, IsNext, queries_after, queries_from}
+use Rattle.ilk_cert_audit.specs.Grammar.{IfElse, QueryLines, safe_line, StepLines, ToldLines}
+use Rattle.ilk_cert_audit.specs.Stages.{IsLineOfKind, is_valid_k, IsNext, queries_after, queries_from}
 use Rattle.ilk_cert_audit.specs.declared.next.Line.TheVariants.{Bad, Closes, Follows}
 use Rattle.ilk_cert_audit.specs.declared.stage.Stage.TheVariants.{Told, Between, Within, Ended}
 
-pub number-parts : (k : ℕ) → is_number k ≡ true → (0 < k) × (k ≤ 16)
+pub number-parts : (k : ℕ) → is_valid_k k ≡ true → (0 < k) × (k ≤ 16)
 number-parts k h = (let p = and_parts (nat_lt 0 k) (nat_le k 16) h in (ltb-true 0 k p.0, leb-true k 16 p.1))
 
--- the line that tells the number
--- a line tells one number
 pub safe-same : (k m : ℕ) → k ≤ 16 → m ≤ 16 → safe_line k ≡ safe_line m → k ≡ m
 safe-same k m hk hm e =
     let d : decimal k ≡ decimal m = append_cancel_left (codes "safe ") (decimal k) (decimal m) e in
@@ -39,7 +37,7 @@ certified-first k =
     ap (λ (ns : List ℕ). flat_map base_queries ns ++ wanted.Step k ∷ []) more
     ∙ ap (λ n. wanted.Hazard 0 ∷ (wanted.Breach 0 ∷ (flat_map base_queries (range_with_len 1 n) ++ wanted.Step k ∷ []))) (sym rest)
 
-pub next-told : (s : SystemTree) (g : GoalTree) (line : Bytes) (m : ℕ) → line ≡ safe_line m → is_number m ≡ true → IsNext s g Told line (Some (Between m (Some (wanted.Hazard 0))))
+pub next-told : (s : SystemTree) (g : GoalTree) (line : Bytes) (m : ℕ) → line ≡ safe_line m → is_valid_k m ≡ true → IsNext s g Told line (Some (Between m (Some (wanted.Hazard 0))))
 next-told s g line m e num may k lines =
     let p = number-parts m num in
     let Q : List Wanted → Type 0 = λ qs. QueryLines may s g qs lines in (
@@ -50,43 +48,40 @@ next-told s g line m e num may k lines =
           subst K (sym h.0) (e, p.0, p.1, subst Q (sym (certified-first m)) h.1)),
     )
 
--- the last line
 pub next-end : (s : SystemTree) (g : GoalTree) (m : ℕ) (line : Bytes) → line ≡ codes "end" → IsNext s g (Between m None) line (Some (Ended m))
 next-end s g m line e may k lines = ((λ h. (h.0, h.1.1)), (λ h. (h.0, (e, h.1))))
 
--- among the steps of a query
-pub bad-step : (s : SystemTree) (g : GoalTree) (m : ℕ) (q : Wanted) (a new : Audited) (line : Bytes) → IsLineOf line a new Bad → IsNext s g (Within m q a) line None
+pub bad-step : (s : SystemTree) (g : GoalTree) (m : ℕ) (q : Wanted) (a new : AuditState) (line : Bytes) → IsLineOfKind line a new Bad → IsNext s g (Within m q a) line None
 bad-step s g m q a new line bad may k lines h = bad h.1.0 h.1.1 h.1.2
 
-pub next-good : (s : SystemTree) (g : GoalTree) (m : ℕ) (q : Wanted) (a new : Audited) (line : Bytes) → IsLineOf line a new Follows → IsNext s g (Within m q a) line (Some (Within m q new))
+pub next-good : (s : SystemTree) (g : GoalTree) (m : ℕ) (q : Wanted) (a new : AuditState) (line : Bytes) → IsLineOfKind line a new Follows → IsNext s g (Within m q a) line (Some (Within m q new))
 next-good s g m q a new line taken may k lines =
     let f = taken.0 in
     let t = f.step in
     let After : List Bytes → Type 0 = QueryLines may s g (queries_after m q) in
-    let Rest : LogStep → Type 0 = λ u. Either (is_empty u.clause) (After lines) (StepLines may a.vars (a.clauses ++ u.clause ∷ []) After lines) in
-    let B : Bool → Type 0 = λ b. Either b (After lines) (StepLines may a.vars (a.clauses ++ t.clause ∷ []) After lines) in
-    let A : Audited → Type 0 = λ x. StepLines may x.vars x.clauses After lines in (
+    let Rest : LogStep → Type 0 = λ u. IfElse (is_empty u.clause) (After lines) (StepLines may a.vars (a.clauses ++ u.clause ∷ []) After lines) in
+    let B : Bool → Type 0 = λ b. IfElse b (After lines) (StepLines may a.vars (a.clauses ++ t.clause ∷ []) After lines) in
+    let A : AuditState → Type 0 = λ x. StepLines may x.vars x.clauses After lines in (
       λ h. (let same = f.only h.1.0 h.1.1 h.1.2 in (h.0, subst A (sym f.after) (subst B taken.1 (subst Rest (sym same) h.1.3)))),
       λ h. (h.0, (t, f.own, f.derived, subst B (sym taken.1) (subst A f.after h.1))),
     )
 
 pub next-closed :
-    (s : SystemTree) (g : GoalTree) (m : ℕ) (q : Wanted) (next : Option Wanted) (a new : Audited)
+    (s : SystemTree) (g : GoalTree) (m : ℕ) (q : Wanted) (next : Option Wanted) (a new : AuditState)
     (line : Bytes) →
-    IsLineOf line a new Closes → queries_from m next ≡ queries_after m q →
+    IsLineOfKind line a new Closes → queries_from m next ≡ queries_after m q →
     IsNext s g (Within m q a) line (Some (Between m next))
 next-closed s g m q next a new line taken left may k lines =
     let f = taken.0 in
     let t = f.step in
     let After : List Bytes → Type 0 = QueryLines may s g (queries_after m q) in
-    let Rest : LogStep → Type 0 = λ u. Either (is_empty u.clause) (After lines) (StepLines may a.vars (a.clauses ++ u.clause ∷ []) After lines) in
-    let B : Bool → Type 0 = λ b. Either b (After lines) (StepLines may a.vars (a.clauses ++ t.clause ∷ []) After lines) in
+    let Rest : LogStep → Type 0 = λ u. IfElse (is_empty u.clause) (After lines) (StepLines may a.vars (a.clauses ++ u.clause ∷ []) After lines) in
+    let B : Bool → Type 0 = λ b. IfElse b (After lines) (StepLines may a.vars (a.clauses ++ t.clause ∷ []) After lines) in
     let Q : List Wanted → Type 0 = λ qs. QueryLines may s g qs lines in (
       λ h. (let same = f.only h.1.0 h.1.1 h.1.2 in (h.0, subst Q (sym left) (subst B taken.1 (subst Rest (sym same) h.1.3)))),
       λ h. (h.0, (t, f.own, f.derived, subst B (sym taken.1) (subst Q left h.1))),
     )
 
--- the queries after one
 pub after-breach : (k n : ℕ) → n < k → queries_from k (Some (wanted.Hazard (n + 1))) ≡ queries_after k (wanted.Breach n)
 after-breach k n lt =
     let one : k - n ≡ suc (k - (n + 1)) = omega (arith, lt) in

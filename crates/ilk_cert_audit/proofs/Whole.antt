@@ -1,4 +1,4 @@
--- A certificate's lines are those of the grammar that don't stop before the last.
+-- A certificate's lines are those of the grammar that do not stop before the last.
 use Rattle.std.proofs.Common.{◌≡◌, ℕ, zero, suc, Bool, true, false, not, All, List, [], ◌∷◌, ◌++◌, codes, map, refl, sym, ap, ◌∙◌, subst, arith, append_assoc}
 use Rattle.std.specs.Prelude.{flat_map}
 use Rattle.std.proofs.lemmas.Bool.{and_parts, and_from, not-true, not_from_false}
@@ -10,7 +10,7 @@ use Rattle.ilk_lines.specs.Lines.{after_lines, Bytes, lines_of}
 use Rattle.ilk_lines.specs.Written.{text_of}
 use Rattle.ilk_lines.proofs.TextLines.{lines_back, text-lines}
 use Rattle.ilk_log.specs.declared.step.Step.{Step as LogStep}
-use Rattle.ilk_log.specs.Derived.{each_derived, ends_empty, is_derived, is_empty}
+use Rattle.ilk_log.specs.Derived.{each_derived, ends_with_empty_clause, is_derived, is_empty}
 use Rattle.ilk_log.specs.StepText.{step_text}
 use Rattle.ilk_unroll.specs.declared.queries.Wanted.{Wanted}
 use Rattle.ilk_unroll.specs.Goal.{GoalTree}
@@ -18,38 +18,37 @@ use Rattle.ilk_unroll.specs.Query.{query_formula}
 use Rattle.ilk_certificate.specs.Certificate.{certified_queries, IsCertificate, IsRefuted}
 use Rattle.ilk_certificate.specs.CertificateText.{asked_lines, certificate_lines, query_line}
 use Rattle.ilk_certificate.specs.declared.asked.Asked.{Asked}
-use Rattle.ilk_cert_audit.specs.Grammar.{CertificateLines, Either, QueryLines, safe_line, StepLines}
+use Rattle.ilk_cert_audit.specs.Grammar.{CertificateLines, IfElse, QueryLines, safe_line, StepLines}
 use Rattle.ilk_cert_audit.proofs.Plain.{certificate-plain}
 
 abbrev pub refuted_by : SystemTree → GoalTree → Asked → Type 0
 refuted_by s g a = IsRefuted s g a.query a.log
 
-ends-more : (s : LogStep) (log : List LogStep) → is_empty s.clause ≡ false → ends_empty log ≡ true → ends_empty (s ∷ log) ≡ true
+ends-more : (s : LogStep) (log : List LogStep) → is_empty s.clause ≡ false → ends_with_empty_clause log ≡ true → ends_with_empty_clause (s ∷ log) ≡ true
 ends-more s [] open_ h = absurd (cc)
-ends-more s (t ∷ log) open_ h = and_from (not (is_empty s.clause)) (ends_empty (t ∷ log)) (not_from_false (is_empty s.clause) open_) h
+ends-more s (t ∷ log) open_ h = and_from (not (is_empty s.clause)) (ends_with_empty_clause (t ∷ log)) (not_from_false (is_empty s.clause) open_) h
 
--- the lines of a refutation, and those after it
 steps-lines :
     (n : ℕ) (clauses : List (List Literal)) (After : List Bytes → Type 0) (log : List LogStep)
     (rest : List Bytes) →
-    each_derived n clauses log ≡ true → ends_empty log ≡ true → After rest →
+    each_derived n clauses log ≡ true → ends_with_empty_clause log ≡ true → After rest →
     StepLines false n clauses After (map step_text log ++ rest)
 steps-lines n clauses After [] rest d e after = absurd (cc)
 steps-lines n clauses After (s ∷ []) rest d e after =
-    let P : Bool → Type 0 = λ b. Either b (After rest) (StepLines false n (clauses ++ s.clause ∷ []) After rest) in
+    let P : Bool → Type 0 = λ b. IfElse b (After rest) (StepLines false n (clauses ++ s.clause ∷ []) After rest) in
     (s, refl, (and_parts (is_derived n clauses s) true d).0, subst P (sym e) after)
 steps-lines n clauses After (s ∷ (t ∷ log)) rest d e after =
     let p = and_parts (is_derived n clauses s) (each_derived n (clauses ++ s.clause ∷ []) (t ∷ log)) d in
-    let q = and_parts (not (is_empty s.clause)) (ends_empty (t ∷ log)) e in
+    let q = and_parts (not (is_empty s.clause)) (ends_with_empty_clause (t ∷ log)) e in
     let more = steps-lines n (clauses ++ s.clause ∷ []) After (t ∷ log) rest p.1 q.1 after in
-    let P : Bool → Type 0 = λ b. Either b (After (map step_text (t ∷ log) ++ rest)) (StepLines false n (clauses ++ s.clause ∷ []) After (map step_text (t ∷ log) ++ rest)) in
+    let P : Bool → Type 0 = λ b. IfElse b (After (map step_text (t ∷ log) ++ rest)) (StepLines false n (clauses ++ s.clause ∷ []) After (map step_text (t ∷ log) ++ rest)) in
     (s, refl, p.0, subst P (sym (not-true (is_empty s.clause) q.0)) more)
 
 record Refuting (n : ℕ) (clauses : List (List Literal)) (After : List Bytes → Type 0) (lines : List Bytes) : Type 0 where
   log : List LogStep
   rest : List Bytes
   derived : each_derived n clauses log ≡ true
-  closes : ends_empty log ≡ true
+  closes : ends_with_empty_clause log ≡ true
   same : lines ≡ map step_text log ++ rest
   after : After rest
 
@@ -58,7 +57,7 @@ steps-back n clauses After [] h = absurd (cc)
 steps-back n clauses After (line ∷ lines) h = by_end (is_empty h.0.clause) refl h.3 (λ more. steps-back n (clauses ++ h.0.clause ∷ []) After lines more)
   where
     by_end : (b : Bool) → is_empty h.0.clause ≡ b →
-        Either b (After lines) (StepLines false n (clauses ++ h.0.clause ∷ []) After lines) →
+        IfElse b (After lines) (StepLines false n (clauses ++ h.0.clause ∷ []) After lines) →
         (StepLines false n (clauses ++ h.0.clause ∷ []) After lines →
         Refuting n (clauses ++ h.0.clause ∷ []) After lines) →
         Refuting n clauses After (line ∷ lines)
@@ -86,7 +85,7 @@ queries-lines s g (a ∷ asked) refuted =
     let f = query_formula s g a.query in
     let rest = flat_map asked_lines asked ++ codes "end" ∷ [] in
     let After : List Bytes → Type 0 = QueryLines false s g (map (λ (b : Asked). b.query) asked) in
-    let p = and_parts (each_derived f.vars f.clauses a.log) (ends_empty a.log) (refuted zero a (omega arith)) in
+    let p = and_parts (each_derived f.vars f.clauses a.log) (ends_with_empty_clause a.log) (refuted zero a (omega arith)) in
     let more = queries-lines s g asked (λ k d within. refuted (suc k) d (omega arith)) in
     let P : List Bytes → Type 0 = λ xs. StepLines false f.vars f.clauses After xs in
     (refl, subst P (sym (append_assoc (map step_text a.log) (flat_map asked_lines asked) (codes "end" ∷ []))) (steps-lines f.vars f.clauses After a.log rest p.0 p.1 more))
@@ -114,12 +113,11 @@ queries-back s g (q ∷ qs) (line ∷ lines) h =
     record {
       asked = a ∷ m.asked;
       queries = ap (λ (ws : List Wanted). q ∷ ws) m.queries;
-      refuted = All-cons (refuted_by s g) a m.asked (and_from (each_derived f.vars f.clauses r.log) (ends_empty r.log) r.derived r.closes) m.refuted;
+      refuted = All-cons (refuted_by s g) a m.asked (and_from (each_derived f.vars f.clauses r.log) (ends_with_empty_clause r.log) r.derived r.closes) m.refuted;
       same = ap (λ (x : Bytes). x ∷ lines) h.0
           ∙ ap (λ (xs : List Bytes). query_line q ∷ xs) (r.same ∙ ap (λ (xs : List Bytes). map step_text r.log ++ xs) m.same ∙ sym (append_assoc (map step_text r.log) (flat_map asked_lines m.asked) (codes "end" ∷ [])));
     }
 
--- the lines of a certificate are whole, and nothing stands after them
 pub certificate_lines-whole : (s : SystemTree) (g : GoalTree) (k : ℕ) (bytes : Bytes) → IsCertificate s g k bytes → CertificateLines false s g k (lines_of bytes) × (after_lines bytes ≡ [])
 certificate_lines-whole s g k bytes c =
     let back = lines_back (certificate_lines (safe_line k) c.asked) (certificate-plain k c.asked) in
@@ -128,7 +126,6 @@ certificate_lines-whole s g k bytes c =
     let Q : List Wanted → Type 0 = λ qs. QueryLines false s g qs (flat_map asked_lines c.asked ++ codes "end" ∷ []) in
     (subst P (sym lines) (refl, (refl, c.some, c.most, subst Q c.queries (queries-lines s g c.asked c.refuted))), ap after_lines c.text ∙ back.1)
 
--- and whole lines after which nothing stands are a certificate
 pub whole-certificate : (s : SystemTree) (g : GoalTree) (k : ℕ) (bytes : Bytes) → CertificateLines false s g k (lines_of bytes) → after_lines bytes ≡ [] → IsCertificate s g k bytes
 whole-certificate s g k bytes h ends = go (lines_of bytes) refl h
   where

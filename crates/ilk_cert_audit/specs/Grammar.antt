@@ -1,5 +1,5 @@
--- The lines of a certificate, one after another. They are whole, from the head to the line `end`; or, where they may stop,
--- they are cut after any line, and begin one as far as they go.
+-- The lines of a certificate, one after another. They are whole, from the header to the line `end`.
+-- If `may_stop` is true, they may be cut after any line, and begin a certificate as far as they go.
 use Rattle.std.specs.Prelude.{ℕ, Bool, true, false, ◌≡◌, ◌<◌, ◌≤◌, List, [], ◌∷◌, ◌++◌, codes, IsTrue}
 use Rattle.std.specs.Fmt.{decimal}
 use Rattle.ilk_cnf.specs.Literal.{Literal}
@@ -15,19 +15,20 @@ use Rattle.ilk_unroll.specs.Query.{query_formula}
 use Rattle.ilk_certificate.specs.Certificate.{certified_queries}
 use Rattle.ilk_certificate.specs.CertificateText.{query_line}
 
--- the first where the test passes, else the second
-abbrev pub Either : Bool → Type 0 → Type 0 → Type 0
-Either true A B = A
-Either false A B = B
+-- The first if the test passes, otherwise the second.
+abbrev pub IfElse : Bool → Type 0 → Type 0 → Type 0
+IfElse true A B = A
+IfElse false A B = B
 
--- the lines of a query's steps, each of which follows from the clauses over the variables 1 to n and from the steps before
--- it: up to the first with the empty clause, and then come the lines after the query
+-- The lines of a query's steps, each of which follows from the clauses over the variables 1 to `n`
+-- and the steps before it. They end with the first empty clause; the lines after the query follow.
 abbrev pub StepLines : Bool → ℕ → List (List Literal) → (List Bytes → Type 0) → List Bytes → Type 0
 StepLines may_stop n clauses After [] = IsTrue may_stop
 StepLines may_stop n clauses After (line ∷ lines) =
-    (s : LogStep) × (line ≡ step_text s) × IsTrue (is_derived n clauses s) × Either (is_empty s.clause) (After lines) (StepLines may_stop n (clauses ++ s.clause ∷ []) After lines)
+    (s : LogStep) × (line ≡ step_text s) × IsTrue (is_derived n clauses s) × IfElse (is_empty s.clause) (After lines) (StepLines may_stop n (clauses ++ s.clause ∷ []) After lines)
 
--- the lines of these queries: of each its own and those of its steps, over its formula; and then the line `end`
+-- The lines of these queries, for each its own and those of its steps over its formula, then the
+-- line `end`.
 abbrev pub QueryLines : Bool → SystemTree → GoalTree → List Wanted → List Bytes → Type 0
 QueryLines may_stop s g [] [] = IsTrue may_stop
 QueryLines may_stop s g [] (line ∷ lines) = (line ≡ codes "end") × (lines ≡ [])
@@ -35,16 +36,16 @@ QueryLines may_stop s g (q ∷ qs) [] = IsTrue may_stop
 QueryLines may_stop s g (q ∷ qs) (line ∷ lines) =
     (line ≡ query_line q) × StepLines may_stop (query_formula s g q).vars (query_formula s g q).clauses (QueryLines may_stop s g qs) lines
 
--- the line that tells that a system is safe at k
+-- The line that states that a system is safe at `k`.
 abbrev pub safe_line : ℕ → Bytes
 safe_line k = line_of (codes "safe" ∷ decimal k ∷ [])
 
--- the lines after the head: the one that tells k, from 1 to 16, and those of the queries
+-- The lines after the header: the one that states `k`, from 1 to 16, and those of the queries.
 abbrev pub ToldLines : Bool → SystemTree → GoalTree → ℕ → List Bytes → Type 0
 ToldLines may_stop s g k [] = IsTrue may_stop
 ToldLines may_stop s g k (line ∷ lines) = (line ≡ safe_line k) × (0 < k) × (k ≤ 16) × QueryLines may_stop s g (certified_queries k) lines
 
--- the lines of a certificate for k
+-- The lines of a certificate for `k`.
 abbrev pub CertificateLines : Bool → SystemTree → GoalTree → ℕ → List Bytes → Type 0
 CertificateLines may_stop s g k [] = IsTrue may_stop
 CertificateLines may_stop s g k (line ∷ lines) = (line ≡ codes "irv certificate 3") × ToldLines may_stop s g k lines

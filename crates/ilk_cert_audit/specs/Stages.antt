@@ -1,4 +1,4 @@
--- Where a reader of a certificate is, and which lines may follow.
+-- The position of a reader of a certificate, and the lines that may follow.
 use Rattle.std.specs.Prelude.{ℕ, Bool, true, false, ◌≡◌, ◌+◌, ◌-◌, ◌&&◌, ◌↔◌, not, List, [], ◌∷◌, ◌++◌, Option, Some, None, IsTrue, bytes_eq, codes, length, nat_le, nat_lt, take}
 use Rattle.std.specs.List.{range_with_len, flat_map}
 use Rattle.ilk_ir.specs.System.{SystemTree}
@@ -6,10 +6,10 @@ use Rattle.ilk_lines.specs.Lines.{Bytes}
 use Rattle.ilk_unroll.specs.declared.queries.Wanted.{Wanted}
 use Rattle.ilk_unroll.specs.declared.queries.Wanted.TheVariants as wanted
 use Rattle.ilk_unroll.specs.Goal.{GoalTree, step_count, wanted_valid}
-use Rattle.ilk_audit.specs.Audited.{Audited, with_step}
+use Rattle.ilk_audit.specs.Audited.{AuditState, with_step}
 use Rattle.ilk_log.specs.declared.step.Step.{Step as LogStep}
 use Rattle.ilk_log.specs.Derived.{is_derived, is_empty}
-use Rattle.ilk_log.specs.StepText.{has_numbers, step_text}
+use Rattle.ilk_log.specs.StepText.{has_writable_numbers, step_text}
 use Rattle.ilk_certificate.specs.Certificate.{base_queries}
 use Rattle.ilk_cert_audit.specs.Grammar.{CertificateLines, QueryLines, StepLines, ToldLines}
 use Rattle.ilk_cert_audit.specs.declared.next.Line.{Line}
@@ -18,22 +18,23 @@ use Rattle.ilk_cert_audit.specs.declared.stage.Stage.{Stage}
 use Rattle.ilk_cert_audit.specs.declared.stage.TheConstants.{MAX_PLAIN_LINE}
 use Rattle.ilk_cert_audit.specs.declared.stage.Stage.TheVariants.{Head, Told, Between, Within, Ended, Refused}
 
--- the queries of a certificate for k after one of them
+-- The queries of a certificate for `k` after one of them.
 abbrev pub queries_after : ℕ → Wanted → List Wanted
 queries_after k (wanted.Hazard n) = wanted.Breach n ∷ (flat_map base_queries (range_with_len (n + 1) (k - n)) ++ wanted.Step k ∷ [])
 queries_after k (wanted.Breach n) = flat_map base_queries (range_with_len (n + 1) (k - n)) ++ wanted.Step k ∷ []
 queries_after k (wanted.Step n) = []
 
--- those from the next one on, if one is left
+-- The queries from the next one on, if one is left.
 abbrev pub queries_from : ℕ → Option Wanted → List Wanted
 queries_from k None = []
 queries_from k (Some q) = q ∷ queries_after k q
 
--- whether a certificate for k may ask a query
-abbrev pub may_ask : ℕ → Wanted → Bool
-may_ask k q = nat_le (step_count q) k && wanted_valid q
+-- Returns whether a certificate for `k` may ask a query.
+abbrev pub may_have_query : ℕ → Wanted → Bool
+may_have_query k q = nat_le (step_count q) k && wanted_valid q
 
--- the lines that may follow at a stage, of a certificate for k: up to the last, or up to any where they may stop
+-- The lines that may follow at a stage of a certificate for `k`, up to the last, or to any if
+-- `may_stop` is true.
 abbrev pub FollowingLines : Bool → SystemTree → GoalTree → ℕ → Stage → List Bytes → Type 0
 FollowingLines may_stop s g k Head lines = CertificateLines may_stop s g k lines
 FollowingLines may_stop s g k Told lines = ToldLines may_stop s g k lines
@@ -43,20 +44,20 @@ FollowingLines may_stop s g k (Within m q auditor) lines =
 FollowingLines may_stop s g k (Ended m) lines = (k ≡ m) × (lines ≡ [])
 FollowingLines may_stop s g k (Refused n) lines = ⊥
 
--- whether no line was bad, and the stage is of a certificate for a number from 1 to 16, and of one of its queries
-abbrev pub is_number : ℕ → Bool
-is_number k = nat_lt 0 k && nat_le k 16
+-- Returns whether no line was bad, and the stage is of a certificate for a number from 1 to 16, and
+-- of one of its queries.
+abbrev pub is_valid_k : ℕ → Bool
+is_valid_k k = nat_lt 0 k && nat_le k 16
 
-abbrev pub is_stage : Stage → Bool
-is_stage Head = true
-is_stage Told = true
-is_stage (Between k None) = is_number k
-is_stage (Between k (Some q)) = is_number k && may_ask k q
-is_stage (Within k q auditor) = is_number k && may_ask k q && not auditor.closed
-is_stage (Ended k) = is_number k
-is_stage (Refused n) = false
+abbrev pub is_valid_stage : Stage → Bool
+is_valid_stage Head = true
+is_valid_stage Told = true
+is_valid_stage (Between k None) = is_valid_k k
+is_valid_stage (Between k (Some q)) = is_valid_k k && may_have_query k q
+is_valid_stage (Within k q auditor) = is_valid_k k && may_have_query k q && not auditor.closed
+is_valid_stage (Ended k) = is_valid_k k
+is_valid_stage (Refused n) = false
 
--- whether a line was bad
 abbrev pub is_refused : Stage → Bool
 is_refused Head = false
 is_refused Told = false
@@ -65,12 +66,12 @@ is_refused (Within k q auditor) = false
 is_refused (Ended k) = false
 is_refused (Refused n) = true
 
--- whether a line that begins so isn't that of a step
+-- Returns whether no line of a step begins so.
 abbrev pub begins_no_step : Bytes → Bool
 begins_no_step begun = nat_le 5 (length begun) && not (bytes_eq (take 5 begun) (codes "step "))
 
--- whether no line that begins so may stand at a stage, whatever follows: among the steps of a query it isn't that of a step,
--- and elsewhere it is longer than each that may
+-- Returns whether no line that begins so may follow at a stage. Among the steps of a query it is
+-- not a step's; elsewhere it is longer than each that may follow.
 abbrev pub is_hopeless : Stage → Bytes → Bool
 is_hopeless Head begun = nat_lt MAX_PLAIN_LINE (length begun)
 is_hopeless Told begun = nat_lt MAX_PLAIN_LINE (length begun)
@@ -79,27 +80,27 @@ is_hopeless (Within k q auditor) begun = begins_no_step begun
 is_hopeless (Ended k) begun = nat_lt MAX_PLAIN_LINE (length begun)
 is_hopeless (Refused n) begun = nat_lt MAX_PLAIN_LINE (length begun)
 
--- the stage after a line; none where the line is bad
+-- Holds if `next` is the stage after a line, or `None` if the line is bad.
 abbrev pub IsNext : SystemTree → GoalTree → Stage → Bytes → Option Stage → Type 0
 IsNext s g stage line None = (may_stop : Bool) (k : ℕ) (lines : List Bytes) → ¬ (FollowingLines may_stop s g k stage (line ∷ lines))
 IsNext s g stage line (Some next) =
     (may_stop : Bool) (k : ℕ) (lines : List Bytes) → FollowingLines may_stop s g k stage (line ∷ lines) ↔ FollowingLines may_stop s g k next lines
 
--- the line of a step: this is the only one whose line it is, of those with numbers that a line may have
+-- Holds if this is the line of step `t`, and of no other step with numbers that a line may have.
 pub record IsRead (line : Bytes) (t : LogStep) : Type 0 where
   pub own : line ≡ step_text t
-  pub only : (u : LogStep) → line ≡ step_text u → IsTrue (has_numbers u) → t ≡ u
+  pub only : (u : LogStep) → line ≡ step_text u → IsTrue (has_writable_numbers u) → t ≡ u
 
--- the line of a step that follows, and what the auditor has then
-pub record IsFollowing (line : Bytes) (old new : Audited) : Type 0 where
+-- The line of a step that follows, and the auditor's data after it.
+pub record IsFollowing (line : Bytes) (old new : AuditState) : Type 0 where
   pub step : LogStep
   pub own : line ≡ step_text step
   pub only : (u : LogStep) → line ≡ step_text u → IsTrue (is_derived old.vars old.clauses u) → step ≡ u
   pub derived : IsTrue (is_derived old.vars old.clauses step)
   pub after : new ≡ with_step old step
 
--- what a line is among the steps of a query
-abbrev pub IsLineOf : Bytes → Audited → Audited → Line → Type 0
-IsLineOf line old new Follows = (f : IsFollowing line old new) × (is_empty f.step.clause ≡ false)
-IsLineOf line old new Closes = (f : IsFollowing line old new) × (is_empty f.step.clause ≡ true)
-IsLineOf line old new Bad = (u : LogStep) → line ≡ step_text u → ¬ (IsTrue (is_derived old.vars old.clauses u))
+-- Holds if a line among the steps of a query is of this kind.
+abbrev pub IsLineOfKind : Bytes → AuditState → AuditState → Line → Type 0
+IsLineOfKind line old new Follows = (f : IsFollowing line old new) × (is_empty f.step.clause ≡ false)
+IsLineOfKind line old new Closes = (f : IsFollowing line old new) × (is_empty f.step.clause ≡ true)
+IsLineOfKind line old new Bad = (u : LogStep) → line ≡ step_text u → ¬ (IsTrue (is_derived old.vars old.clauses u))

@@ -1,5 +1,5 @@
 ghost use Rattle.std.specs.Prelude.{◌≡◌, ◌==◌, ◌<◌, ◌++◌, ◌∷◌, [], IfNone, IfSome, length, position};
-ghost use Rattle.ilk_lines.specs.Written.{Lacks};
+ghost use Rattle.ilk_lines.specs.Written.{LacksByte};
 
 use crate::answers::{Ended, Fed};
 use crate::lines::LineAudit;
@@ -7,28 +7,26 @@ use ilk_ir::System;
 use ilk_unroll::Goal;
 use std::alloc::{AllocError, Global};
 
-/// An audit of a certificate of a system and a goal, to which the bytes come in pieces.
+/// An audit of a certificate of a system and a goal, fed in pieces.
 #[derive(Drop)]
 pub struct CertificateAudit {
     lines: LineAudit,
-    // the bytes after the last line feed; of a line that is bad whatever follows, some first ones
+    // The bytes after the last line feed; only the first ones if the line is bad whatever follows.
     unfinished: Vec<u8>,
 }
 
-// Where the first line feed of a text stands.
 fn line_feed(text: &[u8]) -> Option<usize>
     ensures { result ≡ position (λ b. b == 10) text.now }
 {
     text.iter().position(|b| *b == b'\n')
 }
 
-// What stands before the first line feed of a text, and what stands after it. None exactly where there
-// is no line feed.
+// Returns the text before and after the first line feed, or `None` if there is none.
 fn cut_line(text: &[u8]) -> Option<(&[u8], &[u8])>
     ensures cut { IfSome result (λ cut. text.now ≡ (cut.0.now ++ 10 ∷ []) ++ cut.1.now) }
-    ensures lacks { IfSome result (λ cut. Lacks 10 cut.0.now) }
+    ensures lacks { IfSome result (λ cut. LacksByte 10 cut.0.now) }
     ensures shorter { IfSome result (λ cut. length cut.1.now < length text.now) }
-    ensures none { IfNone result (Lacks 10 text.now) }
+    ensures none { IfNone result (LacksByte 10 text.now) }
 {
     match line_feed(text) {
         Some(end) => Some((&text[..end], &text[end + 1..])),
@@ -39,16 +37,17 @@ fn cut_line(text: &[u8]) -> Option<(&[u8], &[u8])>
 impl CertificateAudit {
     ghost use Rattle.std.specs.Prelude.{ℕ, List, ◌++◌, ◌∷◌, [], IfOk, OnOk, IsTrue};
     ghost use Rattle.ilk_ir.specs.System.{SystemTree, system_tree, system_valid};
-    ghost use Rattle.ilk_lines.specs.Written.{Lacks};
+    ghost use Rattle.ilk_lines.specs.Written.{LacksByte};
     ghost use Rattle.ilk_unroll.specs.Goal.{GoalTree, goal_tree, goal_valid};
     ghost use Rattle.ilk_cert_audit.specs.Answers.{EndsAs, FedAs};
-    ghost use Rattle.ilk_cert_audit.specs.Fed.{HasFed};
+    ghost use Rattle.ilk_cert_audit.specs.Fed.{HasTakenBytes};
 
-    /// An audit that took no byte. The system is valid, and the goal's forms are valid over its ranges.
+    /// Creates an audit without input. The system has to be valid, and the goal's forms valid over
+    /// its ranges.
     pub fn new(alloc: Global, system: System, goal: Goal) -> CertificateAudit
         requires system { IsTrue (system_valid (system_tree system)) }
         requires goal { IsTrue (goal_valid system.ranges (goal_tree goal)) }
-        ensures { HasFed (system_tree system) (goal_tree goal) result [] }
+        ensures { HasTakenBytes (system_tree system) (goal_tree goal) result [] }
     {
         CertificateAudit {
             lines: LineAudit::new(alloc, system, goal),
@@ -56,12 +55,12 @@ impl CertificateAudit {
         }
     }
 
-    // Takes the rest of a line, which a line feed ends. Nothing is kept after a bad line.
+    // Takes the rest of a line, which a line feed ends. Keeps nothing after a bad line.
     fn end_line(&mut self, rest: &[u8]) -> Result<(), AllocError>
-        requires { Lacks 10 rest.now }
+        requires { LacksByte 10 rest.now }
         ensures { OnOk result
-            ((s : SystemTree) (g : GoalTree) (bytes : List ℕ) → HasFed s g self.old bytes →
-            HasFed s g self.new (bytes ++ (rest.now ++ 10 ∷ []))) }
+            ((s : SystemTree) (g : GoalTree) (bytes : List ℕ) → HasTakenBytes s g self.old bytes →
+            HasTakenBytes s g self.new (bytes ++ (rest.now ++ 10 ∷ []))) }
     {
         if self.lines.is_refused() {
             return Ok(());
@@ -80,12 +79,12 @@ impl CertificateAudit {
         Ok(())
     }
 
-    // Takes bytes of a line that isn't ended yet. Of one that can't become right no more are kept.
+    // Takes bytes of an unfinished line, and keeps them unless the line can no longer be valid.
     fn keep(&mut self, rest: &[u8]) -> Result<(), AllocError>
-        requires { Lacks 10 rest.now }
+        requires { LacksByte 10 rest.now }
         ensures { OnOk result
-            ((s : SystemTree) (g : GoalTree) (bytes : List ℕ) → HasFed s g self.old bytes →
-            HasFed s g self.new (bytes ++ rest.now)) }
+            ((s : SystemTree) (g : GoalTree) (bytes : List ℕ) → HasTakenBytes s g self.old bytes →
+            HasTakenBytes s g self.new (bytes ++ rest.now)) }
     {
         if self.lines.is_refused() {
             return Ok(());
@@ -97,11 +96,10 @@ impl CertificateAudit {
         Ok(())
     }
 
-    // Takes the next bytes, line by line.
     fn split(&mut self, piece: &[u8]) -> Result<(), AllocError>
         ensures { OnOk result
-            ((s : SystemTree) (g : GoalTree) (bytes : List ℕ) → HasFed s g self.old bytes →
-            HasFed s g self.new (bytes ++ piece.now)) }
+            ((s : SystemTree) (g : GoalTree) (bytes : List ℕ) → HasTakenBytes s g self.old bytes →
+            HasTakenBytes s g self.new (bytes ++ piece.now)) }
     {
         let mut left = piece;
         while let Some((line, rest)) = cut_line(left) {
@@ -111,26 +109,25 @@ impl CertificateAudit {
         self.keep(left)
     }
 
-    /// Takes the next bytes, of any length, and answers whether a line so far is bad: the same in
-    /// however many pieces they come. Where memory runs out, the audit is of no more use, and its
-    /// owner drops it.
+    /// Takes the next bytes, of any length, and returns whether a line so far is bad, regardless of
+    /// how the bytes are divided. If memory runs out, the audit is unusable; its owner drops it.
     pub fn feed(&mut self, piece: &[u8]) -> Result<Fed, AllocError>
         ensures fed { OnOk result
-            ((s : SystemTree) (g : GoalTree) (bytes : List ℕ) → HasFed s g self.old bytes →
-            HasFed s g self.new (bytes ++ piece.now)) }
+            ((s : SystemTree) (g : GoalTree) (bytes : List ℕ) → HasTakenBytes s g self.old bytes →
+            HasTakenBytes s g self.new (bytes ++ piece.now)) }
         ensures answer { IfOk result
             (λ fed. (s : SystemTree) (g : GoalTree) (bytes : List ℕ) →
-            HasFed s g self.old bytes → FedAs s g (bytes ++ piece.now) fed) }
+            HasTakenBytes s g self.old bytes → FedAs s g (bytes ++ piece.now) fed) }
     {
         self.split(piece)?;
-        Ok(self.lines.fed())
+        Ok(self.lines.feed_answer())
     }
 
-    /// Answers whether the bytes are a certificate.
+    /// Returns whether the bytes are a certificate.
     pub fn end(self) -> Ended
-        ensures { (s : SystemTree) (g : GoalTree) (bytes : List ℕ) → HasFed s g self bytes →
+        ensures { (s : SystemTree) (g : GoalTree) (bytes : List ℕ) → HasTakenBytes s g self bytes →
             EndsAs s g bytes result }
     {
-        self.lines.ended(self.unfinished.is_empty())
+        self.lines.end(self.unfinished.is_empty())
     }
 }

@@ -4,18 +4,18 @@ ghost use Rattle.ilk_lines.specs.Lines.{Bytes};
 ghost use Rattle.ilk_unroll.specs.Goal.{GoalTree};
 ghost use Rattle.ilk_certificate.specs.Certificate.{IsCertificate};
 ghost use Rattle.ilk_cert_audit.specs.Answers.{EndsAs};
-ghost use Rattle.ilk_cert_audit.specs.FirstBad.{IsFirstBad};
+ghost use Rattle.ilk_cert_audit.specs.FirstBad.{IsFirstBadOfText};
 ghost use Rattle.ilk_cert_audit.specs.declared.answers.Ended.TheVariants.{Rejected};
 
-/// Bytes are a certificate for one number at most. The call does nothing, and tells a proof.
-pub fn certificates_tell_one_number()
+/// Bytes are a certificate for at most one number. Proof only; no run-time effect.
+pub fn certificate_is_for_one_k()
     ensures { (s : SystemTree) (g : GoalTree) (k m : ℕ) (bytes : Bytes) →
         IsCertificate s g k bytes → IsCertificate s g m bytes → k ≡ m }
 {}
 
-/// The number of each line of fewer than 2^63 bytes fits 64 bits, so that the first bad line is the
-/// one that is answered. The call does nothing, and tells a proof.
-pub fn numbers_fit()
+/// If a text has fewer than 2^63 bytes, its line numbers fit into 64 bits, so a rejection names the
+/// first bad line. Proof only; no run-time effect.
+pub fn line_numbers_fit()
     ensures { (s : SystemTree) (g : GoalTree) (bytes : Bytes) (n : ℕ) → length bytes < 2 ^ 63 →
-        EndsAs s g bytes (Rejected n) → IsFirstBad s g bytes n }
+        EndsAs s g bytes (Rejected n) → IsFirstBadOfText s g bytes n }
 {}

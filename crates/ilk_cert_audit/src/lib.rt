@@ -1,15 +1,14 @@
-//! Whether bytes are a certificate of a finite system and a goal, whoever wrote them: the audit that an
-//! assessor relies on in place of any search.
+//! A checker of certificates: whether bytes of any origin are a certificate of a finite system and
+//! a goal. An assessor relies on it and on no search.
 //!
-//! What a certificate is, is said in `ilk_certificate`. Its lines, one after another, are those of
-//! `specs/Grammar`, and `specs/FirstBad` says which line of other bytes is the first bad one. A
-//! `CertificateAudit` takes the bytes in pieces of any lengths (`feed`) and answers `end`: what it
-//! answers depends on the bytes alone. Of these it keeps the line that isn't finished yet, but of one
-//! that is too long for its place, or begins among steps as none does, the first bytes alone; and the
-//! clauses of the query at hand, which it drops when that is refuted.
+//! `ilk_certificate` defines a certificate, `specs/Grammar` its lines, and `specs/FirstBad` the
+//! first bad line of other bytes. A `CertificateAudit` takes the bytes in pieces of any length
+//! (`feed`) and gives its answer at the end (`end`), which depends only on the bytes. It keeps the
+//! unfinished line, or only its first bytes if it is too long for its position or, among steps,
+//! does not begin as a step. It also keeps the clauses of the current query until that is refuted.
 //!
-//! `LineAudit` takes one line at a time: it knows which lines may follow, and goes on by one stage.
-//! The steps of a query are checked by `ilk_audit`, over the formula that `ilk_unroll` makes.
+//! `LineAudit` takes one line at a time: it knows the lines that may follow, and advances by one
+//! stage. `ilk_audit` checks the steps of a query, over the formula from `ilk_unroll`.
 #![tactic(auto)]
 
 mod answers;
@@ -23,4 +22,4 @@ mod step_line;
 
 pub use answers::{Ended, Fed};
 pub use audit::CertificateAudit;
-pub use laws::{certificates_tell_one_number, numbers_fit};
+pub use laws::{certificate_is_for_one_k, line_numbers_fit};

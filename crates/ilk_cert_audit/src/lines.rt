@@ -1,7 +1,7 @@
 ghost use Rattle.std.specs.Prelude.{◌≡◌, IsTrue, ◌||◌};
 ghost use Rattle.ilk_ir.specs.System.{system_tree, system_valid};
 ghost use Rattle.ilk_unroll.specs.Goal.{goal_tree, goal_valid};
-ghost use Rattle.ilk_cert_audit.specs.Stages.{begins_no_step, is_refused, is_stage};
+ghost use Rattle.ilk_cert_audit.specs.Stages.{begins_no_step, is_refused, is_valid_stage};
 
 use crate::answers::{Ended, Fed};
 use crate::next::next_stage;
@@ -12,7 +12,7 @@ use ilk_unroll::Goal;
 use std::alloc::{AllocError, Global};
 use std::mem;
 
-// Whether a line that begins so isn't that of a step.
+// Returns whether no line of a step begins so.
 fn begins_no_step(begun: &[u8]) -> bool
     ensures { result ≡ begins_no_step begun.now }
 {
@@ -22,19 +22,19 @@ fn begins_no_step(begun: &[u8]) -> bool
     &begun[..5] != b"step ".as_slice()
 }
 
-/// An audit to which the lines come one by one.
+/// An audit that takes lines one by one.
 #[derive(Drop)]
 pub struct LineAudit {
     system: System,
     goal: Goal,
     stage: Stage,
-    // the number of the next line
+    // The number of the next line.
     line: u64,
-    // the step of the line at hand
+    // The step of the current line.
     step: StepLine,
     ghost system_valid: { IsTrue (system_valid (system_tree system)) },
     ghost goal_valid: { IsTrue (goal_valid system.ranges (goal_tree goal)) },
-    ghost staged: { IsTrue (is_refused stage || is_stage stage) },
+    ghost staged: { IsTrue (is_refused stage || is_valid_stage stage) },
 }
 
 impl LineAudit {
@@ -42,15 +42,15 @@ impl LineAudit {
     ghost use Rattle.ilk_ir.specs.System.{SystemTree};
     ghost use Rattle.ilk_lines.specs.Lines.{Bytes, after_lines, lines_of};
     ghost use Rattle.ilk_unroll.specs.Goal.{GoalTree};
-    ghost use Rattle.ilk_cert_audit.specs.Answers.{EndsAs, TellsLines};
-    ghost use Rattle.ilk_cert_audit.specs.Fed.{HasTaken};
+    ghost use Rattle.ilk_cert_audit.specs.Answers.{EndsAs, ReportsFirstBad};
+    ghost use Rattle.ilk_cert_audit.specs.Fed.{HasTakenLines};
     ghost use Rattle.ilk_cert_audit.specs.Stages.{IsNext, is_hopeless};
 
-    /// An audit that took no line.
+    /// Creates an audit without input.
     pub fn new(alloc: Global, system: System, goal: Goal) -> LineAudit
         requires system { IsTrue (system_valid (system_tree system)) }
         requires goal { IsTrue (goal_valid system.ranges (goal_tree goal)) }
-        ensures { HasTaken (system_tree system) (goal_tree goal) result [] }
+        ensures { HasTakenLines (system_tree system) (goal_tree goal) result [] }
     {
         LineAudit {
             system,
@@ -64,15 +64,15 @@ impl LineAudit {
         }
     }
 
-    /// Whether a line was bad.
+    /// Returns whether a line was bad.
     pub fn is_refused(&self) -> bool
         ensures { result ≡ is_refused self.now.stage }
     {
         matches!(self.stage, Stage::Refused { .. })
     }
 
-    /// Whether the next line is bad whatever follows, where it begins so: then no more of it has to be
-    /// kept.
+    /// Returns whether the next line is bad whatever follows, if it begins so. No more of it has to
+    /// be kept then.
     pub fn is_hopeless(&self, begun: &[u8]) -> bool
         ensures { result ≡ is_hopeless self.now.stage begun.now }
     {
@@ -82,23 +82,25 @@ impl LineAudit {
         }
     }
 
-    /// Takes the next line, where that is bad whatever its last bytes are.
+    /// Takes the next line, if that is bad whatever its last bytes are.
     pub fn refuse(&mut self)
         ensures bad { (s : SystemTree) (g : GoalTree) (lines : List Bytes) (line : Bytes)
-            → HasTaken s g self.old lines → is_refused self.old.stage ≡ false
-            → IsNext s g self.old.stage line None → HasTaken s g self.new (lines ++ line ∷ []) }
+            → HasTakenLines s g self.old lines → is_refused self.old.stage ≡ false
+            → IsNext s g self.old.stage line None
+            → HasTakenLines s g self.new (lines ++ line ∷ []) }
         ensures refused { is_refused self.new.stage ≡ true }
     {
         let line = self.line;
         self.stage = Stage::Refused { line };
     }
 
-    /// Takes the next line. After a bad one, nothing changes. Where memory runs out, the audit is of no
-    /// more use.
+    /// Takes the next line. After a bad one, nothing changes. If memory runs out, the audit is
+    /// unusable.
     pub fn take(&mut self, line: &[u8]) -> Result<(), AllocError>
         ensures { OnOk result
-            ((s : SystemTree) (g : GoalTree) (lines : List Bytes) → HasTaken s g self.old lines →
-            HasTaken s g self.new (lines ++ line.now ∷ [])) }
+            ((s : SystemTree) (g : GoalTree) (lines : List Bytes) → HasTakenLines s g self.old lines
+            →
+            HasTakenLines s g self.new (lines ++ line.now ∷ [])) }
     {
         if let Stage::Refused { .. } = self.stage {
             return Ok(());
@@ -113,10 +115,10 @@ impl LineAudit {
         Ok(())
     }
 
-    /// Whether a line was bad, and which.
-    pub fn fed(&self) -> Fed
+    /// Returns whether a line was bad, and which.
+    pub fn feed_answer(&self) -> Fed
         ensures { (s : SystemTree) (g : GoalTree) (lines : List Bytes) →
-            HasTaken s g self.now lines → TellsLines s g lines result }
+            HasTakenLines s g self.now lines → ReportsFirstBad s g lines result }
     {
         match self.stage {
             Stage::Refused { line } => Fed::Bad { line },
@@ -124,10 +126,10 @@ impl LineAudit {
         }
     }
 
-    /// What is answered at the end, where nothing stands after the last line feed, or something does.
-    pub fn ended(&self, is_whole: bool) -> Ended
+    /// Returns the answer at the end; `is_whole` says that nothing follows the last line feed.
+    pub fn end(&self, is_whole: bool) -> Ended
         ensures { (s : SystemTree) (g : GoalTree) (bytes : List ℕ) →
-            HasTaken s g self.now (lines_of bytes) →
+            HasTakenLines s g self.now (lines_of bytes) →
             (is_refused self.now.stage ≡ false → (is_whole ≡ true) ↔ (after_lines bytes ≡ [])) →
             EndsAs s g bytes result }
     {

@@ -4,10 +4,10 @@ ghost use Rattle.std.specs.Prelude.{◌≡◌, false, Some, IfOk, IfSome, IsTrue
 ghost use Rattle.ilk_certificate.specs.CertificateText.{query_line};
 ghost use Rattle.ilk_ir.specs.System.{SystemTree, system_tree, system_valid};
 ghost use Rattle.ilk_unroll.specs.Goal.{GoalTree, goal_tree, goal_valid};
-ghost use Rattle.ilk_cert_audit.specs.Stages.{IsLineOf, IsNext, is_number, is_stage, may_ask};
+ghost use Rattle.ilk_cert_audit.specs.Stages.{IsLineOfKind, IsNext, is_valid_k, is_valid_stage, may_have_query};
 ghost use Rattle.ilk_cert_audit.specs.declared.stage.Stage.TheVariants.{Between, Told, Within};
 
-use crate::queries::{is_query_line, query_after, told_number};
+use crate::queries::{is_query_line, query_after, safe_number};
 use crate::stage::Stage;
 use crate::step_line::{StepLine, read_step};
 use ilk_audit::{Auditor, Taken};
@@ -15,7 +15,7 @@ use ilk_ir::System;
 use ilk_unroll::{Goal, Wanted, query};
 use std::alloc::{AllocError, Global};
 
-// The stage after the line of a query: its formula is made, and no step is taken.
+// Returns the stage after the line of a query: its formula, and no step yet.
 fn after_query(
     alloc: Global,
     system: &System,
@@ -25,9 +25,9 @@ fn after_query(
 ) -> Result<Stage, AllocError>
     requires system { IsTrue (system_valid (system_tree system.now)) }
     requires goal { IsTrue (goal_valid system.now.ranges (goal_tree goal.now)) }
-    requires number { IsTrue (is_number k) }
-    requires asked { IsTrue (may_ask k wanted) }
-    ensures stage { IfOk result (λ stage. IsTrue (is_stage stage)) }
+    requires number { IsTrue (is_valid_k k) }
+    requires asked { IsTrue (may_have_query k wanted) }
+    ensures stage { IfOk result (λ stage. IsTrue (is_valid_stage stage)) }
     ensures next { IfOk result
         (λ stage. IsNext (system_tree system.now) (goal_tree goal.now) (Between k (Some wanted))
         (query_line wanted) (Some stage)) }
@@ -40,12 +40,12 @@ fn after_query(
     })
 }
 
-// What a line is among the steps of a query.
+// The kinds of line among the steps of a query.
 #[derive(Clone, Copy)]
 enum Line {
-    // that of a step with a literal, which follows
+    // A step with a literal, which follows.
     Follows,
-    // that of the empty step, which follows
+    // The empty step, which follows.
     Closes,
     Bad,
 }
@@ -53,7 +53,7 @@ enum Line {
 // Takes the step whose line this is, if it follows.
 fn take_step(step: &mut StepLine, auditor: &mut Auditor, line: &[u8]) -> Result<Line, AllocError>
     requires unfinished { auditor.old.closed ≡ false }
-    ensures { IfOk result (IsLineOf line.now auditor.old auditor.new) }
+    ensures { IfOk result (IsLineOfKind line.now auditor.old auditor.new) }
 {
     let _ = auditor.closed();
     if !read_step(step, line)? {
@@ -66,7 +66,6 @@ fn take_step(step: &mut StepLine, auditor: &mut Auditor, line: &[u8]) -> Result<
     }
 }
 
-// The stage after a line among the steps of a query; none where the line is bad.
 fn after_step(
     step: &mut StepLine,
     k: u32,
@@ -74,10 +73,10 @@ fn after_step(
     mut auditor: Auditor,
     line: &[u8],
 ) -> Result<Option<Stage>, AllocError>
-    requires number { IsTrue (is_number k) }
-    requires asked { IsTrue (may_ask k query) }
+    requires number { IsTrue (is_valid_k k) }
+    requires asked { IsTrue (may_have_query k query) }
     requires unfinished { auditor.closed ≡ false }
-    ensures stage { IfOk result (λ next. IfSome next (λ stage. IsTrue (is_stage stage))) }
+    ensures stage { IfOk result (λ next. IfSome next (λ stage. IsTrue (is_valid_stage stage))) }
     ensures next { IfOk result
         (λ next. (s : SystemTree) (g : GoalTree) →
         IsNext s g (Within k query auditor) line.now next) }
@@ -92,19 +91,18 @@ fn after_step(
     }
 }
 
-// The stage after the line that tells the number; none where the line tells none.
 fn after_told(line: &[u8]) -> Option<Stage>
-    ensures stage { IfSome result (λ stage. IsTrue (is_stage stage)) }
+    ensures stage { IfSome result (λ stage. IsTrue (is_valid_stage stage)) }
     ensures next { (s : SystemTree) (g : GoalTree) → IsNext s g Told line.now result }
 {
-    let k = told_number(line)?;
+    let k = safe_number(line)?;
     Some(Stage::Between {
         k,
         next: Some(Wanted::Hazard(0)),
     })
 }
 
-/// The stage after a line; none where the line is bad.
+/// Returns the stage after a line, or `None` if the line is bad.
 pub fn next_stage(
     alloc: Global,
     system: &System,
@@ -115,8 +113,8 @@ pub fn next_stage(
 ) -> Result<Option<Stage>, AllocError>
     requires system { IsTrue (system_valid (system_tree system.now)) }
     requires goal { IsTrue (goal_valid system.now.ranges (goal_tree goal.now)) }
-    requires stage { IsTrue (is_stage stage) }
-    ensures stage { IfOk result (λ next. IfSome next (λ stage. IsTrue (is_stage stage))) }
+    requires stage { IsTrue (is_valid_stage stage) }
+    ensures stage { IfOk result (λ next. IfSome next (λ stage. IsTrue (is_valid_stage stage))) }
     ensures next { IfOk result
         (IsNext (system_tree system.now) (goal_tree goal.now) stage line.now) }
 {

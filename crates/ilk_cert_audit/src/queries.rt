@@ -1,19 +1,19 @@
 ghost use Rattle.std.specs.Prelude.{ℕ, ◌≡◌, ◌<◌, ◌≤◌, ◌↔◌, IfNone, IfSome, IsTrue};
 ghost use Rattle.std.specs.Fmt.{decimal};
 ghost use Rattle.ilk_certificate.specs.CertificateText.{query_line};
-ghost use Rattle.ilk_lines.specs.Written.{spaced};
+ghost use Rattle.ilk_lines.specs.Written.{word_and_rest};
 ghost use Rattle.ilk_cert_audit.specs.Grammar.{safe_line};
-ghost use Rattle.ilk_cert_audit.specs.Stages.{is_number, may_ask, queries_after, queries_from};
+ghost use Rattle.ilk_cert_audit.specs.Stages.{is_valid_k, may_have_query, queries_after, queries_from};
 
-use ilk_lines::{after_word, decimal_up_to};
+use ilk_lines::{decimal_up_to, strip_first_word};
 use ilk_unroll::Wanted;
 
-/// The query after one of those of a certificate for `k`. None after the last.
+/// Returns the query that follows one of a certificate for `k`, or `None` after the last.
 pub fn query_after(k: u32, query: Wanted) -> Option<Wanted>
-    requires number { IsTrue (is_number k) }
-    requires asked { IsTrue (may_ask k query) }
+    requires number { IsTrue (is_valid_k k) }
+    requires asked { IsTrue (may_have_query k query) }
     ensures next { queries_from k result ≡ queries_after k query }
-    ensures asked { IfSome result (λ next. IsTrue (may_ask k next)) }
+    ensures asked { IfSome result (λ next. IsTrue (may_have_query k next)) }
 {
     match query {
         Wanted::Hazard(n) => Some(Wanted::Breach(n)),
@@ -23,21 +23,21 @@ pub fn query_after(k: u32, query: Wanted) -> Option<Wanted>
     }
 }
 
-// The number up to the limit that stands after this word and a space, with which the line ends.
+// Returns the number up to `limit` that follows `word` and a space at the end of the line.
 fn number_after(line: &[u8], word: &[u8], limit: u64) -> Option<u64>
-    ensures some { IfSome result (λ n. (line.now ≡ spaced word.now (decimal n)) × (n ≤ limit)) }
+    ensures some { IfSome result (λ n. (line.now ≡ word_and_rest word.now (decimal n))
+        × (n ≤ limit)) }
     ensures none { IfNone result
-        ((n : ℕ) → n ≤ limit → ¬ (line.now ≡ spaced word.now (decimal n))) }
+        ((n : ℕ) → n ≤ limit → ¬ (line.now ≡ word_and_rest word.now (decimal n))) }
 {
-    let Some(rest) = after_word(line, word) else {
+    let Some(rest) = strip_first_word(line, word) else {
         return None;
     };
     decimal_up_to(rest, limit)
 }
 
-// Whether a line is this word, a space, and the number.
 fn is_numbered(line: &[u8], word: &[u8], number: u32) -> bool
-    ensures { IsTrue result ↔ (line.now ≡ spaced word.now (decimal number)) }
+    ensures { IsTrue result ↔ (line.now ≡ word_and_rest word.now (decimal number)) }
 {
     match number_after(line, word, u32::MAX as u64) {
         Some(n) => n == number as u64,
@@ -45,11 +45,11 @@ fn is_numbered(line: &[u8], word: &[u8], number: u32) -> bool
     }
 }
 
-/// Whether a line is that of a query.
+/// Returns whether a line is that of a query.
 pub fn is_query_line(line: &[u8], query: Wanted) -> bool
     ensures { IsTrue result ↔ (line.now ≡ query_line query) }
 {
-    let Some(rest) = after_word(line, b"query") else {
+    let Some(rest) = strip_first_word(line, b"query") else {
         return false;
     };
     match query {
@@ -59,10 +59,10 @@ pub fn is_query_line(line: &[u8], query: Wanted) -> bool
     }
 }
 
-/// The number from 1 to 16 at which a line tells that a system is safe. None exactly where it tells
-/// none.
-pub fn told_number(line: &[u8]) -> Option<u32>
-    ensures told { IfSome result (λ k. (line.now ≡ safe_line k) × IsTrue (is_number k)) }
+/// Returns the number from 1 to 16 at which a line states that a system is safe, or `None` if it
+/// states none.
+pub fn safe_number(line: &[u8]) -> Option<u32>
+    ensures told { IfSome result (λ k. (line.now ≡ safe_line k) × IsTrue (is_valid_k k)) }
     ensures none { IfNone result ((k : ℕ) → 0 < k → k ≤ 16 → ¬ (line.now ≡ safe_line k)) }
 {
     match number_after(line, b"safe", 16) {

@@ -1,40 +1,35 @@
 use ilk_audit::Auditor;
 use ilk_unroll::Wanted;
 
-/// How many bytes a line has at most that isn't the line of a step: the longest names a query.
+/// The most bytes of a line that is not a step's; the longest such line names a query.
 pub const MAX_PLAIN_LINE: usize = 32;
 
-/// Where a reader of a certificate is.
+/// The position of a reader of a certificate.
 #[derive(Drop)]
 pub enum Stage {
     /// Before the first line.
     Head,
-    /// Before the line that tells the number of the certificate.
+    /// Before the line with the certificate's number.
     Told,
-    /// Before the line of a query, or before the last line where none is left.
+    /// Before the line of a query, or before the last line if no query is left.
     Between {
         /// The number of the certificate.
         k: u32,
-        /// The next query.
         next: Option<Wanted>,
     },
     /// Among the steps of a query.
     Within {
-        /// The number of the certificate.
         k: u32,
-        /// The query.
         query: Wanted,
         /// Its formula and the steps so far, none of which has the empty clause.
         auditor: Auditor,
     },
     /// After the last line.
     Ended {
-        /// The number of the certificate.
         k: u32,
     },
     /// After a bad line.
     Refused {
-        /// Its number.
         line: u64,
     },
 }

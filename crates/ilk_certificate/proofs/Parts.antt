@@ -1,19 +1,17 @@
--- What is left of a text that is put together of parts.
+-- The rest of a text that consists of parts.
 use Rattle.std.proofs.Common.{◌≡◌, ℕ, ◌+◌, ◌<◌, List, [], ◌∷◌, ◌++◌, length, drop, set, flat_map, sym, ap, ◌∙◌, arith, get_or}
 use Rattle.std.proofs.lemmas.List.{drop-set, drop-set-lt, drop_more}
 use Rattle.ilk_lines.specs.Lines.{Bytes}
 use Rattle.ilk_certificate.specs.declared.part.Part.{Part}
-use Rattle.ilk_certificate.specs.Writing.{part_left}
+use Rattle.ilk_certificate.specs.Writing.{untaken_bytes}
 
--- what is left of the parts from one on, where something was taken of it
-pub part-first : (parts : List Part) (at : ℕ) (p : Part) → at < length parts → p ≡ get_or parts at p → part_left p ++ flat_map part_left (drop (at + 1) parts) ≡ flat_map part_left (drop at parts)
-part-first parts at p within is = sym (ap (flat_map part_left) (drop_more parts at p within ∙ ap (λ (q : Part). q ∷ drop (at + 1) parts) (sym is)))
+pub part-first : (parts : List Part) (at : ℕ) (p : Part) → at < length parts → p ≡ get_or parts at p → untaken_bytes p ++ flat_map untaken_bytes (drop (at + 1) parts) ≡ flat_map untaken_bytes (drop at parts)
+part-first parts at p within is = sym (ap (flat_map untaken_bytes) (drop_more parts at p within ∙ ap (λ (q : Part). q ∷ drop (at + 1) parts) (sym is)))
 
-pub part-set : (parts : List Part) (at : ℕ) (p : Part) → at < length parts → flat_map part_left (drop at (set parts at p)) ≡ part_left p ++ flat_map part_left (drop (at + 1) parts)
-part-set parts at p within = ap (flat_map part_left) (drop-set parts at p within)
+pub part-set : (parts : List Part) (at : ℕ) (p : Part) → at < length parts → flat_map untaken_bytes (drop at (set parts at p)) ≡ untaken_bytes p ++ flat_map untaken_bytes (drop (at + 1) parts)
+part-set parts at p within = ap (flat_map untaken_bytes) (drop-set parts at p within)
 
--- where nothing is left of it, the next is the first
-pub part-past : (start : Bytes) (parts : List Part) (at : ℕ) (p : Part) → part_left p ≡ [] → start ++ flat_map part_left (drop (at + 1) (set parts at p)) ≡ start ++ (part_left p ++ flat_map part_left (drop (at + 1) parts))
+pub part-past : (start : Bytes) (parts : List Part) (at : ℕ) (p : Part) → untaken_bytes p ≡ [] → start ++ flat_map untaken_bytes (drop (at + 1) (set parts at p)) ≡ start ++ (untaken_bytes p ++ flat_map untaken_bytes (drop (at + 1) parts))
 part-past start parts at p none =
-    ap (λ (ps : List Part). start ++ flat_map part_left ps) (drop-set-lt (at + 1) parts at p (omega arith))
-    ∙ ap (λ (t : Bytes). start ++ (t ++ flat_map part_left (drop (at + 1) parts))) (sym none)
+    ap (λ (ps : List Part). start ++ flat_map untaken_bytes ps) (drop-set-lt (at + 1) parts at p (omega arith))
+    ∙ ap (λ (t : Bytes). start ++ (t ++ flat_map untaken_bytes (drop (at + 1) parts))) (sym none)

@@ -1,4 +1,4 @@
--- What a certificate is: which queries it has, and what refutes each.
+-- A certificate: its queries, and the refutation of each.
 use Rattle.std.specs.Prelude.{ℕ, ◌+◌, ◌≡◌, ◌<◌, ◌≤◌, List, [], ◌∷◌, ◌++◌, map, All, IsTrue}
 use Rattle.std.specs.List.{range_with_len, flat_map}
 use Rattle.ilk_ir.specs.System.{SystemTree}
@@ -12,18 +12,20 @@ use Rattle.ilk_unroll.specs.Query.{query_formula}
 use Rattle.ilk_certificate.specs.declared.asked.Asked.{Asked}
 use Rattle.ilk_certificate.specs.CertificateText.{safe_text}
 
--- the log refutes the query's formula
+-- Holds if the log refutes the query's formula.
 abbrev pub IsRefuted : SystemTree → GoalTree → Wanted → List LogStep → Type 0
 IsRefuted s g q log = IsTrue (is_refutation (query_formula s g q) log)
 
--- the hazard query and the breach query for each number of steps up to k, and the step query for k
+-- The hazard query and the breach query for each number of steps up to `k`, and the step query for
+-- `k`.
 abbrev pub base_queries : ℕ → List Wanted
 base_queries n = Hazard n ∷ Breach n ∷ []
 
 abbrev pub certified_queries : ℕ → List Wanted
 certified_queries k = flat_map base_queries (range_with_len 0 (k + 1)) ++ Step k ∷ []
 
--- the bytes are the safe text for k, from 1 to 16, of these queries, each with a log that refutes it
+-- Holds if the bytes are the safe text for `k`, from 1 to 16, of these queries, each with a log
+-- that refutes it.
 pub record IsCertificate (s : SystemTree) (g : GoalTree) (k : ℕ) (bytes : Bytes) : Type 0 where
   pub asked : List Asked
   pub some : 0 < k

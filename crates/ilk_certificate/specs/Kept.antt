@@ -1,16 +1,16 @@
--- Which of the queries that were asked stand in a safe text: all but the step queries before the last.
+-- The queries that a safe text keeps.
 use Rattle.std.specs.Prelude.{Bool, true, false, List, [], ◌∷◌, if◌then◌else◌}
 use Rattle.ilk_unroll.specs.declared.queries.Wanted.{Wanted}
 use Rattle.ilk_unroll.specs.declared.queries.Wanted.TheVariants.{Hazard, Breach, Step}
 use Rattle.ilk_certificate.specs.declared.asked.Asked.{Asked}
 
--- whether a query is a step query
+-- Returns whether a query is a step query.
 abbrev pub is_step_query : Wanted → Bool
 is_step_query (Hazard n) = false
 is_step_query (Breach n) = false
 is_step_query (Step n) = true
 
--- the queries without the step queries before the last
+-- The queries without the step queries before the last query.
 abbrev pub without_early_steps : List Asked → List Asked
 without_early_steps [] = []
 without_early_steps (a ∷ []) = a ∷ []

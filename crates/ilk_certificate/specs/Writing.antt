@@ -1,4 +1,4 @@
--- Only private contracts and proofs need this file: what is written for one step, and for one query; what is left of a part.
+-- The text of one step, one query, and the rest of a part, for private contracts and proofs.
 use Rattle.std.specs.Prelude.{List, flat_map, [], ◌∷◌, ◌++◌, if◌then◌else◌}
 use Rattle.ilk_lines.specs.Lines.{Bytes}
 use Rattle.ilk_lines.specs.Written.{text_of}
@@ -10,23 +10,23 @@ use Rattle.ilk_certificate.specs.declared.part.Part.TheVariants.{Lines, Log}
 use Rattle.ilk_certificate.specs.Kept.{is_step_query, without_early_steps}
 use Rattle.ilk_certificate.specs.CertificateText.{asked_lines}
 
--- the line of a step with its line feed
-abbrev pub step_fed : LogStep → Bytes
-step_fed s = step_text s ++ 10 ∷ []
+-- The line of a step with its line feed.
+abbrev pub step_line_with_feed : LogStep → Bytes
+step_line_with_feed s = step_text s ++ 10 ∷ []
 
--- the text of an asked query
+-- The text of an asked query.
 abbrev pub asked_text : Asked → Bytes
 asked_text a = text_of (asked_lines a)
 
--- that of a query which isn't a step query
-abbrev pub base_text : Asked → Bytes
-base_text a = if is_step_query a.query then [] else asked_text a
+-- The text of a query, or nothing for a step query.
+abbrev pub text_unless_step : Asked → Bytes
+text_unless_step a = if is_step_query a.query then [] else asked_text a
 
--- the text of the queries but the step queries before the last
+-- The text of the queries except the step queries before the last query.
 abbrev pub kept_text : List Asked → Bytes
 kept_text asked = text_of (flat_map asked_lines (without_early_steps asked))
 
--- what is left of a part
-abbrev pub part_left : Part → Bytes
-part_left (Lines lines) = lines
-part_left (Log log) = log
+-- The rest of a part.
+abbrev pub untaken_bytes : Part → Bytes
+untaken_bytes (Lines lines) = lines
+untaken_bytes (Log log) = log

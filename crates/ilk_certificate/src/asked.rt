@@ -4,7 +4,6 @@ use ilk_unroll::Wanted;
 /// A query that was asked, and the log of its search.
 #[derive(Drop)]
 pub struct Asked {
-    /// What was asked.
     pub query: Wanted,
     /// The steps of the search.
     pub log: Log,

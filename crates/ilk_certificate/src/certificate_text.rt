@@ -1,28 +1,29 @@
 ghost use Rattle.std.specs.Prelude.{◌≡◌, ◌++◌, ◌∷◌, [], codes, drop, flat_map, length, min, take, IfOk, OnOk};
 ghost use Rattle.std.specs.Fmt.{decimal};
-ghost use Rattle.ilk_lines.specs.Written.{spaced, text_of};
+ghost use Rattle.ilk_lines.specs.Written.{word_and_rest, text_of};
 ghost use Rattle.ilk_certificate.specs.CertificateText.{all_conflicts, asked_lines, safe_text, spent_text};
 ghost use Rattle.ilk_certificate.specs.Kept.{without_early_steps};
-ghost use Rattle.ilk_certificate.specs.Writing.{asked_text, kept_text, part_left};
+ghost use Rattle.ilk_certificate.specs.Writing.{asked_text, kept_text, untaken_bytes};
 
 use crate::asked::Asked;
 use crate::part::Part;
 use crate::text::{is_step, push_query};
-use crate::write::{all_conflicts, begun};
+use crate::write::{all_conflicts, header_text};
 use ilk_base::Row;
-use ilk_lines::Untaken;
+use ilk_lines::RemainingBytes;
 use ilk_log::LogText;
 use std::alloc::{AllocError, Global};
 use std::marker::Model;
 
-/// The text of a certificate that is taken in pieces: seen as the bytes that are still to be taken.
+/// The text of a certificate, produced in pieces. Contracts see the bytes that are still to be
+/// taken.
 ///
-/// It owns the logs of the queries, and the lines of a log are made only as they are taken. All
-/// memory is taken where the text is made: taking pieces of it wants none.
+/// It owns the logs of the queries, and makes the lines of a log only as they are taken. All memory
+/// is allocated at creation: taking pieces needs none.
 #[derive(Drop)]
 pub struct CertificateText {
     parts: Vec<Part>,
-    // The part from which the next byte is taken: nothing is left of those before it.
+    // The part of the next byte: nothing is left of those before it.
     at: usize,
 }
 
@@ -31,16 +32,16 @@ impl Model for CertificateText {
 
     ghost Value = { List ℕ };
 
-    ghost use Rattle.ilk_certificate.specs.Writing.{part_left};
+    ghost use Rattle.ilk_certificate.specs.Writing.{untaken_bytes};
 
-    ghost view = { λ text. flat_map part_left (drop text.at text.parts.items) };
+    ghost view = { λ text. flat_map untaken_bytes (drop text.at text.parts.items) };
 
     ghost invariant = { λ text. text.at ≤ vec_len text.parts };
 }
 
 impl CertificateText {
-    /// No text.
-    pub fn none(alloc: Global) -> CertificateText
+    /// Creates an empty text.
+    pub fn empty(alloc: Global) -> CertificateText
         ensures { result ≡ [] }
     {
         CertificateText {
@@ -49,22 +50,19 @@ impl CertificateText {
         }
     }
 
-    // Adds a part at the end.
     fn add(&mut self, part: Part) -> Result<(), AllocError>
-        ensures { OnOk result (self.new ≡ self.old ++ part_left part) }
+        ensures { OnOk result (self.new ≡ self.old ++ untaken_bytes part) }
     {
         self.parts.push(part)?;
         Ok(())
     }
 
-    // Adds lines at the end.
     fn add_lines(&mut self, lines: Vec<u8>) -> Result<(), AllocError>
         ensures { OnOk result (self.new ≡ self.old ++ lines.items) }
     {
-        self.add(Part::Lines(Untaken::of(lines)))
+        self.add(Part::Lines(RemainingBytes::from_bytes(lines)))
     }
 
-    // Adds the lines of an asked query at the end.
     fn add_asked(&mut self, alloc: Global, asked: Asked) -> Result<(), AllocError>
         ensures { OnOk result (self.new ≡ self.old ++ asked_text asked) }
     {
@@ -72,10 +70,9 @@ impl CertificateText {
         let mut line = String::new(alloc);
         push_query(&mut line, query)?;
         self.add_lines(line.into_bytes())?;
-        self.add(Part::Log(LogText::of(alloc, log)))
+        self.add(Part::Log(LogText::from_log(alloc, log)))
     }
 
-    // Adds the lines of each query at the end.
     fn add_all(&mut self, alloc: Global, asked: Row<Asked>) -> Result<(), AllocError>
         ensures { OnOk result (self.new ≡ self.old ++ text_of (flat_map asked_lines asked)) }
     {
@@ -86,7 +83,6 @@ impl CertificateText {
         Ok(())
     }
 
-    // Adds the lines of the next query at the end, unless it is a step query and others are left.
     fn add_next(&mut self, alloc: Global, next: Asked, left: &Row<Asked>) -> Result<(), AllocError>
         ensures { OnOk result
             (self.new ++ kept_text left.now ≡ self.old ++ kept_text (next ∷ left.now)) }
@@ -97,7 +93,7 @@ impl CertificateText {
         self.add_asked(alloc, next)
     }
 
-    // Adds the lines of each query but the step queries before the last at the end.
+    // Appends the lines of each query except step queries before the last query.
     fn add_kept(&mut self, alloc: Global, asked: Row<Asked>) -> Result<(), AllocError>
         ensures { OnOk result (self.new ≡ self.old ++ kept_text asked) }
     {
@@ -109,18 +105,17 @@ impl CertificateText {
         Ok(())
     }
 
-    // The first two lines: the head, and what is told.
+    // Creates the first two lines: the header, and the verdict.
     fn begun(alloc: Global, word: &str, number: u128) -> Result<CertificateText, AllocError>
         ensures { IfOk result
             (λ text. text
-            ≡ text_of (codes "irv certificate 3" ∷ spaced word.now (decimal number) ∷ [])) }
+            ≡ text_of (codes "irv certificate 3" ∷ word_and_rest word.now (decimal number) ∷ [])) }
     {
-        let mut text = CertificateText::none(alloc);
-        text.add_lines(begun(alloc, word, number)?.into_bytes())?;
+        let mut text = CertificateText::empty(alloc);
+        text.add_lines(header_text(alloc, word, number)?.into_bytes())?;
         Ok(text)
     }
 
-    // Adds the last line.
     fn end(&mut self, alloc: Global) -> Result<(), AllocError>
         ensures { OnOk result (self.new ≡ self.old ++ codes "end\n") }
     {
@@ -128,9 +123,9 @@ impl CertificateText {
         self.add_lines(line.into_bytes())
     }
 
-    /// The text that tells that a system is safe at `k`, by what was asked for that: its lines, each
-    /// ended by one line feed. The step queries before the last, which were satisfied, aren't in it.
-    /// No memory for the parts of the text is its only error.
+    /// Creates the text that states that a system is safe at `k`, from the queries asked. It omits
+    /// the step queries before the last query, which were satisfied. Each line ends with one line
+    /// feed. Fails only if memory runs out.
     pub fn safe(alloc: Global, k: u32, asked: Row<Asked>) -> Result<CertificateText, AllocError>
         ensures { IfOk result (λ text. text ≡ safe_text k (without_early_steps asked)) }
     {
@@ -140,8 +135,8 @@ impl CertificateText {
         Ok(text)
     }
 
-    /// The text that tells that all conflicts are spent, by what was asked till then: its lines, each
-    /// ended by one line feed. No memory for the parts of the text is its only error.
+    /// Creates the text that states that all conflicts are spent, from the queries asked until
+    /// then. Each line ends with one line feed. Fails only if memory runs out.
     pub fn spent(alloc: Global, asked: Row<Asked>) -> Result<CertificateText, AllocError>
         ensures { IfOk result (λ text. text ≡ spent_text (all_conflicts asked) asked) }
     {
@@ -152,8 +147,8 @@ impl CertificateText {
         Ok(text)
     }
 
-    /// Takes the next bytes into the front of the buffer, as many as there are and the buffer has
-    /// places for, and answers how many. It wants no memory.
+    /// Copies the next bytes to the front of `into`, as many as fit, and returns their number.
+    /// Needs no memory.
     pub fn take(&mut self, into: &mut [u8]) -> usize
         ensures count { result ≡ min (length into.old) (length self.old) }
         ensures bytes { take result into.new ≡ take result self.old }

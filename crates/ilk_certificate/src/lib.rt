@@ -1,14 +1,13 @@
-//! The text of a certificate: what shows an assessor, without trust in any search, that a system is
-//! safe.
+//! The text of a certificate, which shows an assessor, without trust in any search, that a system
+//! is safe.
 //!
-//! `specs/Certificate` says what a certificate of a system and a goal is, whoever wrote it: which
-//! queries `safe k` has, and that a log refutes each. Its lines stand in `specs/CertificateText`, one
-//! below another. Nothing of this speaks of how the queries were answered, so that whoever reads a
-//! certificate needs no search.
+//! `specs/Certificate` defines a certificate of a system and a goal, regardless of its origin: the
+//! queries of `safe k`, and a log that refutes each. `specs/CertificateText` defines its lines.
+//! Neither depends on how the queries were answered, so reading a certificate needs no search.
 //!
-//! `safe_text` and `spent_text` write the text of queries that were asked (`Asked`). A `CertificateText`
-//! is the same text, to be taken in pieces: it is made of the logs as it is taken, and never held as a
-//! whole. What a spent text shows is said where the asking is told to be spent, in `ilk_induct`.
+//! `safe_text` and `spent_text` return the text of queries that were asked (`Asked`). A
+//! `CertificateText` produces the same text in pieces, made from the logs as it is taken, and never
+//! holds all of it. `ilk_induct` defines what a spent text shows.
 #![tactic(auto)]
 
 mod asked;

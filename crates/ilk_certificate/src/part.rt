@@ -1,25 +1,24 @@
 ghost use Rattle.std.specs.Prelude.{◌≡◌, drop, length, min, take};
-ghost use Rattle.ilk_certificate.specs.Writing.{part_left};
+ghost use Rattle.ilk_certificate.specs.Writing.{untaken_bytes};
 
-use ilk_lines::Untaken;
+use ilk_lines::RemainingBytes;
 use ilk_log::LogText;
 
-/// A part of a certificate's text, and how far it was taken.
+/// A part of a certificate's text, with the position in it.
 #[derive(Drop)]
 pub(crate) enum Part {
-    /// Short lines, which are held as bytes.
-    Lines(Untaken),
-    /// The lines of a log, which aren't.
+    /// Short lines, held as bytes.
+    Lines(RemainingBytes),
+    /// The lines of a log, made as they are taken.
     Log(LogText),
 }
 
 impl Part {
-    /// Takes the next bytes into the front of the buffer, as many as there are and the buffer has
-    /// places for, and answers how many.
+    /// Copies the next bytes to the front of `into`, as many as fit, and returns their number.
     pub(crate) fn take(&mut self, into: &mut [u8]) -> usize
-        ensures count { result ≡ min (length into.old) (length (part_left self.old)) }
-        ensures bytes { take result into.new ≡ take result (part_left self.old) }
-        ensures rest { part_left self.new ≡ drop result (part_left self.old) }
+        ensures count { result ≡ min (length into.old) (length (untaken_bytes self.old)) }
+        ensures bytes { take result into.new ≡ take result (untaken_bytes self.old) }
+        ensures rest { untaken_bytes self.new ≡ drop result (untaken_bytes self.old) }
     {
         match self {
             Part::Lines(lines) => lines.take(into),

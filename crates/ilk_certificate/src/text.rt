@@ -1,27 +1,27 @@
 ghost use Rattle.std.specs.Prelude.{◌≡◌, ◌++◌, ◌∷◌, [], map, OnOk, IsTrue, string_bytes};
 ghost use Rattle.std.specs.Fmt.{decimal};
 ghost use Rattle.std.specs.List.{list_all};
-ghost use Rattle.ilk_lines.specs.Written.{spaced, text_of};
+ghost use Rattle.ilk_lines.specs.Written.{word_and_rest, text_of};
 ghost use Rattle.ilk_log.specs.StepText.{step_text};
-ghost use Rattle.ilk_certificate.specs.CertificateText.{hints_from_one, query_line};
+ghost use Rattle.ilk_certificate.specs.CertificateText.{has_no_hint_zero, query_line};
 ghost use Rattle.ilk_certificate.specs.Kept.{is_step_query};
-ghost use Rattle.ilk_certificate.specs.Writing.{asked_text, base_text, step_fed};
+ghost use Rattle.ilk_certificate.specs.Writing.{asked_text, text_unless_step, step_line_with_feed};
 
 use crate::asked::Asked;
 use ilk_log::{Log, Step, push_step};
 use ilk_unroll::Wanted;
 use std::alloc::AllocError;
 
-/// Writes the line of a word, a space and a number at the end of a text.
+/// Appends the line of a word, a space and a number.
 pub(crate) fn push_numbered(text: &mut String, word: &str, number: u128) -> Result<(), AllocError>
     ensures { OnOk result
         (string_bytes text.new
-        ≡ string_bytes text.old ++ (spaced word.now (decimal number) ++ 10 ∷ [])) }
+        ≡ string_bytes text.old ++ (word_and_rest word.now (decimal number) ++ 10 ∷ [])) }
 {
     write!(text, "{word} {number}\n")
 }
 
-/// Writes the line of a query.
+/// Appends the line of a query.
 pub(crate) fn push_query(text: &mut String, query: Wanted) -> Result<(), AllocError>
     ensures { OnOk result
         (string_bytes text.new ≡ string_bytes text.old ++ (query_line query ++ 10 ∷ [])) }
@@ -33,18 +33,17 @@ pub(crate) fn push_query(text: &mut String, query: Wanted) -> Result<(), AllocEr
     }
 }
 
-// Writes the line of a step.
 fn push_step_line(text: &mut String, step: &Step) -> Result<(), AllocError>
-    requires { IsTrue (hints_from_one step.now) }
-    ensures { OnOk result (string_bytes text.new ≡ string_bytes text.old ++ step_fed step.now) }
+    requires { IsTrue (has_no_hint_zero step.now) }
+    ensures { OnOk result (string_bytes text.new
+        ≡ string_bytes text.old ++ step_line_with_feed step.now) }
 {
     push_step(text, step)?;
     text.push_str("\n")
 }
 
-// Writes the line of each step.
 fn push_steps(text: &mut String, log: &Log) -> Result<(), AllocError>
-    requires { IsTrue (list_all hints_from_one log.now) }
+    requires { IsTrue (list_all has_no_hint_zero log.now) }
     ensures { OnOk result
         (string_bytes text.new ≡ string_bytes text.old ++ text_of (map step_text log.now)) }
 {
@@ -55,26 +54,27 @@ fn push_steps(text: &mut String, log: &Log) -> Result<(), AllocError>
     Ok(())
 }
 
-/// Writes the lines of an asked query.
+/// Appends the lines of an asked query.
 pub(crate) fn push_asked(text: &mut String, asked: &Asked) -> Result<(), AllocError>
-    requires { IsTrue (list_all hints_from_one asked.now.log) }
+    requires { IsTrue (list_all has_no_hint_zero asked.now.log) }
     ensures { OnOk result (string_bytes text.new ≡ string_bytes text.old ++ asked_text asked.now) }
 {
     push_query(text, asked.query)?;
     push_steps(text, &asked.log)
 }
 
-/// Whether a query is a step query.
+/// Returns whether a query is a step query.
 pub(crate) fn is_step(query: Wanted) -> bool
     ensures { result ≡ is_step_query query }
 {
     matches!(query, Wanted::Step(_))
 }
 
-/// Writes them unless it is a step query.
-pub(crate) fn push_base(text: &mut String, asked: &Asked) -> Result<(), AllocError>
-    requires { IsTrue (list_all hints_from_one asked.now.log) }
-    ensures { OnOk result (string_bytes text.new ≡ string_bytes text.old ++ base_text asked.now) }
+/// Appends the lines of an asked query unless it is a step query.
+pub(crate) fn push_unless_step(text: &mut String, asked: &Asked) -> Result<(), AllocError>
+    requires { IsTrue (list_all has_no_hint_zero asked.now.log) }
+    ensures { OnOk result (string_bytes text.new
+        ≡ string_bytes text.old ++ text_unless_step asked.now) }
 {
     match asked.query {
         Wanted::Step(_) => Ok(()),

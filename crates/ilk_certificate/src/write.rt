@@ -1,16 +1,16 @@
 ghost use Rattle.std.specs.Prelude.{◌≡◌, ◌++◌, ◌∷◌, [], codes, flat_map, IfOk, OnOk, IsTrue, string_bytes};
 ghost use Rattle.std.specs.Fmt.{decimal};
-ghost use Rattle.ilk_lines.specs.Written.{spaced, text_of};
-ghost use Rattle.ilk_certificate.specs.CertificateText.{all_conflicts, all_hints_from_one, asked_lines, safe_text, spent_text};
+ghost use Rattle.ilk_lines.specs.Written.{word_and_rest, text_of};
+ghost use Rattle.ilk_certificate.specs.CertificateText.{all_conflicts, have_no_hint_zero, asked_lines, safe_text, spent_text};
 ghost use Rattle.ilk_certificate.specs.Kept.{without_early_steps};
-ghost use Rattle.ilk_certificate.specs.Writing.{base_text};
+ghost use Rattle.ilk_certificate.specs.Writing.{text_unless_step};
 
 use crate::asked::Asked;
-use crate::text::{push_asked, push_base, push_numbered};
+use crate::text::{push_asked, push_numbered, push_unless_step};
 use ilk_log::conflicts_in;
 use std::alloc::{AllocError, Global};
 
-/// How many steps of all logs have a literal.
+/// Returns the number of steps of all logs that have a literal.
 pub(crate) fn all_conflicts(asked: &[Asked]) -> u128
     ensures { result ≡ all_conflicts asked.now }
 {
@@ -21,9 +21,8 @@ pub(crate) fn all_conflicts(asked: &[Asked]) -> u128
     count
 }
 
-// Writes the lines of each query.
 fn push_all(text: &mut String, asked: &[Asked]) -> Result<(), AllocError>
-    requires { IsTrue (all_hints_from_one asked.now) }
+    requires { IsTrue (have_no_hint_zero asked.now) }
     ensures { OnOk result
         (string_bytes text.new
         ≡ string_bytes text.old ++ text_of (flat_map asked_lines asked.now)) }
@@ -34,21 +33,21 @@ fn push_all(text: &mut String, asked: &[Asked]) -> Result<(), AllocError>
     Ok(())
 }
 
-// Writes the lines of each query but the step queries.
+// Appends the lines of each query except the step queries.
 fn push_bases(text: &mut String, asked: &[Asked]) -> Result<(), AllocError>
-    requires { IsTrue (all_hints_from_one asked.now) }
+    requires { IsTrue (have_no_hint_zero asked.now) }
     ensures { OnOk result
-        (string_bytes text.new ≡ string_bytes text.old ++ flat_map base_text asked.now) }
+        (string_bytes text.new ≡ string_bytes text.old ++ flat_map text_unless_step asked.now) }
 {
     for query in asked {
-        push_base(text, query)?;
+        push_unless_step(text, query)?;
     }
     Ok(())
 }
 
-// Writes the lines of each query but the step queries before the last.
+// Appends the lines of each query except step queries before the last query.
 fn push_kept(text: &mut String, asked: &[Asked]) -> Result<(), AllocError>
-    requires { IsTrue (all_hints_from_one asked.now) }
+    requires { IsTrue (have_no_hint_zero asked.now) }
     ensures { OnOk result
         (string_bytes text.new
         ≡ string_bytes text.old
@@ -62,37 +61,37 @@ fn push_kept(text: &mut String, asked: &[Asked]) -> Result<(), AllocError>
     Ok(())
 }
 
-/// The first two lines: the head, and what is told.
-pub(crate) fn begun(alloc: Global, word: &str, number: u128) -> Result<String, AllocError>
+/// Returns the first two lines: the header, and the verdict.
+pub(crate) fn header_text(alloc: Global, word: &str, number: u128) -> Result<String, AllocError>
     ensures { IfOk result
         (λ text. string_bytes text
-        ≡ text_of (codes "irv certificate 3" ∷ spaced word.now (decimal number) ∷ [])) }
+        ≡ text_of (codes "irv certificate 3" ∷ word_and_rest word.now (decimal number) ∷ [])) }
 {
     let mut text = String::from_str(alloc, "irv certificate 3\n")?;
     push_numbered(&mut text, word, number)?;
     Ok(text)
 }
 
-/// The text that tells that a system is safe at `k`, by what was asked for that: its lines, each
-/// ended by one line feed. The step queries before the last, which were satisfied, aren't in it. No
-/// hint is 0. No memory for the text is its only error.
+/// Returns the text that states that a system is safe at `k`, from the queries asked. It omits the
+/// step queries before the last query, which were satisfied. Each line ends with one line feed. No
+/// hint may be 0. Fails only if memory runs out.
 pub fn safe_text(alloc: Global, k: u32, asked: &[Asked]) -> Result<Vec<u8>, AllocError>
-    requires hints { IsTrue (all_hints_from_one asked.now) }
+    requires hints { IsTrue (have_no_hint_zero asked.now) }
     ensures { IfOk result (λ text. text.items ≡ safe_text k (without_early_steps asked.now)) }
 {
-    let mut text = begun(alloc, "safe", k as u128)?;
+    let mut text = header_text(alloc, "safe", k as u128)?;
     push_kept(&mut text, asked)?;
     text.push_str("end\n")?;
     Ok(text.into_bytes())
 }
 
-/// The text that tells that all conflicts are spent, by what was asked till then: its lines, each
-/// ended by one line feed. No hint is 0. No memory for the text is its only error.
+/// Returns the text that states that all conflicts are spent, from the queries asked until then.
+/// Each line ends with one line feed. No hint may be 0. Fails only if memory runs out.
 pub fn spent_text(alloc: Global, asked: &[Asked]) -> Result<Vec<u8>, AllocError>
-    requires hints { IsTrue (all_hints_from_one asked.now) }
+    requires hints { IsTrue (have_no_hint_zero asked.now) }
     ensures { IfOk result (λ text. text.items ≡ spent_text (all_conflicts asked.now) asked.now) }
 {
-    let mut text = begun(alloc, "spent", all_conflicts(asked))?;
+    let mut text = header_text(alloc, "spent", all_conflicts(asked))?;
     push_all(&mut text, asked)?;
     text.push_str("end\n")?;
     Ok(text.into_bytes())

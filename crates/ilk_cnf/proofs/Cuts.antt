@@ -1,4 +1,4 @@
--- Lists that stand one after another in one list: which of them stands where, and one more at the end.
+-- Lists stored one after another in one list: the position of each, and appending one.
 use Rattle.std.proofs.Common.{◌≡◌, ◌≤◌, ◌<◌, ◌+◌, ◌-◌, true, List, [], ◌∷◌, ◌++◌, length, get_or, take, drop, slice_get, Some, refl, ap, ℕ, zero, suc, sym, ◌∙◌, arith, length-drop}
 use Rattle.std.proofs.lemmas.List.{take_all, drop_at, get_or_read, drop-append-le, take-append-le}
 use Rattle.std.proofs.lemmas.Bool.{and_parts, and_from, eqb-true, eq-eqb, leb-true, le-leb}
@@ -9,13 +9,12 @@ pub length-cut_at : {X : Type 0} (start : ℕ) (ends : List ℕ) (xs : List X) �
 length-cut_at start [] xs = refl
 length-cut_at start (end ∷ ends) xs = ap suc (length-cut_at end ends xs)
 
--- list i goes from the end before it to its own
+-- List i goes from the previous end to its own.
 list-at : {X : Type 0} (start : ℕ) (ends : List ℕ) (xs : List X) (i d : ℕ) → i < length ends → slice_get (cut_at start ends xs) i ≡ Some (slice_range xs (get_or (start ∷ ends) i d) (get_or ends i d))
 list-at start [] xs i d h = absurd (omega (arith, h))
 list-at start (end ∷ ends) xs zero d h = refl
 list-at start (end ∷ ends) xs (suc i) d h = list-at end ends xs i d (omega (arith, h))
 
--- the ends go up to the number of all items
 starts-within : (start : ℕ) (ends : List ℕ) (n : ℕ) → are_ends start ends n ≡ true → start ≤ n
 starts-within start [] n h = let same = eqb-true start n h in omega (arith, same)
 starts-within start (end ∷ ends) n h =
@@ -36,7 +35,7 @@ pub within : {X : Type 0} (ends : List ℕ) (xs : List X) (now : List (List X)) 
 within ends xs now i is h =
     let long = sym (length-cut_at 0 ends xs) ∙ ap length is in omega (arith, h, long)
 
--- where list i stands
+-- The position of list i.
 pub record Stands {X : Type 0} (xs : List X) (now : List (List X)) (i start end : ℕ) : Type 0 where
   pub order : start ≤ end
   pub within : end ≤ length xs
@@ -55,7 +54,6 @@ stands ends xs now i start end h is k s read =
       is = sym (ap (λ (lists : List (List _)). slice_get lists i) is) ∙ list-at 0 ends xs i 0 below ∙ rw (s, e) refl;
     }
 
--- one more at the end
 part-before : {X : Type 0} (xs ys : List X) (start end : ℕ) → start ≤ end → end ≤ length xs → slice_range (xs ++ ys) start end ≡ slice_range xs start end
 part-before xs ys start end h k =
     ap (take (end - start)) (drop-append-le start xs ys (omega (arith, h, k)))

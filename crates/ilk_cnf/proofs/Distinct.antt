@@ -1,17 +1,17 @@
--- How the clause of some literals is made in one walk over them.
+-- A clause is built in one pass over its literals.
 use Rattle.std.proofs.Common.{◌≡◌, ◌<◌, ◌+◌, length, get_or, drop, subst, Option, Some, option_to_list, Bool, true, false, not, ◌&&◌, List, [], ◌∷◌, ◌++◌, refl, eqb, ℕ, sym, ap, ◌∙◌, append_assoc, cond}
 use Rattle.std.specs.List.{list_all}
 use Rattle.std.proofs.lemmas.List.Folds.{list_all-append}
 use Rattle.std.proofs.lemmas.Bool.{and_parts, and_from, or_parts, or_from, cond_both, true≢false, eq-eqb, eqb-false, ne_eqb, not-true, not_from_false}
 use Rattle.ilk_base.proofs.Lists.{drop_at}
-use Rattle.ilk_cnf.specs.Literal.{Literal, has_lit, has_var, opposite}
-use Rattle.ilk_cnf.specs.Formula.{distinct, is_tautology, as_clause, clause_in, clauses_in}
+use Rattle.ilk_cnf.specs.Literal.{Literal, has_lit, has_var, negated_lit}
+use Rattle.ilk_cnf.specs.Formula.{distinct, is_tautology, as_clause, is_clause_over, are_clauses_over}
 
--- no variable of the first list stands in the second
+-- No variable of the first list occurs in the second.
 abbrev pub none_again : List Literal → List Literal → Bool
 none_again ks ls = list_all (λ k. not (has_var k.var ls)) ks
 
--- the clause so far, of the literals before the rest
+-- The state of the pass: the literals kept so far, and the rest.
 pub record Reading (ls kept rest : List Literal) : Type 0 where
   pub clash : is_tautology ls ≡ is_tautology rest
   pub literals : distinct ls ≡ kept ++ distinct rest
@@ -24,8 +24,8 @@ none_again-less (k ∷ ks) l ls h =
     let none = or_parts _ _ (not-true (has_var k.var (l ∷ ls)) parts.0) in
     and_from _ _ (not_from_false (has_var k.var ls) none.1) (none_again-less ks l ls parts.1)
 
--- a variable of which neither literal stands there doesn't
-no_var : (l : Literal) (ls : List Literal) → has_lit (opposite l) ls ≡ false → has_lit l ls ≡ false → has_var l.var ls ≡ false
+-- A variable without either literal in the list is not in it.
+no_var : (l : Literal) (ls : List Literal) → has_lit (negated_lit l) ls ≡ false → has_lit l ls ≡ false → has_var l.var ls ≡ false
 no_var l [] h k = refl
 no_var l (m ∷ ls) h k =
     let one = or_parts _ _ h in
@@ -38,23 +38,20 @@ no_var l (m ∷ ls) h k =
     apart e false true x y = true≢false (sym (ap (λ (b : Bool). b && true) e) ∙ x)
     apart e false false x y = true≢false (sym (ap (λ (b : Bool). b && true) e) ∙ y)
 
--- where it stands there itself
-pub reading_skip : (ls kept : List Literal) (l : Literal) (rest : List Literal) → Reading ls kept (l ∷ rest) → has_lit (opposite l) rest ≡ false → has_lit l rest ≡ true → Reading ls kept rest
+pub reading_skip : (ls kept : List Literal) (l : Literal) (rest : List Literal) → Reading ls kept (l ∷ rest) → has_lit (negated_lit l) rest ≡ false → has_lit l rest ≡ true → Reading ls kept rest
 reading_skip ls kept l rest r h k = record {
   clash = r.clash ∙ rw h refl;
   literals = r.literals ∙ rw k refl;
   apart = none_again-less kept l rest r.apart;
 }
 
--- where its variable doesn't
-pub reading_keep : (ls kept : List Literal) (l : Literal) (rest : List Literal) → Reading ls kept (l ∷ rest) → has_lit (opposite l) rest ≡ false → has_lit l rest ≡ false → Reading ls (kept ++ l ∷ []) rest
+pub reading_keep : (ls kept : List Literal) (l : Literal) (rest : List Literal) → Reading ls kept (l ∷ rest) → has_lit (negated_lit l) rest ≡ false → has_lit l rest ≡ false → Reading ls (kept ++ l ∷ []) rest
 reading_keep ls kept l rest r h k = record {
   clash = r.clash ∙ rw h refl;
   literals = r.literals ∙ rw (k, append_assoc) refl;
   apart = list_all-append (λ (m : Literal). not (has_var m.var rest)) kept (l ∷ []) ∙ and_from _ _ (none_again-less kept l rest r.apart) (and_from _ _ (not_from_false _ (no_var l rest h k)) refl);
 }
 
--- the next literal's variable is new to the clause
 pub reading_new : (ls kept : List Literal) (l : Literal) (rest : List Literal) → Reading ls kept (l ∷ rest) → has_var l.var kept ≡ false
 reading_new ls kept l rest r = new kept r.apart
   where
@@ -65,21 +62,19 @@ reading_new ls kept l rest r = new kept r.apart
         let none = or_parts _ _ (not-true (has_var k.var (l ∷ rest)) parts.0) in
         or_from _ _ (ne_eqb k.var l.var (λ e. eqb-false l.var k.var none.0 (sym e))) (new ks parts.1)
 
--- the same, where the rest is told by an index
 pub reading_at : (ls kept : List Literal) (i : ℕ) (l : Literal) → i < length ls → l ≡ get_or ls i l → Reading ls kept (drop i ls) → Reading ls kept (l ∷ drop (i + 1) ls)
 reading_at ls kept i l h e r = let P : List Literal → Type 0 = λ rest. Reading ls kept rest in subst P (drop_at ls i l h e) r
 
--- the literals of the clause are among the given ones
-distinct_in : (n : ℕ) (ls : List Literal) → clause_in n ls ≡ true → clause_in n (distinct ls) ≡ true
+distinct_in : (n : ℕ) (ls : List Literal) → is_clause_over n ls ≡ true → is_clause_over n (distinct ls) ≡ true
 distinct_in n [] h = refl
 distinct_in n (l ∷ ls) h =
     let parts = and_parts _ _ h in
     let rest = distinct_in n ls parts.1 in
-    cond_both (has_lit l ls) (distinct ls) (l ∷ distinct ls) (λ c. clause_in n c ≡ true) (λ _. rest) (λ _. and_from _ _ parts.0 rest)
+    cond_both (has_lit l ls) (distinct ls) (l ∷ distinct ls) (λ c. is_clause_over n c ≡ true) (λ _. rest) (λ _. and_from _ _ parts.0 rest)
 
-pub as_clause_in : (n : ℕ) (ls : List Literal) → clause_in n ls ≡ true → clauses_in n (as_clause ls) ≡ true
+pub as_clause_in : (n : ℕ) (ls : List Literal) → is_clause_over n ls ≡ true → are_clauses_over n (as_clause ls) ≡ true
 as_clause_in n ls h =
-    cond_both (is_tautology ls) [] (distinct ls ∷ []) (λ cs. clauses_in n cs ≡ true) (λ _. refl) (λ _. and_from _ _ (distinct_in n ls h) refl)
+    cond_both (is_tautology ls) [] (distinct ls ∷ []) (λ cs. are_clauses_over n cs ≡ true) (λ _. refl) (λ _. and_from _ _ (distinct_in n ls h) refl)
 
-pub of_in : (n : ℕ) (ls c : List Literal) (o : Option (List Literal)) → o ≡ Some c → option_to_list o ≡ as_clause ls → clause_in n ls ≡ true → clause_in n c ≡ true
-of_in n ls c o is e h = (and_parts _ _ (ap (λ (cs : List (List Literal)). clauses_in n cs) (sym (ap option_to_list is) ∙ e) ∙ as_clause_in n ls h)).0
+pub of_in : (n : ℕ) (ls c : List Literal) (o : Option (List Literal)) → o ≡ Some c → option_to_list o ≡ as_clause ls → is_clause_over n ls ≡ true → is_clause_over n c ≡ true
+of_in n ls c o is e h = (and_parts _ _ (ap (λ (cs : List (List Literal)). are_clauses_over n cs) (sym (ap option_to_list is) ∙ e) ∙ as_clause_in n ls h)).0

@@ -1,21 +1,19 @@
--- Literals whose variables are marked as they are met.
+-- Literals whose variables are marked one by one.
 use Rattle.std.proofs.Common.{◌≡◌, ◌==◌, ◌<◌, ◌+◌, ◌||◌, ◌&&◌, not, inl, inr, Bool, true, false, List, [], ◌∷◌, zero, suc, refl, ℕ, sym, ap, ◌∙◌, cond, length, take, get_or, arith, eqb}
 use Rattle.std.proofs.lemmas.Bool.{and_parts, or_parts, cases_Bool, false≢true, not-true, true≢false, ltb-true, ne_eqb, eqb-false}
 use Rattle.std.proofs.lemmas.Bool.Decides.{Decides-eqb}
 use Rattle.std.proofs.lemmas.List.{take_more}
 use Rattle.std.proofs.lemmas.List.Folds.{list_any-append, list_any_at, list_all_at}
 use Rattle.std.proofs.Math.Bool.{or-false}
-use Rattle.ilk_cnf.specs.Literal.{Literal, opposite, has_lit, has_var, vars_differ}
-use Rattle.ilk_cnf.specs.Formula.{lit_in, clause_in, is_tautology, distinct, as_clause}
+use Rattle.ilk_cnf.specs.Literal.{Literal, negated_lit, has_lit, has_var, vars_differ}
+use Rattle.ilk_cnf.specs.Formula.{is_lit_over, is_clause_over, is_tautology, distinct, as_clause}
 use Rattle.ilk_cnf.proofs.Literals.{vars_differ-push}
 
--- the variables of the literals so far, and of one more
 vars-more : (ls : List Literal) (i : ℕ) (d : Literal) (v x : ℕ) → i < length ls → x ≡ (get_or ls i d).var → has_var v (take (i + 1) ls) ≡ (has_var v (take i ls) || (x == v))
 vars-more ls i d v x within is =
     ap (has_var v) (take_more ls i d within) ∙ list_any-append (λ (l : Literal). l.var == v) (take i ls) (get_or ls i d ∷ [])
     ∙ ap (λ t. has_var v (take i ls) || t) (or-false ((get_or ls i d).var == v) ∙ ap (λ y. y == v) (sym is))
 
--- a mark that is taken away
 pub unmarked-more : (ls : List Literal) (i : ℕ) (d : Literal) (v x : ℕ) (old new : Bool) → i < length ls →
     x ≡ (get_or ls i d).var → new ≡ cond (x == v) false old → (has_var v (take i ls) ≡ true → old ≡ false) →
     has_var v (take (i + 1) ls) ≡ true → new ≡ false
@@ -25,7 +23,6 @@ unmarked-more ls i d v x old new within is told before h = by_test (x == v) told
     by_test true e k = e
     by_test false e k = e ∙ before (sym (or-false (has_var v (take i ls))) ∙ k)
 
--- a mark that is set
 pub marked-more : (ls : List Literal) (i : ℕ) (d : Literal) (v x : ℕ) (old new : Bool) → i < length ls → x ≡ (get_or ls i d).var → new ≡ cond (x == v) true old → old ≡ has_var v (take i ls) → new ≡ has_var v (take (i + 1) ls)
 marked-more ls i d v x old new within is told before = by_test (x == v) told ∙ sym (vars-more ls i d v x within is)
   where
@@ -37,28 +34,25 @@ marked-more ls i d v x old new within is told before = by_test (x == v) told ∙
     by_test true e = e ∙ or_yes (has_var v (take i ls))
     by_test false e = e ∙ before ∙ sym (or-false (has_var v (take i ls)))
 
--- a literal of a list has a variable of the list
 pub var-among : (ls : List Literal) (i : ℕ) (d : Literal) (x : ℕ) → i < length ls → x ≡ (get_or ls i d).var → has_var x ls ≡ true
 var-among ls i d x within is =
     list_any_at (λ (l : Literal). l.var == x) ls i d within ((Decides-eqb (get_or ls i d).var x).1 (sym is))
 
--- variables that differ so far, and that of one more literal, which none of them is
 pub differ-more : (ls : List Literal) (i : ℕ) (d : Literal) (x : ℕ) → i < length ls → x ≡ (get_or ls i d).var → vars_differ (take i ls) ≡ true → has_var x (take i ls) ≡ false → vars_differ (take (i + 1) ls) ≡ true
 differ-more ls i d x within is before away =
     ap vars_differ (take_more ls i d within) ∙ vars_differ-push (take i ls) (get_or ls i d) before (ap (λ y. has_var y (take i ls)) (sym is) ∙ away)
 
--- a literal's variable is one of those from 1 on
-pub var-from_1 : (n : ℕ) (ls : List Literal) (i : ℕ) (d : Literal) (x : ℕ) → clause_in n ls ≡ true → i < length ls → x ≡ (get_or ls i d).var → 0 < x
-var-from_1 n ls i d x inside within is = elim (cases_Bool (lit_in n (get_or ls i d))) [
+pub var-from_1 : (n : ℕ) (ls : List Literal) (i : ℕ) (d : Literal) (x : ℕ) → is_clause_over n ls ≡ true → i < length ls → x ≡ (get_or ls i d).var → 0 < x
+var-from_1 n ls i d x inside within is = elim (cases_Bool (is_lit_over n (get_or ls i d))) [
   | inl passes ↦ (let low : 0 < (get_or ls i d).var = ltb-true 0 (get_or ls i d).var (and_parts _ _ passes).0 in rw is low)
-  | inr fails ↦ absurd (true≢false (sym inside ∙ list_all_at (lit_in n) ls i d within fails))
+  | inr fails ↦ absurd (true≢false (sym inside ∙ list_all_at (is_lit_over n) ls i d within fails))
 ]
 
 never : (b : Bool) → (not b && false) ≡ false
 never true = refl
 never false = refl
 
--- where the next literal's variable is one of them, they don't all differ
+-- If the next literal's variable is already marked, the variables don't all differ.
 pub differ-not : (ls : List Literal) (i : ℕ) (d : Literal) (x : ℕ) → i < length ls → x ≡ (get_or ls i d).var → has_var x (take i ls) ≡ true → vars_differ ls ≡ false
 differ-not [] i d x within is met = absurd (omega (arith, within))
 differ-not (l ∷ ls) zero d x within is met = absurd (false≢true met)
@@ -72,7 +66,7 @@ differ-not (l ∷ ls) (suc i) d x within is met =
         rw again refl
     by_test among later false e k = rw (later k) (never (has_var l.var ls))
 
-no-lit : (l : Literal) (ls : List Literal) → has_var l.var ls ≡ false → (has_lit l ls ≡ false) × (has_lit (opposite l) ls ≡ false)
+no-lit : (l : Literal) (ls : List Literal) → has_var l.var ls ≡ false → (has_lit l ls ≡ false) × (has_lit (negated_lit l) ls ≡ false)
 no-lit l [] h = (refl, refl)
 no-lit l (m ∷ ls) h =
     let parts = or_parts _ _ h in
@@ -88,6 +82,5 @@ differ-plain (l ∷ ls) h =
     let rest = differ-plain ls parts.1 in
     (rw (none.1, rest.0) refl, rw (none.0, rest.1) refl)
 
--- the clause of literals over different variables is their list
 pub differ-clause : (ls : List Literal) → vars_differ ls ≡ true → as_clause ls ≡ ls ∷ []
 differ-clause ls h = let plain = differ-plain ls h in rw (plain.0, plain.1) refl

@@ -1,12 +1,12 @@
--- Parts of formulas, and how they follow each other.
+-- Composition of consecutive parts.
 use Rattle.std.proofs.Common.{◌≡◌, ℕ, ◌+◌, ◌-◌, ◌≤◌, Bool, true, false, not, cond, List, [], ◌∷◌, ◌++◌, length, take, drop, refl, sym, ap, ◌∙◌, arith, append_assoc, length-append, take-append-drop}
 use Rattle.std.proofs.lemmas.List.{get_or_append_left, get_or_at, length-take-le}
 use Rattle.std.proofs.lemmas.List.Folds.{list_all-append}
 use Rattle.std.proofs.lemmas.Bool.{and_parts, and_from, leb-true}
 use Rattle.ilk_cnf.specs.Literal.{Literal}
-use Rattle.ilk_cnf.specs.Formula.{clause_in, clauses_in}
-use Rattle.ilk_cnf.specs.Truth.{value, is_true, some_true, satisfies}
-use Rattle.ilk_cnf.specs.Extends.{Extends, Only, Then}
+use Rattle.ilk_cnf.specs.Formula.{is_clause_over, are_clauses_over}
+use Rattle.ilk_cnf.specs.Truth.{value, is_true, is_clause_true, satisfies}
+use Rattle.ilk_cnf.specs.Extends.{Extends, IsExactly, FollowedBy}
 
 pub value-left : (a b : List Bool) (v : ℕ) → v ≤ length a → value (a ++ b) v ≡ value a v
 value-left a b v h = get_or_append_left (false ∷ a) b false v (omega arith)
@@ -17,38 +17,37 @@ value-new a b x v h = get_or_at (false ∷ a) x b false v (omega (arith, h))
 pub is_true-left : (a b : List Bool) (l : Literal) → l.var ≤ length a → is_true (a ++ b) l ≡ is_true a l
 is_true-left a b l h = ap (λ (x : Bool). cond l.positive x (not x)) (value-left a b l.var h)
 
-pub some_true-left : (a b : List Bool) (c : List Literal) → clause_in (length a) c ≡ true → some_true (a ++ b) c ≡ some_true a c
-some_true-left a b [] h = refl
-some_true-left a b (l ∷ c) h =
+pub is_clause_true-left : (a b : List Bool) (c : List Literal) → is_clause_over (length a) c ≡ true → is_clause_true (a ++ b) c ≡ is_clause_true a c
+is_clause_true-left a b [] h = refl
+is_clause_true-left a b (l ∷ c) h =
     let parts = and_parts _ _ h in
     let first = is_true-left a b l (leb-true _ _ (and_parts _ _ parts.0).1) in
-    let rest = some_true-left a b c parts.1 in
+    let rest = is_clause_true-left a b c parts.1 in
     rw (first, rest) refl
 
-pub satisfies-left : (a b : List Bool) (cs : List (List Literal)) → clauses_in (length a) cs ≡ true → satisfies (a ++ b) cs ≡ satisfies a cs
+pub satisfies-left : (a b : List Bool) (cs : List (List Literal)) → are_clauses_over (length a) cs ≡ true → satisfies (a ++ b) cs ≡ satisfies a cs
 satisfies-left a b [] h = refl
 satisfies-left a b (c ∷ cs) h =
     let parts = and_parts _ _ h in
-    let first = some_true-left a b c parts.0 in
+    let first = is_clause_true-left a b c parts.0 in
     let rest = satisfies-left a b cs parts.1 in
     rw (first, rest) refl
 
--- one part and then the next
 pub in_turn :
     (a : List Bool) (m k : ℕ) (cs ds : List (List Literal)) (E : List Bool → Type 0)
     (F : (b : List Bool) → E b → List Bool → Type 0) → length a ≤ m → m ≤ k →
-    clauses_in m cs ≡ true → Extends a m cs E →
-    ((b : List Bool) → (e : E b) → Extends (a ++ b) k ds (F b e)) → Extends a k (cs ++ ds) (Then E F)
+    are_clauses_over m cs ≡ true → Extends a m cs E →
+    ((b : List Bool) → (e : E b) → Extends (a ++ b) k ds (F b e)) → Extends a k (cs ++ ds) (FollowedBy E F)
 in_turn a m k cs ds E F low high inside first next = record {
   sized = λ d h. rw (h.2, ← append_assoc a h.0 h.1) ((next h.0 h.3).sized h.1 h.4);
-  does = λ d h. rw (h.2, ← append_assoc a h.0 h.1) (both h.0 h.1 (first.sized h.0 h.3) (first.does h.0 h.3) ((next h.0 h.3).does h.1 h.4));
+  all_satisfy = λ d h. rw (h.2, ← append_assoc a h.0 h.1) (both h.0 h.1 (first.sized h.0 h.3) (first.all_satisfy h.0 h.3) ((next h.0 h.3).all_satisfy h.1 h.4));
   only = λ d long sat. split d long sat;
 }
   where
     both : (b c : List Bool) → length (a ++ b) ≡ m → satisfies (a ++ b) cs ≡ true → satisfies ((a ++ b) ++ c) ds ≡ true → satisfies ((a ++ b) ++ c) (cs ++ ds) ≡ true
-    both b c long h k = list_all-append (some_true ((a ++ b) ++ c)) cs ds ∙ and_from _ _ (satisfies-left (a ++ b) c cs (rw long inside) ∙ h) k
+    both b c long h k = list_all-append (is_clause_true ((a ++ b) ++ c)) cs ds ∙ and_from _ _ (satisfies-left (a ++ b) c cs (rw long inside) ∙ h) k
 
-    split : (d : List Bool) → length (a ++ d) ≡ k → satisfies (a ++ d) (cs ++ ds) ≡ true → Then E F d
+    split : (d : List Bool) → length (a ++ d) ≡ k → satisfies (a ++ d) (cs ++ ds) ≡ true → FollowedBy E F d
     split d long sat =
         let b = take (m - length a) d in
         let c = drop (m - length a) d in
@@ -57,21 +56,20 @@ in_turn a m k cs ds E F low high inside first next = record {
         let size : length b ≡ m - length a = length-take-le (m - length a) d (omega arith) in
         let here : length (a ++ b) ≡ m = length-append a b ∙ omega arith in
         let same : (a ++ b) ++ c ≡ a ++ d = append_assoc a b c ∙ ap (λ (w : List Bool). a ++ w) whole in
-        let parts = and_parts _ _ (sym (list_all-append (some_true (a ++ d)) cs ds) ∙ sat) in
+        let parts = and_parts _ _ (sym (list_all-append (is_clause_true (a ++ d)) cs ds) ∙ sat) in
         let one : satisfies ((a ++ b) ++ c) cs ≡ true = rw same parts.0 in
         let two : satisfies ((a ++ b) ++ c) ds ≡ true = rw same parts.1 in
         let e : E b = first.only b here (sym (satisfies-left (a ++ b) c cs (rw here inside)) ∙ one) in
         (b, c, sym whole, e, (next b e).only c (rw same long) two)
 
--- the same values in other words
+-- Equivalent descriptions of the values.
 pub in_words : (a : List Bool) (m : ℕ) (cs : List (List Literal)) (E F : List Bool → Type 0) → ((b : List Bool) → E b → F b) → ((b : List Bool) → F b → E b) → Extends a m cs E → Extends a m cs F
 in_words a m cs E F to from h = record {
   sized = λ b f. h.sized b (from b f);
-  does = λ b f. h.does b (from b f);
+  all_satisfy = λ b f. h.all_satisfy b (from b f);
   only = λ b long sat. to b (h.only b long sat);
 }
 
--- two parts with one value each
-pub one_by_one : (a e f : List Bool) (m k : ℕ) (cs ds : List (List Literal)) → length a ≤ m → m ≤ k → clauses_in m cs ≡ true → Extends a m cs (Only e) → Extends (a ++ e) k ds (Only f) → Extends a k (cs ++ ds) (Only (e ++ f))
+pub one_by_one : (a e f : List Bool) (m k : ℕ) (cs ds : List (List Literal)) → length a ≤ m → m ≤ k → are_clauses_over m cs ≡ true → Extends a m cs (IsExactly e) → Extends (a ++ e) k ds (IsExactly f) → Extends a k (cs ++ ds) (IsExactly (e ++ f))
 one_by_one a e f m k cs ds low high inside first next =
-    in_words a k (cs ++ ds) _ (Only (e ++ f)) (λ d h. rw (h.2, h.3, h.4) refl) (λ d h. (e, f, h, refl, refl)) (in_turn a m k cs ds (Only e) (λ b _. Only f) low high inside first (λ b h. rw h next))
+    in_words a k (cs ++ ds) _ (IsExactly (e ++ f)) (λ d h. rw (h.2, h.3, h.4) refl) (λ d h. (e, f, h, refl, refl)) (in_turn a m k cs ds (IsExactly e) (λ b _. IsExactly f) low high inside first (λ b h. rw h next))

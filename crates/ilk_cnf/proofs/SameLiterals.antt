@@ -1,9 +1,10 @@
--- Two literals that the test takes for one are one, and a literal's variable is in a list that has it.
+-- Literals that pass the equality test are equal, and a literal's variable is in each list that has
+-- it.
 use Rattle.std.proofs.Common.{◌≡◌, ℕ, inl, inr, Bool, true, false, not, cond, eqb, List, [], ◌∷◌, refl, sym, ap, ◌∙◌}
 use Rattle.std.proofs.lemmas.Bool.{and_parts, and_from, or_cases, or_left, or_right, eqb-true, eq-eqb}
 use Rattle.ilk_base.proofs.Tested.{list_any-at, list_all-slice_get}
 use Rattle.ilk_cnf.specs.Literal.{Literal, same_lit, has_lit, has_var}
-use Rattle.ilk_cnf.specs.Formula.{clause_in, lit_in}
+use Rattle.ilk_cnf.specs.Formula.{is_clause_over, is_lit_over}
 
 pub same-lit : (l : Literal) → same_lit l l ≡ true
 same-lit l = go l.var l.positive
@@ -29,8 +30,7 @@ has-var l (m ∷ ls) h =
       | inr r ↦ or_right (eqb m.var l.var) _ (has-var l ls r)
     ]
 
--- a literal that stands in a clause over n variables is over them
-pub lit_in-clause : (n : ℕ) (c : List Literal) (l : Literal) → clause_in n c ≡ true → has_lit l c ≡ true → lit_in n l ≡ true
-lit_in-clause n c l h s =
+pub is_lit_over-clause : (n : ℕ) (c : List Literal) (l : Literal) → is_clause_over n c ≡ true → has_lit l c ≡ true → is_lit_over n l ≡ true
+is_lit_over-clause n c l h s =
     let k = list_any-at (same_lit l) c s in
-    ap (lit_in n) (lit-is l k.1 k.3) ∙ list_all-slice_get (lit_in n) c k.0 k.1 h k.2
+    ap (is_lit_over n) (lit-is l k.1 k.3) ∙ list_all-slice_get (is_lit_over n) c k.0 k.1 h k.2

@@ -2,35 +2,35 @@
 use Rattle.std.specs.Prelude.{ℕ, Bool, true, false, List, [], ◌∷◌, ◌==◌, ◌&&◌, not, if◌then◌else◌}
 use Rattle.std.specs.List.{list_any}
 
--- true where the variable is (positive), or where it isn't
+-- A positive literal is true if the variable is; a negative one, if it isn't.
 pub record Literal : Type 0 where
   pub var : ℕ
   pub positive : Bool
 
--- the two literals of a variable
-abbrev pub plus : ℕ → Literal
-plus v = record { var = v; positive = true }
+-- The two literals of a variable.
+abbrev pub positive_lit : ℕ → Literal
+positive_lit v = record { var = v; positive = true }
 
-abbrev pub minus : ℕ → Literal
-minus v = record { var = v; positive = false }
+abbrev pub negative_lit : ℕ → Literal
+negative_lit v = record { var = v; positive = false }
 
--- the other literal of the variable
-abbrev pub opposite : Literal → Literal
-opposite l = record { var = l.var; positive = not l.positive }
+-- The other literal of the variable.
+abbrev pub negated_lit : Literal → Literal
+negated_lit l = record { var = l.var; positive = not l.positive }
 
--- whether two literals are one
+-- Returns whether two literals are equal.
 abbrev pub same_lit : Literal → Literal → Bool
 same_lit l m = (l.var == m.var) && (if l.positive then m.positive else not m.positive)
 
--- whether the list has the literal
+-- Returns whether the list has the literal.
 abbrev pub has_lit : Literal → List Literal → Bool
 has_lit l ls = list_any (same_lit l) ls
 
--- whether the list has a literal of the variable
+-- Returns whether the list has a literal of the variable.
 abbrev pub has_var : ℕ → List Literal → Bool
 has_var v ls = list_any (λ l. l.var == v) ls
 
--- whether the literals are over different variables
+-- Returns whether the literals are over different variables.
 abbrev pub vars_differ : List Literal → Bool
 vars_differ [] = true
 vars_differ (l ∷ ls) = not (has_var l.var ls) && vars_differ ls

@@ -1,38 +1,39 @@
--- What is added to a formula in one go.
+-- The variables and clauses that one call adds to a formula.
 use Rattle.std.specs.Prelude.{ℕ, ◌+◌, List, [], ◌∷◌, ◌++◌, map}
-use Rattle.ilk_cnf.specs.Literal.{Literal, plus, minus, opposite}
-use Rattle.ilk_cnf.specs.Formula.{Formula, grown, as_clause}
+use Rattle.ilk_cnf.specs.Literal.{Literal, positive_lit, negative_lit, negated_lit}
+use Rattle.ilk_cnf.specs.Formula.{Formula, with_clauses, as_clause}
 
--- how many variables there are afterwards, and lists of literals: of each, one literal is to be true
+-- The number of variables afterwards, and lists of literals; at least one literal of each list has
+-- to be true.
 pub record Part : Type 0 where
   pub vars : ℕ
   pub clauses : List (List Literal)
 
--- the clauses that say so
+-- The clauses for these lists.
 abbrev pub as_clauses : List (List Literal) → List (List Literal)
 as_clauses [] = []
 as_clauses (ls ∷ lss) = as_clause ls ++ as_clauses lss
 
--- the formula with the part at its end
+-- The formula with the part added.
 abbrev pub with_part : Formula → Part → Formula
-with_part f p = grown f p.vars (as_clauses p.clauses)
+with_part f p = with_clauses f p.vars (as_clauses p.clauses)
 
--- no variable and no clause, after n variables
-abbrev pub nothing_at : ℕ → Part
-nothing_at n = record { vars = n; clauses = [] }
+-- The empty part after n variables.
+abbrev pub empty_part : ℕ → Part
+empty_part n = record { vars = n; clauses = [] }
 
--- a part, and then the one that begins where it ends
+-- A part, followed by one that begins at its end.
 abbrev pub and_then : Part → (ℕ → Part) → Part
 and_then p q = record { vars = (q p.vars).vars; clauses = p.clauses ++ (q p.vars).clauses }
 
--- clauses that make g true exactly where all of the literals are
-abbrev pub equals_all : Literal → List Literal → List (List Literal)
-equals_all g ls = map (λ l. opposite g ∷ l ∷ []) ls ++ (g ∷ map opposite ls) ∷ []
+-- Clauses that make g true if and only if all of the literals are.
+abbrev pub and_gate_clauses : Literal → List Literal → List (List Literal)
+and_gate_clauses g ls = map (λ l. negated_lit g ∷ l ∷ []) ls ++ (g ∷ map negated_lit ls) ∷ []
 
--- after n variables, one more, which is true exactly where all of the literals are
-abbrev pub all_of_part : List Literal → ℕ → Part
-all_of_part ls n = record { vars = n + 1; clauses = equals_all (plus (n + 1)) ls }
+-- After n variables, one more, which is true if and only if all of the literals are.
+abbrev pub and_gate_part : List Literal → ℕ → Part
+and_gate_part ls n = record { vars = n + 1; clauses = and_gate_clauses (positive_lit (n + 1)) ls }
 
--- the same, where one of the literals is
-abbrev pub any_of_part : List Literal → ℕ → Part
-any_of_part ls n = record { vars = n + 1; clauses = equals_all (minus (n + 1)) (map opposite ls) }
+-- After n variables, one more, which is true if and only if at least one of the literals is.
+abbrev pub or_gate_part : List Literal → ℕ → Part
+or_gate_part ls n = record { vars = n + 1; clauses = and_gate_clauses (negative_lit (n + 1)) (map negated_lit ls) }

@@ -1,20 +1,20 @@
--- Which assignments satisfy clauses. An assignment is a list of truth values, entry v - 1 for variable v.
+-- Satisfaction. An assignment is a list of truth values; entry v - 1 is the value of variable v.
 use Rattle.std.specs.Prelude.{ℕ, Bool, false, List, ◌∷◌, slice_index_or, not, if◌then◌else◌}
 use Rattle.std.specs.List.{list_any, list_all}
 use Rattle.ilk_cnf.specs.Literal.{Literal}
 
--- the value of a variable; false where the assignment doesn't reach it
+-- The value of a variable, or `false` if the assignment doesn't reach it.
 abbrev pub value : List Bool → ℕ → Bool
 value a v = slice_index_or (false ∷ a) v false
 
--- whether a literal is true
+-- Returns whether a literal is true.
 abbrev pub is_true : List Bool → Literal → Bool
 is_true a l = if l.positive then value a l.var else not (value a l.var)
 
--- whether some literal of a clause is true
-abbrev pub some_true : List Bool → List Literal → Bool
-some_true a c = list_any (is_true a) c
+-- Returns whether some literal of a clause is true.
+abbrev pub is_clause_true : List Bool → List Literal → Bool
+is_clause_true a c = list_any (is_true a) c
 
--- whether every clause has a true literal
+-- Returns whether every clause has a true literal.
 abbrev pub satisfies : List Bool → List (List Literal) → Bool
-satisfies a cs = list_all (some_true a) cs
+satisfies a cs = list_all (is_clause_true a) cs

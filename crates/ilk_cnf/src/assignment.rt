@@ -1,11 +1,11 @@
 ghost use Rattle.std.specs.Prelude.{◌≡◌, ◌<◌, ◌++◌, ◌∷◌, [], length, slice_get, Some, OnOk, OnErr};
-ghost use Rattle.ilk_cnf.specs.Truth.{value, is_true, some_true};
+ghost use Rattle.ilk_cnf.specs.Truth.{value, is_true, is_clause_true};
 
 use crate::lit::Lit;
 use std::alloc::{AllocError, Global};
 use std::marker::Model;
 
-/// A truth value for each variable: entry v - 1 is that of variable v.
+/// A truth value for each variable: entry v - 1 is the value of variable v.
 #[derive(Drop)]
 pub struct Assignment {
     values: Vec<bool>,
@@ -20,7 +20,7 @@ impl Model for Assignment {
 }
 
 impl Assignment {
-    /// The assignment of no variable.
+    /// Creates the empty assignment.
     pub fn new(alloc: Global) -> Self
         ensures { result ≡ [] }
     {
@@ -38,14 +38,14 @@ impl Assignment {
         Ok(())
     }
 
-    /// How many variables have a value.
+    /// Returns the number of variables that have a value.
     pub fn len(&self) -> u64
         ensures { result ≡ length self.now }
     {
         self.values.len() as u64
     }
 
-    /// Entry `i`, the value of variable i + 1.
+    /// Returns entry `i`, the value of variable i + 1.
     pub fn at(&self, i: u64) -> &bool
         requires { i < length self.now }
         ensures { slice_get self.now i ≡ Some result.now }
@@ -53,7 +53,7 @@ impl Assignment {
         &self.values[i as usize]
     }
 
-    /// The value of variable `v`; false where the assignment has no entry for it.
+    /// Returns the value of variable `v`, or `false` if the assignment has no entry for it.
     pub fn value(&self, v: u64) -> bool
         ensures { result ≡ value self.now v }
     {
@@ -66,8 +66,8 @@ impl Assignment {
         }
     }
 
-    /// Whether the literal is true.
-    pub fn makes(&self, lit: Lit) -> bool
+    /// Returns whether `lit` is true.
+    pub fn is_lit_true(&self, lit: Lit) -> bool
         ensures { result ≡ is_true self.now lit }
     {
         if lit.positive() {
@@ -77,10 +77,10 @@ impl Assignment {
         }
     }
 
-    /// Whether some literal of the clause is true.
-    pub fn makes_some(&self, clause: &[Lit]) -> bool
-        ensures { result ≡ some_true self.now clause.now }
+    /// Returns whether some literal of `clause` is true.
+    pub fn satisfies_clause(&self, clause: &[Lit]) -> bool
+        ensures { result ≡ is_clause_true self.now clause.now }
     {
-        clause.iter().any(|lit| self.makes(*lit))
+        clause.iter().any(|lit| self.is_lit_true(*lit))
     }
 }

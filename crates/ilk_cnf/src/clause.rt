@@ -7,7 +7,7 @@ use ilk_base::Row;
 use std::alloc::{AllocError, Global};
 use std::marker::Model;
 
-/// A list of literals, in which a variable may stand twice.
+/// A list of literals that may contain a variable twice.
 pub type Lits = Row<Lit>;
 
 /// A list of literals over different variables.
@@ -28,7 +28,7 @@ impl Model for Clause {
 }
 
 impl Clause {
-    /// The clause of no literal, which is never true.
+    /// Creates the empty clause, which is never true.
     pub fn new(alloc: Global) -> Self
         ensures { result ≡ [] }
     {
@@ -37,9 +37,9 @@ impl Clause {
         }
     }
 
-    /// The clause that says that one of the literals is true, each literal once. `None` where the
-    /// list has both literals of a variable, so that one of them is true anyway.
-    pub fn of(alloc: Global, lits: &[Lit]) -> Result<Option<Clause>, AllocError>
+    /// Creates the clause that has each of `lits` once. Returns `None` if the list has both
+    /// literals of a variable, and so is always true.
+    pub fn from_lits(alloc: Global, lits: &[Lit]) -> Result<Option<Clause>, AllocError>
         ensures { IfOk result (λ clause. option_to_list clause ≡ as_clause lits.now) }
     {
         let mut clause = Clause::new(alloc);
@@ -54,7 +54,7 @@ impl Clause {
         Ok(Some(clause))
     }
 
-    /// Adds a literal at the end.
+    /// Adds a literal at the end. Its variable must be new to the clause.
     pub fn push(&mut self, item: Lit) -> Result<(), AllocError>
         requires { has_var item.var self.old ≡ false }
         ensures ok { OnOk result (self.new ≡ self.old ++ item ∷ []) }
@@ -64,21 +64,21 @@ impl Clause {
         Ok(())
     }
 
-    /// Whether a literal of the variable stands in the clause.
+    /// Returns whether the clause has a literal of variable `v`.
     pub fn has_var(&self, v: u64) -> bool
         ensures { result ≡ has_var v self.now }
     {
         self.lits.iter().any(|lit| lit.var() == v)
     }
 
-    /// How many literals there are.
+    /// Returns the number of literals.
     pub fn len(&self) -> u64
         ensures { result ≡ length self.now }
     {
         self.lits.len() as u64
     }
 
-    /// Literal `i`.
+    /// Returns literal `i`.
     pub fn at(&self, i: u64) -> &Lit
         requires { i < length self.now }
         ensures { slice_get self.now i ≡ Some result.now }
@@ -86,7 +86,7 @@ impl Clause {
         &self.lits[i as usize]
     }
 
-    /// The literals.
+    /// Returns the literals.
     pub fn as_slice(&self) -> &[Lit]
         ensures items { result.now ≡ self.now }
         ensures differ { IsTrue (vars_differ self.now) }
@@ -95,10 +95,10 @@ impl Clause {
     }
 }
 
-// Whether the literal stands after entry `i`.
+// Returns whether `lit` occurs after entry `i`.
 fn stands_after(lits: &[Lit], i: usize, lit: Lit) -> bool
     requires { i < length lits.now }
     ensures { result ≡ has_lit lit (drop (i + 1) lits.now) }
 {
-    lits.iter().skip(i + 1).any(|other| lit.is(*other))
+    lits.iter().skip(i + 1).any(|other| lit.is_same(*other))
 }

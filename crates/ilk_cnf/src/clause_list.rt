@@ -4,12 +4,12 @@ use crate::lit::Lit;
 use std::alloc::{AllocError, Global};
 use std::marker::Model;
 
-/// Lists of literals. A formula has millions of them, most of two or three literals, so that they
-/// stand in one list one after another, in place of a block of memory for each.
+/// A list of lists of literals. A formula has millions of short clauses, so all are stored in one
+/// vector instead of one allocation each.
 #[derive(Drop)]
 pub struct ClauseList {
     lits: Vec<Lit>,
-    // by list: how many literals there are up to its end
+    // For each list, the number of literals up to its end.
     ends: Vec<u64>,
 }
 
@@ -26,7 +26,7 @@ impl Model for ClauseList {
 }
 
 impl ClauseList {
-    /// No list.
+    /// Creates an empty list.
     pub fn new(alloc: Global) -> Self
         ensures { result ≡ [] }
     {
@@ -36,7 +36,7 @@ impl ClauseList {
         }
     }
 
-    /// Adds a list at the end. Where memory runs out nothing is changed.
+    /// Adds a list at the end. If memory runs out, nothing changes.
     pub fn push(&mut self, clause: &[Lit]) -> Result<(), AllocError>
         ensures ok { OnOk result (self.new ≡ self.old ++ clause.now ∷ []) }
         ensures err { OnErr result (self.new ≡ self.old) }
@@ -47,14 +47,14 @@ impl ClauseList {
         Ok(())
     }
 
-    /// How many lists there are.
+    /// Returns the number of lists.
     pub fn len(&self) -> u64
         ensures { result ≡ length self.now }
     {
         self.ends.len() as u64
     }
 
-    /// List `i`.
+    /// Returns list `i`.
     pub fn at(&self, i: u64) -> &[Lit]
         requires { i < length self.now }
         ensures { slice_get self.now i ≡ Some result.now }
@@ -64,7 +64,7 @@ impl ClauseList {
     }
 }
 
-// Where list `i` begins.
+// Returns the start of list `i`.
 fn start_of(ends: &[u64], i: u64) -> u64
     requires { i < length ends.now }
     ensures { result ≡ slice_index_or (0 ∷ ends.now) i 0 }
@@ -75,7 +75,7 @@ fn start_of(ends: &[u64], i: u64) -> u64
     ends[i as usize - 1]
 }
 
-// The literals from one number of them up to another.
+// Returns the literals from `start` to before `end`.
 fn part(lits: &[Lit], start: u64, end: u64) -> &[Lit]
     requires order { start ≤ end }
     requires within { end ≤ length lits.now }

@@ -1,14 +1,14 @@
 ghost use Rattle.std.specs.Prelude.{◌≡◌, ◌≤◌, ◌<◌, ◌^◌};
-ghost use Rattle.ilk_cnf.specs.Literal.{minus, opposite, same_lit};
+ghost use Rattle.ilk_cnf.specs.Literal.{negative_lit, negated_lit, same_lit};
 
 use std::marker::Model;
 
-/// A literal: a variable, from 1, with a sign. It is true where the variable has the value that the
-/// sign says.
+/// A literal: a variable, from 1, with a sign. It is true if the variable has the value of the
+/// sign.
 #[derive(Clone, Copy)]
 pub struct Lit {
-    // Twice the variable, and one more where the literal is positive: a formula has millions of
-    // literals, so that each takes one word.
+    // Twice the variable, plus one if the literal is positive. A formula has millions of literals,
+    // so each takes only one word.
     code: u64,
 }
 
@@ -25,10 +25,9 @@ impl Model for Lit {
     ghost inverse_ok = { λ l h i. record { code = code_of-literal_of l.code i } };
 }
 
-/// What stands in the unused places of a list that keeps its first items in the value itself: the
-/// negative literal of variable 1.
+/// The negative literal of variable 1. It fills the unused slots of a list with inline storage.
 impl Default for Lit {
-    ghost is_default = { λ l. l ≡ minus 1 };
+    ghost is_default = { λ l. l ≡ negative_lit 1 };
 
     fn default() -> Lit {
         Lit::new(1, false)
@@ -36,8 +35,8 @@ impl Default for Lit {
 }
 
 impl Lit {
-    /// The literal of the variable `var`, true where the variable is (`positive`), or where it
-    /// isn't.
+    /// Creates the literal of variable `var`. If `positive`, it is true when the variable is;
+    /// otherwise when the variable is false.
     pub fn new(var: u64, positive: bool) -> Lit
         requires from_1 { 0 < var }
         requires numbered { var ≤ 2 ^ 62 }
@@ -48,31 +47,31 @@ impl Lit {
         }
     }
 
-    /// Its variable.
+    /// Returns its variable.
     pub fn var(self) -> u64
         ensures { result ≡ self.var }
     {
         self.code / 2
     }
 
-    /// Whether it is true where its variable is.
+    /// Returns whether it is the positive literal of its variable.
     pub fn positive(self) -> bool
         ensures { result ≡ self.positive }
     {
         self.code % 2 == 1
     }
 
-    /// The other literal of its variable.
+    /// Returns the other literal of its variable.
     pub fn negated(self) -> Lit
-        ensures { result ≡ opposite self }
+        ensures { result ≡ negated_lit self }
     {
         Lit {
             code: self.code ^ 1,
         }
     }
 
-    /// Whether the two are one literal.
-    pub fn is(self, other: Lit) -> bool
+    /// Returns whether the two literals are equal.
+    pub fn is_same(self, other: Lit) -> bool
         ensures { result ≡ same_lit self other }
     {
         self.code == other.code

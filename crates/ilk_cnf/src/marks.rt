@@ -1,11 +1,11 @@
 ghost use Rattle.std.specs.Prelude.{ℕ, ◌≡◌, ◌==◌, ◌≤◌, ◌<◌, length, false, true, if◌then◌else◌, IsTrue};
-ghost use Rattle.ilk_cnf.specs.Formula.{clause_in};
+ghost use Rattle.ilk_cnf.specs.Formula.{is_clause_over};
 ghost use Rattle.ilk_cnf.specs.Literal.{has_var, vars_differ};
 ghost use Rattle.ilk_cnf.specs.Marks.{is_marked};
 
 use crate::lit::Lit;
 
-// Marks the variable, or takes its mark away.
+// Sets or clears the mark of variable `v`.
 fn set_mark(marks: &mut [u16], v: u64, mark: bool)
     requires from_1 { 0 < v }
     requires within { v ≤ length marks.old }
@@ -16,7 +16,7 @@ fn set_mark(marks: &mut [u16], v: u64, mark: bool)
     marks[v as usize - 1] = mark as u16;
 }
 
-// Whether the variable is marked.
+// Returns whether variable `v` is marked.
 fn is_marked(marks: &[u16], v: u64) -> bool
     requires from_1 { 0 < v }
     requires within { v ≤ length marks.now }
@@ -25,9 +25,9 @@ fn is_marked(marks: &[u16], v: u64) -> bool
     marks[v as usize - 1] == 1
 }
 
-// Takes away the marks of the literals' variables.
+// Clears the marks of the literals' variables.
 fn unmark(marks: &mut [u16], lits: &[Lit])
-    requires { IsTrue (clause_in (length marks.old) lits.now) }
+    requires { IsTrue (is_clause_over (length marks.old) lits.now) }
     ensures count { length marks.new ≡ length marks.old }
     ensures marks { (v : ℕ) → 0 < v → has_var v lits.now ≡ true → is_marked marks.new v ≡ false }
 {
@@ -36,10 +36,10 @@ fn unmark(marks: &mut [u16], lits: &[Lit])
     }
 }
 
-/// Whether the literals are over different variables, found by a mark for each variable, from 1 on.
-/// The marks may be anything before, and are anything behind.
+/// Returns whether the literals are over different variables. It uses one mark per variable, from
+/// 1. The marks may have any values before the call, and any after it.
 pub fn vars_differ(marks: &mut [u16], lits: &[Lit]) -> bool
-    requires { IsTrue (clause_in (length marks.old) lits.now) }
+    requires { IsTrue (is_clause_over (length marks.old) lits.now) }
     ensures count { length marks.new ≡ length marks.old }
     ensures differ { result ≡ vars_differ lits.now }
 {

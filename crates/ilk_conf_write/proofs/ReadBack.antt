@@ -1,4 +1,4 @@
--- What is written of drafts is read as exactly these drafts.
+-- Written drafts are read back exactly.
 use Rattle.std.proofs.Common.{◌≡◌, ◌∙◌, ℕ, suc, ◌+◌, ◌≤◌, Bool, true, ◌==◌, ◌&&◌, Option, Some, None, IfOk, Result, Ok, Err, List, [], ◌∷◌, All, length, map, false, refl, sym, ap, ap₂, subst, arith}
 use Rattle.std.specs.List.{list_all}
 use Rattle.std.proofs.lemmas.Bool.{eqb-true, le-leb}
@@ -10,7 +10,7 @@ use Rattle.serde_json.specs.Written.{compact_text, has_float, items_have_float}
 use Rattle.serde_json.specs.Events.{items_len}
 use Rattle.serde_json.specs.Find.{as_str}
 use Rattle.serde_json.specs.View.{items_of}
-use Rattle.ilk_base.specs.Result.{in_order}
+use Rattle.ilk_base.specs.Result.{try_map_numbered}
 use Rattle.ilk_plant.specs.Limits.{HasLimits, counts_are_allowed, route_has_limits, route_has_names, section_has_names}
 use Rattle.ilk_plant.specs.Name.{Name}
 use Rattle.ilk_plant.specs.declared.draft.KindDraft.{KindDraft}
@@ -22,16 +22,16 @@ use Rattle.ilk_plant.specs.declared.draft.SectionDraft.{SectionDraft}
 use Rattle.ilk_plant.specs.declared.draft.TableDraft.{TableDraft}
 use Rattle.ilk_plant.specs.declared.limits.TheConstants.{MAX_ROUTES, MAX_SECTIONS}
 use Rattle.ilk_plant.proofs.WordsBack.{direction_back, position_back}
-use Rattle.ilk_net_read.specs.Document.{Parts, has_allowed_counts}
-use Rattle.ilk_net_read.specs.Member.{as_optional_text, each_as, entries_of}
-use Rattle.ilk_net_read.specs.Network.{document_of, network_of, section_of}
+use Rattle.ilk_net_read.specs.Document.{DocumentParts, has_allowed_counts}
+use Rattle.ilk_net_read.specs.Member.{as_optional_text, all_entries_as, entries_of}
+use Rattle.ilk_net_read.specs.Network.{read_document, network_of, section_of}
 use Rattle.ilk_net_read.specs.Section.{as_section}
 use Rattle.ilk_net_read.specs.declared.version.Version.{Version}
 use Rattle.ilk_net_read.specs.declared.version.Version.TheVariants.{First, Second}
 use Rattle.ilk_table_read.specs.Route.{as_listed, as_route}
 use Rattle.ilk_table_read.specs.Table.{drafts_of, route_of, table_of}
 use Rattle.ilk_net_read.proofs.Values.{value_of-read}
-use Rattle.ilk_conf_write.specs.ConfigurationText.{configuration_text, configuration_value, is_table_in, is_unprotected, listed_value, optional_value, route_value, section_value}
+use Rattle.ilk_conf_write.specs.ConfigurationText.{configuration_text, configuration_value, fits_version, has_no_protection, listed_value, optional_value, route_value, section_value}
 
 and-first : (a b : Bool) → (a && b) ≡ true → a ≡ true
 and-first true b e = refl
@@ -41,9 +41,8 @@ and-second : (a b : Bool) → (a && b) ≡ true → b ≡ true
 and-second true b e = e
 and-second false b e = absurd (cc)
 
--- ---- the routes of a version
+-- Routes of a version.
 
--- a route of version 1 lists nothing that protects it
 abbrev IsRouteIn : Version → RouteDraft → Type 0
 IsRouteIn First route = (route.protecting_points ≡ []) × (route.protecting_boards ≡ [])
 IsRouteIn Second route = Unit {0}
@@ -52,22 +51,22 @@ none-of : {A : Type 0} (xs : List A) → (length xs == 0) ≡ true → xs ≡ []
 none-of [] e = refl
 none-of (x ∷ xs) e = absurd (omega (arith, eqb-true (length (x ∷ xs)) 0 e))
 
-unprotected : (r : RouteDraft) → is_unprotected r ≡ true → IsRouteIn First r
+unprotected : (r : RouteDraft) → has_no_protection r ≡ true → IsRouteIn First r
 unprotected r e = (
   none-of r.protecting_points (and-first (length r.protecting_points == 0) (length r.protecting_boards == 0) e),
   none-of r.protecting_boards (and-second (length r.protecting_points == 0) (length r.protecting_boards == 0) e),
 )
 
-all-unprotected : (rs : List RouteDraft) → list_all is_unprotected rs ≡ true → All (IsRouteIn First) rs
+all-unprotected : (rs : List RouteDraft) → list_all has_no_protection rs ≡ true → All (IsRouteIn First) rs
 all-unprotected [] e = All-nil (IsRouteIn First)
 all-unprotected (r ∷ rs) e =
-    All-cons (IsRouteIn First) r rs (unprotected r (and-first (is_unprotected r) (list_all is_unprotected rs) e)) (all-unprotected rs (and-second (is_unprotected r) (list_all is_unprotected rs) e))
+    All-cons (IsRouteIn First) r rs (unprotected r (and-first (has_no_protection r) (list_all has_no_protection rs) e)) (all-unprotected rs (and-second (has_no_protection r) (list_all has_no_protection rs) e))
 
-each-in : (version : Version) (table : TableDraft) → is_table_in version table ≡ true → All (IsRouteIn version) table.routes
+each-in : (version : Version) (table : TableDraft) → fits_version version table ≡ true → All (IsRouteIn version) table.routes
 each-in First table e = all-unprotected table.routes e
 each-in Second table e = λ k d lt. tt
 
--- ---- one value
+-- Values.
 
 optional-read : (x : Option Name) → as_optional_text (optional_value x) ≡ Some x
 optional-read None = refl
@@ -83,13 +82,13 @@ section-read s = by_kind s.kind
 listed-read : (l : ListedDraft) → as_listed (listed_value l) ≡ Some l
 listed-read l = rw (position_back l.at) refl
 
--- ---- lists of values
+-- Lists of values.
 
-texts-read : (texts : List Name) → each_as as_str (items_of (map string texts)) ≡ Some texts
+texts-read : (texts : List Name) → all_entries_as as_str (items_of (map string texts)) ≡ Some texts
 texts-read [] = refl
 texts-read (text ∷ texts) = rw (texts-read texts) refl
 
-points-read : (points : List ListedDraft) → each_as as_listed (items_of (map listed_value points)) ≡ Some points
+points-read : (points : List ListedDraft) → all_entries_as as_listed (items_of (map listed_value points)) ≡ Some points
 points-read [] = refl
 points-read (point ∷ points) = rw (listed-read point, points-read points) refl
 
@@ -101,7 +100,7 @@ count : {A : Type 0} (value : A → Data) (xs : List A) → items_len (items_of 
 count value [] = refl
 count value (x ∷ xs) = ap suc (count value xs)
 
--- ---- a route
+-- Routes.
 
 route-read : (version : Version) (r : RouteDraft) → IsRouteIn version r → as_route version (route_value version r) ≡ Some r
 route-read First r none =
@@ -112,12 +111,12 @@ route-read First r none =
 route-read Second r none =
     rw (optional-read r.destination, texts-read r.path, texts-read r.overlap, points-read r.points, texts-read r.conflicts, points-read r.protecting_points, texts-read r.protecting_boards) refl
 
--- ---- each in its order
+-- Items in order.
 
 section-of-read : (i : ℕ) (s : SectionDraft) → section_has_names s ≡ true → section_of i (section_value s) ≡ Ok s
 section-of-read i s named = rw (section-read s, named) refl
 
-sections-read : (i : ℕ) (ss : List SectionDraft) → list_all section_has_names ss ≡ true → in_order section_of i (map section_value ss) ≡ Ok ss
+sections-read : (i : ℕ) (ss : List SectionDraft) → list_all section_has_names ss ≡ true → try_map_numbered section_of i (map section_value ss) ≡ Ok ss
 sections-read i [] named = refl
 sections-read i (s ∷ ss) named =
     rw (section-of-read i s (and-first (section_has_names s) (list_all section_has_names ss) named), sections-read (i + 1) ss (and-second (section_has_names s) (list_all section_has_names ss) named)) refl
@@ -125,22 +124,22 @@ sections-read i (s ∷ ss) named =
 route-of-read : (version : Version) (i : ℕ) (r : RouteDraft) → IsRouteIn version r → route_has_names r ≡ true → route_has_limits r ≡ true → route_of version i (route_value version r) ≡ Ok r
 route-of-read version i r in_version named limited = rw (route-read version r in_version, named, limited) refl
 
-routes-read : (version : Version) (i : ℕ) (rs : List RouteDraft) → All (IsRouteIn version) rs → list_all route_has_names rs ≡ true → list_all route_has_limits rs ≡ true → in_order (route_of version) i (map (route_value version) rs) ≡ Ok rs
+routes-read : (version : Version) (i : ℕ) (rs : List RouteDraft) → All (IsRouteIn version) rs → list_all route_has_names rs ≡ true → list_all route_has_limits rs ≡ true → try_map_numbered (route_of version) i (map (route_value version) rs) ≡ Ok rs
 routes-read version i [] in_version named limited = refl
 routes-read version i (r ∷ rs) in_version named limited =
     let first : route_of version i (route_value version r) ≡ Ok r = route-of-read version i r
     (All-head (IsRouteIn version) r rs in_version)
     (and-first (route_has_names r) (list_all route_has_names rs) named)
     (and-first (route_has_limits r) (list_all route_has_limits rs) limited) in
-    let rest : in_order (route_of version) (i + 1) (map (route_value version) rs) ≡ Ok rs = routes-read
+    let rest : try_map_numbered (route_of version) (i + 1) (map (route_value version) rs) ≡ Ok rs = routes-read
     version (i + 1) rs (All-tail (IsRouteIn version) r rs in_version)
     (and-second (route_has_names r) (list_all route_has_names rs) named)
     (and-second (route_has_limits r) (list_all route_has_limits rs) limited) in
     rw (first, rest) refl
 
--- ---- the document
+-- The document.
 
-abbrev parts_of : Version → NetDraft → TableDraft → Parts
+abbrev parts_of : Version → NetDraft → TableDraft → DocumentParts
 parts_of version net table = record {
   version = version;
   sections = items_of (map section_value net.sections);
@@ -152,7 +151,7 @@ counts-read version net table limits =
     ap₂ counts_are_allowed (count section_value net.sections) (count (route_value version) table.routes)
     ∙ rw (le-leb 1 (length net.sections) limits.of_network.some, le-leb (length net.sections) MAX_SECTIONS limits.of_network.few, le-leb (length table.routes) MAX_ROUTES limits.of_table.few) refl
 
-document-read : (version : Version) (net : NetDraft) (table : TableDraft) → HasLimits net table → document_of (configuration_value version net table) ≡ Ok (parts_of version net table)
+document-read : (version : Version) (net : NetDraft) (table : TableDraft) → HasLimits net table → read_document (configuration_value version net table) ≡ Ok (parts_of version net table)
 document-read First net table limits = rw (counts-read First net table limits) refl
 document-read Second net table limits = rw (counts-read Second net table limits) refl
 
@@ -160,13 +159,12 @@ network-read : (version : Version) (net : NetDraft) (table : TableDraft) → Has
 network-read version net table limits =
     rw (document-read version net table limits, entries (map section_value net.sections), sections-read 0 net.sections limits.of_network.named) refl
 
-table-read : (version : Version) (net : NetDraft) (table : TableDraft) → HasLimits net table → is_table_in version table ≡ true → table_of (configuration_value version net table) ≡ Ok table
+table-read : (version : Version) (net : NetDraft) (table : TableDraft) → HasLimits net table → fits_version version table ≡ true → table_of (configuration_value version net table) ≡ Ok table
 table-read version net table limits in_version =
     rw (document-read version net table limits, entries (map (route_value version) table.routes), routes-read version 0 table.routes (each-in version table in_version) limits.of_table.named limits.of_table.each) refl
 
--- ---- the text
+-- The text.
 
--- items each of which is shallow
 items-shallow : {A : Type 0} (value : A → Data) (n : ℕ) → ((x : A) → depth (value x) ≤ n) → (xs : List A) → items_depth (items_of (map value xs)) ≤ n
 items-shallow value n each [] = omega arith
 items-shallow value n each (x ∷ xs) = omega (arith, each x, items-shallow value n each xs)
@@ -198,12 +196,12 @@ depth-few version net table =
     omega (arith, items-shallow section_value 1 section-shallow net.sections, items-shallow (route_value version) 3 (route-shallow version) table.routes)
 
 pub text-read : (version : Version) (net : NetDraft) (table : TableDraft) (text : List ℕ) →
-    HasLimits net table → is_table_in version table ≡ true → IsUtf8 text →
+    HasLimits net table → fits_version version table ≡ true → IsUtf8 text →
     read text ≡ Some (configuration_value version net table) → drafts_of text ≡ Ok (net, table)
 text-read version net table text limits in_version utf8 is =
     rw (value_of-read text (configuration_value version net table) utf8 is, network-read version net table limits, table-read version net table limits in_version) refl
 
--- ---- no value is a float
+-- No value is a float.
 
 items-whole : {A : Type 0} (value : A → Data) → ((x : A) → has_float (value x) ≡ false) → (xs : List A) → items_have_float (items_of (map value xs)) ≡ false
 items-whole value each [] = refl
@@ -235,7 +233,7 @@ pub no-float : (version : Version) (net : NetDraft) (table : TableDraft) → has
 no-float First net table = rw (items-whole section_value section-whole net.sections, items-whole (route_value First) (route-whole First) table.routes) refl
 no-float Second net table = rw (items-whole section_value section-whole net.sections, items-whole (route_value Second) (route-whole Second) table.routes) refl
 
--- ---- what was written
+-- The written text.
 
 pub text-of :
     {A E : Type 0} (bytes : A → List ℕ) (written : Result A E) (d : Data) (version : Version) (net : NetDraft)
@@ -250,7 +248,7 @@ text-of bytes (Ok b) d version net table same told =
 pub read-of :
     {A E : Type 0} (bytes : A → List ℕ) (written : Result A E) (d : Data) (version : Version) (net : NetDraft)
     (table : TableDraft) →
-    HasLimits net table → is_table_in version table ≡ true → d ≡ configuration_value version net table →
+    HasLimits net table → fits_version version table ≡ true → d ≡ configuration_value version net table →
     IfOk written (λ b. IsUtf8 (bytes b)) → IfOk written (λ b. depth d ≤ max_depth → read (bytes b) ≡ Some d) →
     IfOk written (λ b. drafts_of (bytes b) ≡ Ok (net, table))
 read-of bytes (Err e) d version net table limits in_version same utf8 told = tt

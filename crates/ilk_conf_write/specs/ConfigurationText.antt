@@ -1,5 +1,5 @@
--- The text of a configuration: the JSON value in which two drafts are written, without spaces. The members of an object
--- stand in the order of their names, as `serde_json` writes them.
+-- The text of a configuration: the JSON value of two drafts, written without spaces. Members of an
+-- object are ordered by name, as `serde_json` writes them.
 use Rattle.std.specs.Prelude.{ℕ, Bool, true, ◌==◌, ◌&&◌, Option, Some, None, List, codes, length, map}
 use Rattle.std.specs.List.{list_all}
 use Rattle.serde_json.specs.Data.{Data, null, number, unsigned, string, array, object, no_members, member}
@@ -17,16 +17,16 @@ use Rattle.ilk_plant.specs.declared.draft.TableDraft.{TableDraft}
 use Rattle.ilk_net_read.specs.declared.version.Version.{Version}
 use Rattle.ilk_net_read.specs.declared.version.Version.TheVariants.{First, Second}
 
--- an array of what is written for each item of a list
+-- The array of the values of a list.
 abbrev pub array_of : {A : Type 0} → (A → Data) → List A → Data
 array_of value list = array (items_of (map value list))
 
--- a text, or null where it is missing
+-- A text, or null if it is missing.
 abbrev pub optional_value : Option Name → Data
 optional_value None = null
 optional_value (Some text) = string text
 
--- a section of this name, by its kind
+-- A section with this name, by its kind.
 abbrev pub kind_value : Name → KindDraft → Data
 kind_value name (Linear down up board_down board_up) =
     object
@@ -48,16 +48,15 @@ kind_value name (Point stem plus minus faces) =
 abbrev pub section_value : SectionDraft → Data
 section_value section = kind_value section.name section.kind
 
--- a point with the position in which a route wants it
+-- A point with its required position.
 abbrev pub listed_value : ListedDraft → Data
 listed_value listed = object (member (codes "point") (string listed.point) (member (codes "position") (string (position_word listed.at)) no_members))
 
--- the number of a version
 abbrev pub version_number : Version → ℕ
 version_number First = 1
 version_number Second = 2
 
--- a route: in version 1 without what protects it
+-- A route; in version 1 without its protecting points and boards.
 abbrev pub route_value : Version → RouteDraft → Data
 route_value First route =
     object
@@ -82,20 +81,21 @@ route_value Second route =
     (array_of listed_value route.protecting_points)
     (member (codes "source") (string route.source) no_members)))))))))
 
--- the document of a network and a table of routes
+-- The document of a network and an interlocking table.
 abbrev pub configuration_value : Version → NetDraft → TableDraft → Data
 configuration_value version net table =
     object (member (codes "routes") (array_of (route_value version) table.routes) (member (codes "sections") (array_of section_value net.sections) (member (codes "version") (number (unsigned (version_number version))) no_members)))
 
--- its text, without spaces and without a line end
+-- The text of a configuration, without spaces and without a line end.
 abbrev pub configuration_text : Version → NetDraft → TableDraft → List ℕ
 configuration_text version net table = compact_text (configuration_value version net table)
 
--- whether a route lists nothing that protects it
-abbrev pub is_unprotected : RouteDraft → Bool
-is_unprotected route = length route.protecting_points == 0 && length route.protecting_boards == 0
+-- Returns whether a route lists no protecting points and boards.
+abbrev pub has_no_protection : RouteDraft → Bool
+has_no_protection route = length route.protecting_points == 0 && length route.protecting_boards == 0
 
--- whether a table can be written in a version: in version 1 no route lists what protects it
-abbrev pub is_table_in : Version → TableDraft → Bool
-is_table_in First table = list_all is_unprotected table.routes
-is_table_in Second table = true
+-- Returns whether a table can be written in a version: in version 1 only without protecting points
+-- and boards.
+abbrev pub fits_version : Version → TableDraft → Bool
+fits_version First table = list_all has_no_protection table.routes
+fits_version Second table = true

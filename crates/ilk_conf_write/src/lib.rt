@@ -1,10 +1,10 @@
-//! A configuration as text: the two drafts, of a network and of a table of routes, as the JSON that is read as
-//! exactly these drafts again.
+//! Writes a configuration, the drafts of a network and an interlocking table, as JSON that is read
+//! back as exactly these drafts.
 //!
-//! `specs/ConfigurationText.antt` says which value is written for the drafts, member by member, in
-//! each of the two versions; `write_configuration` gives its text. The reader of the form
-//! (`ilk_table_read`) stands beside it and shares nothing with it but the names of members: that
-//! each undoes the other is a clause of the call.
+//! `specs/ConfigurationText.antt` defines the value written for the drafts, member by member, in
+//! each of the two versions. `write_configuration` returns its text. The reader (`ilk_table_read`)
+//! is separate: the two share only the names of members, the versions and the word tables. A clause
+//! of the call states that reading undoes writing.
 #![tactic(auto)]
 
 mod value;

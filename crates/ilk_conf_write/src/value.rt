@@ -12,14 +12,13 @@ use ilk_plant::{
 use serde_json::{Value, json};
 use std::alloc::{AllocError, Global};
 
-// A text.
 fn text_value(alloc: Global, text: &Text) -> Result<Value, AllocError>
     ensures { IfOk result (λ value. view value ≡ string text.now) }
 {
     Value::try_from_str(alloc, text.as_str())
 }
 
-// A text, or null where it is missing.
+// Returns a text, or null if it is missing.
 fn optional_value(alloc: Global, text: &Option<Text>) -> Result<Value, AllocError>
     ensures { IfOk result (λ value. view value ≡ written.optional_value text.now) }
 {
@@ -29,7 +28,7 @@ fn optional_value(alloc: Global, text: &Option<Text>) -> Result<Value, AllocErro
     }
 }
 
-// A section of this name.
+// Returns a section with this name.
 fn kind_value(alloc: Global, name: &Text, kind: &KindDraft) -> Result<Value, AllocError>
     ensures { IfOk result (λ value. view value ≡ written.kind_value name.now kind.now) }
 {
@@ -66,7 +65,6 @@ fn kind_value(alloc: Global, name: &Text, kind: &KindDraft) -> Result<Value, All
     }
 }
 
-// The sections.
 fn sections_value(alloc: Global, sections: &[SectionDraft]) -> Result<Value, AllocError>
     ensures { IfOk result
         (λ value. view value ≡ written.array_of written.section_value sections.now) }
@@ -78,7 +76,6 @@ fn sections_value(alloc: Global, sections: &[SectionDraft]) -> Result<Value, All
     Ok(Value::Array(values))
 }
 
-// Some texts.
 fn texts_value(alloc: Global, texts: &Row<Text>) -> Result<Value, AllocError>
     ensures { IfOk result (λ value. view value ≡ written.array_of string texts.now) }
 {
@@ -89,7 +86,6 @@ fn texts_value(alloc: Global, texts: &Row<Text>) -> Result<Value, AllocError>
     Ok(Value::Array(values))
 }
 
-// A listed point.
 fn listed_value(alloc: Global, listed: &ListedDraft) -> Result<Value, AllocError>
     ensures { IfOk result (λ value. view value ≡ written.listed_value listed.now) }
 {
@@ -98,7 +94,6 @@ fn listed_value(alloc: Global, listed: &ListedDraft) -> Result<Value, AllocError
     json!(in alloc; {"point": point, "position": position})
 }
 
-// Some listed points.
 fn points_value(alloc: Global, points: &[ListedDraft]) -> Result<Value, AllocError>
     ensures { IfOk result (λ value. view value ≡ written.array_of written.listed_value points.now) }
 {
@@ -109,7 +104,7 @@ fn points_value(alloc: Global, points: &[ListedDraft]) -> Result<Value, AllocErr
     Ok(Value::Array(values))
 }
 
-// A route of version 1, which has no list of what protects it.
+// Returns a route of version 1, without protecting points and boards.
 fn first_route_value(alloc: Global, route: &RouteDraft) -> Result<Value, AllocError>
     ensures { IfOk result (λ value. view value ≡ written.route_value Version.First route.now) }
 {
@@ -126,7 +121,7 @@ fn first_route_value(alloc: Global, route: &RouteDraft) -> Result<Value, AllocEr
     })
 }
 
-// A route of version 2.
+// Returns a route of version 2.
 fn second_route_value(alloc: Global, route: &RouteDraft) -> Result<Value, AllocError>
     ensures { IfOk result (λ value. view value ≡ written.route_value Version.Second route.now) }
 {
@@ -155,7 +150,6 @@ fn route_value(alloc: Global, version: Version, route: &RouteDraft) -> Result<Va
     }
 }
 
-// The routes.
 fn routes_value(alloc: Global, version: Version, routes: &[RouteDraft]) -> Result<Value, AllocError>
     ensures { IfOk result
         (λ value. view value ≡ written.array_of (written.route_value version) routes.now) }
@@ -176,7 +170,7 @@ fn version_number(version: Version) -> u64
     }
 }
 
-/// The document of a network and a table of routes, in a version.
+/// Returns the document of a network and an interlocking table, in a version.
 pub fn configuration_value(
     alloc: Global,
     version: Version,

@@ -1,16 +1,17 @@
 ghost use Rattle.std.specs.Prelude.{◌≡◌, IfOk, IsTrue, Ok};
 ghost use Rattle.ilk_plant.specs.Limits.{HasLimits};
 ghost use Rattle.ilk_table_read.specs.Table.{drafts_of};
-ghost use Rattle.ilk_conf_write.specs.ConfigurationText.{configuration_text, is_table_in};
+ghost use Rattle.ilk_conf_write.specs.ConfigurationText.{configuration_text, fits_version};
 
 use crate::value::configuration_value;
 use ilk_net_read::Version;
 use ilk_plant::{NetDraft, TableDraft};
 use std::alloc::{AllocError, Global};
 
-/// The configuration of a network and a table of routes, in a version, as JSON without spaces and without a line end.
-/// Both are within the limits, and in version 1 no route lists anything that protects it. What is written is read as
-/// exactly these drafts. The only refusal is want of memory.
+/// Returns the configuration of a network and an interlocking table, in a version, as JSON without
+/// spaces and without a line end. Both must be within the limits, and in version 1 no route may
+/// list protecting points or boards. The text is read back as exactly these drafts. Fails only if
+/// memory runs out.
 pub fn write_configuration(
     alloc: Global,
     version: Version,
@@ -18,7 +19,7 @@ pub fn write_configuration(
     table: &TableDraft,
 ) -> Result<Vec<u8>, AllocError>
     requires limits { HasLimits net.now table.now }
-    requires version { IsTrue (is_table_in version table.now) }
+    requires version { IsTrue (fits_version version table.now) }
     ensures text { IfOk result (λ text. text.items ≡ configuration_text version net.now table.now) }
     ensures read { IfOk result (λ text. drafts_of text.items ≡ Ok (net.now, table.now)) }
 {

@@ -1,18 +1,16 @@
--- What a loop has gathered of a body, and of trains.
+-- The parts of a body, and of the trains, that a loop has collected.
 use Rattle.std.proofs.Common.{◌≡◌, ℕ, suc, ◌+◌, ◌-◌, ◌<◌, filter_map, option_to_list, Option, Some, None, List, [], ◌∷◌, ◌++◌, refl, sym, ◌∙◌, ap, append_assoc, arith}
 use Rattle.std.specs.List.{range_with_len}
 use Rattle.std.proofs.lemmas.List.Elements.{filter_map-append}
 use Rattle.ilk_base.proofs.Ranges.{range-more}
-use Rattle.ilk_layout.specs.Decoded.{chase, with_rest}
+use Rattle.ilk_layout.specs.Decoded.{follow_steps, follow_first}
 
--- one number more, and one fewer to come
-pub one-more : (step : ℕ → Option ℕ) (n k x next : ℕ) (body new whole : List ℕ) → k < n → step x ≡ Some next → new ≡ body ++ next ∷ [] → body ++ chase (n - k) step x ≡ whole → new ++ chase (n - (k + 1)) step next ≡ whole
+pub one-more : (step : ℕ → Option ℕ) (n k x next : ℕ) (body new whole : List ℕ) → k < n → step x ≡ Some next → new ≡ body ++ next ∷ [] → body ++ follow_steps (n - k) step x ≡ whole → new ++ follow_steps (n - (k + 1)) step next ≡ whole
 one-more step n k x next body new whole less led more sofar =
     let left : n - k ≡ suc (n - (k + 1)) = omega arith in
-    let chased : chase (n - k) step x ≡ next ∷ chase (n - (k + 1)) step next = ap (λ m. chase m step x) left ∙ ap (with_rest (chase (n - (k + 1)) step)) led in
-    ap (λ xs. xs ++ chase (n - (k + 1)) step next) more ∙ append_assoc body (next ∷ []) (chase (n - (k + 1)) step next) ∙ ap (λ xs. body ++ xs) (sym chased) ∙ sofar
+    let chased : follow_steps (n - k) step x ≡ next ∷ follow_steps (n - (k + 1)) step next = ap (λ m. follow_steps m step x) left ∙ ap (follow_first (follow_steps (n - (k + 1)) step)) led in
+    ap (λ xs. xs ++ follow_steps (n - (k + 1)) step next) more ∙ append_assoc body (next ∷ []) (follow_steps (n - (k + 1)) step next) ∙ ap (λ xs. body ++ xs) (sym chased) ∙ sofar
 
--- what a function gives for the numbers up to n, with what it gives for n
 pub given-more : {X : Type 0} (f : ℕ → Option X) (n : ℕ) (now next : List X) → next ≡ now ++ option_to_list (f n) → now ≡ filter_map f (range_with_len 0 n) → next ≡ filter_map f (range_with_len 0 (n + 1))
 given-more {X} f n now next grown sofar =
     grown ∙ ap (λ xs. xs ++ option_to_list (f n)) sofar ∙ ap (λ xs. filter_map f (range_with_len 0 n) ++ xs) (alone (f n) refl) ∙ sym (ap (filter_map f) (range-more n) ∙ filter_map-append f (range_with_len 0 n) (n ∷ []))

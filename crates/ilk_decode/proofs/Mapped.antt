@@ -1,4 +1,4 @@
--- The lists that are read from an image are those of its state.
+-- The lists read from an image are those of its state.
 use Rattle.std.proofs.Common.{◌≡◌, ℕ, true, false, Option, Some, None, option_map, List, get_or, length, map, slice_get, inl, inr, refl, sym, ◌∙◌, ap, arith}
 use Rattle.std.specs.List.{range_with_len}
 use Rattle.std.proofs.lemmas.List.FromFn.{length-map-range_with_len, length-range_with_len}
@@ -22,40 +22,39 @@ use Rattle.ilk_plant.specs.declared.state.State.{State}
 use Rattle.ilk_layout.specs.Image.{image_of, occupancy_values}
 use Rattle.ilk_layout.specs.Occupancy.{occupancy_of}
 use Rattle.ilk_layout.specs.Values.{aspect_value, hold_value, lie_value, mode_value, occupancy_value, position_value}
-use Rattle.ilk_layout.specs.Variables.{at_var, board_var, boards_begin, lock_var, locks_begin, mode_var, occupancies_begin, occupancy_var, points_begin, rel_var, seen_var, to_var}
+use Rattle.ilk_layout.specs.Variables.{detected_var, board_var, boards_begin, lock_var, locks_begin, mode_var, occupancies_begin, occupancy_var, points_begin, rel_var, seen_var, commanded_var}
 use Rattle.ilk_layout.specs.declared.values.Occupancy.{Occupancy}
 use Rattle.ilk_layout.specs.declared.values.Occupancy.TheVariants.{Vacant, Taken, Crash}
 use Rattle.ilk_layout.proofs.Writes.{at-at, board-at, lock-at, mode-at, occupancy-at, rel-at, seen-at, to-at}
-use Rattle.ilk_decode.specs.Numbered.{aspect_numbered, hold_numbered, lie_numbered, mode_numbered, occupancy_numbered, position_numbered}
-use Rattle.ilk_decode.specs.Read.{board_read, lock_read, occupancy_read, point_read, route_read}
+use Rattle.ilk_decode.specs.Numbered.{aspect_from_number, hold_from_number, lie_from_number, mode_from_number, occupancy_from_number, position_from_number}
+use Rattle.ilk_decode.specs.Read.{decoded_board, decoded_lock, decoded_occupancy, decoded_point, decoded_route}
 
--- what has the number of a thing is that thing
-mode-numbered : (m : Mode) → mode_numbered (mode_value m) ≡ m
+mode-numbered : (m : Mode) → mode_from_number (mode_value m) ≡ m
 mode-numbered Free = refl
 mode-numbered Marked = refl
 mode-numbered Allocating = refl
 mode-numbered Locked = refl
 mode-numbered Occupied = refl
 
-lie-numbered : (l : Lie) → lie_numbered (lie_value l) ≡ l
+lie-numbered : (l : Lie) → lie_from_number (lie_value l) ≡ l
 lie-numbered LiesPlus = refl
 lie-numbered LiesMinus = refl
 lie-numbered Moving = refl
 
-position-numbered : (d : Position) → position_numbered (position_value d) ≡ d
+position-numbered : (d : Position) → position_from_number (position_value d) ≡ d
 position-numbered Plus = refl
 position-numbered Minus = refl
 
-aspect-numbered : (a : Aspect) → aspect_numbered (aspect_value a) ≡ a
+aspect-numbered : (a : Aspect) → aspect_from_number (aspect_value a) ≡ a
 aspect-numbered Open = refl
 aspect-numbered Closed = refl
 
-hold-numbered : (h : Hold) → hold_numbered (hold_value h) ≡ h
+hold-numbered : (h : Hold) → hold_from_number (hold_value h) ≡ h
 hold-numbered FreeLock = refl
 hold-numbered LockedLock = refl
 hold-numbered UsedLock = refl
 
-occupancy-numbered : (o : Occupancy) → occupancy_numbered (occupancy_value o) ≡ o
+occupancy-numbered : (o : Occupancy) → occupancy_from_number (occupancy_value o) ≡ o
 occupancy-numbered Vacant = refl
 occupancy-numbered (Taken Up false false) = refl
 occupancy-numbered (Taken Up false true) = refl
@@ -67,7 +66,6 @@ occupancy-numbered (Taken Down true false) = refl
 occupancy-numbered (Taken Down true true) = refl
 occupancy-numbered Crash = refl
 
--- a list of what a function gives for the numbers below n is a list of n items, where it gives each item for its number
 mapped-range : {X : Type 0} (f : ℕ → X) (n : ℕ) (xs : List X) → length xs ≡ n → ((i : ℕ) (x : X) → slice_get xs i ≡ Some x → f i ≡ x) → map f (range_with_len 0 n) ≡ xs
 mapped-range {X} f n xs long each = same_by_slice_get (map f (range_with_len 0 n)) xs (λ i. slice_get-map f (range_with_len 0 n) i ∙ at i)
   where
@@ -83,40 +81,40 @@ mapped-range {X} f n xs long each = same_by_slice_get (map f (range_with_len 0 n
         ]
 
 module _ (p : PlantLists) (s : State) (shape : HasShape p s) where
-  -- the value of a variable
   value-is : (v n : ℕ) → slice_get (image_of p s) v ≡ Some n → get_or (image_of p s) v 0 ≡ n
   value-is v n at = get_or_from_slice_get (image_of p s) v n 0 at
 
-  pub routes-back : map (route_read (image_of p s)) (range_with_len 0 (length p.routes)) ≡ s.routes
+  pub routes-back : map (decoded_route (image_of p s)) (range_with_len 0 (length p.routes)) ≡ s.routes
   routes-back =
-      mapped-range (route_read (image_of p s)) (length p.routes) s.routes shape.routes (λ r now at. (
-      let mode : mode_numbered (get_or (image_of p s) (mode_var r) 0) ≡ now.mode = ap mode_numbered (value-is (mode_var r) (mode_value now.mode) (mode-at p s (occupancy_values p s) shape r now at)) ∙ mode-numbered now.mode in
+      mapped-range (decoded_route (image_of p s)) (length p.routes) s.routes shape.routes (λ r now at. (
+      let mode : mode_from_number (get_or (image_of p s) (mode_var r) 0) ≡ now.mode = ap mode_from_number (value-is (mode_var r) (mode_value now.mode) (mode-at p s (occupancy_values p s) shape r now at)) ∙ mode-numbered now.mode in
       let seen : get_or (image_of p s) (seen_var r) 0 ≡ now.seen = value-is (seen_var r) now.seen (seen-at p s (occupancy_values p s) shape r now at) in
       let rel : get_or (image_of p s) (rel_var r) 0 ≡ now.rel = value-is (rel_var r) now.rel (rel-at p s (occupancy_values p s) shape r now at) in
       λ i. record { mode = mode i; seen = seen i; rel = rel i }))
 
-  pub points-back : map (point_read (image_of p s) (points_begin p)) (range_with_len 0 (point_count p)) ≡ s.points
+  pub points-back : map (decoded_point (image_of p s) (points_begin p)) (range_with_len 0 (point_count p)) ≡ s.points
   points-back =
-      mapped-range (point_read (image_of p s) (points_begin p)) (point_count p) s.points shape.points (λ n point at. (
-      let lies : lie_numbered (get_or (image_of p s) (at_var p n) 0) ≡ point.at = ap lie_numbered (value-is (at_var p n) (lie_value point.at) (at-at p s (occupancy_values p s) shape n point at)) ∙ lie-numbered point.at in
-      let to : position_numbered (get_or (image_of p s) (to_var p n) 0) ≡ point.to = ap position_numbered (value-is (to_var p n) (position_value point.to) (to-at p s (occupancy_values p s) shape n point at)) ∙ position-numbered point.to in
+      mapped-range (decoded_point (image_of p s) (points_begin p)) (point_count p) s.points shape.points (λ n point at. (
+      let lies : lie_from_number (get_or (image_of p s) (detected_var p n) 0) ≡ point.at = ap lie_from_number (value-is (detected_var p n) (lie_value point.at) (at-at p s (occupancy_values p s) shape n point at)) ∙ lie-numbered point.at in
+      let to : position_from_number (get_or (image_of p s) (commanded_var p n) 0) ≡ point.to =
+      ap position_from_number (value-is (commanded_var p n) (position_value point.to) (to-at p s (occupancy_values p s) shape n point at)) ∙ position-numbered point.to in
       λ i. record { at = lies i; to = to i }))
 
-  pub boards-back : map (board_read (image_of p s) (boards_begin p)) (range_with_len 0 (length p.boards)) ≡ s.boards
+  pub boards-back : map (decoded_board (image_of p s) (boards_begin p)) (range_with_len 0 (length p.boards)) ≡ s.boards
   boards-back =
-      mapped-range (board_read (image_of p s) (boards_begin p)) (length p.boards) s.boards shape.boards (λ m aspect at.
-      ap aspect_numbered (value-is (board_var p m) (aspect_value aspect) (board-at p s (occupancy_values p s) shape m aspect at)) ∙ aspect-numbered aspect)
+      mapped-range (decoded_board (image_of p s) (boards_begin p)) (length p.boards) s.boards shape.boards (λ m aspect at.
+      ap aspect_from_number (value-is (board_var p m) (aspect_value aspect) (board-at p s (occupancy_values p s) shape m aspect at)) ∙ aspect-numbered aspect)
 
-  pub locks-back : map (lock_read (image_of p s) (locks_begin p)) (range_with_len 0 (length p.sections)) ≡ s.locks
+  pub locks-back : map (decoded_lock (image_of p s) (locks_begin p)) (range_with_len 0 (length p.sections)) ≡ s.locks
   locks-back =
-      mapped-range (lock_read (image_of p s) (locks_begin p)) (length p.sections) s.locks shape.locks (λ x hold at.
-      ap hold_numbered (value-is (lock_var p x) (hold_value hold) (lock-at p s (occupancy_values p s) shape x hold at)) ∙ hold-numbered hold)
+      mapped-range (decoded_lock (image_of p s) (locks_begin p)) (length p.sections) s.locks shape.locks (λ x hold at.
+      ap hold_from_number (value-is (lock_var p x) (hold_value hold) (lock-at p s (occupancy_values p s) shape x hold at)) ∙ hold-numbered hold)
 
-  pub occupancies-back : map (occupancy_read (image_of p s) (occupancies_begin p)) (range_with_len 0 (length p.sections)) ≡ map (occupancy_of p s) (range_with_len 0 (length p.sections))
+  pub occupancies-back : map (decoded_occupancy (image_of p s) (occupancies_begin p)) (range_with_len 0 (length p.sections)) ≡ map (occupancy_of p s) (range_with_len 0 (length p.sections))
   occupancies-back =
-      mapped-range (occupancy_read (image_of p s) (occupancies_begin p)) (length p.sections) (map (occupancy_of p s) (range_with_len 0 (length p.sections))) (length-map-range_with_len (occupancy_of p s) 0 (length p.sections)) each
+      mapped-range (decoded_occupancy (image_of p s) (occupancies_begin p)) (length p.sections) (map (occupancy_of p s) (range_with_len 0 (length p.sections))) (length-map-range_with_len (occupancy_of p s) 0 (length p.sections)) each
     where
-      each : (x : ℕ) (o : Occupancy) → slice_get (map (occupancy_of p s) (range_with_len 0 (length p.sections))) x ≡ Some o → occupancy_read (image_of p s) (occupancies_begin p) x ≡ o
+      each : (x : ℕ) (o : Occupancy) → slice_get (map (occupancy_of p s) (range_with_len 0 (length p.sections))) x ≡ Some o → decoded_occupancy (image_of p s) (occupancies_begin p) x ≡ o
       each x o at =
           let there : slice_get (occupancy_values p s) x ≡ Some (occupancy_value o) =
           slice_get-map (λ y. occupancy_value (occupancy_of p s y)) (range_with_len 0 (length p.sections))
@@ -124,7 +122,7 @@ module _ (p : PlantLists) (s : State) (shape : HasShape p s) where
           ∙ in_steps (slice_get (range_with_len 0 (length p.sections)) x)
           ∙ ap (option_map occupancy_value)
           (sym (slice_get-map (occupancy_of p s) (range_with_len 0 (length p.sections)) x) ∙ at) in
-          ap occupancy_numbered (value-is (occupancy_var p x) (occupancy_value o) (occupancy-at p s (occupancy_values p s) shape x ∙ there)) ∙ occupancy-numbered o
+          ap occupancy_from_number (value-is (occupancy_var p x) (occupancy_value o) (occupancy-at p s (occupancy_values p s) shape x ∙ there)) ∙ occupancy-numbered o
         where
           in_steps : (found : Option ℕ) → option_map (λ y. occupancy_value (occupancy_of p s y)) found ≡ option_map occupancy_value (option_map (occupancy_of p s) found)
           in_steps None = refl

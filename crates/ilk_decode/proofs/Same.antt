@@ -1,4 +1,4 @@
--- The state that is read from well-formed values is the one that has them as its image.
+-- The state decoded from well-formed values has them as its image.
 use Rattle.std.proofs.Common.{◌≡◌, ℕ, ◌<◌, Bool, true, false, Option, Some, None, option_map, List, [], ◌∷◌, filter_map, length, map, slice_get, refl, sym, ◌∙◌, ap, subst, arith}
 use Rattle.std.specs.List.{range_with_len}
 use Rattle.std.proofs.lemmas.List.FromFn.{length-map-range_with_len}
@@ -8,19 +8,19 @@ use Rattle.ilk_base.proofs.Options.{some-and}
 use Rattle.ilk_base.proofs.Ranges.{map-range-congr, range-at}
 use Rattle.ilk_ir.specs.System.{in_ranges}
 use Rattle.ilk_plant.specs.Plant.{IsPlant, PlantLists}
-use Rattle.ilk_plant.specs.Sound.{NeverReturns}
+use Rattle.ilk_plant.specs.Sound.{NoWalkReturns}
 use Rattle.ilk_plant.specs.Shape.{HasShape}
-use Rattle.ilk_plant.specs.State.{lie_of}
+use Rattle.ilk_plant.specs.State.{detected_position}
 use Rattle.ilk_plant.specs.declared.network.Dir.{Dir}
 use Rattle.ilk_plant.specs.declared.state.State.{State}
 use Rattle.ilk_motion.specs.Ahead.{ahead}
-use Rattle.ilk_layout.specs.Decoded.{chase, onward, train_from, trains_of}
+use Rattle.ilk_layout.specs.Decoded.{follow_steps, following_section, train_from_tail, trains_of}
 use Rattle.ilk_layout.specs.Image.{image_of}
-use Rattle.ilk_layout.specs.Laws.{AreImage, IsCalm}
+use Rattle.ilk_layout.specs.Laws.{AreImage, IsWellFormedAndSafe}
 use Rattle.ilk_layout.specs.Occupancy.{occupancy_of}
 use Rattle.ilk_layout.specs.Values.{occupancy_value}
 use Rattle.ilk_layout.specs.Variables.{ranges_of_plant}
-use Rattle.ilk_layout.specs.Wellformed.{has_more_behind, is_wellformed, joined_to, section_fits}
+use Rattle.ilk_layout.specs.Wellformed.{has_more_behind, is_wellformed, joined_section, section_fits}
 use Rattle.ilk_layout.specs.declared.values.Occupancy.{Occupancy}
 use Rattle.ilk_layout.specs.declared.values.Occupancy.TheVariants.{Vacant, Taken, Crash}
 use Rattle.ilk_layout.proofs.Made.{made-calm, made-occupancy, made-shape}
@@ -29,73 +29,74 @@ use Rattle.ilk_layout.proofs.Ranged.{wellformed-image}
 use Rattle.ilk_layout.proofs.Told.{told-fits}
 use Rattle.ilk_layout.proofs.Tracks.{demands}
 use Rattle.ilk_layout.proofs.Writes.{image_with}
-use Rattle.ilk_decode.specs.Read.{decoded, next_in_body, occupancies_by, train_with_tail, trains_by_tails, without_trains}
+use Rattle.ilk_decode.specs.Read.{decoded, next_in_body, decoded_occupancies, train_with_tail, trains_by_tails, without_trains}
 use Rattle.ilk_decode.proofs.Mapped.{boards-back, locks-back, occupancies-back, points-back, routes-back}
 
-module _ (p : PlantLists) (plant : IsPlant p) (never : NeverReturns p) (s : State)
+module _ (p : PlantLists) (plant : IsPlant p) (never : NoWalkReturns p) (s : State)
     (occupancies : List Occupancy) (long : length occupancies ≡ length p.sections)
     (fits : (x : ℕ) → x < length p.sections →
-    section_fits p (lie_of p s) (slice_get occupancies) x (slice_get occupancies x) ≡ true) where
-  -- the section ahead of a train's section, where its head isn't there, is the next one of its body
-  next-is : (x : ℕ) → next_in_body p s occupancies x ≡ onward p (lie_of p s) (slice_get occupancies) x
+    section_fits p (detected_position p s) (slice_get occupancies) x (slice_get occupancies x) ≡ true) where
+  -- Unless the head is there, the section ahead of a train's section is the next one of its body.
+  next-is : (x : ℕ) → next_in_body p s occupancies x ≡ following_section p (detected_position p s) (slice_get occupancies) x
   next-is x = by_occupancy (slice_get occupancies x) refl
     where
-      ahead-is : (d : Dir) (tail : Bool) → slice_get occupancies x ≡ Some (Taken d tail false) → ahead p s x d ≡ joined_to p (lie_of p s) x d
+      ahead-is : (d : Dir) (tail : Bool) → slice_get occupancies x ≡ Some (Taken d tail false) → ahead p s x d ≡ joined_section p (detected_position p s) x d
       ahead-is d tail at =
           let within = slice_get_within occupancies x (Taken d tail false) at in
-          let next = some-and (joined_to p (lie_of p s) x d) (λ y. is_some_and (slice_get occupancies y) (has_more_behind d)) (demands p plant never (lie_of p s) (slice_get occupancies) fits x d tail false (omega arith) at).1 in
-          (joined-parts p (lie_of p s) x next.0 d next.1).0 ∙ sym next.1
+          let next = some-and (joined_section p (detected_position p s) x d) (λ y. is_some_and (slice_get occupancies y) (has_more_behind d))
+          (demands p plant never (detected_position p s) (slice_get occupancies) fits x d tail false (omega arith) at).1 in
+          (joined-parts p (detected_position p s) x next.0 d next.1).0 ∙ sym next.1
 
-      by_occupancy : (o : Option Occupancy) → slice_get occupancies x ≡ o → next_in_body p s occupancies x ≡ onward p (lie_of p s) (slice_get occupancies) x
+      by_occupancy : (o : Option Occupancy) → slice_get occupancies x ≡ o → next_in_body p s occupancies x ≡ following_section p (detected_position p s) (slice_get occupancies) x
       by_occupancy None at = rw at refl
       by_occupancy (Some Vacant) at = rw at refl
       by_occupancy (Some Crash) at = rw at refl
       by_occupancy (Some (Taken d tail true)) at = rw at refl
       by_occupancy (Some (Taken d tail false)) at = let same = ahead-is d tail at in rw at same
 
-  -- so the trains are those for which the occupancies stand
-  trains-are : trains_by_tails p s occupancies ≡ trains_of p (lie_of p s) (slice_get occupancies)
+  trains-are : trains_by_tails p s occupancies ≡ trains_of p (detected_position p s) (slice_get occupancies)
   trains-are = ap (λ f. filter_map f (range_with_len 0 (length p.sections))) same
     where
-      steps : next_in_body p s occupancies ≡ onward p (lie_of p s) (slice_get occupancies)
+      steps : next_in_body p s occupancies ≡ following_section p (detected_position p s) (slice_get occupancies)
       steps i x = next-is x i
 
-      same-train : (x : ℕ) → train_with_tail p s occupancies x ≡ train_from p (lie_of p s) (slice_get occupancies) x (slice_get occupancies x)
+      same-train : (x : ℕ) → train_with_tail p s occupancies x ≡ train_from_tail p (detected_position p s) (slice_get occupancies) x (slice_get occupancies x)
       same-train x = by_occupancy (slice_get occupancies x) refl
         where
-          by_occupancy : (o : Option Occupancy) → slice_get occupancies x ≡ o → train_with_tail p s occupancies x ≡ train_from p (lie_of p s) (slice_get occupancies) x (slice_get occupancies x)
+          by_occupancy : (o : Option Occupancy) → slice_get occupancies x ≡ o → train_with_tail p s occupancies x ≡ train_from_tail p (detected_position p s) (slice_get occupancies) x (slice_get occupancies x)
           by_occupancy None at = rw at refl
           by_occupancy (Some Vacant) at = rw at refl
           by_occupancy (Some Crash) at = rw at refl
           by_occupancy (Some (Taken d false head)) at = rw at refl
           by_occupancy (Some (Taken d true head)) at =
-              let body : chase (length p.sections) (next_in_body p s occupancies) x ≡ chase (length p.sections) (onward p (lie_of p s) (slice_get occupancies)) x = ap (λ f. chase (length p.sections) f x) steps in
+              let body : follow_steps (length p.sections) (next_in_body p s occupancies) x ≡ follow_steps (length p.sections) (following_section p (detected_position p s) (slice_get occupancies)) x =
+              ap (λ f. follow_steps (length p.sections) f x) steps in
               rw at (ap (λ rest. Some (record { dir = d; body = x ∷ rest })) body)
 
-      same : train_with_tail p s occupancies ≡ (λ x. train_from p (lie_of p s) (slice_get occupancies) x (slice_get occupancies x))
+      same : train_with_tail p s occupancies ≡ (λ x. train_from_tail p (detected_position p s) (slice_get occupancies) x (slice_get occupancies x))
       same i x = same-train x i
 
-module _ (p : PlantLists) (plant : IsPlant p) (never : NeverReturns p) (s : State) (calm : IsCalm p s) where
+module _ (p : PlantLists) (plant : IsPlant p) (never : NoWalkReturns p) (s : State) (calm : IsWellFormedAndSafe p s) where
   abbrev had : List Occupancy
   had = map (occupancy_of p s) (range_with_len 0 (length p.sections))
 
-  -- the same state, its trains by their tails
+  -- The same state, with its trains in the order of their tails.
   abbrev by_tails : State
-  by_tails = record s { trains = trains_of p (lie_of p s) (slice_get had) }
+  by_tails = record s { trains = trains_of p (detected_position p s) (slice_get had) }
 
   told : (x : ℕ) → x < length p.sections → slice_get had x ≡ Some (occupancy_of p s x)
   told x within = slice_get-map (occupancy_of p s) (range_with_len 0 (length p.sections)) x ∙ ap (option_map (occupancy_of p s)) (range-at (length p.sections) x within)
 
-  fit : (x : ℕ) → x < length p.sections → section_fits p (lie_of p s) (slice_get had) x (slice_get had x) ≡ true
+  fit : (x : ℕ) → x < length p.sections → section_fits p (detected_position p s) (slice_get had) x (slice_get had x) ≡ true
   fit = told-fits p plant never s calm.shape calm.no_hazard (slice_get had) told
 
   others : HasShape p (record s { trains = [] })
   others = record { routes = calm.shape.routes; points = calm.shape.points; boards = calm.shape.boards; locks = calm.shape.locks; counts = calm.shape.counts; bodies = refl }
 
-  tails-calm : IsCalm p by_tails
+  tails-calm : IsWellFormedAndSafe p by_tails
   tails-calm = record {
-    shape = made-shape p plant never (lie_of p s) (slice_get had) fit by_tails (λ x. refl) refl others;
-    no_hazard = made-calm p plant never (lie_of p s) (slice_get had) fit by_tails (λ x. refl) refl others;
+    shape = made-shape p plant never (detected_position p s) (slice_get had) fit by_tails (λ x. refl) refl others;
+    no_hazard = made-calm p plant never (detected_position p s) (slice_get had) fit by_tails (λ x. refl) refl others;
   }
 
   tails-image : image_of p by_tails ≡ image_of p s
@@ -103,9 +104,8 @@ module _ (p : PlantLists) (plant : IsPlant p) (never : NeverReturns p) (s : Stat
       ap (image_with s) (map-range-congr (λ x. occupancy_value (occupancy_of p by_tails x)) (λ x. occupancy_value (occupancy_of p s x)) 0 (length p.sections) (λ x low high. ap occupancy_value (same x (omega arith))))
     where
       same : (x : ℕ) → x < length p.sections → occupancy_of p by_tails x ≡ occupancy_of p s x
-      same x within = same_Some (occupancy_of p by_tails x) (occupancy_of p s x) (sym (made-occupancy p plant never (lie_of p s) (slice_get had) fit by_tails (λ y. refl) refl others x within) ∙ told x within)
+      same x within = same_Some (occupancy_of p by_tails x) (occupancy_of p s x) (sym (made-occupancy p plant never (detected_position p s) (slice_get had) fit by_tails (λ y. refl) refl others x within) ∙ told x within)
 
-  -- it is what is read from the image
   image-back : decoded p (image_of p s) ≡ by_tails
   image-back = λ i. record {
     routes = routes-back p s calm.shape i;
@@ -124,24 +124,23 @@ module _ (p : PlantLists) (plant : IsPlant p) (never : NeverReturns p) (s : Stat
         trains = [];
       }
 
-      trains : trains_by_tails p (without_trains p (image_of p s)) (occupancies_by p (image_of p s)) ≡ trains_of p (lie_of p s) (slice_get had)
+      trains : trains_by_tails p (without_trains p (image_of p s)) (decoded_occupancies p (image_of p s)) ≡ trains_of p (detected_position p s) (slice_get had)
       trains =
           (λ i. trains_by_tails p (rest i) (occupancies-back p s calm.shape i))
           ∙ trains-are p plant never (record s { trains = [] }) had (length-map-range_with_len (occupancy_of p s) 0 (length p.sections)) fit
 
-  pub calm-back : IsCalm p (decoded p (image_of p s))
-  calm-back = subst (IsCalm p) (sym image-back) tails-calm
+  pub calm-back : IsWellFormedAndSafe p (decoded p (image_of p s))
+  calm-back = subst (IsWellFormedAndSafe p) (sym image-back) tails-calm
 
   pub same-image : image_of p (decoded p (image_of p s)) ≡ image_of p s
   same-image = ap (image_of p) image-back ∙ tails-image
 
-module _ (p : PlantLists) (plant : IsPlant p) (never : NeverReturns p) (values : List ℕ) (h : in_ranges values (ranges_of_plant p) ≡ true) (fits : is_wellformed p values ≡ true) where
+module _ (p : PlantLists) (plant : IsPlant p) (never : NoWalkReturns p) (values : List ℕ) (h : in_ranges values (ranges_of_plant p) ≡ true) (fits : is_wellformed p values ≡ true) where
   known : AreImage p values
   known = wellformed-image p plant never values h fits
 
-  -- what is read from well-formed values has shape and no hazard, and has the values as its image
-  pub decoded-calm : IsCalm p (decoded p values)
-  decoded-calm = (let P : List ℕ → Type 0 = λ v. IsCalm p (decoded p v) in subst P known.image (calm-back p plant never known.state known.calm))
+  pub decoded-calm : IsWellFormedAndSafe p (decoded p values)
+  decoded-calm = (let P : List ℕ → Type 0 = λ v. IsWellFormedAndSafe p (decoded p v) in subst P known.image (calm-back p plant never known.state known.calm))
 
   pub decoded-image : image_of p (decoded p values) ≡ values
   decoded-image = (let P : List ℕ → Type 0 = λ v. image_of p (decoded p v) ≡ v in subst P known.image (same-image p plant never known.state known.calm))

@@ -1,4 +1,4 @@
--- Trains that are found by their tails, section by section, are in ascending order of their tails.
+-- Trains that are found section by section are in ascending order of their tails.
 use Rattle.std.proofs.Common.{◌≡◌, ℕ, ◌+◌, Bool, true, false, filter, filter_map, get_or, Option, Some, None, List, [], ◌∷◌, length, slice_get, refl, sym, ap, subst, arith}
 use Rattle.std.specs.List.{range_with_len}
 use Rattle.std.specs.List.Sorted.{IsStrictlyIncreasing}
@@ -8,7 +8,7 @@ use Rattle.ilk_plant.specs.Plant.{PlantLists}
 use Rattle.ilk_plant.specs.declared.state.State.{State}
 use Rattle.ilk_layout.specs.declared.values.Occupancy.{Occupancy}
 use Rattle.ilk_layout.specs.declared.values.Occupancy.TheVariants.{Vacant, Taken, Crash}
-use Rattle.ilk_decode.specs.Order.{AreByTails, tails_of}
+use Rattle.ilk_decode.specs.Order.{AreSortedByTail, tails_of}
 use Rattle.ilk_decode.specs.Read.{train_with_tail, trains_by_tails}
 
 has_tail : Option Occupancy → Bool
@@ -25,7 +25,6 @@ range-rises n k within =
     omega (arith, here, next)
 
 module _ (p : PlantLists) (s : State) (occupancies : List Occupancy) where
-  -- the tails are the sections that have one
   tails-are : (xs : List ℕ) → tails_of (filter_map (train_with_tail p s occupancies) xs) ≡ filter (λ x. has_tail (slice_get occupancies x)) xs
   unfolding has_tail
   tails-are [] = refl
@@ -42,6 +41,6 @@ module _ (p : PlantLists) (s : State) (occupancies : List Occupancy) where
       by_occupancy (Some (Taken d false head)) at rest = rw at rest
       by_occupancy (Some (Taken d true head)) at rest = rw at (ap (λ tails. x ∷ tails) rest)
 
-  pub by-tails : AreByTails (trains_by_tails p s occupancies)
+  pub by-tails : AreSortedByTail (trains_by_tails p s occupancies)
   by-tails =
       subst IsStrictlyIncreasing (sym (tails-are (range_with_len 0 (length p.sections)))) (IsStrictlyIncreasing-filter (λ x. has_tail (slice_get occupancies x)) (range_with_len 0 (length p.sections)) (range-rises (length p.sections)))

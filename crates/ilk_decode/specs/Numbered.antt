@@ -1,4 +1,4 @@
--- Cited by private contracts alone: what has a number, and something where nothing has it.
+-- Used only in private contracts: the value with a number, or the last value if no value has it.
 use Rattle.std.specs.Prelude.{ℕ, true, false, ◌==◌, if◌then◌else◌}
 use Rattle.ilk_plant.specs.declared.network.Dir.TheVariants.{Up, Down}
 use Rattle.ilk_plant.specs.declared.network.Position.{Position}
@@ -14,28 +14,28 @@ use Rattle.ilk_plant.specs.declared.state.Mode.TheVariants.{Free, Marked, Alloca
 use Rattle.ilk_layout.specs.declared.values.Occupancy.{Occupancy}
 use Rattle.ilk_layout.specs.declared.values.Occupancy.TheVariants.{Vacant, Taken, Crash}
 
-abbrev pub mode_numbered : ℕ → Mode
-mode_numbered number =
+abbrev pub mode_from_number : ℕ → Mode
+mode_from_number number =
     if number == 0 then Free
     else if number == 1 then Marked
     else if number == 2 then Allocating
     else if number == 3 then Locked
     else Occupied
 
-abbrev pub lie_numbered : ℕ → Lie
-lie_numbered number = if number == 0 then LiesPlus else if number == 1 then LiesMinus else Moving
+abbrev pub lie_from_number : ℕ → Lie
+lie_from_number number = if number == 0 then LiesPlus else if number == 1 then LiesMinus else Moving
 
-abbrev pub position_numbered : ℕ → Position
-position_numbered number = if number == 0 then Plus else Minus
+abbrev pub position_from_number : ℕ → Position
+position_from_number number = if number == 0 then Plus else Minus
 
-abbrev pub aspect_numbered : ℕ → Aspect
-aspect_numbered number = if number == 0 then Open else Closed
+abbrev pub aspect_from_number : ℕ → Aspect
+aspect_from_number number = if number == 0 then Open else Closed
 
-abbrev pub hold_numbered : ℕ → Hold
-hold_numbered number = if number == 0 then FreeLock else if number == 1 then LockedLock else UsedLock
+abbrev pub hold_from_number : ℕ → Hold
+hold_from_number number = if number == 0 then FreeLock else if number == 1 then LockedLock else UsedLock
 
-abbrev pub occupancy_numbered : ℕ → Occupancy
-occupancy_numbered number =
+abbrev pub occupancy_from_number : ℕ → Occupancy
+occupancy_from_number number =
     if number == 0 then Vacant
     else if number == 1 then Taken Up false false
     else if number == 2 then Taken Up false true

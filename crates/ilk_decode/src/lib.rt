@@ -1,19 +1,17 @@
-//! The way back from an image to a state: values that are the image of a state with shape and
-//! without hazard give such a state again.
+//! Decodes the image of a well-formed state without hazard back into such a state.
 //!
-//! An image says for each section how it is occupied, and nothing of trains as such. A train is
-//! found by its tail, and its body by going from there to the section ahead until its head. Where
-//! the values are well-formed, the section ahead of a train's section is the next one of its body,
-//! and so no search is needed: each section is looked at as a tail once, and as a part of a body at
-//! most once.
+//! An image gives the occupancy of each section, but does not list trains. A train is found by its
+//! tail; its body goes from there to the section ahead until its head. If the values are
+//! well-formed, the section ahead of a train's section is the next one of its body. So no search is
+//! needed: each section is visited at most once as a tail and at most once in a body.
 //!
-//! An image doesn't tell in which order a state lists its trains. `state_of` lists them in ascending
-//! order of the sections of their tails (`specs/Order`).
+//! An image does not determine the order of a state's trains. `state_of` lists them in ascending
+//! order of their tails' sections (`specs/Order`).
 //!
-//! `lists` reads the routes, points, boards, locks and occupancies by the numbers of their variables
-//! (`numbers`), `trains` finds the trains, and `states` joins them. What is read from any values is a
-//! definition (`specs/Read`); `proofs/Same` shows that from well-formed ones it is a state with shape
-//! and without hazard, and that they are its image.
+//! `lists_conflict` reads the routes, points, boards, locks and occupancies by their variables
+//! (`numbers`). `trains` finds the trains, and `states` joins both. `specs/Read` defines the result
+//! for any values. `proofs/Same` shows that well-formed values give a well-formed state without
+//! hazard, and that they are its image.
 #![tactic(auto)]
 
 mod lists;

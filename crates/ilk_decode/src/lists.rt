@@ -1,29 +1,29 @@
 ghost use Rattle.std.specs.Prelude.{◌≡◌, ◌<◌, ◌^◌, IfOk, map};
 ghost use Rattle.std.specs.List.{range_with_len};
-ghost use Rattle.ilk_decode.specs.Read.{board_read, lock_read, occupancy_read, point_read, route_read};
+ghost use Rattle.ilk_decode.specs.Read.{decoded_board, decoded_lock, decoded_occupancy, decoded_point, decoded_route};
 
 use crate::numbers::{
-    aspect_numbered, hold_numbered, lie_numbered, mode_numbered, number_at, occupancy_numbered,
-    position_numbered,
+    aspect_from_number, hold_from_number, lie_from_number, mode_from_number, number_at,
+    occupancy_from_number, position_from_number,
 };
 use ilk_base::Row;
 use ilk_layout::Occupancy;
 use ilk_plant::{Aspect, Hold, PointState, RouteState};
 use std::alloc::{AllocError, Global};
 
-// The states of so many routes.
-pub(crate) fn routes_read(
+// Returns the states of `count` routes.
+pub(crate) fn decode_routes(
     alloc: Global,
     values: &[u8],
     count: u32,
 ) -> Result<Row<RouteState>, AllocError>
-    ensures { IfOk result (λ made. made ≡ map (route_read values.now) (range_with_len 0 count)) }
+    ensures { IfOk result (λ made. made ≡ map (decoded_route values.now) (range_with_len 0 count)) }
 {
     let mut made = Row::new(alloc);
     for r in 0..count {
         let mode = 3 * r as u64;
         made.push(RouteState {
-            mode: mode_numbered(number_at(values, mode)),
+            mode: mode_from_number(number_at(values, mode)),
             seen: number_at(values, mode + 1) as u32,
             rel: number_at(values, mode + 2) as u32,
         })?;
@@ -31,8 +31,8 @@ pub(crate) fn routes_read(
     Ok(made)
 }
 
-// The states of so many points, whose variables begin here.
-pub(crate) fn points_read(
+// Returns the states of `count` points, from variable `begin`.
+pub(crate) fn decode_points(
     alloc: Global,
     values: &[u8],
     begin: u64,
@@ -40,21 +40,21 @@ pub(crate) fn points_read(
 ) -> Result<Row<PointState>, AllocError>
     requires { begin < 2 ^ 40 }
     ensures { IfOk result
-        (λ made. made ≡ map (point_read values.now begin) (range_with_len 0 count)) }
+        (λ made. made ≡ map (decoded_point values.now begin) (range_with_len 0 count)) }
 {
     let mut made = Row::new(alloc);
     for n in 0..count {
         let at = begin + 2 * n as u64;
         made.push(PointState {
-            at: lie_numbered(number_at(values, at)),
-            to: position_numbered(number_at(values, at + 1)),
+            at: lie_from_number(number_at(values, at)),
+            to: position_from_number(number_at(values, at + 1)),
         })?;
     }
     Ok(made)
 }
 
-// What so many boards show, whose variables begin here.
-pub(crate) fn boards_read(
+// Returns the aspects of `count` boards, from variable `begin`.
+pub(crate) fn decode_boards(
     alloc: Global,
     values: &[u8],
     begin: u64,
@@ -62,17 +62,17 @@ pub(crate) fn boards_read(
 ) -> Result<Row<Aspect>, AllocError>
     requires { begin < 2 ^ 40 }
     ensures { IfOk result
-        (λ made. made ≡ map (board_read values.now begin) (range_with_len 0 count)) }
+        (λ made. made ≡ map (decoded_board values.now begin) (range_with_len 0 count)) }
 {
     let mut made = Row::new(alloc);
     for m in 0..count {
-        made.push(aspect_numbered(number_at(values, begin + m as u64)))?;
+        made.push(aspect_from_number(number_at(values, begin + m as u64)))?;
     }
     Ok(made)
 }
 
-// The locks of so many sections, whose variables begin here.
-pub(crate) fn locks_read(
+// Returns the locks of `count` sections, from variable `begin`.
+pub(crate) fn decode_locks(
     alloc: Global,
     values: &[u8],
     begin: u64,
@@ -80,17 +80,17 @@ pub(crate) fn locks_read(
 ) -> Result<Row<Hold>, AllocError>
     requires { begin < 2 ^ 40 }
     ensures { IfOk result
-        (λ made. made ≡ map (lock_read values.now begin) (range_with_len 0 count)) }
+        (λ made. made ≡ map (decoded_lock values.now begin) (range_with_len 0 count)) }
 {
     let mut made = Row::new(alloc);
     for x in 0..count {
-        made.push(hold_numbered(number_at(values, begin + x as u64)))?;
+        made.push(hold_from_number(number_at(values, begin + x as u64)))?;
     }
     Ok(made)
 }
 
-// The occupancies of so many sections, whose variables begin here.
-pub(crate) fn occupancies_read(
+// Returns the occupancies of `count` sections, from variable `begin`.
+pub(crate) fn decode_occupancies(
     alloc: Global,
     values: &[u8],
     begin: u64,
@@ -98,11 +98,11 @@ pub(crate) fn occupancies_read(
 ) -> Result<Row<Occupancy>, AllocError>
     requires { begin < 2 ^ 40 }
     ensures { IfOk result
-        (λ made. made ≡ map (occupancy_read values.now begin) (range_with_len 0 count)) }
+        (λ made. made ≡ map (decoded_occupancy values.now begin) (range_with_len 0 count)) }
 {
     let mut made = Row::new(alloc);
     for x in 0..count {
-        made.push(occupancy_numbered(number_at(values, begin + x as u64)))?;
+        made.push(occupancy_from_number(number_at(values, begin + x as u64)))?;
     }
     Ok(made)
 }

@@ -4,7 +4,7 @@ ghost use Rattle.ilk_decode.specs.Numbered as numbered;
 use ilk_layout::Occupancy;
 use ilk_plant::{Aspect, Dir, Hold, Lie, Mode, Position};
 
-// The value of a variable; 0 where there is none.
+// Returns the value of `variable`, or 0 if it does not exist.
 pub(crate) fn number_at(values: &[u8], variable: u64) -> u8
     ensures { result ≡ get_or values.now variable 0 }
 {
@@ -14,9 +14,8 @@ pub(crate) fn number_at(values: &[u8], variable: u64) -> u8
     }
 }
 
-// The mode with this number.
-pub(crate) fn mode_numbered(number: u8) -> Mode
-    ensures { result ≡ numbered.mode_numbered number }
+pub(crate) fn mode_from_number(number: u8) -> Mode
+    ensures { result ≡ numbered.mode_from_number number }
 {
     match number {
         0 => Mode::Free,
@@ -27,9 +26,9 @@ pub(crate) fn mode_numbered(number: u8) -> Mode
     }
 }
 
-// Where a point lies, by this number.
-pub(crate) fn lie_numbered(number: u8) -> Lie
-    ensures { result ≡ numbered.lie_numbered number }
+// Returns the detected position with this number.
+pub(crate) fn lie_from_number(number: u8) -> Lie
+    ensures { result ≡ numbered.lie_from_number number }
 {
     match number {
         0 => Lie::Plus,
@@ -38,9 +37,9 @@ pub(crate) fn lie_numbered(number: u8) -> Lie
     }
 }
 
-// Where a point is commanded, by this number.
-pub(crate) fn position_numbered(number: u8) -> Position
-    ensures { result ≡ numbered.position_numbered number }
+// Returns the commanded position with this number.
+pub(crate) fn position_from_number(number: u8) -> Position
+    ensures { result ≡ numbered.position_from_number number }
 {
     match number {
         0 => Position::Plus,
@@ -48,9 +47,8 @@ pub(crate) fn position_numbered(number: u8) -> Position
     }
 }
 
-// What a board shows, by this number.
-pub(crate) fn aspect_numbered(number: u8) -> Aspect
-    ensures { result ≡ numbered.aspect_numbered number }
+pub(crate) fn aspect_from_number(number: u8) -> Aspect
+    ensures { result ≡ numbered.aspect_from_number number }
 {
     match number {
         0 => Aspect::Open,
@@ -58,9 +56,8 @@ pub(crate) fn aspect_numbered(number: u8) -> Aspect
     }
 }
 
-// The lock with this number.
-pub(crate) fn hold_numbered(number: u8) -> Hold
-    ensures { result ≡ numbered.hold_numbered number }
+pub(crate) fn hold_from_number(number: u8) -> Hold
+    ensures { result ≡ numbered.hold_from_number number }
 {
     match number {
         0 => Hold::Free,
@@ -69,16 +66,14 @@ pub(crate) fn hold_numbered(number: u8) -> Hold
     }
 }
 
-// An occupancy by a train that runs so, and whether it has its tail there, and its head.
 fn part_of_train(dir: Dir, tail: bool, head: bool) -> Occupancy
     ensures { result ≡ Occupancy.Taken dir tail head }
 {
     Occupancy::Taken { dir, tail, head }
 }
 
-// The occupancy with this number.
-pub(crate) fn occupancy_numbered(number: u8) -> Occupancy
-    ensures { result ≡ numbered.occupancy_numbered number }
+pub(crate) fn occupancy_from_number(number: u8) -> Occupancy
+    ensures { result ≡ numbered.occupancy_from_number number }
 {
     match number {
         0 => Occupancy::Vacant,

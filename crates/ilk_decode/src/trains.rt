@@ -1,5 +1,5 @@
 ghost use Rattle.std.specs.Prelude.{◌≡◌, ◌∷◌, ◌++◌, IfOk, OnOk, length, option_to_list};
-ghost use Rattle.ilk_layout.specs.Decoded.{chase};
+ghost use Rattle.ilk_layout.specs.Decoded.{follow_steps};
 ghost use Rattle.ilk_decode.specs.Read.{next_in_body, tail_direction, train_with_tail, trains_by_tails};
 
 use ilk_base::Row;
@@ -8,8 +8,8 @@ use ilk_motion::ahead;
 use ilk_plant::{Dir, Plant, State, Train};
 use std::alloc::{AllocError, Global};
 
-// The section after `x` in the body of its train: the one ahead. None where its head is at `x`, or
-// no train is there.
+// Returns the section after `x` in its train's body, which is the one ahead. Returns `None` if the
+// head is at `x` or there is no train.
 fn next_in_body(plant: &Plant, s: &State, occupancies: &[Occupancy], x: u32) -> Option<u32>
     ensures { result ≡ next_in_body plant.now s.now occupancies.now x }
 {
@@ -25,7 +25,7 @@ fn next_in_body(plant: &Plant, s: &State, occupancies: &[Occupancy], x: u32) -> 
     }
 }
 
-// The body of the train with its tail at this section, from there to its head.
+// Returns the body of the train with its tail at `tail`, from there to its head.
 fn body_from(
     alloc: Global,
     plant: &Plant,
@@ -36,7 +36,7 @@ fn body_from(
     ensures { IfOk result
         (λ body. body
         ≡ tail
-        ∷ chase (length plant.now.sections)
+        ∷ follow_steps (length plant.now.sections)
         (next_in_body plant.now s.now occupancies.now) tail) }
 {
     let mut body = Row::new(alloc);
@@ -54,7 +54,7 @@ fn body_from(
     Ok(body)
 }
 
-// The direction of the train with its tail at section `x`, if there is one.
+// Returns the direction of the train with its tail at `x`, or `None`.
 fn tail_direction(occupancies: &[Occupancy], x: u32) -> Option<Dir>
     ensures { result ≡ tail_direction occupancies.now x }
 {
@@ -70,7 +70,7 @@ fn tail_direction(occupancies: &[Occupancy], x: u32) -> Option<Dir>
     }
 }
 
-// Adds the train with its tail at section `x`, if there is one.
+// Adds the train with its tail at `x`, if there is one.
 fn push_train(
     alloc: Global,
     plant: &Plant,
@@ -93,8 +93,7 @@ fn push_train(
     }
 }
 
-/// The trains, in the order of their tails, where the points lie as in this state and the sections
-/// are occupied so.
+/// Returns the trains in the order of their tails, from the points of `s` and these occupancies.
 pub(crate) fn trains_by_tails(
     alloc: Global,
     plant: &Plant,

@@ -3,16 +3,15 @@ use Rattle.std.proofs.Common.{◌≡◌, [], ◌∷◌, ap, ◌∙◌, arith}
 use Rattle.std.specs.Prelude.{codes}
 use Rattle.std.specs.Fmt.{decimal}
 use Rattle.std.proofs.lemmas.Fmt.{decimal_digit}
-use Rattle.ilk_cnf.specs.Literal.{minus, plus}
+use Rattle.ilk_cnf.specs.Literal.{negative_lit, positive_lit}
 use Rattle.ilk_cnf.specs.Formula.{Formula}
 use Rattle.ilk_lines.specs.Lines.{Bytes}
 use Rattle.ilk_lines.specs.Written.{line_of, text_of}
 use Rattle.ilk_dimacs.specs.DimacsText.{dimacs_text}
 
 abbrev of_four : Formula
-of_four = record { vars = 2; clauses = (plus 1 ∷ plus 2 ∷ []) ∷ (plus 1 ∷ minus 2 ∷ []) ∷ (minus 1 ∷ plus 2 ∷ []) ∷ (minus 1 ∷ minus 2 ∷ []) ∷ [] }
+of_four = record { vars = 2; clauses = (positive_lit 1 ∷ positive_lit 2 ∷ []) ∷ (positive_lit 1 ∷ negative_lit 2 ∷ []) ∷ (negative_lit 1 ∷ positive_lit 2 ∷ []) ∷ (negative_lit 1 ∷ negative_lit 2 ∷ []) ∷ [] }
 
--- its text, where the decimals of 1, 2 and 4 are these
 abbrev four_with : Bytes → Bytes → Bytes → Bytes
 four_with one two four = text_of
     (line_of (codes "p" ∷ codes "cnf" ∷ two ∷ four ∷ []) ∷ line_of (one ∷ two ∷ codes "0" ∷ [])

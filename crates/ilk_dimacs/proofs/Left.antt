@@ -1,4 +1,4 @@
--- What is left of the text of a formula, a word after the other.
+-- The rest of the text of a formula, word by word.
 use Rattle.std.proofs.Common.{◌≡◌, ℕ, ◌+◌, ◌-◌, ◌≤◌, List, [], ◌∷◌, ◌++◌, Some, length, drop, refl, sym, ap, ◌∙◌, arith, append_assoc, slice_get}
 use Rattle.std.specs.Prelude.{codes}
 use Rattle.std.proofs.lemmas.List.{drop_all}
@@ -7,44 +7,39 @@ use Rattle.ilk_cnf.specs.Formula.{Formula}
 use Rattle.ilk_lines.specs.Lines.{Bytes}
 use Rattle.ilk_log.specs.StepText.{lit_word}
 use Rattle.ilk_dimacs.specs.DimacsText.{clause_words, dimacs_text, header_words}
-use Rattle.ilk_dimacs.specs.Left.{clauses_left, fed, lines_fed, lits_spaced}
-use Rattle.ilk_dimacs.proofs.Lines.{line-lits, lines-fed}
+use Rattle.ilk_dimacs.specs.Left.{clauses_left, line_with_feed, clause_lines_text, lits_spaced}
+use Rattle.ilk_dimacs.proofs.Lines.{line-lits, lines-line_with_feed}
 use Rattle.ilk_base.proofs.Lists.{drop_from}
 
--- where no literal of the next clause is made, the lines of all clauses are left
-pub left_whole : (cs : List (List Literal)) → clauses_left 0 cs ≡ lines_fed cs
+pub left_whole : (cs : List (List Literal)) → clauses_left 0 cs ≡ clause_lines_text cs
 left_whole [] = refl
 left_whole (c ∷ cs) =
-    sym (append_assoc (lits_spaced c) (codes "0\n") (lines_fed cs)) ∙ ap (λ (t : Bytes). t ++ lines_fed cs) (line-fed c)
+    sym (append_assoc (lits_spaced c) (codes "0\n") (clause_lines_text cs)) ∙ ap (λ (t : Bytes). t ++ clause_lines_text cs) (line-fed c)
   where
-    line-fed : (c : List Literal) → lits_spaced c ++ codes "0\n" ≡ fed (clause_words c)
+    line-fed : (c : List Literal) → lits_spaced c ++ codes "0\n" ≡ line_with_feed (clause_words c)
     line-fed c = sym (append_assoc (lits_spaced c) (codes "0") (10 ∷ [])) ∙ ap (λ (t : Bytes). t ++ 10 ∷ []) (sym (line-lits c))
 
--- before a literal
 pub left-literal : (cs : List (List Literal)) (i n : ℕ) (c : List Literal) (l : Literal) → slice_get cs (i + 1 - 1) ≡ Some c → slice_get c n ≡ Some l → (lit_word l ++ 32 ∷ []) ++ clauses_left (n + 1) (drop i cs) ≡ clauses_left n (drop i cs)
 left-literal cs i n c l clause literal =
     let same : i ≡ i + 1 - 1 = omega arith in
     let here : drop i cs ≡ c ∷ drop (i + 1) cs = drop_from cs i c (ap (slice_get cs) same ∙ clause) in
     ap (λ (ds : List (List Literal)). (lit_word l ++ 32 ∷ []) ++ clauses_left (n + 1) ds) here
-    ∙ sym (append_assoc (lit_word l ++ 32 ∷ []) (lits_spaced (drop (n + 1) c)) (codes "0\n" ++ lines_fed (drop (i + 1) cs)))
-    ∙ ap (λ (ls : List Literal). lits_spaced ls ++ (codes "0\n" ++ lines_fed (drop (i + 1) cs))) (sym (drop_from c n l literal))
+    ∙ sym (append_assoc (lit_word l ++ 32 ∷ []) (lits_spaced (drop (n + 1) c)) (codes "0\n" ++ clause_lines_text (drop (i + 1) cs)))
+    ∙ ap (λ (ls : List Literal). lits_spaced ls ++ (codes "0\n" ++ clause_lines_text (drop (i + 1) cs))) (sym (drop_from c n l literal))
     ∙ ap (clauses_left n) (sym here)
 
--- before the end of a clause
 pub left-end : (cs : List (List Literal)) (i n : ℕ) (c : List Literal) → slice_get cs (i + 1 - 1) ≡ Some c → length c ≤ n → codes "0\n" ++ clauses_left 0 (drop (i + 1) cs) ≡ clauses_left n (drop i cs)
 left-end cs i n c clause past =
     let same : i ≡ i + 1 - 1 = omega arith in
     let here : drop i cs ≡ c ∷ drop (i + 1) cs = drop_from cs i c (ap (slice_get cs) same ∙ clause) in
     ap (λ (t : Bytes). codes "0\n" ++ t) (left_whole (drop (i + 1) cs))
-    ∙ ap (λ (ls : List Literal). lits_spaced ls ++ (codes "0\n" ++ lines_fed (drop (i + 1) cs))) (sym (drop_all n c past))
+    ∙ ap (λ (ls : List Literal). lits_spaced ls ++ (codes "0\n" ++ clause_lines_text (drop (i + 1) cs))) (sym (drop_all n c past))
     ∙ ap (clauses_left n) (sym here)
 
--- after the first line
-pub text_is : (f : Formula) (header rest : Bytes) → header ≡ fed (header_words f) → rest ≡ lines_fed f.clauses → header ++ rest ≡ dimacs_text f
+pub text_is : (f : Formula) (header rest : Bytes) → header ≡ line_with_feed (header_words f) → rest ≡ clause_lines_text f.clauses → header ++ rest ≡ dimacs_text f
 text_is f header rest first clauses =
-    ap (λ (t : Bytes). t ++ rest) first ∙ ap (λ (t : Bytes). fed (header_words f) ++ t) (clauses ∙ lines-fed f.clauses)
+    ap (λ (t : Bytes). t ++ rest) first ∙ ap (λ (t : Bytes). line_with_feed (header_words f) ++ t) (clauses ∙ lines-line_with_feed f.clauses)
 
--- where a literal is made, and where the end of a clause is
 pub literal-made :
     (cs : List (List Literal)) (i n : ℕ) (c : List Literal) (l : Literal) (made whole : Bytes) →
     slice_get cs (i + 1 - 1) ≡ Some c → slice_get c n ≡ Some l → made ≡ lit_word l ++ 32 ∷ [] →

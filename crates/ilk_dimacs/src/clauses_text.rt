@@ -1,28 +1,29 @@
 ghost use Rattle.std.specs.Prelude.{◌≡◌, ◌<◌, ◌++◌, ◌∷◌, [], true, false, drop, length, min, take};
 ghost use Rattle.ilk_log.specs.StepText.{lit_word};
-ghost use Rattle.ilk_dimacs.specs.Left.{lines_fed};
+ghost use Rattle.ilk_dimacs.specs.Left.{clause_lines_text};
 
 use ilk_cnf::{Cnf, Lit};
-use ilk_lines::Token;
+use ilk_lines::ShortBytes;
 use std::marker::Model;
 
-// Writes a literal and a space before what the token has.
-fn lead_lit(token: &mut Token, l: Lit)
+// Makes the word of a literal, with a space after it.
+fn lead_lit(token: &mut ShortBytes, l: Lit)
     requires { token.old ≡ [] }
     ensures { token.new ≡ lit_word l ++ 32 ∷ [] }
 {
-    token.lead(b" ");
-    token.lead_decimal(l.var());
+    token.prepend(b" ");
+    token.prepend_decimal(l.var());
     if !l.positive() {
-        token.lead(b"-");
+        token.prepend(b"-");
     }
 }
 
-// A formula, and how far its text was made after the first line: seen as what isn't made yet.
+// A formula, and the position in its text after the first line. Contracts see the bytes not made
+// yet.
 #[derive(Drop)]
 struct Clauses {
     cnf: Cnf,
-    // How many clauses were made, and how many literals of the next.
+    // The number of clauses made, and of literals of the next.
     made: u64,
     literals: u64,
 }
@@ -38,9 +39,9 @@ impl Model for Clauses {
 
 impl Clauses {
     #[tactic(auto, using(crate::proofs::Left::left_whole))]
-    // The clauses of a formula, of which none was made.
+    // Starts at the first clause of the formula.
     fn of(cnf: Cnf) -> Clauses
-        ensures { result ≡ lines_fed cnf.clauses }
+        ensures { result ≡ clause_lines_text cnf.clauses }
     {
         Clauses {
             cnf,
@@ -49,9 +50,9 @@ impl Clauses {
         }
     }
 
-    // Makes the next word of the text, with the space or the line feed after it. False exactly where
+    // Makes the next word of the text, with the space or line feed after it. Returns `false` if
     // there is none.
-    fn next(&mut self, token: &mut Token) -> bool
+    fn next(&mut self, token: &mut ShortBytes) -> bool
         requires { token.old ≡ [] }
         ensures left { token.new ++ self.new ≡ self.old }
         ensures some { result ≡ true → 0 < length token.new }
@@ -65,7 +66,7 @@ impl Clauses {
             lead_lit(token, clause[self.literals as usize]);
             self.literals += 1;
         } else {
-            token.lead(b"0\n");
+            token.prepend(b"0\n");
             self.made += 1;
             self.literals = 0;
         }
@@ -73,11 +74,11 @@ impl Clauses {
     }
 }
 
-/// What of a formula's text is after the first line, of which a word is made at a time: seen as the
-/// bytes that are still to be taken.
+/// The text of a formula after its first line, made word by word. Contracts see the bytes that are
+/// still to be taken.
 #[derive(Drop)]
 pub(crate) struct ClausesText {
-    token: Token,
+    token: ShortBytes,
     clauses: Clauses,
 }
 
@@ -90,18 +91,17 @@ impl Model for ClausesText {
 }
 
 impl ClausesText {
-    /// The lines of the clauses of a formula.
+    /// Starts the lines of the clauses of a formula.
     pub(crate) fn of(cnf: Cnf) -> ClausesText
-        ensures { result ≡ lines_fed cnf.clauses }
+        ensures { result ≡ clause_lines_text cnf.clauses }
     {
         ClausesText {
-            token: Token::none(),
+            token: ShortBytes::empty(),
             clauses: Clauses::of(cnf),
         }
     }
 
-    /// Takes the next bytes into the front of the buffer, as many as there are and the buffer has
-    /// places for, and answers how many.
+    /// Copies the next bytes to the front of `into`, as many as fit, and returns their number.
     pub(crate) fn take(&mut self, into: &mut [u8]) -> usize
         ensures count { result ≡ min (length into.old) (length self.old) }
         ensures bytes { take result into.new ≡ take result self.old }

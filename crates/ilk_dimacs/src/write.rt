@@ -7,7 +7,6 @@ use ilk_cnf::{Cnf, Lit};
 use ilk_lines::push_decimal;
 use std::alloc::{AllocError, Global};
 
-// Writes a literal at the end of a text.
 fn push_lit_word(text: &mut String, l: Lit) -> Result<(), AllocError>
     ensures { OnOk result (string_bytes text.new ≡ string_bytes text.old ++ lit_word l) }
 {
@@ -15,7 +14,6 @@ fn push_lit_word(text: &mut String, l: Lit) -> Result<(), AllocError>
     push_decimal(text, l.var())
 }
 
-// Writes the line of a clause at the end of a text.
 fn push_clause(text: &mut String, lits: &[Lit]) -> Result<(), AllocError>
     ensures { OnOk result
         (string_bytes text.new
@@ -29,7 +27,7 @@ fn push_clause(text: &mut String, lits: &[Lit]) -> Result<(), AllocError>
     Ok(())
 }
 
-/// Writes the first line at the end of a text.
+/// Appends the first line.
 pub(crate) fn push_header(text: &mut String, cnf: &Cnf) -> Result<(), AllocError>
     ensures { OnOk result
         (string_bytes text.new
@@ -38,9 +36,9 @@ pub(crate) fn push_header(text: &mut String, cnf: &Cnf) -> Result<(), AllocError
     write!(text, "p cnf {} {}\n", cnf.vars(), cnf.clauses())
 }
 
-/// The text of a formula in the DIMACS CNF format: the line `p cnf V C` with the numbers of variables
-/// and clauses, and for each clause in order a line with its literals and `0`. No memory for the text
-/// is its only error.
+/// Returns the text of a formula in the DIMACS CNF format. The line `p cnf V C` has the numbers of
+/// variables and clauses. For each clause in order, a line with its literals and `0` follows. Fails
+/// only if memory runs out.
 pub fn write_dimacs(alloc: Global, cnf: &Cnf) -> Result<Vec<u8>, AllocError>
     ensures { IfOk result (λ text. text.items ≡ dimacs_text cnf.now) }
 {

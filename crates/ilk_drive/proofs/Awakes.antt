@@ -1,4 +1,4 @@
--- An automatic event that is enabled after another event, and isn't one that this may enable, was enabled before it.
+-- An automatic event that is enabled after an event that can't enable it was enabled before.
 use Rattle.std.proofs.Common.{◌≡◌, Some, refl}
 use Rattle.ilk_plant.specs.Plant.{IsPlant, PlantLists}
 use Rattle.ilk_plant.specs.Shape.{HasShape}
@@ -13,7 +13,6 @@ use Rattle.ilk_drive.proofs.EndKeeps.{cancel-keeps, finish-keeps, release-keeps}
 use Rattle.ilk_drive.proofs.MotionKeeps.{enter-keeps, head-keeps, leave-keeps, settle-keeps, tail-keeps, throw-keeps}
 use Rattle.ilk_drive.proofs.RouteKeeps.{Keeps, allocate-keeps, lock-keeps, mark-keeps, sense-keeps}
 
--- nothing that an event doesn't name becomes enabled by it, whichever event it is
 pub awakes : (p : PlantLists) → IsPlant p → (s t : State) → HasShape p s → (event : Event) → next p s event ≡ Some t → Keeps p s t event
 awakes p plant s t shape (Mark r) e = mark-keeps p plant s t shape r (mark-frame p s t r e)
 awakes p plant s t shape (Allocate r) e = allocate-keeps p plant s t shape r (allocate-frame p s t r e)

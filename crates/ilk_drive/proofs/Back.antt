@@ -1,5 +1,5 @@
--- An automatic event that is enabled after another event was enabled before it, where what it asks is as it was: a lemma for
--- each kind of automatic event.
+-- An automatic event that is enabled after another event was enabled before it if the state that it
+-- reads is unchanged. One lemma per kind.
 use Rattle.std.proofs.Common.{◌≡◌, ℕ, zero, suc, ◌+◌, ◌≤◌, Bool, true, false, not, cond, ◌&&◌, ◌||◌, ◌==◌, Option, Some, None, List, [], ◌∷◌, ◌++◌, length, nat_le, position, set, remove, slice_get, option_map, is_some, refl, sym, ap, ◌∙◌, subst, arith}
 use Rattle.std.specs.List.{last_or, list_all, list_any}
 use Rattle.std.proofs.lemmas.Bool.{and_parts, eq-eqb}
@@ -24,19 +24,19 @@ use Rattle.ilk_plant.specs.declared.state.Train.{Train}
 use Rattle.ilk_plant.specs.declared.table.Listed.{Listed}
 use Rattle.ilk_plant.specs.declared.table.Route.{Route}
 use Rattle.ilk_motion.specs.Ahead.{ahead}
-use Rattle.ilk_motion.specs.Body.{has_head, has_tail_before_head, stands_on}
+use Rattle.ilk_motion.specs.Body.{has_head, has_tail_before_head, occupies_only}
 use Rattle.ilk_motion.specs.Trains.{after_head, after_leave, after_tail, has_neighbour, may_pass}
-use Rattle.ilk_routes.specs.Boards.{has_aspect, is_protecting}
-use Rattle.ilk_routes.specs.Claims.{wanted_points}
-use Rattle.ilk_routes.specs.Lies.{is_moving, lies_as_listed}
-use Rattle.ilk_routes.specs.Modes.{is_claimed, same_mode}
+use Rattle.ilk_routes.specs.Boards.{has_aspect, is_held_closed}
+use Rattle.ilk_routes.specs.Claims.{required_points}
+use Rattle.ilk_routes.specs.Lies.{is_moving, is_detected_as_listed}
+use Rattle.ilk_routes.specs.Modes.{is_allocating_or_locked, same_mode}
 use Rattle.ilk_routes.specs.Points.{after_settle, after_throw}
-use Rattle.ilk_routes.specs.Routes.{after_allocate, after_finish, after_lock, after_release, after_sense, can_claim, can_lock}
+use Rattle.ilk_routes.specs.Routes.{after_allocate, after_finish, after_lock, after_release, after_sense, can_reserve_sections, can_lock}
 use Rattle.ilk_model.proofs.PointFrames.{settle-frame, throw-frame}
 use Rattle.ilk_model.proofs.RouteFrames.{finish-frame, release-frame, sense-frame}
 use Rattle.ilk_model.specs.Holding.{is_locked_or_occupied}
 
--- route q was in the state in which it is, where that passes a test
+-- Route q was in its present state before, if that state passes a test.
 abbrev pub StateBack : State → State → ℕ → (RouteState → Bool) → Type 0
 StateBack s t q test = (now : RouteState) → slice_get t.routes q ≡ Some now → test now ≡ true → slice_get s.routes q ≡ Some now
 
@@ -51,7 +51,7 @@ in_occupation now = same_mode now.mode Occupied
 
 module _ (p : PlantLists) (s t : State) (q : ℕ) where
   pub allocate-back : StateBack s t q marked
-      → ((route : Route) → slice_get p.routes q ≡ Some route → (k c : ℕ) → slice_get route.conflicts k ≡ Some c → is_claimed t c ≡ false → is_claimed s c ≡ false)
+      → ((route : Route) → slice_get p.routes q ≡ Some route → (k c : ℕ) → slice_get route.conflicts k ≡ Some c → is_allocating_or_locked t c ≡ false → is_allocating_or_locked s c ≡ false)
       → ((route : Route) → slice_get p.routes q ≡ Some route → (k x : ℕ) → slice_get (sections_locked_for route) k ≡ Some x → is_clear t x ≡ true → is_clear s x ≡ true)
       → is_some (after_allocate p t q) ≡ true → is_some (after_allocate p s q) ≡ true
   allocate-back state conflicts clear h =
@@ -59,18 +59,18 @@ module _ (p : PlantLists) (s t : State) (q : ℕ) where
       option_and_then_some _ (slice_get p.routes q) made.0 made.1 (λ route known e1.
       option_and_then_some _ (slice_get t.routes q) made.0 e1 (λ now at e2.
       let done = cond_some _ _ made.0 e2 in
-      let asked = and_parts (same_mode now.mode Marked) (can_claim t route) done.0 in
-      let parts = and_parts (not (list_any (is_claimed t) route.conflicts)) (list_all (is_clear t) (sections_locked_for route)) asked.1 in
-      let unclaimed : list_any (is_claimed s) route.conflicts ≡ false =
-      none-pass (is_claimed s) route.conflicts (λ k c there. conflicts route known k c there (list_any-none (is_claimed t) route.conflicts k c (fails (list_any (is_claimed t) route.conflicts) parts.0) there)) in
+      let asked = and_parts (same_mode now.mode Marked) (can_reserve_sections t route) done.0 in
+      let parts = and_parts (not (list_any (is_allocating_or_locked t) route.conflicts)) (list_all (is_clear t) (sections_locked_for route)) asked.1 in
+      let unclaimed : list_any (is_allocating_or_locked s) route.conflicts ≡ false =
+      none-pass (is_allocating_or_locked s) route.conflicts (λ k c there. conflicts route known k c there (list_any-none (is_allocating_or_locked t) route.conflicts k c (fails (list_any (is_allocating_or_locked t) route.conflicts) parts.0) there)) in
       let vacant : list_all (is_clear s) (sections_locked_for route) ≡ true =
       all-pass (is_clear s) (sections_locked_for route) (λ k x there. clear route known k x there (list_all-slice_get (is_clear t) (sections_locked_for route) k x parts.1 there)) in
       rw (known, state now at asked.0, asked.0, unclaimed, vacant) refl))
 
   pub lock-back : StateBack s t q allocating
-      → ((route : Route) → slice_get p.routes q ≡ Some route → (k : ℕ) (listed : Listed) → slice_get (wanted_points route) k ≡ Some listed → lies_as_listed p t listed ≡ true → lies_as_listed p s listed ≡ true)
+      → ((route : Route) → slice_get p.routes q ≡ Some route → (k : ℕ) (listed : Listed) → slice_get (required_points route) k ≡ Some listed → is_detected_as_listed p t listed ≡ true → is_detected_as_listed p s listed ≡ true)
       → ((route : Route) → slice_get p.routes q ≡ Some route → (k m : ℕ) → slice_get route.protecting_boards k ≡ Some m → has_aspect t m Closed ≡ true → has_aspect s m Closed ≡ true)
-      → ((route : Route) → slice_get p.routes q ≡ Some route → is_protecting p t route.source ≡ false → is_protecting p s route.source ≡ false)
+      → ((route : Route) → slice_get p.routes q ≡ Some route → is_held_closed p t route.source ≡ false → is_held_closed p s route.source ≡ false)
       → is_some (after_lock p t q) ≡ true → is_some (after_lock p s q) ≡ true
   lock-back state lies closed unprotecting h =
       let made = some-is (after_lock p t q) h in
@@ -78,15 +78,15 @@ module _ (p : PlantLists) (s t : State) (q : ℕ) where
       option_and_then_some _ (slice_get t.routes q) made.0 e1 (λ now at e2.
       let done = cond_some _ _ made.0 e2 in
       let asked = and_parts (same_mode now.mode Allocating) (can_lock p t route) done.0 in
-      let lie = list_all (lies_as_listed p t) (wanted_points route) in
+      let lie = list_all (is_detected_as_listed p t) (required_points route) in
       let close = list_all (λ m. has_aspect t m Closed) route.protecting_boards in
-      let parts = and_parts (lie && close) (not (is_protecting p t route.source)) asked.1 in
+      let parts = and_parts (lie && close) (not (is_held_closed p t route.source)) asked.1 in
       let both = and_parts lie close parts.0 in
-      let lain : list_all (lies_as_listed p s) (wanted_points route) ≡ true =
-      all-pass (lies_as_listed p s) (wanted_points route) (λ k listed there. lies route known k listed there (list_all-slice_get (lies_as_listed p t) (wanted_points route) k listed both.0 there)) in
+      let lain : list_all (is_detected_as_listed p s) (required_points route) ≡ true =
+      all-pass (is_detected_as_listed p s) (required_points route) (λ k listed there. lies route known k listed there (list_all-slice_get (is_detected_as_listed p t) (required_points route) k listed both.0 there)) in
       let shut : list_all (λ m. has_aspect s m Closed) route.protecting_boards ≡ true =
       all-pass (λ m. has_aspect s m Closed) route.protecting_boards (λ k m there. closed route known k m there (list_all-slice_get (λ m. has_aspect t m Closed) route.protecting_boards k m both.1 there)) in
-      let free : is_protecting p s route.source ≡ false = unprotecting route known (fails (is_protecting p t route.source) parts.1) in
+      let free : is_held_closed p s route.source ≡ false = unprotecting route known (fails (is_held_closed p t route.source) parts.1) in
       rw (known, state now at asked.0, asked.0, lain, shut, free) refl))
 
   pub sense-back : StateBack s t q is_locked_or_occupied
@@ -129,7 +129,7 @@ module _ (p : PlantLists) (s t : State) (q : ℕ) where
       let rel : (f.now.rel + 1 == length f.route.path) ≡ true = eq-eqb (f.now.rel + 1) (length f.route.path) f.rest in
       rw (f.changes.known, state f.now f.changes.state mode, last, mode, seen, rel) refl
 
--- points, by their sections
+-- Points, by their sections
 module _ (p : PlantLists) (s t : State) (x : ℕ) where
   pub throw-back : ((n : ℕ) → point_number p x ≡ Some n → slice_get t.points n ≡ slice_get s.points n) → is_some (after_throw p t x) ≡ true → is_some (after_throw p s x) ≡ true
   throw-back same h =
@@ -148,7 +148,7 @@ module _ (p : PlantLists) (s t : State) (x : ℕ) where
       let was = same f.n f.point f.number f.state f.moved in
       rw (f.number, was.1, was.2) refl
 
--- the direction of the first train that passes a test
+-- The direction of the first train that passes a test.
 abbrev pub first_dir : (Train → Bool) → List Train → Option Dir
 first_dir f [] = None
 first_dir f (train ∷ rest) = cond (f train) (Some train.dir) (first_dir f rest)
@@ -170,7 +170,6 @@ first_dir-position f [] i train at there = cc
 first_dir-position f (one ∷ rest) i train at there =
     first-shifted f one rest train (λ j a b. first_dir-position f rest j train a b) (f one) i (sym (position-cons f one rest) ∙ at) there
 
--- the first train that passes a test, with its place
 record FirstOf (f : Train → Bool) (trains : List Train) (d : Dir) : Type 0 where
   i : ℕ
   train : Train
@@ -200,7 +199,7 @@ first_dir-found : (f : Train → Bool) (trains : List Train) (d : Dir) → first
 first_dir-found f [] d h = cc
 first_dir-found f (one ∷ rest) d h = found-shifted f one rest d (λ e. first_dir-found f rest d e) (f one) refl h
 
--- a change of one train that passes the test no more and no less, or of one that doesn't pass it
+-- Changing a train keeps this if its test result and direction stay.
 pub first_dir-set : (f : Train → Bool) (trains : List Train) (i : ℕ) (a b : Train) → slice_get trains i ≡ Some a → f b ≡ f a → b.dir ≡ a.dir → first_dir f (set trains i b) ≡ first_dir f trains
 first_dir-set f [] i a b at same dir = cc
 first_dir-set f (one ∷ rest) zero a b at same dir =
@@ -221,7 +220,7 @@ first_dir-remove f (one ∷ rest) zero a at passes =
     sym (ap (λ (c : Bool). cond c (Some one.dir) (first_dir f rest)) (ap f (same_Some _ _ at) ∙ passes))
 first_dir-remove f (one ∷ rest) (suc i) a at passes = ap (λ (o : Option Dir). cond (f one) (Some one.dir) o) (first_dir-remove f rest i a at passes)
 
--- trains, by their sections
+-- Trains, by their sections
 module _ (p : PlantLists) (s t : State) (x : ℕ) where
   pub head-back : first_dir (has_head x) t.trains ≡ first_dir (has_head x) s.trains
       → ((d : Dir) (y : ℕ) → ahead p t x d ≡ Some y → is_some (ahead p s x d) ≡ true)
@@ -248,13 +247,13 @@ module _ (p : PlantLists) (s t : State) (x : ℕ) where
       let there = first_dir-found (has_tail_before_head x) s.trains train.dir (sym same ∙ first_dir-position (has_tail_before_head x) t.trains i train first at) in
       rw (known, there.first, there.at) refl)))
 
-  pub leave-back : first_dir (stands_on x) t.trains ≡ first_dir (stands_on x) s.trains → is_some (after_leave p t x) ≡ true → is_some (after_leave p s x) ≡ true
+  pub leave-back : first_dir (occupies_only x) t.trains ≡ first_dir (occupies_only x) s.trains → is_some (after_leave p t x) ≡ true → is_some (after_leave p s x) ≡ true
   leave-back same h =
       let made = some-is (after_leave p t x) h in
       option_and_then_some _ (slice_get p.sections x) made.0 made.1 (λ section known e0.
-      option_and_then_some _ (position (stands_on x) t.trains) made.0 e0 (λ i first e1.
+      option_and_then_some _ (position (occupies_only x) t.trains) made.0 e0 (λ i first e1.
       option_and_then_some _ (slice_get t.trains i) made.0 e1 (λ train at e2.
       let done = cond_some _ _ made.0 e2 in
-      let there = first_dir-found (stands_on x) s.trains train.dir (sym same ∙ first_dir-position (stands_on x) t.trains i train first at) in
+      let there = first_dir-found (occupies_only x) s.trains train.dir (sym same ∙ first_dir-position (occupies_only x) t.trains i train first at) in
       let ends : has_neighbour section there.train.dir ≡ false = ap (has_neighbour section) there.runs ∙ fails (has_neighbour section train.dir) done.0 in
       rw (known, there.first, there.at, ends) refl)))

@@ -1,4 +1,4 @@
--- What an event leaves of the locks, the modes and the claims of routes: what is so after it was so before.
+-- Locks, modes and claims of routes: facts that hold after an event and so held before it.
 use Rattle.std.proofs.Common.{◌≡◌, ℕ, ◌<◌, Bool, true, false, not, ◌||◌, ◌==◌, Option, Some, List, length, set, slice_get, ◌⊎◌, inl, inr, refl, sym, ap, ◌∙◌, subst, arith}
 use Rattle.std.proofs.lemmas.Bool.{and_parts, cases_Bool, eq-eqb, eqb-true}
 use Rattle.std.proofs.lemmas.List.{length-set}
@@ -19,7 +19,7 @@ use Rattle.ilk_plant.specs.declared.state.State.{State}
 use Rattle.ilk_plant.specs.declared.table.Route.{Route}
 use Rattle.ilk_routes.proofs.Locks.{length-with_locks}
 use Rattle.ilk_routes.specs.Locks.{with_locks}
-use Rattle.ilk_routes.specs.Modes.{is_claimed, same_mode}
+use Rattle.ilk_routes.specs.Modes.{is_allocating_or_locked, same_mode}
 use Rattle.ilk_model.proofs.RouteFrames.{ChangesRoute}
 use Rattle.ilk_strict.proofs.After.{given-lock, other-lock, set-cases}
 use Rattle.ilk_drive.proofs.Back.{StateBack}
@@ -31,23 +31,20 @@ pub neither : (a b : Bool) → (a || b) ≡ false → (a ≡ false) × (b ≡ fa
 neither true b h = cc
 neither false b h = (refl, h)
 
--- numbers that aren't one
 pub apart : (x y : ℕ) → (x == y) ≡ false → x ≡ y → ⊥
 apart x y h e = true-false (x == y) (eq-eqb x y e) h
 
--- locks ------------------------------------------------------------------------------------------------------------
+-- Locks
 
--- some sections get one lock, and no other changes
+-- Some sections get one lock, and no other lock changes.
 pub record GivesLock (s t : State) (hold : Hold) (changed : ℕ → Bool) : Type 0 where
   pub other : (x : ℕ) → changed x ≡ false → slice_get t.locks x ≡ slice_get s.locks x
   pub given : (x : ℕ) (lock : Hold) → changed x ≡ true → slice_get t.locks x ≡ Some lock → lock ≡ hold
 
 module _ (s t : State) (hold : Hold) (changed : ℕ → Bool) (gives : GivesLock s t hold changed) where
-  -- a section that isn't among them has the lock that it had
   pub lock-same : (x : ℕ) (want : Hold) → changed x ≡ false → has_lock t x want ≡ true → has_lock s x want ≡ true
   lock-same x want out h = ap (λ (o : Option Hold). is_some_and o (λ lock. same_hold lock want)) (sym (gives.other x out)) ∙ h
 
-  -- another lock than that is one that was
   pub lock-back : (x : ℕ) (want : Hold) → same_hold hold want ≡ false → has_lock t x want ≡ true → has_lock s x want ≡ true
   lock-back x want differs h = elim (cases_Bool (changed x)) [
     | inl e ↦
@@ -82,7 +79,6 @@ locks-with s t ys hold same = record {
       same_Some _ _ (sym there ∙ given-lock s.locks ys hold x in_ (omega (arith, long, as_long))));
 }
 
--- first one section gets the lock, and then some others
 pub locks-set_with : (s t : State) (y : ℕ) (ys : List ℕ) (hold : Hold) → t.locks ≡ with_locks (set s.locks y hold) ys hold → GivesLock s t hold (λ x. x == y || has_section x ys)
 locks-set_with s t y ys hold same = record {
   other = λ x out. second.other x (neither (x == y) (has_section x ys) out).1 ∙ first.other x (neither (x == y) (has_section x ys) out).0;
@@ -105,19 +101,18 @@ locks-set_with s t y ys hold same = record {
       | inr is ↦ true-false (has_section x ys) is e
     ]
 
--- modes ------------------------------------------------------------------------------------------------------------
+-- Modes
 
 abbrev pub claimed_in : RouteState → Bool
 claimed_in now = same_mode now.mode Allocating || same_mode now.mode Locked
 
-pub claimed-is : (s : State) (c : ℕ) (now : RouteState) → slice_get s.routes c ≡ Some now → is_claimed s c ≡ claimed_in now
+pub claimed-is : (s : State) (c : ℕ) (now : RouteState) → slice_get s.routes c ≡ Some now → is_allocating_or_locked s c ≡ claimed_in now
 claimed-is s c now at = rw at refl
 
-pub claimed-alike : (s t : State) (c : ℕ) → slice_get t.routes c ≡ slice_get s.routes c → is_claimed t c ≡ is_claimed s c
+pub claimed-alike : (s t : State) (c : ℕ) → slice_get t.routes c ≡ slice_get s.routes c → is_allocating_or_locked t c ≡ is_allocating_or_locked s c
 claimed-alike s t c same =
     ap (λ (o : Option RouteState). is_some_and o (λ now. same_mode now.mode Allocating) || is_some_and o (λ now. same_mode now.mode Locked)) same
 
--- the routes are those that were
 pub states-stay : (s t : State) → t.routes ≡ s.routes → (q : ℕ) (test : RouteState → Bool) → StateBack s t q test
 states-stay s t same q test now at passes = sym (ap (λ (l : List RouteState). slice_get l q) same) ∙ at
 
@@ -128,7 +123,6 @@ module _ (p : PlantLists) (s t : State) (r : ℕ) (route : Route) (now new : Rou
   pub state-new : slice_get t.routes r ≡ Some new
   state-new = ap (λ (l : List RouteState). slice_get l r) changes.routes ∙ slice_get-set_same s.routes r new (slice_get_within s.routes r now changes.state)
 
-  -- a test that the new state fails is passed by another route, which is as it was
   pub states-back : (q : ℕ) (test : RouteState → Bool) → test new ≡ false → StateBack s t q test
   states-back q test fails_it its at passes = elim (set-cases s.routes r q now new its changes.state (sym (ap (λ (l : List RouteState). slice_get l q) changes.routes) ∙ at)) [
     | inl here ↦ true-false (test new) (subst (λ (z : RouteState). test z ≡ true) here.1 passes) fails_it
@@ -138,21 +132,20 @@ module _ (p : PlantLists) (s t : State) (r : ℕ) (route : Route) (now new : Rou
   pub states-other : (q : ℕ) (test : RouteState → Bool) → (q == r) ≡ false → StateBack s t q test
   states-other q test out its at passes = sym (state-other q (apart q r out)) ∙ at
 
-  -- no other route is given up, and this one isn't, unless it was claimed
-  pub claims-back : ((claimed_in now ≡ false) ⊎ (claimed_in new ≡ true)) → (c : ℕ) → is_claimed t c ≡ false → is_claimed s c ≡ false
+  -- If no claim ends, all routes unclaimed afterwards were unclaimed before.
+  pub claims-back : ((claimed_in now ≡ false) ⊎ (claimed_in new ≡ true)) → (c : ℕ) → is_allocating_or_locked t c ≡ false → is_allocating_or_locked s c ≡ false
   claims-back how c free = elim (cases_Bool (c == r)) [
     | inl here ↦ at_own how (eqb-true c r here) free
     | inr other ↦ sym (claimed-alike s t c (state-other c (apart c r other))) ∙ free
   ]
     where
-      at_own : ((claimed_in now ≡ false) ⊎ (claimed_in new ≡ true)) → c ≡ r → is_claimed t c ≡ false → is_claimed s c ≡ false
-      at_own (inl idle) e free = ap (is_claimed s) e ∙ claimed-is s r now changes.state ∙ idle
-      at_own (inr kept) e free = true-false (claimed_in new) kept (sym (claimed-is t r new state-new) ∙ ap (is_claimed t) (sym e) ∙ free)
+      at_own : ((claimed_in now ≡ false) ⊎ (claimed_in new ≡ true)) → c ≡ r → is_allocating_or_locked t c ≡ false → is_allocating_or_locked s c ≡ false
+      at_own (inl idle) e free = ap (is_allocating_or_locked s) e ∙ claimed-is s r now changes.state ∙ idle
+      at_own (inr kept) e free = true-false (claimed_in new) kept (sym (claimed-is t r new state-new) ∙ ap (is_allocating_or_locked t) (sym e) ∙ free)
 
-  pub claims-other : (c : ℕ) → (c == r) ≡ false → is_claimed t c ≡ false → is_claimed s c ≡ false
+  pub claims-other : (c : ℕ) → (c == r) ≡ false → is_allocating_or_locked t c ≡ false → is_allocating_or_locked s c ≡ false
   claims-other c out free = sym (claimed-alike s t c (state-other c (apart c r out))) ∙ free
 
--- a section that is clear was, where it was vacant and its lock was Free
 pub clear-back : (s t : State) (x : ℕ) → (has_lock t x FreeLock ≡ true → has_lock s x FreeLock ≡ true) → (is_occupied t x ≡ false → is_occupied s x ≡ false) → is_clear t x ≡ true → is_clear s x ≡ true
 clear-back s t x lock vacant h =
     let parts = and_parts (has_lock t x FreeLock) (not (is_occupied t x)) h in

@@ -1,4 +1,5 @@
--- Drives, taken apart: a scenario has one; its events are a run; they are few; and they are told and shown as a run is.
+-- A scenario has one drive. Its events are a run, they are few, and they are read and replayed as a
+-- run.
 use Rattle.std.proofs.Common.{◌≡◌, ℕ, zero, suc, ◌*◌, ◌≤◌, Bool, true, false, Option, Some, None, List, [], ◌∷◌, ◌++◌, length, replicate, refl, sym, ap, ◌∙◌, subst, arith}
 use Rattle.std.specs.Prelude.{if◌then◌else◌, ◌≢◌}
 use Rattle.std.proofs.lemmas.List.{append_assoc, append-nil}
@@ -7,7 +8,7 @@ use Rattle.ilk_base.specs.Option.{◌>>=◌}
 use Rattle.ilk_plant.proofs.Shapes.{start-shape}
 use Rattle.ilk_plant.specs.Plant.{IsPlant, PlantLists, point_count}
 use Rattle.ilk_plant.specs.Shape.{HasShape}
-use Rattle.ilk_plant.specs.Sound.{NeverReturns}
+use Rattle.ilk_plant.specs.Sound.{NoWalkReturns}
 use Rattle.ilk_plant.specs.Start.{free_route, plus_point, start}
 use Rattle.ilk_plant.specs.declared.state.State.{State}
 use Rattle.ilk_plant.specs.declared.table.Route.{Route}
@@ -16,33 +17,33 @@ use Rattle.ilk_model.specs.Run.{run}
 use Rattle.ilk_model.specs.declared.event.Event.{Event}
 use Rattle.ilk_model.specs.declared.hazards.HazardAt.{HazardAt}
 use Rattle.ilk_replay.proofs.Enabled.{run-about}
-use Rattle.ilk_replay.proofs.OfPlant.{written-told}
+use Rattle.ilk_replay.proofs.OfPlant.{written-run_from_lines}
 use Rattle.ilk_replay.specs.RunText.{run_text}
-use Rattle.ilk_replay.specs.Seen.{seen_of}
-use Rattle.ilk_replay.specs.Told.{tale_of, told_of}
-use Rattle.ilk_replay.specs.Writable.{IsOfPlant}
+use Rattle.ilk_replay.specs.Seen.{replay_result}
+use Rattle.ilk_replay.specs.Told.{run_from_text, run_from_start}
+use Rattle.ilk_replay.specs.Writable.{IsRunOfPlant}
 use Rattle.ilk_replay.specs.declared.seen.Seen.TheVariants.{NoHazard, Hazard as SeenHazard}
 use Rattle.ilk_replay.specs.declared.told.Tale.TheVariants.{Told as IsTold}
 use Rattle.ilk_strict.proofs.Invariant.{forever-safe}
 use Rattle.ilk_strict.specs.IsStrict.{IsStrict}
-use Rattle.ilk_drive.specs.Drive.{Drives, IsDriveOf, Moment, Turn, beginning, is_done, rest_at, turn}
-use Rattle.ilk_drive.specs.Progress.{Comes}
-use Rattle.ilk_drive.specs.Told.{IsRun, RestsSafely, seen_at}
+use Rattle.ilk_drive.specs.Drive.{IsDriveFrom, IsDriveOf, Moment, Turn, first_moment, is_done, final_rest, next_turn}
+use Rattle.ilk_drive.specs.Progress.{IsTurnTaken}
+use Rattle.ilk_drive.specs.Told.{IsRunFromStart, EndsWithoutHazard, replay_of_rest}
 use Rattle.ilk_drive.specs.declared.outcome.Driven.{Driven}
 use Rattle.ilk_drive.specs.declared.outcome.Rest.{Rest}
 use Rattle.ilk_drive.specs.declared.outcome.Rest.TheVariants.{Driven as IsDriven, Stuck, Hazard}
 use Rattle.ilk_drive.proofs.Potential.{left, points_left, routes_left}
 use Rattle.ilk_model.proofs.Shape.{next-shape}
-use Rattle.ilk_drive.proofs.Turns.{allows, leads-by, turn-lowers, turn-step}
+use Rattle.ilk_drive.proofs.Turns.{allows, leads-by, next_turn-lowers, next_turn-next_if_no_hazard}
 
--- where a drive ends: its events are a run to this moment, after which nothing comes
+-- The end of a drive: the moment after its events, with no next turn.
 pub record EndsAt (p : PlantLists) (m : Moment) (events : List Event) (rest : Rest) : Type 0 where
   pub last : Moment
   pub ran : run p m.state events ≡ Some last.state
-  pub ends : turn p last ≡ None
-  pub rests : rest ≡ rest_at p last
+  pub ends : next_turn p last ≡ None
+  pub rests : rest ≡ final_rest p last
 
-pub ends-at : (p : PlantLists) (events : List Event) (m : Moment) (rest : Rest) → Drives p m events rest → EndsAt p m events rest
+pub ends-at : (p : PlantLists) (events : List Event) (m : Moment) (rest : Rest) → IsDriveFrom p m events rest → EndsAt p m events rest
 ends-at p [] m rest drives = record { last = m; ran = refl; ends = drives.0; rests = drives.1 }
 ends-at p (event ∷ later) m rest drives =
     let after = drives.0 in
@@ -50,23 +51,21 @@ ends-at p (event ∷ later) m rest drives =
     let by = leads-by p m after event drives.1 in
     record {
       last = more.last;
-      ran = ap (λ (o : Option State). o >>= (λ t. run p t later)) (turn-step p m after event by) ∙ more.ran;
+      ran = ap (λ (o : Option State). o >>= (λ t. run p t later)) (next_turn-next_if_no_hazard p m after event by) ∙ more.ran;
       ends = more.ends;
       rests = more.rests;
     }
 
--- a drive has no more events than it allows at first
-pub drives-few : (p : PlantLists) → IsPlant p → NeverReturns p → (events : List Event) (m : Moment) (rest : Rest) → HasShape p m.state → Drives p m events rest → length events ≤ allows p m
+pub drives-few : (p : PlantLists) → IsPlant p → NoWalkReturns p → (events : List Event) (m : Moment) (rest : Rest) → HasShape p m.state → IsDriveFrom p m events rest → length events ≤ allows p m
 drives-few p plant never [] m rest shape drives = omega arith
 drives-few p plant never (event ∷ later) m rest shape drives =
     let after = drives.0 in
     let by = leads-by p m after event drives.1 in
     let more = drives-few p plant never later after rest (next-shape p plant m.state after.state event shape by.goes) drives.2 in
-    let less = turn-lowers p plant never m after event shape by in
+    let less = next_turn-lowers p plant never m after event shape by in
     omega (arith, more, less)
 
--- from one moment there is one drive
-drives-one : (p : PlantLists) (a b : List Event) (m : Moment) (r q : Rest) → Drives p m a r → Drives p m b q → (a ≡ b) × (r ≡ q)
+drives-one : (p : PlantLists) (a b : List Event) (m : Moment) (r q : Rest) → IsDriveFrom p m a r → IsDriveFrom p m b q → (a ≡ b) × (r ≡ q)
 drives-one p [] [] m r q x y = (refl, x.1 ∙ sym y.1)
 drives-one p [] (f ∷ b) m r q x y = let bad : ◌≡◌ {A = Option Turn} None (Some (f, y.0)) = sym x.0 ∙ y.1 in cc
 drives-one p (e ∷ a) [] m r q x y = let bad : ◌≡◌ {A = Option Turn} None (Some (e, x.0)) = sym y.0 ∙ x.1 in cc
@@ -74,19 +73,18 @@ drives-one p (e ∷ a) (f ∷ b) m r q x y =
     let pair : ◌≡◌ {A = Turn} (e, x.0) (f, y.0) = same_Some _ _ (sym x.1 ∙ y.1) in
     let one : e ≡ f = ap (λ (t : Turn). t.0) pair in
     let there : x.0 ≡ y.0 = ap (λ (t : Turn). t.1) pair in
-    let rest = drives-one p a b y.0 r q (subst (λ (n : Moment). Drives p n a r) there x.2) y.2 in
+    let rest = drives-one p a b y.0 r q (subst (λ (n : Moment). IsDriveFrom p n a r) there x.2) y.2 in
     (ap (λ (v : Event). v ∷ a) one ∙ ap (λ (vs : List Event). f ∷ vs) rest.0, rest.1)
 
 pub drive-one : (p : PlantLists) (scene : List Event) (a b : Driven) → IsDriveOf p scene a → IsDriveOf p scene b → a ≡ b
 drive-one p scene a b x y =
-    let same = drives-one p a.events b.events (beginning p scene) a.rest b.rest x y in
+    let same = drives-one p a.events b.events (first_moment p scene) a.rest b.rest x y in
     let first : record { rest = a.rest; events = a.events } ≡ record { rest = b.rest; events = a.events } = ap (λ (r : Rest). record { rest = r; events = a.events }) same.1 in
     first ∙ ap (λ (es : List Event). record { rest = b.rest; events = es }) same.0
 
-pub drive-run : (p : PlantLists) (scene : List Event) (driven : Driven) → IsDriveOf p scene driven → IsRun p driven.events
-drive-run p scene driven drives = let end = ends-at p driven.events (beginning p scene) driven.rest drives in (end.last.state, end.ran)
+pub drive-run : (p : PlantLists) (scene : List Event) (driven : Driven) → IsDriveOf p scene driven → IsRunFromStart p driven.events
+drive-run p scene driven drives = let end = ends-at p driven.events (first_moment p scene) driven.rest drives in (end.last.state, end.ran)
 
--- at the start nothing is left to do
 routes-at_rest : (routes : List Route) → routes_left routes (replicate (length routes) free_route) ≡ 0
 routes-at_rest [] = refl
 routes-at_rest (route ∷ routes) = let rest = routes-at_rest routes in omega (arith, rest)
@@ -101,85 +99,80 @@ start-at_rest p =
     let points = points-at_rest (point_count p) in
     omega (arith, routes, points)
 
-pub drive-few : (p : PlantLists) → IsPlant p → NeverReturns p → (scene : List Event) (driven : Driven) → IsDriveOf p scene driven → length driven.events ≤ 512 * length scene
+pub drive-few : (p : PlantLists) → IsPlant p → NoWalkReturns p → (scene : List Event) (driven : Driven) → IsDriveOf p scene driven → length driven.events ≤ 512 * length scene
 drive-few p plant never scene driven drives =
-    let few = drives-few p plant never driven.events (beginning p scene) driven.rest (start-shape p) drives in
+    let few = drives-few p plant never driven.events (first_moment p scene) driven.rest (start-shape p) drives in
     let none = start-at_rest p in
     omega (arith, few, none)
 
--- how a drive rests where there is no hazard, and where there is one
-rest-calm : (p : PlantLists) (m : Moment) → hazard p m.state ≡ None → rest_at p m ≡ (if is_done m then IsDriven else Stuck m.number)
+rest-calm : (p : PlantLists) (m : Moment) → hazard p m.state ≡ None → final_rest p m ≡ (if is_done m then IsDriven else Stuck m.number)
 rest-calm p m calm = rw calm refl
 
-rest-hazard : (p : PlantLists) (m : Moment) (at : HazardAt) → hazard p m.state ≡ Some at → rest_at p m ≡ Hazard at
+rest-hazard : (p : PlantLists) (m : Moment) (at : HazardAt) → hazard p m.state ≡ Some at → final_rest p m ≡ Hazard at
 rest-hazard p m at there = rw there refl
 
--- and what a replay shows
-seen-calm : (p : PlantLists) (s t : State) (events : List Event) → run p s events ≡ Some t → hazard p t ≡ None → seen_of p s events ≡ NoHazard
+seen-calm : (p : PlantLists) (s t : State) (events : List Event) → run p s events ≡ Some t → hazard p t ≡ None → replay_result p s events ≡ NoHazard
 seen-calm p s t events ran calm = rw ran (rw calm refl)
 
-seen-hazard : (p : PlantLists) (s t : State) (events : List Event) (at : HazardAt) → run p s events ≡ Some t → hazard p t ≡ Some at → seen_of p s events ≡ SeenHazard at
+seen-hazard : (p : PlantLists) (s t : State) (events : List Event) (at : HazardAt) → run p s events ≡ Some t → hazard p t ≡ Some at → replay_result p s events ≡ SeenHazard at
 seen-hazard p s t events at ran there = rw ran (rw there refl)
 
-seen-without : (b : Bool) (n : ℕ) → seen_at (if b then IsDriven else Stuck n) ≡ NoHazard
+seen-without : (b : Bool) (n : ℕ) → replay_of_rest (if b then IsDriven else Stuck n) ≡ NoHazard
 seen-without true n = refl
 seen-without false n = refl
 
-pub drive-seen : (p : PlantLists) (scene : List Event) (driven : Driven) → IsDriveOf p scene driven → seen_of p (start p) driven.events ≡ seen_at driven.rest
+pub drive-seen : (p : PlantLists) (scene : List Event) (driven : Driven) → IsDriveOf p scene driven → replay_result p (start p) driven.events ≡ replay_of_rest driven.rest
 drive-seen p scene driven drives = by_hazard (hazard p end.last.state) refl
   where
-    end : EndsAt p (beginning p scene) driven.events driven.rest
-    end = ends-at p driven.events (beginning p scene) driven.rest drives
+    end : EndsAt p (first_moment p scene) driven.events driven.rest
+    end = ends-at p driven.events (first_moment p scene) driven.rest drives
 
-    by_hazard : (o : Option HazardAt) → hazard p end.last.state ≡ o → seen_of p (start p) driven.events ≡ seen_at driven.rest
+    by_hazard : (o : Option HazardAt) → hazard p end.last.state ≡ o → replay_result p (start p) driven.events ≡ replay_of_rest driven.rest
     by_hazard None e =
-        let shown : seen_of p (start p) driven.events ≡ NoHazard = seen-calm p (start p) end.last.state driven.events end.ran e in
+        let shown : replay_result p (start p) driven.events ≡ NoHazard = seen-calm p (start p) end.last.state driven.events end.ran e in
         let rests : driven.rest ≡ (if is_done end.last then IsDriven else Stuck end.last.number) = end.rests ∙ rest-calm p end.last e in
-        shown ∙ sym (ap seen_at rests ∙ seen-without (is_done end.last) end.last.number)
+        shown ∙ sym (ap replay_of_rest rests ∙ seen-without (is_done end.last) end.last.number)
     by_hazard (Some at) e =
-        let shown : seen_of p (start p) driven.events ≡ SeenHazard at = seen-hazard p (start p) end.last.state driven.events at end.ran e in
+        let shown : replay_result p (start p) driven.events ≡ SeenHazard at = seen-hazard p (start p) end.last.state driven.events at end.ran e in
         let rests : driven.rest ≡ Hazard at = end.rests ∙ rest-hazard p end.last at e in
-        shown ∙ sym (ap seen_at rests)
+        shown ∙ sym (ap replay_of_rest rests)
 
--- over a strict table no drive rests with a hazard
 calm-rests : (b : Bool) (n : ℕ) (at : HazardAt) → (if b then IsDriven else Stuck n) ≢ Hazard at
 calm-rests true n at e = cc
 calm-rests false n at e = cc
 
-pub drive-safe : (p : PlantLists) → IsPlant p → IsStrict p → (scene : List Event) (driven : Driven) → IsDriveOf p scene driven → RestsSafely driven.rest
+pub drive-safe : (p : PlantLists) → IsPlant p → IsStrict p → (scene : List Event) (driven : Driven) → IsDriveOf p scene driven → EndsWithoutHazard driven.rest
 drive-safe p plant strict scene driven drives at e =
-    let end = ends-at p driven.events (beginning p scene) driven.rest drives in
+    let end = ends-at p driven.events (first_moment p scene) driven.rest drives in
     let meets = forever-safe p plant strict driven.events end.last.state end.ran in
     let rests : driven.rest ≡ (if is_done end.last then IsDriven else Stuck end.last.number) = end.rests ∙ rest-calm p end.last meets.no_hazard in
     calm-rests (is_done end.last) end.last.number at (sym rests ∙ e)
 
--- the run of a drive is one of the plant, and its text tells it
-pub drive-writable : (p : PlantLists) (scene : List Event) (driven : Driven) → IsDriveOf p scene driven → IsOfPlant p (told_of p driven.events)
+pub drive-writable : (p : PlantLists) (scene : List Event) (driven : Driven) → IsDriveOf p scene driven → IsRunOfPlant p (run_from_start p driven.events)
 drive-writable p scene driven drives =
     let ran = drive-run p scene driven drives in
     record { shape = start-shape p; start = λ e. refl; events = run-about p (start p) ran.0 driven.events ran.1 }
 
-pub drive-read : (p : PlantLists) → IsPlant p → (scene : List Event) (driven : Driven) → IsDriveOf p scene driven → tale_of p (run_text p (told_of p driven.events)) ≡ IsTold (told_of p driven.events)
-drive-read p plant scene driven drives = written-told p plant (told_of p driven.events) (drive-writable p scene driven drives)
+pub drive-read : (p : PlantLists) → IsPlant p → (scene : List Event) (driven : Driven) → IsDriveOf p scene driven → run_from_text p (run_text p (run_from_start p driven.events)) ≡ IsTold (run_from_start p driven.events)
+drive-read p plant scene driven drives = written-run_from_lines p plant (run_from_start p driven.events) (drive-writable p scene driven drives)
 
--- how a loop over turns goes on: one event more, and the end
 pub drives-more :
     (p : PlantLists) (first m after : Moment) (events new later : List Event) (event : Event) (rest : Rest) →
-    ((more : List Event) (r : Rest) → Drives p m more r → Drives p first (events ++ more) r) →
-    turn p m ≡ Some (event, after) → new ≡ events ++ event ∷ [] → Drives p after later rest →
-    Drives p first (new ++ later) rest
+    ((more : List Event) (r : Rest) → IsDriveFrom p m more r → IsDriveFrom p first (events ++ more) r) →
+    next_turn p m ≡ Some (event, after) → new ≡ events ++ event ∷ [] → IsDriveFrom p after later rest →
+    IsDriveFrom p first (new ++ later) rest
 drives-more p first m after events new later event rest before taken grown drives =
-    let whole : Drives p first (events ++ event ∷ later) rest = before (event ∷ later) rest (after, taken, drives) in
+    let whole : IsDriveFrom p first (events ++ event ∷ later) rest = before (event ∷ later) rest (after, taken, drives) in
     let same : events ++ event ∷ later ≡ new ++ later = sym (append_assoc events (event ∷ []) later) ∙ ap (λ (es : List Event). es ++ later) (sym grown) in
-    subst (λ (es : List Event). Drives p first es rest) same whole
+    subst (λ (es : List Event). IsDriveFrom p first es rest) same whole
 
 pub drives-end :
     (p : PlantLists) (scene : List Event) (m after : Moment) (events : List Event) (o : Option Event)
     (rest : Rest) →
-    ((more : List Event) (r : Rest) → Drives p m more r → Drives p (beginning p scene) (events ++ more) r) →
-    Comes (turn p m) m after o → o ≡ None → rest ≡ rest_at p after →
+    ((more : List Event) (r : Rest) → IsDriveFrom p m more r → IsDriveFrom p (first_moment p scene) (events ++ more) r) →
+    IsTurnTaken (next_turn p m) m after o → o ≡ None → rest ≡ final_rest p after →
     IsDriveOf p scene (record { rest = rest; events = events })
 drives-end p scene m after events o rest before comes none is =
-    let ends : (turn p m ≡ None) × (after ≡ m) = subst (Comes (turn p m) m after) none comes in
-    let whole : Drives p (beginning p scene) (events ++ []) rest = before [] rest (ends.0, is ∙ ap (rest_at p) ends.1) in
-    subst (λ (es : List Event). Drives p (beginning p scene) es rest) (append-nil events) whole
+    let ends : (next_turn p m ≡ None) × (after ≡ m) = subst (IsTurnTaken (next_turn p m) m after) none comes in
+    let whole : IsDriveFrom p (first_moment p scene) (events ++ []) rest = before [] rest (ends.0, is ∙ ap (final_rest p) ends.1) in
+    subst (λ (es : List Event). IsDriveFrom p (first_moment p scene) es rest) (append-nil events) whole

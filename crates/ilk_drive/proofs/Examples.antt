@@ -1,4 +1,4 @@
--- Drives over small plants, worked by computing.
+-- Drives over small plants, by computation.
 use Rattle.std.proofs.Common.{◌≡◌, ℕ, zero, suc, Option, Some, None, List, [], ◌∷◌, codes, refl}
 use Rattle.ilk_base.specs.Option.{◌>>=◌}
 use Rattle.ilk_plant.specs.Plant.{PlantLists}
@@ -11,31 +11,31 @@ use Rattle.ilk_motion.specs.TwoSections.{two_sections}
 use Rattle.ilk_model.specs.declared.event.Event.{Event}
 use Rattle.ilk_model.specs.declared.event.Event.TheVariants.{Mark, Allocate, Lock, Sense, Finish, Enter, Head, Tail, Leave, Cancel}
 use Rattle.ilk_model.specs.declared.hazards.HazardAt.TheVariants.{Two}
-use Rattle.ilk_drive.specs.Drive.{Moment, Turn, beginning, rest_at, turn}
-use Rattle.ilk_drive.specs.Scene.{scene_of}
+use Rattle.ilk_drive.specs.Drive.{Moment, Turn, first_moment, final_rest, next_turn}
+use Rattle.ilk_drive.specs.Scene.{scene_from_text}
 use Rattle.ilk_drive.specs.declared.outcome.Rest.{Rest}
 use Rattle.ilk_drive.specs.declared.outcome.Rest.TheVariants.{Driven, Stuck, Hazard}
 use Rattle.ilk_drive.specs.declared.scene.Scene.TheVariants.{Scene as IsScene, Bad}
 
--- what a drive does from a moment on, where it comes to rest within so many turns
+-- The drive from a moment on, if it ends within n turns.
 abbrev driven_in : ℕ → PlantLists → Moment → Option (List Event × Rest)
 driven_in zero p m = None
-driven_in (suc n) p m = after_turn (turn p m) (driven_in n p)
+driven_in (suc n) p m = after_turn (next_turn p m) (driven_in n p)
   where
     after_turn : Option Turn → (Moment → Option (List Event × Rest)) → Option (List Event × Rest)
-    after_turn None later = Some ([], rest_at p m)
+    after_turn None later = Some ([], final_rest p m)
     after_turn (Some taken) later = do
       more ← later taken.1
       Some (taken.0 ∷ more.0, more.1)
 
--- the drive of a scenario, within twenty turns
+-- The drive of a scenario, within twenty turns.
 abbrev drive : PlantLists → List Event → Option (List Event × Rest)
-drive p scene = driven_in 20 p (beginning p scene)
+drive p scene = driven_in 20 p (first_moment p scene)
 
 abbrev board : ℕ → Dir → Board
 board x d = record { section = x; dir = d }
 
--- a route without overlap, points and conflicts, which leads out of the plant
+-- A route out of the plant, without overlap, points and conflicts.
 abbrev route : ℕ → List ℕ → Route
 route source path = record {
   source = source;
@@ -48,7 +48,7 @@ route source path = record {
   protecting_boards = [];
 }
 
--- two sections with a board for the way in at each end, and a route from each board to the other section
+-- Two sections with an inward board at each end, and a route from each board to the other section.
 abbrev line : PlantLists
 line = record {
   sections = Linear None (Some 1) None (Some 0) ∷ Linear (Some 0) None (Some 1) None ∷ [];
@@ -59,7 +59,7 @@ line = record {
   route_names = codes "r1" ∷ codes "r2" ∷ [];
 }
 
--- three sections, of which the last has a board for trains that come in there; the one route ends before it
+-- Three sections with an inward board at the last; the only route ends before it.
 abbrev short_route : PlantLists
 short_route = record {
   sections = Linear None (Some 1) None (Some 0) ∷ Linear (Some 0) (Some 2) None None ∷ Linear (Some 1) None (Some 1) None ∷ [];
@@ -70,40 +70,39 @@ short_route = record {
   route_names = codes "r1" ∷ [];
 }
 
--- a train enters, its route is requested, and it runs through
+-- A train enters, its route is requested, and it runs through.
 train_runs_through : drive line (Enter 0 ∷ Mark 0 ∷ []) ≡ Some (Enter 0 ∷ Mark 0 ∷ Allocate 0 ∷ Lock 0 ∷ Head 0 ∷ Sense 0 ∷ Finish 0 ∷ Tail 0 ∷ Leave 1 ∷ [], Driven)
 train_runs_through = refl
 
--- the path is occupied, so the route stays Marked: all commands are given, and the drive is stuck after the third
+-- The path is occupied, so the route stays Marked. The drive is stuck after all three commands.
 trains_face_each_other : drive line (Enter 0 ∷ Enter 1 ∷ Mark 0 ∷ []) ≡ Some (Enter 0 ∷ Enter 1 ∷ Mark 0 ∷ [], Stuck 4)
 trains_face_each_other = refl
 
--- the second command isn't enabled
+-- The second command isn't enabled.
 entry_is_occupied : drive line (Enter 0 ∷ Enter 0 ∷ []) ≡ Some (Enter 0 ∷ [], Stuck 2)
 entry_is_occupied = refl
 
--- the route is Locked by itself before it could be cancelled
+-- The route is Locked before it could be cancelled.
 cancelled_too_late : drive line (Mark 0 ∷ Cancel 0 ∷ []) ≡ Some (Mark 0 ∷ Allocate 0 ∷ Lock 0 ∷ [], Stuck 2)
 cancelled_too_late = refl
 
--- without boards one train runs through after the other
+-- Without boards one train runs through after the other.
 one_after_the_other : drive two_sections (Enter 0 ∷ Enter 1 ∷ []) ≡ Some (Enter 0 ∷ Head 0 ∷ Tail 0 ∷ Leave 1 ∷ Enter 1 ∷ Head 1 ∷ Tail 1 ∷ Leave 0 ∷ [], Driven)
 one_after_the_other = refl
 
--- a train runs on from the end of its route into another
+-- A train runs on from the end of its route into another.
 runs_into_another : drive short_route (Enter 2 ∷ Enter 0 ∷ Mark 0 ∷ []) ≡ Some (Enter 2 ∷ Enter 0 ∷ Mark 0 ∷ Allocate 0 ∷ Lock 0 ∷ Head 0 ∷ Sense 0 ∷ Finish 0 ∷ Head 1 ∷ [], Hazard (Two 2))
 runs_into_another = refl
 
--- nothing is asked, and nothing happens
 no_command : drive line [] ≡ Some ([], Driven)
 no_command = refl
 
--- texts
-two_commands : scene_of line (codes "drive 1\nenter a\nmark r1\nend\n") ≡ IsScene (Enter 0 ∷ Mark 0 ∷ [])
+-- Texts
+two_commands : scene_from_text line (codes "drive 1\nenter a\nmark r1\nend\n") ≡ IsScene (Enter 0 ∷ Mark 0 ∷ [])
 two_commands = refl
 
-automatic_event : scene_of line (codes "drive 1\nlock r1\nend\n") ≡ Bad 2
+automatic_event : scene_from_text line (codes "drive 1\nlock r1\nend\n") ≡ Bad 2
 automatic_event = refl
 
-unended : scene_of line (codes "drive 1\ncancel r2\n") ≡ Bad 3
+unended : scene_from_text line (codes "drive 1\ncancel r2\n") ≡ Bad 3
 unended = refl

@@ -1,4 +1,4 @@
--- Places in a heap, by how far they are from the greatest number; and lists of places that grow.
+-- Indices in a heap, by their distance from the greatest number; growing lists of indices.
 use Rattle.std.proofs.Common.{◌≡◌, ℕ, ◌+◌, ◌-◌, ◌<◌, ◌≤◌, Bool, true, false, ◌||◌, ◌==◌, All, Some, List, ◌∷◌, map, slice_get, inl, inr, refl, sym, ap, ◌∙◌, arith}
 use Rattle.std.specs.List.{list_any}
 use Rattle.std.specs.List.Sorted.{IsPermutation}
@@ -14,13 +14,11 @@ use Rattle.ilk_model.specs.declared.event.Event.{Event}
 use Rattle.ilk_drive.specs.Awakening.{may_enable}
 use Rattle.ilk_drive.specs.Places.{place_of_rank}
 
--- a test of the items of a list, made anew
 pub ruleset any_mapped = (list_any-map)
 
 held-by : (j : ℕ) (ranks : List ℕ) → has_number j (map place_of_rank ranks) ≡ list_any (λ rank. place_of_rank rank == j) ranks
 held-by j ranks = list_any-map (λ place. place == j) place_of_rank ranks
 
--- after a push, and before a pop
 pub held-more : (rank j : ℕ) (old new : List ℕ) → IsPermutation (rank ∷ old) new → has_number j (map place_of_rank new) ≡ (place_of_rank rank == j || has_number j (map place_of_rank old))
 held-more rank j old new order =
     held-by j new ∙ sym (list_any-IsPermutation (λ r. place_of_rank r == j) (rank ∷ old) new order) ∙ ap (λ (b : Bool). place_of_rank rank == j || b) (sym (held-by j old))
@@ -32,7 +30,6 @@ pub held-popped : (rank j : ℕ) (old new : List ℕ) → IsPermutation old (ran
 held-popped rank j old new order =
     held-by j old ∙ list_any-IsPermutation (λ r. place_of_rank r == j) old (rank ∷ new) order ∙ ap (λ (b : Bool). place_of_rank rank == j || b) (sym (held-by j new))
 
--- the greatest rank is that of the least place
 pub held-least : (rank j : ℕ) (ranks : List ℕ) → All (λ r. r ≤ rank) ranks → has_number j (map place_of_rank ranks) ≡ true → place_of_rank rank ≤ j
 held-least rank j ranks most h =
     let found = list_any-at (λ r. place_of_rank r == j) ranks (sym (held-by j ranks) ∙ h) in
@@ -40,7 +37,6 @@ held-least rank j ranks most h =
     let is : 18446744073709551615 - found.1 ≡ j = eqb-true (place_of_rank found.1) j found.3 in
     omega (arith, least, is)
 
--- one place more was looked at
 pub woken-more :
     (p : PlantLists) (event at_place : Event) (automatic : List Event) (i : ℕ) (wanted : Bool)
     (old new : List ℕ) →
@@ -57,7 +53,6 @@ woken-more p event at_place automatic i wanted old new here is before keeps adds
       ap (λ (k : ℕ). has_number k new) same ∙ adds (is ∙ ap (may_enable p event) (sym one) ∙ may))
 ]
 
--- one place is added
 pub kept-on : (place : ℕ) (old new : List ℕ) → ((j : ℕ) → has_number j new ≡ (place == j || has_number j old)) → (j : ℕ) → has_number j old ≡ true → has_number j new ≡ true
 kept-on place old new grows j h = grows j ∙ ap (λ (b : Bool). place == j || b) h ∙ or-true (place == j)
   where
@@ -68,14 +63,12 @@ kept-on place old new grows j h = grows j ∙ ap (λ (b : Bool). place == j || b
 pub added-on : (place : ℕ) (old new : List ℕ) → ((j : ℕ) → has_number j new ≡ (place == j || has_number j old)) → has_number place new ≡ true
 added-on place old new grows = grows place ∙ ap (λ (b : Bool). b || has_number place old) (eq-eqb place place refl)
 
--- all places below a bound, with the next
 pub below-more : (place : ℕ) (old new : List ℕ) → ((j : ℕ) → has_number j new ≡ (place == j || has_number j old)) → ((j : ℕ) → j < place → has_number j old ≡ true) → (j : ℕ) → j < place + 1 → has_number j new ≡ true
 below-more place old new grows before j less = elim (below_or_at j place less) [
   | inl earlier ↦ kept-on place old new grows j (before j earlier)
   | inr same ↦ ap (λ (k : ℕ). has_number k new) same ∙ added-on place old new grows
 ]
 
--- all places of a list, up to the next
 pub listed-more : (places : List ℕ) (i place : ℕ) (old new : List ℕ) → slice_get places i ≡ Some place →
     ((j : ℕ) → has_number j new ≡ (place == j || has_number j old)) →
     ((k j : ℕ) → k < i → slice_get places k ≡ Some j → has_number j old ≡ true) → (k j : ℕ) → k < i + 1 →
@@ -87,7 +80,6 @@ listed-more places i place old new here grows before k j less at = elim (below_o
       ap (λ (v : ℕ). has_number v new) one ∙ added-on place old new grows)
 ]
 
--- where all places of a list were added
 pub listed-all : (places new : List ℕ) → ((k j : ℕ) → slice_get places k ≡ Some j → has_number j new ≡ true) → (j : ℕ) → has_number j places ≡ true → has_number j new ≡ true
 listed-all places new each j h =
     let found = list_any-at (λ y. y == j) places h in

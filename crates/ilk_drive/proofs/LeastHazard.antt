@@ -1,4 +1,4 @@
--- The least hazard among the sections that an event touches is the least of all, since the others have none.
+-- The least hazard among the touched sections is the least of all, since the others have none.
 use Rattle.std.proofs.Common.{◌≡◌, ℕ, ◌<◌, Bool, true, false, ◌||◌, ◌==◌, cond, Option, Some, None, option_map, List, [], ◌∷◌, ◌++◌, length, option_to_list, append-nil, slice_get, inl, inr, refl, sym, ap, ◌∙◌, subst, arith}
 use Rattle.std.proofs.lemmas.Bool.{both_ways, cases_Bool, eqb-true, false_from_ne_true}
 use Rattle.ilk_base.proofs.Ranges.{find-least}
@@ -9,15 +9,14 @@ use Rattle.ilk_plant.specs.declared.network.Dir.{Dir}
 use Rattle.ilk_plant.specs.declared.network.Dir.TheVariants.{Up, Down}
 use Rattle.ilk_plant.specs.declared.network.Section.TheVariants.{Linear, Point}
 use Rattle.ilk_plant.specs.declared.state.State.{State}
-use Rattle.ilk_model.specs.Hazard.{hazard, is_hazardous, is_two}
+use Rattle.ilk_model.specs.Hazard.{hazard, is_hazardous, has_two_trains}
 use Rattle.ilk_model.specs.declared.event.Event.{Event}
 use Rattle.ilk_model.specs.declared.hazards.HazardAt.TheVariants.{Two, Wrong}
 use Rattle.ilk_model.proofs.LeastHazard.{hazard_at}
-use Rattle.ilk_drive.specs.Awakening.{around}
-use Rattle.ilk_drive.specs.Touched.{IsHazardAfter, IsLeastHazardous, touched}
+use Rattle.ilk_drive.specs.Awakening.{neighbours_of}
+use Rattle.ilk_drive.specs.Touched.{IsHazardAfter, IsLeastHazardous, affected_sections}
 use Rattle.ilk_drive.proofs.Untouched.{none-calm, untouched-calm}
 
--- where the other sections have no hazard, the least of these is the least of all
 pub least-of_all : (p : PlantLists) (s : State) (sections : List ℕ) (o : Option ℕ) →
     IsLeastHazardous p s sections o →
     ((z : ℕ) → z < length p.sections → has_section z sections ≡ false → is_hazardous p s z ≡ false) →
@@ -36,7 +35,6 @@ least-of_all p s sections (Some x) least rest =
       | inr out ↦ (let within = least.0 in rest j (omega (arith, below, within)) out)
     ]))
 
--- no more sections are among these than among those
 pub least-fewer : (p : PlantLists) (s : State) (xs ys : List ℕ) (o : Option ℕ) → ((z : ℕ) → has_section z ys ≡ true → has_section z xs ≡ true) → IsLeastHazardous p s xs o → IsLeastHazardous p s ys o
 least-fewer p s xs ys None among least = λ x in_ within. least x (among x in_) within
 least-fewer p s xs ys (Some x) among least = (least.0, least.1, λ y in_ within e. least.2 y (among y in_) within e)
@@ -44,7 +42,6 @@ least-fewer p s xs ys (Some x) among least = (least.0, least.1, λ y in_ within 
 pub least-none : (p : PlantLists) (s : State) → IsLeastHazardous p s [] None
 least-none p s x in_ within = cc
 
--- a section that has no hazard is no less
 pub least-passed : (p : PlantLists) (s : State) (x : ℕ) (sections : List ℕ) (o : Option ℕ) → (x < length p.sections → is_hazardous p s x ≡ false) → IsLeastHazardous p s sections o → IsLeastHazardous p s (x ∷ sections) o
 least-passed p s x sections None free least = λ y in_ within. elim (either (x == y) (has_section y sections) in_) [
   | inl same ↦ ap (is_hazardous p s) (sym (eqb-true x y same)) ∙ free (subst (λ (v : ℕ). v < length p.sections) (sym (eqb-true x y same)) within)
@@ -59,13 +56,12 @@ least-passed p s x sections (Some z) free least = (
   ],
 )
 
--- the sections next to a linear section, and next to a point
 pub least-linear : (p : PlantLists) (s : State) (x : ℕ) (down up board_down board_up o : Option ℕ) →
     slice_get p.sections x ≡ Some (Linear down up board_down board_up) →
     IsLeastHazardous p s (option_to_list down ++ (option_to_list up ++ [])) o →
-    IsLeastHazardous p s (around p x) o
+    IsLeastHazardous p s (neighbours_of p x) o
 least-linear p s x down up board_down board_up o section least =
-    let these : around p x ≡ option_to_list down ++ (option_to_list up ++ []) = rw (section, append-nil (option_to_list up)) refl in
+    let these : neighbours_of p x ≡ option_to_list down ++ (option_to_list up ++ []) = rw (section, append-nil (option_to_list up)) refl in
     subst (λ (xs : List ℕ). IsLeastHazardous p s xs o) (sym these) least
 
 turned : (a b c : Bool) → (a || (b || (c || false))) ≡ true → (c || (a || (b || false))) ≡ true
@@ -76,20 +72,19 @@ turned false false false h = cc
 
 pub least-point : (p : PlantLists) (s : State) (x stem plus minus : ℕ) (faces : Dir) (o : Option ℕ) →
     slice_get p.sections x ≡ Some (Point stem plus minus faces) →
-    IsLeastHazardous p s (stem ∷ plus ∷ minus ∷ []) o → IsLeastHazardous p s (around p x) o
+    IsLeastHazardous p s (stem ∷ plus ∷ minus ∷ []) o → IsLeastHazardous p s (neighbours_of p x) o
 least-point p s x stem plus minus Up o section least =
-    let these : around p x ≡ stem ∷ plus ∷ minus ∷ [] = rw section refl in
+    let these : neighbours_of p x ≡ stem ∷ plus ∷ minus ∷ [] = rw section refl in
     subst (λ (xs : List ℕ). IsLeastHazardous p s xs o) (sym these) least
 least-point p s x stem plus minus Down o section least =
-    let these : around p x ≡ plus ∷ minus ∷ stem ∷ [] = rw section refl in
+    let these : neighbours_of p x ≡ plus ∷ minus ∷ stem ∷ [] = rw section refl in
     subst (λ (xs : List ℕ). IsLeastHazardous p s xs o) (sym these)
     (least-fewer p s (stem ∷ plus ∷ minus ∷ []) (plus ∷ minus ∷ stem ∷ []) o (λ z in_. turned (plus == z) (minus == z) (stem == z) in_) least)
 
--- the hazard after an event
-pub hazard-after_none : (p : PlantLists) (t : State) (event : Event) → IsLeastHazardous p t (touched p event) None → IsHazardAfter p t event None
+pub hazard-after_none : (p : PlantLists) (t : State) (event : Event) → IsLeastHazardous p t (affected_sections p event) None → IsHazardAfter p t event None
 hazard-after_none p t event least s none e =
-    sym (least-of_all p t (touched p event) None least (λ z within out. untouched-calm p s t event none e z within out))
+    sym (least-of_all p t (affected_sections p event) None least (λ z within out. untouched-calm p s t event none e z within out))
 
-pub hazard-after_one : (p : PlantLists) (t : State) (event : Event) (x : ℕ) (b : Bool) → IsLeastHazardous p t (touched p event) (Some x) → b ≡ is_two t x → IsHazardAfter p t event (Some (cond b (Two x) (Wrong x)))
+pub hazard-after_one : (p : PlantLists) (t : State) (event : Event) (x : ℕ) (b : Bool) → IsLeastHazardous p t (affected_sections p event) (Some x) → b ≡ has_two_trains t x → IsHazardAfter p t event (Some (cond b (Two x) (Wrong x)))
 hazard-after_one p t event x b least two s none e =
-    ap (λ (c : Bool). Some (cond c (Two x) (Wrong x))) two ∙ sym (least-of_all p t (touched p event) (Some x) least (λ z within out. untouched-calm p s t event none e z within out))
+    ap (λ (c : Bool). Some (cond c (Two x) (Wrong x))) two ∙ sym (least-of_all p t (affected_sections p event) (Some x) least (λ z within out. untouched-calm p s t event none e z within out))

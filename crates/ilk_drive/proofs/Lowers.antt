@@ -1,10 +1,11 @@
--- Each automatic event lowers the potential of a state, and no event raises it by as much as `MAX_EVENTS_FOR_A_COMMAND`.
+-- Each automatic event lowers the potential of a state, and each event raises it by less than
+-- `MAX_EVENTS_PER_COMMAND`.
 use Rattle.std.proofs.Common.{◌≡◌, ℕ, ◌+◌, ◌-◌, ◌*◌, ◌<◌, ◌≤◌, Bool, false, Some, [], ◌∷◌, ◌++◌, length, set, remove, refl, ap, ◌∙◌, arith}
 use Rattle.std.specs.Prelude.{if◌then◌else◌}
 use Rattle.std.proofs.lemmas.Option.{slice_get_within}
 use Rattle.ilk_plant.specs.Plant.{IsPlant, PlantLists}
 use Rattle.ilk_plant.specs.Shape.{HasShape}
-use Rattle.ilk_plant.specs.Sound.{NeverReturns}
+use Rattle.ilk_plant.specs.Sound.{NoWalkReturns}
 use Rattle.ilk_plant.specs.declared.state.Lie.TheVariants.{Moving}
 use Rattle.ilk_plant.specs.declared.state.Mode.{Mode}
 use Rattle.ilk_plant.specs.declared.state.Mode.TheVariants.{Free, Marked, Allocating, Locked, Occupied}
@@ -12,10 +13,10 @@ use Rattle.ilk_plant.specs.declared.state.PointState.{PointState}
 use Rattle.ilk_plant.specs.declared.state.RouteState.{RouteState}
 use Rattle.ilk_plant.specs.declared.state.State.{State}
 use Rattle.ilk_motion.proofs.Shape.{ahead-next_to, border-known}
-use Rattle.ilk_motion.specs.Body.{train_on, with_new_head, without_tail}
+use Rattle.ilk_motion.specs.Body.{new_train_on, with_new_head, without_tail}
 use Rattle.ilk_motion.specs.Trains.{after_enter, after_head, after_leave, after_tail}
-use Rattle.ilk_routes.specs.Claims.{wanted_points}
-use Rattle.ilk_routes.specs.Lies.{lie_in, lies_at, with_commands}
+use Rattle.ilk_routes.specs.Claims.{required_points}
+use Rattle.ilk_routes.specs.Lies.{lie_from_position, is_lie_at_position, with_commands}
 use Rattle.ilk_routes.specs.Points.{after_settle, after_throw}
 use Rattle.ilk_routes.specs.Routes.{after_allocate, after_cancel, after_finish, after_lock, after_mark, after_release, after_sense}
 use Rattle.ilk_model.specs.Event.{next}
@@ -29,17 +30,17 @@ use Rattle.ilk_drive.proofs.Potential.{left, path_left, point_left, points_left,
 use Rattle.ilk_drive.proofs.Walks.{far, far-few}
 use Rattle.ilk_drive.proofs.StillToDo.{commands-raise, head-lowers, in-use, only-left, settled, tail-lowers, wanted-few}
 
-module _ (p : PlantLists) (plant : IsPlant p) (never : NeverReturns p) (s t : State) (shape : HasShape p s) where
+module _ (p : PlantLists) (plant : IsPlant p) (never : NoWalkReturns p) (s t : State) (shape : HasShape p s) where
   lowers-allocate : (r : ℕ) → after_allocate p s r ≡ Some t → left p t + 1 ≤ left p s
   lowers-allocate r e =
       let f = allocate-frame p s t r e in
       let new : RouteState = record f.now { mode = Allocating } in
       let sum = routes_left-set p.routes s.routes r f.route f.now new f.changes.known f.changes.state in
-      let was : route_left f.route f.now ≡ path_left f.route f.now + 2 + 2 * length (wanted_points f.route) = ap (λ (m : Mode). route_left_in m f.route f.now) f.was in
+      let was : route_left f.route f.now ≡ path_left f.route f.now + 2 + 2 * length (required_points f.route) = ap (λ (m : Mode). route_left_in m f.route f.now) f.was in
       let becomes : route_left f.route new ≡ path_left f.route f.now + 1 = refl in
       let routes : routes_left p.routes t.routes ≡ routes_left p.routes (set s.routes r new) = ap (routes_left p.routes) f.changes.routes in
-      let points : points_left t.points ≡ points_left (with_commands p s.points (wanted_points f.route)) = ap points_left f.points in
-      let commanded = commands-raise p (wanted_points f.route) s.points shape.points in
+      let points : points_left t.points ≡ points_left (with_commands p s.points (required_points f.route)) = ap points_left f.points in
+      let commanded = commands-raise p (required_points f.route) s.points shape.points in
       let trains : trains_left p t.trains ≡ trains_left p s.trains = ap (trains_left p) f.trains in
       omega (arith, sum, was, becomes, routes, points, commanded, trains)
 
@@ -99,7 +100,7 @@ module _ (p : PlantLists) (plant : IsPlant p) (never : NeverReturns p) (s t : St
       let f = throw-frame p s t x e in
       let new : PointState = record f.point { at = Moving } in
       let sum = points_left-set s.points f.n f.point new f.state in
-      let was : point_left f.point ≡ 2 = ap (λ (b : Bool). if b then 1 else if lies_at f.point.at f.point.to then 0 else 2) f.still ∙ ap (λ (b : Bool). if b then 0 else 2) f.elsewhere in
+      let was : point_left f.point ≡ 2 = ap (λ (b : Bool). if b then 1 else if is_lie_at_position f.point.at f.point.to then 0 else 2) f.still ∙ ap (λ (b : Bool). if b then 0 else 2) f.elsewhere in
       let becomes : point_left new ≡ 1 = refl in
       let routes : routes_left p.routes t.routes ≡ routes_left p.routes s.routes = ap (routes_left p.routes) f.routes in
       let points : points_left t.points ≡ points_left (set s.points f.n new) = ap points_left f.points in
@@ -109,9 +110,9 @@ module _ (p : PlantLists) (plant : IsPlant p) (never : NeverReturns p) (s t : St
   lowers-settle : (x : ℕ) → after_settle p s x ≡ Some t → left p t + 1 ≤ left p s
   lowers-settle x e =
       let f = settle-frame p s t x e in
-      let new : PointState = record f.point { at = lie_in f.point.to } in
+      let new : PointState = record f.point { at = lie_from_position f.point.to } in
       let sum = points_left-set s.points f.n f.point new f.state in
-      let was : point_left f.point ≡ 1 = ap (λ (b : Bool). if b then 1 else if lies_at f.point.at f.point.to then 0 else 2) f.moved in
+      let was : point_left f.point ≡ 1 = ap (λ (b : Bool). if b then 1 else if is_lie_at_position f.point.at f.point.to then 0 else 2) f.moved in
       let becomes : point_left new ≡ 0 = settled f.point.to in
       let routes : routes_left p.routes t.routes ≡ routes_left p.routes s.routes = ap (routes_left p.routes) f.routes in
       let points : points_left t.points ≡ points_left (set s.points f.n new) = ap points_left f.points in
@@ -153,7 +154,7 @@ module _ (p : PlantLists) (plant : IsPlant p) (never : NeverReturns p) (s t : St
       let f = mark-frame p s t r e in
       let new : RouteState = record f.now { mode = Marked } in
       let sum = routes_left-set p.routes s.routes r f.route f.now new f.changes.known f.changes.state in
-      let becomes : route_left f.route new ≡ path_left f.route f.now + 2 + 2 * length (wanted_points f.route) = refl in
+      let becomes : route_left f.route new ≡ path_left f.route f.now + 2 + 2 * length (required_points f.route) = refl in
       let few = wanted-few p f.route (plant.routes_known r f.route f.changes.known) in
       let points_few = few.0 in
       let path_few = few.1 in
@@ -168,11 +169,11 @@ module _ (p : PlantLists) (plant : IsPlant p) (never : NeverReturns p) (s t : St
       let known : x < length p.sections = border-known p x f.inward f.borders in
       let few = far-few p never f.inward x known in
       let sections : length p.sections ≤ 256 = plant.few_sections in
-      let sum = trains_left-push p s.trains (train_on x f.inward) in
-      let new : train_left p (train_on x f.inward) ≡ far p f.inward x + far p f.inward x + 1 = refl in
+      let sum = trains_left-push p s.trains (new_train_on x f.inward) in
+      let new : train_left p (new_train_on x f.inward) ≡ far p f.inward x + far p f.inward x + 1 = refl in
       let routes : routes_left p.routes t.routes ≡ routes_left p.routes s.routes = ap (routes_left p.routes) f.routes in
       let points : points_left t.points ≡ points_left s.points = ap points_left f.points in
-      let trains : trains_left p t.trains ≡ trains_left p (s.trains ++ train_on x f.inward ∷ []) = ap (trains_left p) f.trains in
+      let trains : trains_left p t.trains ≡ trains_left p (s.trains ++ new_train_on x f.inward ∷ []) = ap (trains_left p) f.trains in
       omega (arith, few, sections, sum, new, routes, points, trains)
 
   raises-cancel : (r : ℕ) → after_cancel p s r ≡ Some t → left p t + 1 ≤ left p s + 512
@@ -186,7 +187,6 @@ module _ (p : PlantLists) (plant : IsPlant p) (never : NeverReturns p) (s t : St
       let trains : trains_left p t.trains ≡ trains_left p s.trains = ap (trains_left p) f.trains in
       omega (arith, sum, becomes, routes, points, trains)
 
-  -- an automatic event lowers the potential
   pub lowers : (event : Event) → is_command event ≡ false → next p s event ≡ Some t → left p t + 1 ≤ left p s
   lowers (Mark r) own e = cc
   lowers (Allocate r) own e = lowers-allocate r e
@@ -202,7 +202,6 @@ module _ (p : PlantLists) (plant : IsPlant p) (never : NeverReturns p) (s t : St
   lowers (Leave x) own e = lowers-leave x e
   lowers (Cancel r) own e = cc
 
-  -- any event raises it by less than 512
   pub raises : (event : Event) → next p s event ≡ Some t → left p t + 1 ≤ left p s + 512
   raises (Mark r) e = raises-mark r e
   raises (Allocate r) e = let less = lowers-allocate r e in omega (arith, less)

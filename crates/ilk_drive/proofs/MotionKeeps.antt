@@ -1,4 +1,5 @@
--- Nothing that throw, settle, enter, head, tail or leave doesn't name becomes enabled by it.
+-- Throw, settle, enter, head, tail and leave enable no automatic event that `may_enable` doesn't
+-- list.
 use Rattle.std.proofs.Common.{◌≡◌, ℕ, true, false, ◌==◌, Option, Some, List, [], set, slice_get, inl, inr, refl, sym, ap, ◌∙◌}
 use Rattle.std.specs.List.{list_any}
 use Rattle.std.proofs.lemmas.Bool.{cases_eq, eqb-true}
@@ -8,7 +9,7 @@ use Rattle.ilk_base.proofs.Tested.{list_any-at, list_any-none}
 use Rattle.ilk_plant.specs.Network.{has_section}
 use Rattle.ilk_plant.specs.Plant.{IsPlant, PlantLists, board_of, point_number}
 use Rattle.ilk_plant.specs.Shape.{HasShape}
-use Rattle.ilk_plant.specs.State.{lie_of}
+use Rattle.ilk_plant.specs.State.{detected_position}
 use Rattle.ilk_plant.specs.TableRules.{sections_locked_for}
 use Rattle.ilk_plant.specs.declared.network.Position.{Position}
 use Rattle.ilk_plant.specs.declared.network.Position.TheVariants.{Plus, Minus}
@@ -20,8 +21,8 @@ use Rattle.ilk_plant.specs.declared.state.PointState.{PointState}
 use Rattle.ilk_plant.specs.declared.state.State.{State}
 use Rattle.ilk_plant.specs.declared.table.Listed.{Listed}
 use Rattle.ilk_motion.proofs.Shape.{ahead-next_to}
-use Rattle.ilk_routes.specs.Claims.{wanted_points}
-use Rattle.ilk_routes.specs.Lies.{lie_in, lies_as_listed, lies_at}
+use Rattle.ilk_routes.specs.Claims.{required_points}
+use Rattle.ilk_routes.specs.Lies.{lie_from_position, is_detected_as_listed, is_lie_at_position}
 use Rattle.ilk_model.proofs.PointFrames.{IsSettled, IsThrown}
 use Rattle.ilk_model.proofs.TrainFrames.{IsEntered, IsHeaded, IsLeft, IsTailed}
 use Rattle.ilk_model.specs.Event.{next}
@@ -31,29 +32,28 @@ use Rattle.ilk_plant.proofs.PointNumbers.{number-once}
 use Rattle.ilk_plant.proofs.InLists.{section-from}
 use Rattle.ilk_strict.proofs.Points.{lie-other, lies-new}
 use Rattle.ilk_strict.proofs.Table.{path-locked_for}
-use Rattle.ilk_drive.specs.Awakening.{around, is_concerned, stands_at}
+use Rattle.ilk_drive.specs.Awakening.{neighbours_of, depends_on_section, is_board_at}
 use Rattle.ilk_drive.proofs.Back.{allocate-back, allocating, finish-back, head-back, in_occupation, leave-back, lock-back, marked, release-back, sense-back, settle-back, tail-back, throw-back}
 use Rattle.ilk_drive.proofs.Changes.{apart, clear-back, neither, states-stay, true-false}
-use Rattle.ilk_drive.proofs.TrainChanges.{enter-alone, enter-heads, enter-leaves, enter-tails, enter-was, head-alone, head-heads, head-leaves, head-tails, head-was, leave-alone, leave-heads, leave-leaves, leave-tails, leave-was, next-around, tail-alone, tail-heads, tail-leaves, tail-tails, tail-was}
+use Rattle.ilk_drive.proofs.TrainChanges.{enter-alone, enter-heads, enter-leaves, enter-tails, enter-was, head-alone, head-heads, head-leaves, head-tails, head-was, leave-alone, leave-heads, leave-leaves, leave-tails, leave-was, next-neighbours_of, tail-alone, tail-heads, tail-leaves, tail-tails, tail-was}
 use Rattle.ilk_drive.proofs.RouteKeeps.{Keeps}
 use Rattle.ilk_drive.proofs.Staying.{asks-not, aspect-alike, aspect-stays, board-headed, conflicts-stay, head-stays, leads-back, leave-stays, lie-stays, lies-back, locks-kept, not-that, not-these, occupied-stays, passes-headed, passes-same, protecting-stays, settle-stays, stands-there, tail-stays, throw-stays, vacant-stays}
 
--- another point than the one that changed
 point-other : (p : PlantLists) (s t : State) (x n : ℕ) (new : PointState) → point_number p x ≡ Some n → t.points ≡ set s.points n new → (y : ℕ) → (y == x) ≡ false → (m : ℕ) → point_number p y ≡ Some m → slice_get t.points m ≡ slice_get s.points m
 point-other p s t x n new number same y out m that =
     ap (λ (l : List PointState). slice_get l m) same ∙ slice_get-set_other s.points n m new (λ e. apart y x out (number-once p y x n (that ∙ ap Some (sym e)) number))
 
--- a route that can be locked while a point moves doesn't want that point
-thrown-lies : (p : PlantLists) (s t : State) (x : ℕ) → (it : IsThrown p s t x) → (listed : Listed) → lies_as_listed p t listed ≡ true → lies_as_listed p s listed ≡ true
+-- A route that can be locked while a point moves doesn't need that point.
+thrown-lies : (p : PlantLists) (s t : State) (x : ℕ) → (it : IsThrown p s t x) → (listed : Listed) → is_detected_as_listed p t listed ≡ true → is_detected_as_listed p s listed ≡ true
 thrown-lies p s t x it listed h = elim (cases_eq listed.point x) [
   | inl here ↦
-      (let moves : lie_of p t listed.point ≡ Some Moving = ap (lie_of p t) here ∙ lies-new p s t x it.n it.point (record it.point { at = Moving }) it.number it.state it.points in
-      let bad : lies_at Moving listed.at ≡ true = sym (ap (λ (o : Option Lie). is_some_and o (λ lie. lies_at lie listed.at)) moves) ∙ h in
+      (let moves : detected_position p t listed.point ≡ Some Moving = ap (detected_position p t) here ∙ lies-new p s t x it.n it.point (record it.point { at = Moving }) it.number it.state it.points in
+      let bad : is_lie_at_position Moving listed.at ≡ true = sym (ap (λ (o : Option Lie). is_some_and o (λ lie. is_lie_at_position lie listed.at)) moves) ∙ h in
       no-move listed.at bad)
   | inr other ↦ lies-back p s t listed (lie-other p s t x it.n it.point (record it.point { at = Moving }) it.number it.state it.points listed.point other) h
 ]
   where
-    no-move : {P : Type 0} (at : Position) → lies_at Moving at ≡ true → P
+    no-move : {P : Type 0} (at : Position) → is_lie_at_position Moving at ≡ true → P
     no-move Plus h = cc
     no-move Minus h = cc
 
@@ -93,10 +93,10 @@ settle-keeps p plant s t shape x it (Allocate q) own out h = allocate-back p s t
 settle-keeps p plant s t shape x it (Lock q) own out h = lock-back p s t q
     (states-stay s t it.routes q allocating)
     (λ route known k listed at. lies-back p s t listed
-    (lie-other p s t x it.n it.point (record it.point { at = lie_in it.point.to }) it.number it.state
+    (lie-other p s t x it.n it.point (record it.point { at = lie_from_position it.point.to }) it.number it.state
     it.points listed.point
     (apart listed.point x
-    (list_any-none (λ one. one.point == x) (wanted_points route) k listed
+    (list_any-none (λ one. one.point == x) (required_points route) k listed
     (asks-not p x q route known out).point at))))
     (λ route known k m at. aspect-stays s t it.boards m Closed)
     (λ route known. protecting-stays p s t it.routes route.source) h
@@ -106,11 +106,12 @@ settle-keeps p plant s t shape x it (Sense q) own out h = sense-back p s t q
     (occupied-stays s t it.trains w occupied, locks-kept s t it.locks w LockedLock locked)) h
 settle-keeps p plant s t shape x it (Release q) own out h = release-back p s t q (states-stay s t it.routes q in_occupation) (λ route now w known at first vacant used. (vacant-stays s t it.trains w vacant, locks-kept s t it.locks w UsedLock used)) h
 settle-keeps p plant s t shape x it (Finish q) own out h = finish-back p s t q (states-stay s t it.routes q in_occupation) h
-settle-keeps p plant s t shape x it (Throw z) own out h = throw-back p s t z (point-other p s t x it.n (record it.point { at = lie_in it.point.to }) it.number it.points z out) h
-settle-keeps p plant s t shape x it (Settle z) own out h = settle-back p s t z (λ n point number at moves. (point, sym (point-other p s t x it.n (record it.point { at = lie_in it.point.to }) it.number it.points z out n number) ∙ at, moves)) h
+settle-keeps p plant s t shape x it (Throw z) own out h = throw-back p s t z (point-other p s t x it.n (record it.point { at = lie_from_position it.point.to }) it.number it.points z out) h
+settle-keeps p plant s t shape x it (Settle z) own out h = settle-back p s t z (λ n point number at moves.
+    (point, sym (point-other p s t x it.n (record it.point { at = lie_from_position it.point.to }) it.number it.points z out n number) ∙ at, moves)) h
 settle-keeps p plant s t shape x it (Enter z) own out h = cc
 settle-keeps p plant s t shape x it (Head z) own out h = head-stays p s t z it.trains
-    (lie-other p s t x it.n it.point (record it.point { at = lie_in it.point.to }) it.number it.state
+    (lie-other p s t x it.n it.point (record it.point { at = lie_from_position it.point.to }) it.number it.state
     it.points z (apart z x out))
     (λ d. passes-same s t it.boards (board_of p z d)) h
 settle-keeps p plant s t shape x it (Tail z) own out h = tail-stays p s t z it.trains h
@@ -146,18 +147,17 @@ enter-keeps p plant s t shape x it (Tail z) own out h = tail-back p s t z (enter
 enter-keeps p plant s t shape x it (Leave z) own out h = leave-back p s t z (enter-alone p s t x it z out) h
 enter-keeps p plant s t shape x it (Cancel q) own out h = cc
 
--- the section to which a head moved on lies around the one from which it came
-pub headed-around : (p : PlantLists) (s t : State) (x : ℕ) → (it : IsHeaded p s t x) → has_section it.y (around p x) ≡ true
-headed-around p s t x it = next-around p x it.y it.train.dir (ahead-next_to p s x it.y it.train.dir it.leads)
+pub headed-neighbours_of : (p : PlantLists) (s t : State) (x : ℕ) → (it : IsHeaded p s t x) → has_section it.y (neighbours_of p x) ≡ true
+headed-neighbours_of p s t x it = next-neighbours_of p x it.y it.train.dir (ahead-next_to p s x it.y it.train.dir it.leads)
 
-headed-unasked : (p : PlantLists) (s t : State) (x q : ℕ) → (it : IsHeaded p s t x) → list_any (λ y. is_concerned p y q) (around p x) ≡ false → is_concerned p it.y q ≡ false
+headed-unasked : (p : PlantLists) (s t : State) (x q : ℕ) → (it : IsHeaded p s t x) → list_any (λ y. depends_on_section p y q) (neighbours_of p x) ≡ false → depends_on_section p it.y q ≡ false
 headed-unasked p s t x q it out =
-    let found = list_any-at (λ y. y == it.y) (around p x) (headed-around p s t x it) in
-    ap (λ (y : ℕ). is_concerned p y q) (sym (eqb-true found.1 it.y found.3)) ∙ list_any-none (λ y. is_concerned p y q) (around p x) found.0 found.1 out found.2
+    let found = list_any-at (λ y. y == it.y) (neighbours_of p x) (headed-neighbours_of p s t x it) in
+    ap (λ (y : ℕ). depends_on_section p y q) (sym (eqb-true found.1 it.y found.3)) ∙ list_any-none (λ y. depends_on_section p y q) (neighbours_of p x) found.0 found.1 out found.2
 
-headed-board : (p : PlantLists) → IsPlant p → (s t : State) (x : ℕ) → (it : IsHeaded p s t x) → (m : ℕ) → stands_at p x m ≡ false → slice_get t.boards m ≡ slice_get s.boards m
+headed-board : (p : PlantLists) → IsPlant p → (s t : State) (x : ℕ) → (it : IsHeaded p s t x) → (m : ℕ) → is_board_at p x m ≡ false → slice_get t.boards m ≡ slice_get s.boards m
 headed-board p plant s t x it m off =
-    board-headed s t (board_of p x it.train.dir) it.boards m (λ e. true-false (stands_at p x m) (stands-there p plant x m it.train.dir e) off)
+    board-headed s t (board_of p x it.train.dir) it.boards m (λ e. true-false (is_board_at p x m) (stands-there p plant x m it.train.dir e) off)
 
 pub head-keeps : (p : PlantLists) → IsPlant p → (s t : State) → HasShape p s → (x : ℕ) → IsHeaded p s t x → Keeps p s t (Head x)
 head-keeps p plant s t shape x it (Mark q) own out h = cc
@@ -169,7 +169,7 @@ head-keeps p plant s t shape x it (Lock q) own out h = lock-back p s t q
     (λ route known k listed at. lies-back p s t listed (lie-stays p s t it.points listed.point))
     (λ route known k m at. aspect-alike s t m Closed
     (headed-board p plant s t x it m
-    (list_any-none (stands_at p x) route.protecting_boards k m
+    (list_any-none (is_board_at p x) route.protecting_boards k m
     (asks-not p x q route known out).board at)))
     (λ route known. protecting-stays p s t it.routes route.source) h
 head-keeps p plant s t shape x it (Sense q) own out h = sense-back p s t q
@@ -186,9 +186,9 @@ head-keeps p plant s t shape x it (Throw z) own out h = throw-stays p s t z it.p
 head-keeps p plant s t shape x it (Settle z) own out h = settle-stays p s t z it.points h
 head-keeps p plant s t shape x it (Enter z) own out h = cc
 head-keeps p plant s t shape x it (Head z) own out h = head-back p s t z
-    (head-heads p s t x it z (neither (z == x) (has_section z (around p x)) out).0
-    (not-these (around p x) z it.y (neither (z == x) (has_section z (around p x)) out).1
-    (headed-around p s t x it)))
+    (head-heads p s t x it z (neither (z == x) (has_section z (neighbours_of p x)) out).0
+    (not-these (neighbours_of p x) z it.y (neither (z == x) (has_section z (neighbours_of p x)) out).1
+    (headed-neighbours_of p s t x it)))
     (leads-back p s t z (lie-stays p s t it.points z))
     (λ d. passes-headed s t (board_of p x it.train.dir) it.boards (board_of p z d)) h
 head-keeps p plant s t shape x it (Tail z) own out h = tail-back p s t z (head-tails p s t x it z out) h
@@ -225,7 +225,7 @@ tail-keeps p plant s t shape x it (Throw z) own out h = throw-stays p s t z it.p
 tail-keeps p plant s t shape x it (Settle z) own out h = settle-stays p s t z it.points h
 tail-keeps p plant s t shape x it (Enter z) own out h = cc
 tail-keeps p plant s t shape x it (Head z) own out h = head-back p s t z (tail-heads p s t shape x it z) (leads-back p s t z (lie-stays p s t it.points z)) (λ d. passes-same s t it.boards (board_of p z d)) h
-tail-keeps p plant s t shape x it (Tail z) own out h = tail-back p s t z (tail-tails p s t shape x it z (neither (z == x) (has_section z (around p x)) out).0 (neither (z == x) (has_section z (around p x)) out).1) h
+tail-keeps p plant s t shape x it (Tail z) own out h = tail-back p s t z (tail-tails p s t shape x it z (neither (z == x) (has_section z (neighbours_of p x)) out).0 (neither (z == x) (has_section z (neighbours_of p x)) out).1) h
 tail-keeps p plant s t shape x it (Leave z) own out h = leave-back p s t z (tail-alone p s t shape x it z out) h
 tail-keeps p plant s t shape x it (Cancel q) own out h = cc
 

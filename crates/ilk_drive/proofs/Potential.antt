@@ -1,4 +1,5 @@
--- How many events a state still allows without a command: the sum of what each route, each point and each train still does.
+-- The potential: a bound on the events that a state allows without a command, summed over routes,
+-- points and trains.
 use Rattle.std.proofs.Common.{◌≡◌, ℕ, zero, suc, ◌+◌, ◌-◌, ◌*◌, Some, List, [], ◌∷◌, ◌++◌, length, slice_get, set, remove, ap, ◌∙◌, arith}
 use Rattle.std.specs.Prelude.{if◌then◌else◌}
 use Rattle.std.proofs.lemmas.Option.{same_Some}
@@ -11,18 +12,19 @@ use Rattle.ilk_plant.specs.declared.state.RouteState.{RouteState}
 use Rattle.ilk_plant.specs.declared.state.State.{State}
 use Rattle.ilk_plant.specs.declared.state.Train.{Train}
 use Rattle.ilk_plant.specs.declared.table.Route.{Route}
-use Rattle.ilk_routes.specs.Claims.{wanted_points}
-use Rattle.ilk_routes.specs.Lies.{is_moving, lies_at}
+use Rattle.ilk_routes.specs.Claims.{required_points}
+use Rattle.ilk_routes.specs.Lies.{is_moving, is_lie_at_position}
 use Rattle.ilk_drive.proofs.Walks.{far}
 
--- the sections of its path that a route has yet to see taken, and to give back
+-- The path sections that a route has yet to sense and to release.
 abbrev pub path_left : Route → RouteState → ℕ
 path_left route now = (length route.path - now.seen) + (length route.path - now.rel)
 
--- a route that is Marked is yet to be allocated, with its points, and locked; then its path is taken and given back, and it finishes
+-- A Marked route has yet to be allocated, with its points, and locked. Then its path is sensed and
+-- released, and it finishes.
 abbrev pub route_left_in : Mode → Route → RouteState → ℕ
 route_left_in Free route now = 0
-route_left_in Marked route now = path_left route now + 2 + 2 * length (wanted_points route)
+route_left_in Marked route now = path_left route now + 2 + 2 * length (required_points route)
 route_left_in Allocating route now = path_left route now + 1
 route_left_in Locked route now = path_left route now
 route_left_in Occupied route now = path_left route now
@@ -35,15 +37,15 @@ routes_left [] states = 0
 routes_left (route ∷ routes) [] = 0
 routes_left (route ∷ routes) (now ∷ states) = route_left route now + routes_left routes states
 
--- a point that moves settles; one that doesn't lie where it is commanded is thrown before
+-- A moving point settles; one that isn't in its commanded position is thrown first.
 abbrev pub point_left : PointState → ℕ
-point_left point = if is_moving point.at then 1 else if lies_at point.at point.to then 0 else 2
+point_left point = if is_moving point.at then 1 else if is_lie_at_position point.at point.to then 0 else 2
 
 abbrev pub points_left : List PointState → ℕ
 points_left [] = 0
 points_left (point ∷ points) = point_left point + points_left points
 
--- a train takes each section ahead, at most, and then leaves each section on which it stands
+-- A train enters each section ahead, at most, and leaves each section that it occupies.
 abbrev pub body_left : PlantLists → Dir → List ℕ → ℕ
 body_left p d [] = 0
 body_left p d (x ∷ []) = far p d x + far p d x + 1
@@ -56,11 +58,10 @@ abbrev pub trains_left : PlantLists → List Train → ℕ
 trains_left p [] = 0
 trains_left p (train ∷ trains) = train_left p train + trains_left p trains
 
--- the potential of a state
 abbrev pub left : PlantLists → State → ℕ
 left p s = routes_left p.routes s.routes + points_left s.points + trains_left p s.trains
 
--- what a change of one route, point or train does to the sum
+-- The effect on the sum of changing one route, point or train
 pub routes_left-set :
     (routes : List Route) (states : List RouteState) (r : ℕ) (route : Route) (now new : RouteState) →
     slice_get routes r ≡ Some route → slice_get states r ≡ Some now →

@@ -1,4 +1,4 @@
--- Nothing that mark, allocate, lock or sense doesn't name becomes enabled by it.
+-- Mark, allocate, lock and sense enable no automatic event that `may_enable` doesn't list.
 use Rattle.std.proofs.Common.{◌≡◌, ℕ, ◌+◌, Bool, true, false, not, ◌||◌, ◌==◌, Option, Some, None, List, [], ◌∷◌, slice_get, is_some, option_map, unwrap_or, inl, inr, refl, sym, ap, ◌∙◌}
 use Rattle.std.specs.Option.{option_or}
 use Rattle.std.specs.List.{list_any}
@@ -23,8 +23,8 @@ use Rattle.ilk_plant.specs.declared.state.RouteState.{RouteState}
 use Rattle.ilk_plant.specs.declared.state.State.{State}
 use Rattle.ilk_plant.specs.declared.table.Listed.{Listed}
 use Rattle.ilk_plant.specs.declared.table.Route.{Route}
-use Rattle.ilk_routes.specs.Boards.{is_protecting, protects_by}
-use Rattle.ilk_routes.specs.Claims.{wanted_points}
+use Rattle.ilk_routes.specs.Boards.{is_held_closed, has_protecting_board}
+use Rattle.ilk_routes.specs.Claims.{required_points}
 use Rattle.ilk_routes.specs.Lies.{is_moving, listed_position, lists_point, with_commands}
 use Rattle.ilk_routes.specs.Modes.{same_mode}
 use Rattle.ilk_model.proofs.RouteFrames.{ChangesRoute, IsAllocated, IsLocked, IsMarked, IsSensed}
@@ -33,13 +33,13 @@ use Rattle.ilk_model.specs.Holding.{is_locked_or_occupied}
 use Rattle.ilk_model.specs.declared.event.Event.{Event}
 use Rattle.ilk_model.specs.declared.event.Event.TheVariants.{Mark, Allocate, Lock, Sense, Release, Finish, Throw, Settle, Enter, Head, Tail, Leave, Cancel}
 use Rattle.ilk_strict.proofs.Points.{lie-kept, lists-named}
-use Rattle.ilk_drive.specs.Awakening.{begins_at, may_enable, stands_at, wants_point}
+use Rattle.ilk_drive.specs.Awakening.{has_source_at, may_enable, is_board_at, wants_point}
 use Rattle.ilk_drive.specs.Commands.{is_command}
 use Rattle.ilk_drive.proofs.Back.{allocate-back, allocating, finish-back, in_occupation, lock-back, marked, release-back, sense-back, settle-back, throw-back}
 use Rattle.ilk_drive.proofs.Changes.{apart, claims-back, claims-other, clear-back, lock-back as other-lock-back, lock-same, locks-set, locks-with, neither, states-back, states-other, true-false}
 use Rattle.ilk_drive.proofs.Staying.{are-apart, aspect-alike, aspect-opened, aspect-stays, board-sensed, head-stays, leave-stays, lie-stays, lies-back, locks-kept, mode-alike, occupied-stays, passes-opened, passes-same, passes-sensed, protecting-back, protecting-keeps, settle-stays, stays-other, tail-stays, throw-stays, vacant-stays}
 
--- nothing that an event doesn't name becomes enabled by it
+-- The event enables no automatic event that `may_enable` doesn't list.
 abbrev pub Keeps : PlantLists → State → State → Event → Type 0
 Keeps p s t event = (other : Event) → is_command other ≡ false → may_enable p event other ≡ false → is_some (next p t other) ≡ true → is_some (next p s other) ≡ true
 
@@ -75,7 +75,6 @@ mark-keeps p plant s t shape r it (Tail x) own out h = tail-stays p s t x it.tra
 mark-keeps p plant s t shape r it (Leave x) own out h = leave-stays p s t x it.trains h
 mark-keeps p plant s t shape r it (Cancel q) own out h = cc
 
--- a section that was allocated was vacant
 allocated-vacant : (p : PlantLists) (s t : State) (r : ℕ) → (it : IsAllocated p s t r) → (x : ℕ) → is_occupied s x ≡ true → has_section x (sections_locked_for it.route) ≡ false
 allocated-vacant p s t r it x occupied = false_from_ne_true (has_section x (sections_locked_for it.route)) (λ h.
     let found = list_any-at (λ y. y == x) (sections_locked_for it.route) h in
@@ -83,7 +82,6 @@ allocated-vacant p s t r it x occupied = false_from_ne_true (has_section x (sect
     let vacant : is_occupied s found.1 ≡ false = fails (is_occupied s found.1) (and_parts (has_lock s found.1 FreeLock) (not (is_occupied s found.1)) clear).1 in
     true-false (is_occupied s x) occupied (ap (is_occupied s) (sym (eqb-true found.1 x found.3)) ∙ vacant))
 
--- a point that isn't listed is commanded as before
 listed-none : (p : PlantLists) (x n : ℕ) → point_number p x ≡ Some n → (entries : List Listed) → list_any (λ listed. listed.point == x) entries ≡ false → listed_position p n entries ≡ None
 listed-none p x n number [] out = refl
 listed-none p x n number (listed ∷ rest) out =
@@ -106,14 +104,14 @@ points-after p s t entries same n =
 
 allocated-throw : (p : PlantLists) (s t : State) (r x : ℕ) → (it : IsAllocated p s t r) → wants_point p r x ≡ false → (n : ℕ) → point_number p x ≡ Some n → slice_get t.points n ≡ slice_get s.points n
 allocated-throw p s t r x it out n number =
-    let same : wants_point p r x ≡ list_any (λ listed. listed.point == x) (wanted_points it.route) = rw it.changes.known refl in
-    points-after p s t (wanted_points it.route) it.points n ∙ point-uncommanded (slice_get s.points n) (listed_position p n (wanted_points it.route)) (listed-none p x n number (wanted_points it.route) (sym same ∙ out))
+    let same : wants_point p r x ≡ list_any (λ listed. listed.point == x) (required_points it.route) = rw it.changes.known refl in
+    points-after p s t (required_points it.route) it.points n ∙ point-uncommanded (slice_get s.points n) (listed_position p n (required_points it.route)) (listed-none p x n number (required_points it.route) (sym same ∙ out))
 
 allocated-settle : (p : PlantLists) (s t : State) (r : ℕ) → (it : IsAllocated p s t r) →
     (n : ℕ) (point : PointState) → slice_get t.points n ≡ Some point → is_moving point.at ≡ true →
     (was : PointState) × (slice_get s.points n ≡ Some was) × (is_moving was.at ≡ true)
 allocated-settle p s t r it n point at moves =
-    let found = mapped-Some (λ (one : PointState). record one { to = unwrap_or (listed_position p n (wanted_points it.route)) one.to }) (slice_get s.points n) point (sym (points-after p s t (wanted_points it.route) it.points n) ∙ at) in
+    let found = mapped-Some (λ (one : PointState). record one { to = unwrap_or (listed_position p n (required_points it.route)) one.to }) (slice_get s.points n) point (sym (points-after p s t (required_points it.route) it.points n) ∙ at) in
     (found.0, found.1, ap (λ (one : PointState). is_moving one.at) found.2 ∙ moves)
 
 pub allocate-keeps : (p : PlantLists) → IsPlant p → (s t : State) → HasShape p s → (r : ℕ) → IsAllocated p s t r → Keeps p s t (Allocate r)
@@ -129,7 +127,7 @@ allocate-keeps p plant s t shape r it (Allocate q) own out h = allocate-back p s
 allocate-keeps p plant s t shape r it (Lock q) own out h = lock-back p s t q
     (states-other p s t r it.route it.now (record it.now { mode = Allocating }) it.changes q allocating out)
     (λ route known k listed at. lies-back p s t listed
-    (lie-kept p s t (wanted_points it.route) it.points listed.point))
+    (lie-kept p s t (required_points it.route) it.points listed.point))
     (λ route known k m at. aspect-stays s t it.boards m Closed)
     (λ route known. protecting-keeps p s t r it.route it.now (record it.now { mode = Allocating }) it.changes
     (inl (ap (λ (m : Mode). same_mode m Locked) it.was)) route.source) h
@@ -154,14 +152,14 @@ allocate-keeps p plant s t shape r it (Finish q) own out h = finish-back p s t q
 allocate-keeps p plant s t shape r it (Throw x) own out h = throw-back p s t x (allocated-throw p s t r x it out) h
 allocate-keeps p plant s t shape r it (Settle x) own out h = settle-back p s t x (λ n point number. allocated-settle p s t r it n point) h
 allocate-keeps p plant s t shape r it (Enter x) own out h = cc
-allocate-keeps p plant s t shape r it (Head x) own out h = head-stays p s t x it.trains (lie-kept p s t (wanted_points it.route) it.points x) (λ d. passes-same s t it.boards (board_of p x d)) h
+allocate-keeps p plant s t shape r it (Head x) own out h = head-stays p s t x it.trains (lie-kept p s t (required_points it.route) it.points x) (λ d. passes-same s t it.boards (board_of p x d)) h
 allocate-keeps p plant s t shape r it (Tail x) own out h = tail-stays p s t x it.trains h
 allocate-keeps p plant s t shape r it (Leave x) own out h = leave-stays p s t x it.trains h
 allocate-keeps p plant s t shape r it (Cancel q) own out h = cc
 
-begins-not : (p : PlantLists) (r x : ℕ) (route : Route) → slice_get p.routes r ≡ Some route → begins_at p r x ≡ false → stands_at p x route.source ≡ false
+begins-not : (p : PlantLists) (r x : ℕ) (route : Route) → slice_get p.routes r ≡ Some route → has_source_at p r x ≡ false → is_board_at p x route.source ≡ false
 begins-not p r x route known out =
-    let same : begins_at p r x ≡ stands_at p x route.source = rw known refl in
+    let same : has_source_at p r x ≡ is_board_at p x route.source = rw known refl in
     sym same ∙ out
 
 pub lock-keeps : (p : PlantLists) → IsPlant p → (s t : State) → HasShape p s → (r : ℕ) → IsLocked p s t r → Keeps p s t (Lock r)
@@ -196,19 +194,17 @@ lock-keeps p plant s t shape r it (Tail x) own out h = tail-stays p s t x it.tra
 lock-keeps p plant s t shape r it (Leave x) own out h = leave-stays p s t x it.trains h
 lock-keeps p plant s t shape r it (Cancel q) own out h = cc
 
--- where route r doesn't protect against a board, its state says nothing of that
 protecting-apart : (p : PlantLists) (s t : State) (r : ℕ) (route : Route) (now new : RouteState) →
     (changes : ChangesRoute p s t r route now new) → (m : ℕ) →
-    list_any (λ k. k == m) route.protecting_boards ≡ false → is_protecting p t m ≡ false →
-    is_protecting p s m ≡ false
+    list_any (λ k. k == m) route.protecting_boards ≡ false → is_held_closed p t m ≡ false →
+    is_held_closed p s m ≡ false
 protecting-apart p s t r route now new changes m out = protecting-back p s t m (λ k locked protects. elim (cases_Bool (k == r)) [
   | inl here ↦
-      (let same : protects_by p r m ≡ list_any (λ j. j == m) route.protecting_boards = rw changes.known refl in
-      true-false (protects_by p r m) (ap (λ (i : ℕ). protects_by p i m) (sym (eqb-true k r here)) ∙ protects) (same ∙ out))
+      (let same : has_protecting_board p r m ≡ list_any (λ j. j == m) route.protecting_boards = rw changes.known refl in
+      true-false (has_protecting_board p r m) (ap (λ (i : ℕ). has_protecting_board p i m) (sym (eqb-true k r here)) ∙ protects) (same ∙ out))
   | inr other ↦ mode-alike s t k Locked (stays-other p s t r route now new changes k other) locked
 ])
 
--- a section that a route vacates isn't the one that was sensed, which is occupied
 sensed-other : (p : PlantLists) (s t : State) (r : ℕ) → (it : IsSensed p s t r) → (x : ℕ) → is_occupied s x ≡ false → (x == it.x) ≡ false
 sensed-other p s t r it x vacant = false_from_ne_true (x == it.x) (λ e. true-false (is_occupied s x) (ap (is_occupied s) (eqb-true x it.x e) ∙ it.occupied) vacant)
 

@@ -1,5 +1,4 @@
--- What stays as it was where an event changes other things: routes that stand apart, points, boards, trains,
--- and locks.
+-- Routes, points, boards, trains and locks that an event leaves unchanged.
 use Rattle.std.proofs.Common.{◌≡◌, ℕ, ◌+◌, Bool, true, false, ◌&&◌, ◌||◌, ◌==◌, Option, Some, None, List, [], ◌∷◌, ◌++◌, length, set, slice_get, is_some, ◌⊎◌, inl, inr, refl, sym, ap, ◌∙◌}
 use Rattle.std.specs.Prelude.{if◌then◌else◌}
 use Rattle.std.specs.List.{list_any, range_with_len}
@@ -11,7 +10,7 @@ use Rattle.ilk_base.proofs.Options.{some-and}
 use Rattle.ilk_base.proofs.Tested.{list_any-none, none-pass}
 use Rattle.ilk_plant.specs.Network.{has_section}
 use Rattle.ilk_plant.specs.Plant.{IsPlant, PlantLists, board_of, point_number}
-use Rattle.ilk_plant.specs.State.{has_lock, is_occupied, lie_of}
+use Rattle.ilk_plant.specs.State.{has_lock, is_occupied, detected_position}
 use Rattle.ilk_plant.specs.TableRules.{protecting_points_of, sections_locked_for, sections_of}
 use Rattle.ilk_plant.specs.declared.network.Board.{Board}
 use Rattle.ilk_plant.specs.declared.network.Dir.{Dir}
@@ -27,80 +26,77 @@ use Rattle.ilk_plant.specs.declared.state.RouteState.{RouteState}
 use Rattle.ilk_plant.specs.declared.state.State.{State}
 use Rattle.ilk_plant.specs.declared.table.Listed.{Listed}
 use Rattle.ilk_plant.specs.declared.table.Route.{Route}
-use Rattle.ilk_motion.specs.Body.{has_head, has_tail_before_head, stands_on}
-use Rattle.ilk_motion.specs.Ahead.{ahead, leads_to}
+use Rattle.ilk_motion.specs.Body.{has_head, has_tail_before_head, occupies_only}
+use Rattle.ilk_motion.specs.Ahead.{ahead, section_led_to}
 use Rattle.ilk_motion.specs.Trains.{is_open, may_pass, with_board_closed}
-use Rattle.ilk_routes.specs.Boards.{has_aspect, is_protecting, protects_by, same_aspect}
-use Rattle.ilk_routes.specs.Claims.{sections_beside, wanted_points}
-use Rattle.ilk_routes.specs.Lies.{lies_as_listed, lies_at}
-use Rattle.ilk_routes.specs.Modes.{has_mode, is_claimed, same_mode}
+use Rattle.ilk_routes.specs.Boards.{has_aspect, is_held_closed, has_protecting_board, same_aspect}
+use Rattle.ilk_routes.specs.Claims.{sections_beside_path, required_points}
+use Rattle.ilk_routes.specs.Lies.{is_detected_as_listed, is_lie_at_position}
+use Rattle.ilk_routes.specs.Modes.{has_mode, is_allocating_or_locked, same_mode}
 use Rattle.ilk_model.proofs.RouteFrames.{ChangesRoute}
 use Rattle.ilk_model.specs.Event.{next}
 use Rattle.ilk_model.specs.declared.event.Event.TheVariants.{Throw, Settle, Head, Tail, Leave}
 use Rattle.ilk_plant.proofs.InLists.{section-at}
 use Rattle.ilk_strict.proofs.After.{same-occupied}
-use Rattle.ilk_drive.specs.Awakening.{asks_about, bears_on, is_concerned, is_guarded_by, is_related, share_section, stands_at}
+use Rattle.ilk_drive.specs.Awakening.{depends_on, may_affect, depends_on_section, starts_at_protecting_board, may_affect_route, share_section, is_board_at}
 use Rattle.ilk_drive.proofs.Back.{first_dir, head-back, leave-back, settle-back, tail-back, throw-back}
 use Rattle.ilk_drive.proofs.Changes.{apart, claimed-alike, lock-same, locks-stay, neither, state-new, true-false}
 
--- tests that are asked of what is known ------------------------------------------------------------------------------
+-- Tests of known items
 
--- an unrelated route has no conflict with r, shares no section with it, and neither guards the other
+-- Route `other` has no conflict with r, shares no section with it, and neither guards the other.
 pub record AreApart (r : ℕ) (route other : Route) : Type 0 where
   pub conflict : list_any (λ c. c == r) other.conflicts ≡ false
   pub sections : share_section route other ≡ false
-  pub guarded : is_guarded_by route other ≡ false
-  pub guarding : is_guarded_by other route ≡ false
+  pub guarded : starts_at_protecting_board route other ≡ false
+  pub guarding : starts_at_protecting_board other route ≡ false
 
-pub are-apart : (p : PlantLists) (r q : ℕ) (route other : Route) → slice_get p.routes r ≡ Some route → slice_get p.routes q ≡ Some other → is_related p r q ≡ false → AreApart r route other
+pub are-apart : (p : PlantLists) (r q : ℕ) (route other : Route) → slice_get p.routes r ≡ Some route → slice_get p.routes q ≡ Some other → may_affect_route p r q ≡ false → AreApart r route other
 are-apart p r q route other known that out =
-    let same : is_related p r q ≡ bears_on r route other = rw (known, that) refl in
-    let one = neither (list_any (λ c. c == r) other.conflicts) (share_section route other || (is_guarded_by route other || is_guarded_by other route)) (sym same ∙ out) in
-    let two = neither (share_section route other) (is_guarded_by route other || is_guarded_by other route) one.1 in
-    let three = neither (is_guarded_by route other) (is_guarded_by other route) two.1 in
+    let same : may_affect_route p r q ≡ may_affect r route other = rw (known, that) refl in
+    let one = neither (list_any (λ c. c == r) other.conflicts) (share_section route other || (starts_at_protecting_board route other || starts_at_protecting_board other route)) (sym same ∙ out) in
+    let two = neither (share_section route other) (starts_at_protecting_board route other || starts_at_protecting_board other route) one.1 in
+    let three = neither (starts_at_protecting_board route other) (starts_at_protecting_board other route) two.1 in
     record { conflict = one.0; sections = two.0; guarded = three.0; guarding = three.1 }
 
--- a section of the one isn't one of the other
 pub not-shared : (a b : Route) → share_section a b ≡ false → (x : ℕ) → has_section x (sections_locked_for b) ≡ true → has_section x (sections_locked_for a) ≡ false
 not-shared a b out x in_ = false_from_ne_true (has_section x (sections_locked_for a)) (λ h.
     let found = section-at x (sections_locked_for a) h in
     true-false (has_section x (sections_locked_for b)) in_ (list_any-none (λ y. has_section y (sections_locked_for b)) (sections_locked_for a) found.0 x out found.1))
 
--- what an unconcerned route doesn't ask about
+-- A route that doesn't depend on section x.
 pub record AsksNot (p : PlantLists) (x : ℕ) (route : Route) : Type 0 where
   pub section : has_section x (sections_locked_for route) ≡ false
-  pub point : list_any (λ listed. listed.point == x) (wanted_points route) ≡ false
-  pub board : list_any (stands_at p x) route.protecting_boards ≡ false
+  pub point : list_any (λ listed. listed.point == x) (required_points route) ≡ false
+  pub board : list_any (is_board_at p x) route.protecting_boards ≡ false
 
-pub asks-not : (p : PlantLists) (x q : ℕ) (route : Route) → slice_get p.routes q ≡ Some route → is_concerned p x q ≡ false → AsksNot p x route
+pub asks-not : (p : PlantLists) (x q : ℕ) (route : Route) → slice_get p.routes q ≡ Some route → depends_on_section p x q ≡ false → AsksNot p x route
 asks-not p x q route known out =
-    let same : is_concerned p x q ≡ asks_about p x route = rw known refl in
-    let one = neither (has_section x (sections_locked_for route)) (list_any (λ listed. listed.point == x) (wanted_points route) || list_any (stands_at p x) route.protecting_boards) (sym same ∙ out) in
-    let two = neither (list_any (λ listed. listed.point == x) (wanted_points route)) (list_any (stands_at p x) route.protecting_boards) one.1 in
+    let same : depends_on_section p x q ≡ depends_on p x route = rw known refl in
+    let one = neither (has_section x (sections_locked_for route)) (list_any (λ listed. listed.point == x) (required_points route) || list_any (is_board_at p x) route.protecting_boards) (sym same ∙ out) in
+    let two = neither (list_any (λ listed. listed.point == x) (required_points route)) (list_any (is_board_at p x) route.protecting_boards) one.1 in
     record { section = one.0; point = two.0; board = two.1 }
 
--- one section isn't another, since one of them is in a list
 pub not-that : (xs : List ℕ) (x y : ℕ) → has_section x xs ≡ true → has_section y xs ≡ false → (x == y) ≡ false
 not-that xs x y in_ out = false_from_ne_true (x == y) (λ e. true-false (has_section y xs) (ap (λ (z : ℕ). has_section z xs) (sym (eqb-true x y e)) ∙ in_) out)
 
--- points and boards ---------------------------------------------------------------------------------------------------
+-- Points and boards
 
-pub lie-stays : (p : PlantLists) (s t : State) → t.points ≡ s.points → (x : ℕ) → lie_of p t x ≡ lie_of p s x
+pub lie-stays : (p : PlantLists) (s t : State) → t.points ≡ s.points → (x : ℕ) → detected_position p t x ≡ detected_position p s x
 lie-stays p s t same x = ap (λ (points : List PointState). point_number p x >>= (λ n. slice_get points n >>= (λ point. Some point.at))) same
 
-pub leads-back : (p : PlantLists) (s t : State) (x : ℕ) → lie_of p t x ≡ lie_of p s x → (d : Dir) (y : ℕ) → ahead p t x d ≡ Some y → is_some (ahead p s x d) ≡ true
+pub leads-back : (p : PlantLists) (s t : State) (x : ℕ) → detected_position p t x ≡ detected_position p s x → (d : Dir) (y : ℕ) → ahead p t x d ≡ Some y → is_some (ahead p s x d) ≡ true
 leads-back p s t x same d y h =
-    let alike : ahead p t x d ≡ ahead p s x d = ap (λ (lie : Option Lie). slice_get p.sections x >>= (λ section. leads_to section d lie)) same in
+    let alike : ahead p t x d ≡ ahead p s x d = ap (λ (lie : Option Lie). slice_get p.sections x >>= (λ section. section_led_to section d lie)) same in
     ap is_some (sym alike ∙ h)
 
-pub lies-back : (p : PlantLists) (s t : State) (listed : Listed) → lie_of p t listed.point ≡ lie_of p s listed.point → lies_as_listed p t listed ≡ true → lies_as_listed p s listed ≡ true
-lies-back p s t listed same h = ap (λ (o : Option Lie). is_some_and o (λ lie. lies_at lie listed.at)) (sym same) ∙ h
+pub lies-back : (p : PlantLists) (s t : State) (listed : Listed) → detected_position p t listed.point ≡ detected_position p s listed.point → is_detected_as_listed p t listed ≡ true → is_detected_as_listed p s listed ≡ true
+lies-back p s t listed same h = ap (λ (o : Option Lie). is_some_and o (λ lie. is_lie_at_position lie listed.at)) (sym same) ∙ h
 
 pub passes-same : (s t : State) → t.boards ≡ s.boards → (board : Option ℕ) → may_pass t board ≡ true → may_pass s board ≡ true
 passes-same s t same None h = refl
 passes-same s t same (Some m) h = ap (λ (l : List Aspect). is_some_and (slice_get l m) is_open) (sym same) ∙ h
 
--- where a board was closed, what may be passed might be
 passes-closed : (s t : State) (c : ℕ) → t.boards ≡ set s.boards c Closed → (board : Option ℕ) → may_pass t board ≡ true → may_pass s board ≡ true
 passes-closed s t c same None h = refl
 passes-closed s t c same (Some m) h =
@@ -110,7 +106,6 @@ passes-closed s t c same (Some m) h =
       | inr it ↦ ap (λ (o : Option Aspect). is_some_and o is_open) it ∙ found.2
     ]
 
--- another board than the one that was set shows what it did
 board-other : (s t : State) (c : ℕ) (aspect : Aspect) → t.boards ≡ set s.boards c aspect → (m : ℕ) → (m ≡ c → ⊥) → slice_get t.boards m ≡ slice_get s.boards m
 board-other s t c aspect same m out = ap (λ (l : List Aspect). slice_get l m) same ∙ slice_get-set_other s.boards c m aspect (λ e. out (sym e))
 
@@ -120,7 +115,6 @@ aspect-alike s t m aspect same h = ap (λ (o : Option Aspect). is_some_and o (λ
 pub aspect-stays : (s t : State) → t.boards ≡ s.boards → (m : ℕ) (aspect : Aspect) → has_aspect t m aspect ≡ true → has_aspect s m aspect ≡ true
 aspect-stays s t same m aspect = aspect-alike s t m aspect (ap (λ (l : List Aspect). slice_get l m) same)
 
--- where a board was opened, what is closed was closed
 pub aspect-opened : (s t : State) (c : ℕ) → t.boards ≡ set s.boards c Open → (m : ℕ) → has_aspect t m Closed ≡ true → has_aspect s m Closed ≡ true
 aspect-opened s t c same m h =
     let found = some-and (slice_get t.boards m) (λ now. same_aspect now Closed) h in
@@ -129,28 +123,26 @@ aspect-opened s t c same m h =
       | inr it ↦ ap (λ (o : Option Aspect). is_some_and o (λ now. same_aspect now Closed)) it ∙ found.2
     ]
 
--- a board isn't protected against before, where each Locked route that protects against it still is one
-pub protecting-back : (p : PlantLists) (s t : State) (m : ℕ) → ((k : ℕ) → has_mode s k Locked ≡ true → protects_by p k m ≡ true → has_mode t k Locked ≡ true) → is_protecting p t m ≡ false → is_protecting p s m ≡ false
+pub protecting-back : (p : PlantLists) (s t : State) (m : ℕ) → ((k : ℕ) → has_mode s k Locked ≡ true → has_protecting_board p k m ≡ true → has_mode t k Locked ≡ true) → is_held_closed p t m ≡ false → is_held_closed p s m ≡ false
 protecting-back p s t m keeps free =
-    none-pass (λ k. has_mode s k Locked && protects_by p k m) (range_with_len 0 (length p.routes)) (λ i k at.
-    false_from_ne_true (has_mode s k Locked && protects_by p k m) (λ h.
-    let parts = and_parts (has_mode s k Locked) (protects_by p k m) h in
-    true-false (has_mode t k Locked && protects_by p k m) (both_true (keeps k parts.0 parts.1) parts.1)
-    (list_any-none (λ j. has_mode t j Locked && protects_by p j m) (range_with_len 0 (length p.routes)) i k free at)))
+    none-pass (λ k. has_mode s k Locked && has_protecting_board p k m) (range_with_len 0 (length p.routes)) (λ i k at.
+    false_from_ne_true (has_mode s k Locked && has_protecting_board p k m) (λ h.
+    let parts = and_parts (has_mode s k Locked) (has_protecting_board p k m) h in
+    true-false (has_mode t k Locked && has_protecting_board p k m) (both_true (keeps k parts.0 parts.1) parts.1)
+    (list_any-none (λ j. has_mode t j Locked && has_protecting_board p j m) (range_with_len 0 (length p.routes)) i k free at)))
 
--- the modes of routes that stay
 pub mode-alike : (s t : State) (k : ℕ) (mode : Mode) → slice_get t.routes k ≡ slice_get s.routes k → has_mode s k mode ≡ true → has_mode t k mode ≡ true
 mode-alike s t k mode same h = ap (λ (o : Option RouteState). is_some_and o (λ now. same_mode now.mode mode)) same ∙ h
 
 mode-is : (s : State) (k : ℕ) (now : RouteState) (mode : Mode) → slice_get s.routes k ≡ Some now → has_mode s k mode ≡ same_mode now.mode mode
 mode-is s k now mode at = rw at refl
 
--- the routes and points that stay --------------------------------------------------------------------------------------
+-- Unchanged routes and points
 
-pub conflicts-stay : (s t : State) → t.routes ≡ s.routes → (c : ℕ) → is_claimed t c ≡ false → is_claimed s c ≡ false
+pub conflicts-stay : (s t : State) → t.routes ≡ s.routes → (c : ℕ) → is_allocating_or_locked t c ≡ false → is_allocating_or_locked s c ≡ false
 conflicts-stay s t same c free = sym (claimed-alike s t c (ap (λ (l : List RouteState). slice_get l c) same)) ∙ free
 
-pub protecting-stays : (p : PlantLists) (s t : State) → t.routes ≡ s.routes → (m : ℕ) → is_protecting p t m ≡ false → is_protecting p s m ≡ false
+pub protecting-stays : (p : PlantLists) (s t : State) → t.routes ≡ s.routes → (m : ℕ) → is_held_closed p t m ≡ false → is_held_closed p s m ≡ false
 protecting-stays p s t same m = protecting-back p s t m (λ k locked protects. mode-alike s t k Locked (ap (λ (l : List RouteState). slice_get l k) same) locked)
 
 pub vacant-stays : (s t : State) → t.trains ≡ s.trains → (x : ℕ) → is_occupied t x ≡ false → is_occupied s x ≡ false
@@ -165,7 +157,7 @@ throw-stays p s t x same = throw-back p s t x (λ n number. ap (λ (l : List Poi
 pub settle-stays : (p : PlantLists) (s t : State) (x : ℕ) → t.points ≡ s.points → is_some (next p t (Settle x)) ≡ true → is_some (next p s (Settle x)) ≡ true
 settle-stays p s t x same = settle-back p s t x (λ n point number at moves. (point, sym (ap (λ (l : List PointState). slice_get l n) same) ∙ at, moves))
 
-pub head-stays : (p : PlantLists) (s t : State) (x : ℕ) → t.trains ≡ s.trains → lie_of p t x ≡ lie_of p s x →
+pub head-stays : (p : PlantLists) (s t : State) (x : ℕ) → t.trains ≡ s.trains → detected_position p t x ≡ detected_position p s x →
     ((d : Dir) → may_pass t (board_of p x d) ≡ true → may_pass s (board_of p x d) ≡ true) →
     is_some (next p t (Head x)) ≡ true → is_some (next p s (Head x)) ≡ true
 head-stays p s t x same lies passes = head-back p s t x (ap (first_dir (has_head x)) same) (leads-back p s t x lies) passes
@@ -174,9 +166,9 @@ pub tail-stays : (p : PlantLists) (s t : State) (x : ℕ) → t.trains ≡ s.tra
 tail-stays p s t x same = tail-back p s t x (ap (first_dir (has_tail_before_head x)) same)
 
 pub leave-stays : (p : PlantLists) (s t : State) (x : ℕ) → t.trains ≡ s.trains → is_some (next p t (Leave x)) ≡ true → is_some (next p s (Leave x)) ≡ true
-leave-stays p s t x same = leave-back p s t x (ap (first_dir (stands_on x)) same)
+leave-stays p s t x same = leave-back p s t x (ap (first_dir (occupies_only x)) same)
 
--- what stands in none of two lists ---------------------------------------------------------------------------------------
+-- Sections in neither of two lists
 
 none-parts : (x : ℕ) (xs ys : List ℕ) → has_section x (xs ++ ys) ≡ false → (has_section x xs ≡ false) × (has_section x ys ≡ false)
 none-parts x [] ys h = (refl, h)
@@ -194,18 +186,15 @@ none-either_list x (u ∷ xs) ys a b =
     let first = neither (u == x) (has_section x xs) a in
     ap (λ (c : Bool). c || has_section x (xs ++ ys)) first.0 ∙ none-either_list x xs ys first.1 b
 
--- what a route doesn't lock isn't beside its path
-pub beside-none : (x : ℕ) (route : Route) → has_section x (sections_locked_for route) ≡ false → has_section x (sections_beside route) ≡ false
+pub beside-none : (x : ℕ) (route : Route) → has_section x (sections_locked_for route) ≡ false → has_section x (sections_beside_path route) ≡ false
 beside-none x route out =
     let outer = none-parts x (sections_of route) (protecting_points_of route) out in
     let inner = none-parts x route.path route.overlap outer.0 in
     none-either_list x route.overlap (protecting_points_of route) inner.1 outer.1
 
--- one section isn't another, since the other is in a list
 pub not-these : (xs : List ℕ) (x y : ℕ) → has_section x xs ≡ false → has_section y xs ≡ true → (x == y) ≡ false
 not-these xs x y out in_ = false_from_ne_true (x == y) (λ e. true-false (has_section y xs) in_ (ap (λ (z : ℕ). has_section z xs) (sym (eqb-true x y e)) ∙ out))
 
--- the boards after a route was sensed
 pub board-sensed : (s t : State) (c : ℕ) (b : Bool) → t.boards ≡ (if b then set s.boards c Closed else s.boards) → (m : ℕ) → (m ≡ c → ⊥) → slice_get t.boards m ≡ slice_get s.boards m
 board-sensed s t c true same m out = board-other s t c Closed same m out
 board-sensed s t c false same m out = ap (λ (l : List Aspect). slice_get l m) same
@@ -214,7 +203,6 @@ pub passes-sensed : (s t : State) (c : ℕ) (b : Bool) → t.boards ≡ (if b th
 passes-sensed s t c true same = passes-closed s t c same
 passes-sensed s t c false same = passes-same s t same
 
--- the boards after a head moved on
 pub board-headed : (s t : State) (board : Option ℕ) → t.boards ≡ (with_board_closed board s).boards → (m : ℕ) → (board ≡ Some m → ⊥) → slice_get t.boards m ≡ slice_get s.boards m
 board-headed s t None same m out = ap (λ (l : List Aspect). slice_get l m) same
 board-headed s t (Some c) same m out = board-other s t c Closed same m (λ e. out (ap Some (sym e)))
@@ -223,24 +211,22 @@ pub passes-headed : (s t : State) (closed : Option ℕ) → t.boards ≡ (with_b
 passes-headed s t None same = passes-same s t same
 passes-headed s t (Some c) same = passes-closed s t c same
 
--- a board on a section stands there
-pub stands-there : (p : PlantLists) → IsPlant p → (x m : ℕ) (d : Dir) → board_of p x d ≡ Some m → stands_at p x m ≡ true
+pub stands-there : (p : PlantLists) → IsPlant p → (x m : ℕ) (d : Dir) → board_of p x d ≡ Some m → is_board_at p x m ≡ true
 stands-there p plant x m d on =
     let board : Board = record { section = x; dir = d } in
     let known : slice_get p.boards m ≡ Some board = (plant.boards_listed x m d).0 on in
     ap (λ (o : Option Board). is_some_and o (λ b. b.section == x)) known ∙ eq-eqb x x refl
 
--- where a board was opened, another may be passed as before
-pub passes-opened : (p : PlantLists) → IsPlant p → (s t : State) (c x : ℕ) (d : Dir) → t.boards ≡ set s.boards c Open → stands_at p x c ≡ false → may_pass t (board_of p x d) ≡ true → may_pass s (board_of p x d) ≡ true
+pub passes-opened : (p : PlantLists) → IsPlant p → (s t : State) (c x : ℕ) (d : Dir) → t.boards ≡ set s.boards c Open → is_board_at p x c ≡ false → may_pass t (board_of p x d) ≡ true → may_pass s (board_of p x d) ≡ true
 passes-opened p plant s t c x d same off h = by_board (board_of p x d) refl h
   where
     by_board : (o : Option ℕ) → board_of p x d ≡ o → may_pass t o ≡ true → may_pass s o ≡ true
     by_board None e h = refl
     by_board (Some m) e h =
-        let other : m ≡ c → ⊥ = λ is. true-false (stands_at p x c) (ap (stands_at p x) (sym is) ∙ stands-there p plant x m d e) off in
+        let other : m ≡ c → ⊥ = λ is. true-false (is_board_at p x c) (ap (is_board_at p x) (sym is) ∙ stands-there p plant x m d e) off in
         ap (λ (o : Option Aspect). is_some_and o is_open) (sym (board-other s t c Open same m other)) ∙ h
 
--- a route that ends a claim, or takes one up
+-- A route that ends or begins a claim
 module _ (p : PlantLists) (s t : State) (r : ℕ) (route : Route) (now new : RouteState) (changes : ChangesRoute p s t r route now new) where
   pub stays-other : (k : ℕ) → (k == r) ≡ false → slice_get t.routes k ≡ slice_get s.routes k
   stays-other k out = ap (λ (l : List RouteState). slice_get l k) changes.routes ∙ slice_get-set_other s.routes r k new (λ e. apart k r out (sym e))
@@ -255,7 +241,7 @@ module _ (p : PlantLists) (s t : State) (r : ℕ) (route : Route) (now new : Rou
       at_own (inl not_so) e locked = true-false (same_mode now.mode Locked) (sym (mode-is s r now Locked changes.state) ∙ ap (λ (i : ℕ). has_mode s i Locked) (sym e) ∙ locked) not_so
       at_own (inr so) e locked = ap (λ (i : ℕ). has_mode t i Locked) e ∙ mode-is t r new Locked (state-new p s t r route now new changes) ∙ so
 
-  pub protecting-keeps : ((same_mode now.mode Locked ≡ false) ⊎ (same_mode new.mode Locked ≡ true)) → (m : ℕ) → is_protecting p t m ≡ false → is_protecting p s m ≡ false
+  pub protecting-keeps : ((same_mode now.mode Locked ≡ false) ⊎ (same_mode new.mode Locked ≡ true)) → (m : ℕ) → is_held_closed p t m ≡ false → is_held_closed p s m ≡ false
   protecting-keeps how m = protecting-back p s t m (λ k locked protects. modes-keep how k locked)
 
 pub locks-kept : (s t : State) → t.locks ≡ s.locks → (x : ℕ) (want : Hold) → has_lock t x want ≡ true → has_lock s x want ≡ true

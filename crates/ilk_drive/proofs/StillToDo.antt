@@ -1,4 +1,4 @@
--- What points, trains and routes still have to do, at most, and what lowers it.
+-- Bounds on the remaining events of points, trains and routes, and the events that lower them.
 use Rattle.std.proofs.Common.{◌≡◌, ℕ, ◌+◌, ◌-◌, ◌*◌, ◌<◌, ◌≤◌, Bool, true, false, ◌||◌, Option, Some, None, List, [], ◌∷◌, ◌++◌, length, set, remove, refl, sym, ap, ◌∙◌, subst, arith}
 use Rattle.std.specs.Prelude.{if◌then◌else◌, IfSome}
 use Rattle.std.proofs.lemmas.Bool.{eqb-true}
@@ -6,7 +6,7 @@ use Rattle.std.proofs.lemmas.List.{length-append}
 use Rattle.ilk_base.proofs.Lists.{item_at}
 use Rattle.ilk_plant.proofs.PointNumbers.{point_number-below}
 use Rattle.ilk_plant.specs.Plant.{IsPlant, IsRouteOf, PlantLists, point_count, point_number}
-use Rattle.ilk_plant.specs.Sound.{NeverReturns}
+use Rattle.ilk_plant.specs.Sound.{NoWalkReturns}
 use Rattle.ilk_plant.specs.declared.network.Dir.{Dir}
 use Rattle.ilk_plant.specs.declared.network.Position.{Position}
 use Rattle.ilk_plant.specs.declared.network.Position.TheVariants.{Plus, Minus}
@@ -16,25 +16,24 @@ use Rattle.ilk_plant.specs.declared.state.PointState.{PointState}
 use Rattle.ilk_plant.specs.declared.state.RouteState.{RouteState}
 use Rattle.ilk_plant.specs.declared.table.Listed.{Listed}
 use Rattle.ilk_plant.specs.declared.table.Route.{Route}
-use Rattle.ilk_motion.specs.Body.{is_first_of_several, is_last, is_only}
+use Rattle.ilk_motion.specs.Body.{is_first_of_several, is_last_section, is_only_section}
 use Rattle.ilk_routes.proofs.Commands.{length-with_commands, with_commands-after, with_commands-first, with_commands-no_point, with_commands-none}
-use Rattle.ilk_routes.specs.Claims.{wanted_points}
-use Rattle.ilk_routes.specs.Lies.{is_moving, lie_in, lies_at, with_commands}
+use Rattle.ilk_routes.specs.Claims.{required_points}
+use Rattle.ilk_routes.specs.Lies.{is_moving, lie_from_position, is_lie_at_position, with_commands}
 use Rattle.ilk_routes.specs.Modes.{same_mode}
 use Rattle.ilk_drive.proofs.Potential.{body_left, path_left, point_left, points_left, points_left-set, route_left_in}
 use Rattle.ilk_drive.proofs.Walks.{far, far-falls, is_step}
 
--- points -----------------------------------------------------------------------------------------------------------
+-- Points
 
 point_left-most : (point : PointState) → point_left point ≤ 2
-point_left-most point = by_moving (is_moving point.at) (lies_at point.at point.to)
+point_left-most point = by_moving (is_moving point.at) (is_lie_at_position point.at point.to)
   where
     by_moving : (moves lies : Bool) → (if moves then 1 else if lies then 0 else 2) ≤ 2
     by_moving true lies = omega arith
     by_moving false true = omega arith
     by_moving false false = omega arith
 
--- one command raises what points still do by two at most
 command-raises : (p : PlantLists) (points : List PointState) (listed : Listed) → length points ≡ point_count p → points_left (with_commands p points (listed ∷ [])) ≤ points_left points + 2
 command-raises p points listed long = by_number (point_number p listed.point) refl
   where
@@ -63,13 +62,13 @@ commands-raise p (listed ∷ rest) points long =
     let same : points_left (with_commands p (with_commands p points (listed ∷ [])) rest) ≡ points_left (with_commands p points (listed ∷ rest)) = ap points_left (with_commands-after p points listed rest) in
     omega (arith, one, more, same)
 
-pub settled : (to : Position) → point_left (record { at = lie_in to; to = to }) ≡ 0
+pub settled : (to : Position) → point_left (record { at = lie_from_position to; to = to }) ≡ 0
 settled Plus = refl
 settled Minus = refl
 
--- trains -----------------------------------------------------------------------------------------------------------
+-- Trains
 
-pub head-lowers : (p : PlantLists) → IsPlant p → NeverReturns p → (d : Dir) (x y : ℕ) (body : List ℕ) → is_last x body ≡ true → is_step p d x y ≡ true → body_left p d (body ++ y ∷ []) + 1 ≤ body_left p d body
+pub head-lowers : (p : PlantLists) → IsPlant p → NoWalkReturns p → (d : Dir) (x y : ℕ) (body : List ℕ) → is_last_section x body ≡ true → is_step p d x y ≡ true → body_left p d (body ++ y ∷ []) + 1 ≤ body_left p d body
 head-lowers p plant never d x y [] last step = cc
 head-lowers p plant never d x y (z ∷ []) last step =
     let falls = far-falls p plant never d x y step in
@@ -84,12 +83,12 @@ tail-lowers p d x [] several = cc
 tail-lowers p d x (z ∷ []) several = cc
 tail-lowers p d x (z ∷ u ∷ rest) several = omega arith
 
-pub only-left : (p : PlantLists) (d : Dir) (x : ℕ) (body : List ℕ) → is_only x body ≡ true → 1 ≤ body_left p d body
+pub only-left : (p : PlantLists) (d : Dir) (x : ℕ) (body : List ℕ) → is_only_section x body ≡ true → 1 ≤ body_left p d body
 only-left p d x [] only = cc
 only-left p d x (z ∷ []) only = omega arith
 only-left p d x (z ∷ u ∷ rest) only = cc
 
--- routes -----------------------------------------------------------------------------------------------------------
+-- Routes
 
 pub in-use : (route : Route) (now : RouteState) (mode : Mode) → (same_mode mode Locked || same_mode mode Occupied) ≡ true → route_left_in mode route now ≡ path_left route now
 in-use route now Free use_ = cc
@@ -98,10 +97,9 @@ in-use route now Allocating use_ = cc
 in-use route now Locked use_ = refl
 in-use route now Occupied use_ = refl
 
--- how many points a route wants, at most, and how long its path is
-pub wanted-few : (p : PlantLists) (route : Route) → IsRouteOf p route → (length (wanted_points route) ≤ 48) × (length route.path ≤ 32)
+pub wanted-few : (p : PlantLists) (route : Route) → IsRouteOf p route → (length (required_points route) ≤ 48) × (length route.path ≤ 32)
 wanted-few p route known =
-    let both : length (wanted_points route) ≡ length route.points + length route.protecting_points = length-append route.points route.protecting_points in
+    let both : length (required_points route) ≡ length route.points + length route.protecting_points = length-append route.points route.protecting_points in
     let few : length route.points ≤ 40 = known.few_points in
     let others : length route.protecting_points ≤ 8 = known.few_protecting_points in
     let long : length route.path ≤ 32 = known.path_ends in

@@ -1,4 +1,4 @@
--- What the events of trains change: which sections are occupied, and which trains are the first of their kind at a section.
+-- The effects of train events: the occupied sections, and the first trains at a section.
 use Rattle.std.proofs.Common.{◌≡◌, ℕ, zero, suc, Bool, true, false, ◌||◌, ◌==◌, Some, List, [], ◌∷◌, ◌++◌, set, remove, slice_get, refl, sym, ap, ◌∙◌, subst}
 use Rattle.std.specs.List.{list_any}
 use Rattle.std.proofs.lemmas.Bool.{and_parts, eqb-true, false_from_ne_true}
@@ -6,21 +6,21 @@ use Rattle.std.proofs.lemmas.Option.{same_Some}
 use Rattle.ilk_base.proofs.Tested.{list_all-slice_get}
 use Rattle.ilk_plant.specs.Network.{has_section}
 use Rattle.ilk_plant.specs.Plant.{PlantLists, next_to}
-use Rattle.ilk_plant.specs.Shape.{HasShape, is_body, leads_on}
+use Rattle.ilk_plant.specs.Shape.{HasShape, has_valid_body, is_connected}
 use Rattle.ilk_plant.specs.State.{is_occupied}
 use Rattle.ilk_plant.specs.declared.network.Dir.{Dir}
 use Rattle.ilk_plant.specs.declared.network.Dir.TheVariants.{Up, Down}
 use Rattle.ilk_plant.specs.declared.state.State.{State}
 use Rattle.ilk_plant.specs.declared.state.Train.{Train}
 use Rattle.ilk_plant.proofs.InLists.{section-behind}
-use Rattle.ilk_motion.specs.Body.{has_head, has_tail_before_head, is_first_of_several, is_last, is_only, stands_on, train_on, with_new_head, without_tail}
+use Rattle.ilk_motion.specs.Body.{has_head, has_tail_before_head, is_first_of_several, is_last_section, is_only_section, occupies_only, new_train_on, with_new_head, without_tail}
 use Rattle.ilk_model.proofs.TrainFrames.{IsEntered, IsHeaded, IsLeft, IsTailed}
 use Rattle.ilk_strict.proofs.Trains.{enter-vacant, head-vacant, leave-vacant, tail-vacant}
-use Rattle.ilk_drive.specs.Awakening.{around}
+use Rattle.ilk_drive.specs.Awakening.{neighbours_of}
 use Rattle.ilk_drive.proofs.Back.{first_dir, first_dir-push, first_dir-remove, first_dir-set}
 use Rattle.ilk_drive.proofs.Changes.{apart, true-false}
 
--- lists of which one item changes -----------------------------------------------------------------------------------
+-- Lists of which one item changes
 
 any-either : (a b c d : Bool) → (a || b) ≡ true → (a ≡ true → c ≡ true) → (b ≡ true → d ≡ true) → (c || d) ≡ true
 any-either true b c d h f g = ap (λ (x : Bool). x || d) (f refl)
@@ -48,7 +48,6 @@ any-remove f (x ∷ xs) zero a at none h = any-rest (f x) (list_any f xs) h (ap 
     any-rest false c h e = h
 any-remove f (x ∷ xs) (suc i) a at none h = any-either (f x) (list_any f xs) (f x) (list_any f (remove xs i)) h (λ e. e) (λ e. any-remove f xs i a at none e)
 
--- what has a section has it with one more, and without the first if that is another
 longer-keeps : (z y : ℕ) (body : List ℕ) → has_section z body ≡ true → has_section z (body ++ y ∷ []) ≡ true
 longer-keeps z y body h = any-push (λ u. u == z) body y h
 
@@ -60,15 +59,14 @@ shorter-keeps z x (u ∷ v ∷ rest) several out h = any-remove (λ w. w == z) (
     other-first : (z x u : ℕ) → (z == x) ≡ false → (u == x) ≡ true → (u == z) ≡ false
     other-first z x u out is = false_from_ne_true (u == z) (λ e. apart z x out (sym (eqb-true u z e) ∙ eqb-true u x is))
 
--- vacant sections were vacant, and occupied ones occupied -----------------------------------------------------------
+-- Vacant and occupied sections
 
--- by what an event does to occupied sections
 pub vacant-by : (a b : Bool) → (a ≡ true → b ≡ true) → b ≡ false → a ≡ false
 vacant-by a b keeps vacant = false_from_ne_true a (λ e. true-false b (keeps e) vacant)
 
 pub enter-leaves : (p : PlantLists) (s t : State) (x : ℕ) → IsEntered p s t x → (z : ℕ) → is_occupied t z ≡ false → is_occupied s z ≡ false
 enter-leaves p s t x it z = vacant-by (is_occupied s z) (is_occupied t z) (λ e.
-    ap (λ (trains : List Train). list_any (λ train. has_section z train.body) trains) it.trains ∙ any-push (λ train. has_section z train.body) s.trains (train_on x it.inward) e)
+    ap (λ (trains : List Train). list_any (λ train. has_section z train.body) trains) it.trains ∙ any-push (λ train. has_section z train.body) s.trains (new_train_on x it.inward) e)
 
 pub head-leaves : (p : PlantLists) (s t : State) (x : ℕ) → IsHeaded p s t x → (z : ℕ) → is_occupied t z ≡ false → is_occupied s z ≡ false
 head-leaves p s t x it z = vacant-by (is_occupied s z) (is_occupied t z) (λ e.
@@ -78,7 +76,7 @@ pub tail-leaves : (p : PlantLists) (s t : State) (x : ℕ) → IsTailed p s t x 
 tail-leaves p s t x it z out = vacant-by (is_occupied s z) (is_occupied t z) (λ e.
     ap (λ (trains : List Train). list_any (λ train. has_section z train.body) trains) it.trains ∙ any-set (λ train. has_section z train.body) s.trains it.i it.train (without_tail it.train) it.at (shorter-keeps z x it.train.body it.several out) e)
 
-only-there : (z x : ℕ) (body : List ℕ) → is_only x body ≡ true → (z == x) ≡ false → has_section z body ≡ false
+only-there : (z x : ℕ) (body : List ℕ) → is_only_section x body ≡ true → (z == x) ≡ false → has_section z body ≡ false
 only-there z x [] only out = cc
 only-there z x (u ∷ []) only out = ap (λ (b : Bool). b || false) (false_from_ne_true (u == z) (λ e. apart z x out (sym (eqb-true u z e) ∙ eqb-true u x only)))
 only-there z x (u ∷ v ∷ rest) only out = cc
@@ -103,27 +101,27 @@ tail-was p s t x it z = occupied-by (is_occupied s z) (is_occupied t z) (λ e. t
 pub leave-was : (p : PlantLists) (s t : State) (x : ℕ) → IsLeft p s t x → (z : ℕ) → is_occupied t z ≡ true → is_occupied s z ≡ true
 leave-was p s t x it z = occupied-by (is_occupied s z) (is_occupied t z) (λ e. leave-vacant p s t x it z e)
 
--- heads, tails and trains alone -------------------------------------------------------------------------------------
+-- Heads, tails and single trains
 
 differs : (u x z : ℕ) → (u == x) ≡ true → (z == x) ≡ false → (u == z) ≡ false
 differs u x z is out = false_from_ne_true (u == z) (λ e. apart z x out (sym (eqb-true u z e) ∙ eqb-true u x is))
 
-last-other : (x z : ℕ) (body : List ℕ) → is_last x body ≡ true → (z == x) ≡ false → is_last z body ≡ false
+last-other : (x z : ℕ) (body : List ℕ) → is_last_section x body ≡ true → (z == x) ≡ false → is_last_section z body ≡ false
 last-other x z [] last out = cc
 last-other x z (u ∷ []) last out = differs u x z last out
 last-other x z (u ∷ v ∷ rest) last out = last-other x z (v ∷ rest) last out
 
-last-pushed_is : (z y : ℕ) (body : List ℕ) → is_last z (body ++ y ∷ []) ≡ (y == z)
+last-pushed_is : (z y : ℕ) (body : List ℕ) → is_last_section z (body ++ y ∷ []) ≡ (y == z)
 last-pushed_is z y [] = refl
 last-pushed_is z y (u ∷ []) = refl
 last-pushed_is z y (u ∷ v ∷ rest) = last-pushed_is z y (v ∷ rest)
 
-first-pushed : (x y z : ℕ) (body : List ℕ) → is_last x body ≡ true → (z == x) ≡ false → is_first_of_several z (body ++ y ∷ []) ≡ is_first_of_several z body
+first-pushed : (x y z : ℕ) (body : List ℕ) → is_last_section x body ≡ true → (z == x) ≡ false → is_first_of_several z (body ++ y ∷ []) ≡ is_first_of_several z body
 first-pushed x y z [] last out = cc
 first-pushed x y z (u ∷ []) last out = differs u x z last out
 first-pushed x y z (u ∷ v ∷ rest) last out = refl
 
-only-pushed : (x y z : ℕ) (body : List ℕ) → is_last x body ≡ true → (z == x) ≡ false → is_only z (body ++ y ∷ []) ≡ is_only z body
+only-pushed : (x y z : ℕ) (body : List ℕ) → is_last_section x body ≡ true → (z == x) ≡ false → is_only_section z (body ++ y ∷ []) ≡ is_only_section z body
 only-pushed x y z [] last out = cc
 only-pushed x y z (u ∷ []) last out = sym (differs u x z last out)
 only-pushed x y z (u ∷ v ∷ rest) last out = refl
@@ -143,75 +141,74 @@ module _ (p : PlantLists) (s t : State) (x : ℕ) (it : IsHeaded p s t x) (z : �
   pub head-tails : first_dir (has_tail_before_head z) t.trains ≡ first_dir (has_tail_before_head z) s.trains
   head-tails = ap (first_dir (has_tail_before_head z)) it.trains ∙ first_dir-set (has_tail_before_head z) s.trains it.i it.train moved it.at (first-pushed x it.y z it.train.body it.heads out) refl
 
-  pub head-alone : first_dir (stands_on z) t.trains ≡ first_dir (stands_on z) s.trains
-  head-alone = ap (first_dir (stands_on z)) it.trains ∙ first_dir-set (stands_on z) s.trains it.i it.train moved it.at (only-pushed x it.y z it.train.body it.heads out) refl
+  pub head-alone : first_dir (occupies_only z) t.trains ≡ first_dir (occupies_only z) s.trains
+  head-alone = ap (first_dir (occupies_only z)) it.trains ∙ first_dir-set (occupies_only z) s.trains it.i it.train moved it.at (only-pushed x it.y z it.train.body it.heads out) refl
 
-last-shorter_is : (x z : ℕ) (body : List ℕ) → is_first_of_several x body ≡ true → is_last z (remove body 0) ≡ is_last z body
+last-shorter_is : (x z : ℕ) (body : List ℕ) → is_first_of_several x body ≡ true → is_last_section z (remove body 0) ≡ is_last_section z body
 last-shorter_is x z [] several = cc
 last-shorter_is x z (u ∷ []) several = cc
 last-shorter_is x z (u ∷ v ∷ rest) several = refl
 
--- the section behind the first of a body is next to it
 any-joined_left : (z : ℕ) (xs ys : List ℕ) → has_section z xs ≡ true → has_section z (xs ++ ys) ≡ true
 any-joined_left z [] ys h = cc
 any-joined_left z (u ∷ xs) ys h = any-either (u == z) (has_section z xs) (u == z) (has_section z (xs ++ ys)) h (λ e. e) (λ e. any-joined_left z xs ys e)
 
-pub next-around : (p : PlantLists) (x y : ℕ) (d : Dir) → has_section y (next_to p x d) ≡ true → has_section y (around p x) ≡ true
-next-around p x y Down h = any-joined_left y (next_to p x Down) (next_to p x Up) h
-next-around p x y Up h = section-behind y (next_to p x Down) (next_to p x Up) h
+pub next-neighbours_of : (p : PlantLists) (x y : ℕ) (d : Dir) → has_section y (next_to p x d) ≡ true → has_section y (neighbours_of p x) ≡ true
+next-neighbours_of p x y Down h = any-joined_left y (next_to p x Down) (next_to p x Up) h
+next-neighbours_of p x y Up h = section-behind y (next_to p x Down) (next_to p x Up) h
 
--- what isn't around x isn't a section that is
-pub not-around : (p : PlantLists) (x y z : ℕ) → has_section y (around p x) ≡ true → has_section z (around p x) ≡ false → (y == z) ≡ false
-not-around p x y z in_ out = false_from_ne_true (y == z) (λ e. true-false (has_section z (around p x)) (subst (λ (v : ℕ). has_section v (around p x) ≡ true) (eqb-true y z e) in_) out)
+pub not-neighbours_of : (p : PlantLists) (x y z : ℕ) → has_section y (neighbours_of p x) ≡ true → has_section z (neighbours_of p x) ≡ false → (y == z) ≡ false
+not-neighbours_of p x y z in_ out = false_from_ne_true (y == z) (λ e. true-false (has_section z (neighbours_of p x)) (subst (λ (v : ℕ). has_section v (neighbours_of p x) ≡ true) (eqb-true y z e) in_) out)
 
-second-around : (p : PlantLists) (d : Dir) (x u v : ℕ) (rest : List ℕ) → leads_on p d u (v ∷ rest) ≡ true → (u == x) ≡ true → has_section v (around p x) ≡ true
-second-around p d x u v rest on is =
-    let here : has_section v (next_to p u d) ≡ true = (and_parts (has_section v (next_to p u d)) (leads_on p d v rest) on).0 in
-    next-around p x v d (subst (λ (w : ℕ). has_section v (next_to p w d) ≡ true) (eqb-true u x is) here)
+second-neighbours_of : (p : PlantLists) (d : Dir) (x u v : ℕ) (rest : List ℕ) → is_connected p d u (v ∷ rest) ≡ true → (u == x) ≡ true → has_section v (neighbours_of p x) ≡ true
+second-neighbours_of p d x u v rest on is =
+    let here : has_section v (next_to p u d) ≡ true = (and_parts (has_section v (next_to p u d)) (is_connected p d v rest) on).0 in
+    next-neighbours_of p x v d (subst (λ (w : ℕ). has_section v (next_to p w d) ≡ true) (eqb-true u x is) here)
 
 first-shorter : (p : PlantLists) (d : Dir) (x z : ℕ) (body : List ℕ) →
-    is_body p (record { dir = d; body = body }) ≡ true → is_first_of_several x body ≡ true →
-    (z == x) ≡ false → has_section z (around p x) ≡ false →
+    has_valid_body p (record { dir = d; body = body }) ≡ true → is_first_of_several x body ≡ true →
+    (z == x) ≡ false → has_section z (neighbours_of p x) ≡ false →
     is_first_of_several z (remove body 0) ≡ is_first_of_several z body
 first-shorter p d x z [] made several out off = cc
 first-shorter p d x z (u ∷ []) made several out off = cc
 first-shorter p d x z (u ∷ v ∷ []) made several out off = sym (differs u x z several out)
 first-shorter p d x z (u ∷ v ∷ w ∷ rest) made several out off =
-    let on : leads_on p d u (v ∷ w ∷ rest) ≡ true = (and_parts _ (leads_on p d u (v ∷ w ∷ rest)) made).1 in
-    not-around p x v z (second-around p d x u v (w ∷ rest) on several) off ∙ sym (differs u x z several out)
+    let on : is_connected p d u (v ∷ w ∷ rest) ≡ true = (and_parts _ (is_connected p d u (v ∷ w ∷ rest)) made).1 in
+    not-neighbours_of p x v z (second-neighbours_of p d x u v (w ∷ rest) on several) off ∙ sym (differs u x z several out)
 
-only-shorter : (p : PlantLists) (d : Dir) (x z : ℕ) (body : List ℕ) → is_body p (record { dir = d; body = body }) ≡ true → is_first_of_several x body ≡ true → has_section z (around p x) ≡ false → is_only z (remove body 0) ≡ is_only z body
+only-shorter : (p : PlantLists) (d : Dir) (x z : ℕ) (body : List ℕ) → has_valid_body p (record { dir = d; body = body }) ≡ true → is_first_of_several x body ≡ true → has_section z (neighbours_of p x) ≡ false
+    → is_only_section z (remove body 0) ≡ is_only_section z body
 only-shorter p d x z [] made several off = cc
 only-shorter p d x z (u ∷ []) made several off = cc
 only-shorter p d x z (u ∷ v ∷ []) made several off =
-    let on : leads_on p d u (v ∷ []) ≡ true = (and_parts _ (leads_on p d u (v ∷ [])) made).1 in
-    not-around p x v z (second-around p d x u v [] on several) off
+    let on : is_connected p d u (v ∷ []) ≡ true = (and_parts _ (is_connected p d u (v ∷ [])) made).1 in
+    not-neighbours_of p x v z (second-neighbours_of p d x u v [] on several) off
 only-shorter p d x z (u ∷ v ∷ w ∷ rest) made several off = refl
 
 module _ (p : PlantLists) (s t : State) (shape : HasShape p s) (x : ℕ) (it : IsTailed p s t x) (z : ℕ) where
-  made_body : is_body p it.train ≡ true
-  made_body = list_all-slice_get (is_body p) s.trains it.i it.train shape.bodies it.at
+  made_body : has_valid_body p it.train ≡ true
+  made_body = list_all-slice_get (has_valid_body p) s.trains it.i it.train shape.bodies it.at
 
   pub tail-heads : first_dir (has_head z) t.trains ≡ first_dir (has_head z) s.trains
   tail-heads = ap (first_dir (has_head z)) it.trains ∙ first_dir-set (has_head z) s.trains it.i it.train (without_tail it.train) it.at (last-shorter_is x z it.train.body it.several) refl
 
-  pub tail-tails : (z == x) ≡ false → has_section z (around p x) ≡ false → first_dir (has_tail_before_head z) t.trains ≡ first_dir (has_tail_before_head z) s.trains
+  pub tail-tails : (z == x) ≡ false → has_section z (neighbours_of p x) ≡ false → first_dir (has_tail_before_head z) t.trains ≡ first_dir (has_tail_before_head z) s.trains
   tail-tails out off = ap (first_dir (has_tail_before_head z)) it.trains ∙ first_dir-set (has_tail_before_head z) s.trains it.i it.train (without_tail it.train) it.at (first-shorter p it.train.dir x z it.train.body made_body it.several out off) refl
 
-  pub tail-alone : has_section z (around p x) ≡ false → first_dir (stands_on z) t.trains ≡ first_dir (stands_on z) s.trains
-  tail-alone off = ap (first_dir (stands_on z)) it.trains ∙ first_dir-set (stands_on z) s.trains it.i it.train (without_tail it.train) it.at (only-shorter p it.train.dir x z it.train.body made_body it.several off) refl
+  pub tail-alone : has_section z (neighbours_of p x) ≡ false → first_dir (occupies_only z) t.trains ≡ first_dir (occupies_only z) s.trains
+  tail-alone off = ap (first_dir (occupies_only z)) it.trains ∙ first_dir-set (occupies_only z) s.trains it.i it.train (without_tail it.train) it.at (only-shorter p it.train.dir x z it.train.body made_body it.several off) refl
 
-only-last : (x z : ℕ) (body : List ℕ) → is_only x body ≡ true → (z == x) ≡ false → is_last z body ≡ false
+only-last : (x z : ℕ) (body : List ℕ) → is_only_section x body ≡ true → (z == x) ≡ false → is_last_section z body ≡ false
 only-last x z [] only out = cc
 only-last x z (u ∷ []) only out = differs u x z only out
 only-last x z (u ∷ v ∷ rest) only out = cc
 
-only-first : (x z : ℕ) (body : List ℕ) → is_only x body ≡ true → is_first_of_several z body ≡ false
+only-first : (x z : ℕ) (body : List ℕ) → is_only_section x body ≡ true → is_first_of_several z body ≡ false
 only-first x z [] only = cc
 only-first x z (u ∷ []) only = refl
 only-first x z (u ∷ v ∷ rest) only = cc
 
-only-only : (x z : ℕ) (body : List ℕ) → is_only x body ≡ true → (z == x) ≡ false → is_only z body ≡ false
+only-only : (x z : ℕ) (body : List ℕ) → is_only_section x body ≡ true → (z == x) ≡ false → is_only_section z body ≡ false
 only-only x z [] only out = cc
 only-only x z (u ∷ []) only out = differs u x z only out
 only-only x z (u ∷ v ∷ rest) only out = cc
@@ -223,15 +220,15 @@ module _ (p : PlantLists) (s t : State) (x : ℕ) (it : IsLeft p s t x) (z : ℕ
   pub leave-tails : first_dir (has_tail_before_head z) t.trains ≡ first_dir (has_tail_before_head z) s.trains
   leave-tails = ap (first_dir (has_tail_before_head z)) it.trains ∙ first_dir-remove (has_tail_before_head z) s.trains it.i it.train it.at (only-first x z it.train.body it.alone)
 
-  pub leave-alone : (z == x) ≡ false → first_dir (stands_on z) t.trains ≡ first_dir (stands_on z) s.trains
-  leave-alone out = ap (first_dir (stands_on z)) it.trains ∙ first_dir-remove (stands_on z) s.trains it.i it.train it.at (only-only x z it.train.body it.alone out)
+  pub leave-alone : (z == x) ≡ false → first_dir (occupies_only z) t.trains ≡ first_dir (occupies_only z) s.trains
+  leave-alone out = ap (first_dir (occupies_only z)) it.trains ∙ first_dir-remove (occupies_only z) s.trains it.i it.train it.at (only-only x z it.train.body it.alone out)
 
 module _ (p : PlantLists) (s t : State) (x : ℕ) (it : IsEntered p s t x) (z : ℕ) where
   pub enter-heads : (z == x) ≡ false → first_dir (has_head z) t.trains ≡ first_dir (has_head z) s.trains
-  enter-heads out = ap (first_dir (has_head z)) it.trains ∙ first_dir-push (has_head z) s.trains (train_on x it.inward) (flipped z x out)
+  enter-heads out = ap (first_dir (has_head z)) it.trains ∙ first_dir-push (has_head z) s.trains (new_train_on x it.inward) (flipped z x out)
 
   pub enter-tails : first_dir (has_tail_before_head z) t.trains ≡ first_dir (has_tail_before_head z) s.trains
-  enter-tails = ap (first_dir (has_tail_before_head z)) it.trains ∙ first_dir-push (has_tail_before_head z) s.trains (train_on x it.inward) refl
+  enter-tails = ap (first_dir (has_tail_before_head z)) it.trains ∙ first_dir-push (has_tail_before_head z) s.trains (new_train_on x it.inward) refl
 
-  pub enter-alone : (z == x) ≡ false → first_dir (stands_on z) t.trains ≡ first_dir (stands_on z) s.trains
-  enter-alone out = ap (first_dir (stands_on z)) it.trains ∙ first_dir-push (stands_on z) s.trains (train_on x it.inward) (flipped z x out)
+  pub enter-alone : (z == x) ≡ false → first_dir (occupies_only z) t.trains ≡ first_dir (occupies_only z) s.trains
+  enter-alone out = ap (first_dir (occupies_only z)) it.trains ∙ first_dir-push (occupies_only z) s.trains (new_train_on x it.inward) (flipped z x out)

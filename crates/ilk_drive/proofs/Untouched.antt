@@ -1,4 +1,4 @@
--- Where an event doesn't touch a section, it leads to no hazard there.
+-- An event causes no hazard at a section that it doesn't touch.
 use Rattle.std.proofs.Common.{◌≡◌, ℕ, ◌<◌, true, false, ◌||◌, ◌&&◌, ◌==◌, Option, Some, None, option_map, List, [], ◌∷◌, ◌++◌, find, length, set, slice_get, inl, inr, refl, sym, ap, ◌∙◌, subst}
 use Rattle.std.specs.List.{range_with_len}
 use Rattle.std.proofs.lemmas.Bool.{and_parts, both_ways, eqb-true, false_from_ne_true, or_left, or_right}
@@ -9,7 +9,7 @@ use Rattle.ilk_base.proofs.Tested.{find-none-at, find-none-from}
 use Rattle.ilk_plant.specs.Network.{has_section}
 use Rattle.ilk_plant.specs.Plant.{PlantLists, border, point_number}
 use Rattle.ilk_plant.specs.Start.{start}
-use Rattle.ilk_plant.specs.State.{is_occupied, lie_of}
+use Rattle.ilk_plant.specs.State.{is_occupied, detected_position}
 use Rattle.ilk_plant.specs.declared.network.Dir.{Dir}
 use Rattle.ilk_plant.specs.declared.network.Section.TheVariants.{Point}
 use Rattle.ilk_plant.specs.declared.state.Lie.{Lie}
@@ -18,14 +18,14 @@ use Rattle.ilk_plant.specs.declared.state.PointState.{PointState}
 use Rattle.ilk_plant.specs.declared.state.State.{State}
 use Rattle.ilk_plant.specs.declared.state.Train.{Train}
 use Rattle.ilk_plant.proofs.InLists.{only-one, rest-has}
-use Rattle.ilk_motion.specs.Body.{is_last, train_on}
-use Rattle.ilk_routes.specs.Claims.{wanted_points}
+use Rattle.ilk_motion.specs.Body.{is_last_section, new_train_on}
+use Rattle.ilk_routes.specs.Claims.{required_points}
 use Rattle.ilk_model.specs.Event.{next}
-use Rattle.ilk_model.specs.Hazard.{has_pair, hazard, is_hazardous, is_two, is_wrong, strays}
+use Rattle.ilk_model.specs.Hazard.{are_adjacent_in, hazard, is_hazardous, has_two_trains, is_wrong_under_train, is_wrong_under_body}
 use Rattle.ilk_model.specs.declared.event.Event.{Event}
 use Rattle.ilk_model.specs.declared.event.Event.TheVariants.{Mark, Allocate, Lock, Sense, Release, Finish, Throw, Settle, Enter, Head, Tail, Leave, Cancel}
 use Rattle.ilk_model.proofs.LeastHazard.{hazard_at}
-use Rattle.ilk_model.proofs.Straying.{rest-strays}
+use Rattle.ilk_model.proofs.Straying.{rest-is_wrong_under_body}
 use Rattle.ilk_model.proofs.PointFrames.{settle-frame, throw-frame}
 use Rattle.ilk_model.proofs.RouteFrames.{allocate-frame, cancel-frame, finish-frame, lock-frame, mark-frame, release-frame, sense-frame}
 use Rattle.ilk_model.proofs.TrainFrames.{IsEntered, IsHeaded, IsLeft, IsTailed, enter-frame, head-frame, leave-frame, tail-frame}
@@ -35,15 +35,15 @@ use Rattle.ilk_strict.proofs.Reading.{occupied-from}
 use Rattle.ilk_strict.proofs.TrainFacts.{two-at, two-from, wrong-at, wrong-from}
 use Rattle.ilk_strict.proofs.Trains.{enter-trains, head-trains, leave-trains, longer-has, removed-once, tail-trains}
 use Rattle.ilk_strict.proofs.Invariant.{start-meets}
-use Rattle.ilk_drive.specs.Awakening.{around}
-use Rattle.ilk_drive.specs.Touched.{touched}
-use Rattle.ilk_drive.proofs.MotionKeeps.{headed-around}
+use Rattle.ilk_drive.specs.Awakening.{neighbours_of}
+use Rattle.ilk_drive.specs.Touched.{affected_sections}
+use Rattle.ilk_drive.proofs.MotionKeeps.{headed-neighbours_of}
 use Rattle.ilk_drive.proofs.Changes.{apart, neither}
-use Rattle.ilk_drive.proofs.TrainChanges.{not-around, vacant-by}
+use Rattle.ilk_drive.proofs.TrainChanges.{not-neighbours_of, vacant-by}
 
--- hazards at each section ---------------------------------------------------------------------------------------------
+-- Hazards at each section
 
--- no section has a hazard
+-- No section has a hazard.
 abbrev pub IsCalm : PlantLists → State → Type 0
 IsCalm p s = (x : ℕ) → x < length p.sections → is_hazardous p s x ≡ false
 
@@ -58,13 +58,12 @@ none-calm p s calm =
 pub start-calm : (p : PlantLists) → hazard p (start p) ≡ None
 start-calm p = (start-meets p).no_hazard
 
-no-hazard : (p : PlantLists) (s : State) (x : ℕ) → is_two s x ≡ false → is_wrong p s x ≡ false → is_hazardous p s x ≡ false
+no-hazard : (p : PlantLists) (s : State) (x : ℕ) → has_two_trains s x ≡ false → is_wrong_under_train p s x ≡ false → is_hazardous p s x ≡ false
 no-hazard p s x two wrong = rw two wrong
 
--- bodies --------------------------------------------------------------------------------------------------------------
+-- Bodies
 
--- a pair of a body with a new head is one of the body, where it has neither the old head nor the new one first
-pair-longer : (a b x y : ℕ) (body : List ℕ) → is_last x body ≡ true → (a ≡ x → ⊥) → (a ≡ y → ⊥) → has_pair a b (body ++ y ∷ []) ≡ true → has_pair a b body ≡ true
+pair-longer : (a b x y : ℕ) (body : List ℕ) → is_last_section x body ≡ true → (a ≡ x → ⊥) → (a ≡ y → ⊥) → are_adjacent_in a b (body ++ y ∷ []) ≡ true → are_adjacent_in a b body ≡ true
 pair-longer a b x y [] last old new h = cc
 pair-longer a b x y (c ∷ []) last old new h =
     elim (either ((c == a && y == b) || (c == b && y == a)) false h) [
@@ -75,55 +74,52 @@ pair-longer a b x y (c ∷ []) last old new h =
       | inr none ↦ cc
     ]
 pair-longer a b x y (c ∷ d ∷ rest) last old new h =
-    elim (either ((c == a && d == b) || (c == b && d == a)) (has_pair a b (d ∷ rest ++ y ∷ [])) h) [
-      | inl here ↦ or_left ((c == a && d == b) || (c == b && d == a)) (has_pair a b (d ∷ rest)) here
-      | inr later ↦ or_right ((c == a && d == b) || (c == b && d == a)) (has_pair a b (d ∷ rest)) (pair-longer a b x y (d ∷ rest) last old new later)
+    elim (either ((c == a && d == b) || (c == b && d == a)) (are_adjacent_in a b (d ∷ rest ++ y ∷ [])) h) [
+      | inl here ↦ or_left ((c == a && d == b) || (c == b && d == a)) (are_adjacent_in a b (d ∷ rest)) here
+      | inr later ↦ or_right ((c == a && d == b) || (c == b && d == a)) (are_adjacent_in a b (d ∷ rest)) (pair-longer a b x y (d ∷ rest) last old new later)
     ]
 
-strays-longer : (z x y plus minus : ℕ) (lie : Option Lie) (body : List ℕ) → is_last x body ≡ true → (z ≡ x → ⊥) → (z ≡ y → ⊥) → strays z plus minus lie (body ++ y ∷ []) ≡ true → strays z plus minus lie body ≡ true
-strays-longer z x y plus minus None body last old new h = cc
-strays-longer z x y plus minus (Some Moving) body last old new h = elim (longer-has z y body h) [
+is_wrong_under_body-longer : (z x y plus minus : ℕ) (lie : Option Lie) (body : List ℕ) → is_last_section x body ≡ true → (z ≡ x → ⊥) → (z ≡ y → ⊥) → is_wrong_under_body z plus minus lie (body ++ y ∷ []) ≡ true
+    → is_wrong_under_body z plus minus lie body ≡ true
+is_wrong_under_body-longer z x y plus minus None body last old new h = cc
+is_wrong_under_body-longer z x y plus minus (Some Moving) body last old new h = elim (longer-has z y body h) [
   | inl has ↦ has
   | inr here ↦ absurd (new here)
 ]
-strays-longer z x y plus minus (Some Plus) body last old new h = pair-longer z minus x y body last old new h
-strays-longer z x y plus minus (Some Minus) body last old new h = pair-longer z plus x y body last old new h
+is_wrong_under_body-longer z x y plus minus (Some Plus) body last old new h = pair-longer z minus x y body last old new h
+is_wrong_under_body-longer z x y plus minus (Some Minus) body last old new h = pair-longer z plus x y body last old new h
 
--- a body of one section strays there at most, on a point
-strays-one : (z x plus minus : ℕ) (lie : Option Lie) → strays z plus minus lie (x ∷ []) ≡ true → x ≡ z
-strays-one z x plus minus None h = cc
-strays-one z x plus minus (Some Moving) h = only-one z x h
-strays-one z x plus minus (Some Plus) h = cc
-strays-one z x plus minus (Some Minus) h = cc
+is_wrong_under_body-one : (z x plus minus : ℕ) (lie : Option Lie) → is_wrong_under_body z plus minus lie (x ∷ []) ≡ true → x ≡ z
+is_wrong_under_body-one z x plus minus None h = cc
+is_wrong_under_body-one z x plus minus (Some Moving) h = only-one z x h
+is_wrong_under_body-one z x plus minus (Some Plus) h = cc
+is_wrong_under_body-one z x plus minus (Some Minus) h = cc
 
--- events ----------------------------------------------------------------------------------------------------------------
+-- Events
 
-module _ (p : PlantLists) (s t : State) (z : ℕ) (two : is_two s z ≡ false) (wrong : is_wrong p s z ≡ false) where
-  -- the trains and the points are those that were
+module _ (p : PlantLists) (s t : State) (z : ℕ) (two : has_two_trains s z ≡ false) (wrong : is_wrong_under_train p s z ≡ false) where
   same-there : t.points ≡ s.points → t.trains ≡ s.trains → is_hazardous p t z ≡ false
   same-there points trains = no-hazard p t z (two-reads p s t z trains two) (wrong-reads p s t z points trains wrong)
 
-  -- the trains are those that were, and the point lies as it did
-  lies-there : lie_of p t z ≡ lie_of p s z → t.trains ≡ s.trains → is_hazardous p t z ≡ false
+  lies-there : detected_position p t z ≡ detected_position p s z → t.trains ≡ s.trains → is_hazardous p t z ≡ false
   lies-there lies trains = no-hazard p t z (two-reads p s t z trains two) (wrong-from p t z (λ stem plus minus faces section i train at.
       rw lies (wrong-at p s z wrong stem plus minus faces section i train (sym (ap (λ (l : List Train). slice_get l i) trains) ∙ at))))
 
-  points-lie : t.points ≡ s.points → lie_of p t z ≡ lie_of p s z
+  points-lie : t.points ≡ s.points → detected_position p t z ≡ detected_position p s z
   points-lie points = lie-alike p s t z (λ m number. ap (λ (l : List PointState). slice_get l m) points)
 
-  -- where each train that is there was there before, as was what of it has the section
-  trains-there : t.points ≡ s.points → is_two t z ≡ false
+  trains-there : t.points ≡ s.points → has_two_trains t z ≡ false
       →
       ((i : ℕ) (train : Train) → slice_get t.trains i ≡ Some train → (plus minus : ℕ) →
       (k : ℕ) × (old : Train) × (slice_get s.trains k ≡ Some old) ×
-      (strays z plus minus (lie_of p s z) train.body ≡ true →
-      strays z plus minus (lie_of p s z) old.body ≡ true))
+      (is_wrong_under_body z plus minus (detected_position p s z) train.body ≡ true →
+      is_wrong_under_body z plus minus (detected_position p s z) old.body ≡ true))
       → is_hazardous p t z ≡ false
   trains-there points apart_ was = no-hazard p t z apart_ (wrong-from p t z (λ stem plus minus faces section i train at.
       let old = was i train at plus minus in
-      rw (points-lie points) (vacant-by (strays z plus minus (lie_of p s z) train.body) (strays z plus minus (lie_of p s z) old.1.body) old.3 (wrong-at p s z wrong stem plus minus faces section old.0 old.1 old.2))))
+      rw (points-lie points) (vacant-by (is_wrong_under_body z plus minus (detected_position p s z) train.body) (is_wrong_under_body z plus minus (detected_position p s z) old.1.body) old.3
+      (wrong-at p s z wrong stem plus minus faces section old.0 old.1 old.2))))
 
-  -- a point that changes lies at another section
   point-there : (x m : ℕ) (point new : PointState) → point_number p x ≡ Some m → slice_get s.points m ≡ Some point → t.points ≡ set s.points m new → t.trains ≡ s.trains → (z ≡ x → ⊥) → is_hazardous p t z ≡ false
   point-there x m point new number at points trains out = lies-there (lie-other p s t x m point new number at points z out) trains
 
@@ -141,10 +137,10 @@ module _ (p : PlantLists) (s t : State) (z : ℕ) (two : is_two s z ≡ false) (
 
       stray : (i : ℕ) (train : Train) → slice_get t.trains i ≡ Some train → (plus minus : ℕ) →
           (k : ℕ) × (old : Train) × (slice_get s.trains k ≡ Some old) ×
-          (strays z plus minus (lie_of p s z) train.body ≡ true →
-          strays z plus minus (lie_of p s z) old.body ≡ true)
+          (is_wrong_under_body z plus minus (detected_position p s z) train.body ≡ true →
+          is_wrong_under_body z plus minus (detected_position p s z) old.body ≡ true)
       stray i train at plus minus = elim (tail-trains p s t x it i train at) [
-        | inl moved ↦ (it.i, it.train, it.at, λ h. rest-strays z plus minus (lie_of p s z) it.train.body (subst (λ (one : Train). strays z plus minus (lie_of p s z) one.body ≡ true) moved.1 h))
+        | inl moved ↦ (it.i, it.train, it.at, λ h. rest-is_wrong_under_body z plus minus (detected_position p s z) it.train.body (subst (λ (one : Train). is_wrong_under_body z plus minus (detected_position p s z) one.body ≡ true) moved.1 h))
         | inr other ↦ (i, train, other.1, λ h. h)
       ]
 
@@ -172,23 +168,29 @@ module _ (p : PlantLists) (s t : State) (z : ℕ) (two : is_two s z ≡ false) (
 
       stray : (i : ℕ) (train : Train) → slice_get t.trains i ≡ Some train → (plus minus : ℕ) →
           (k : ℕ) × (old : Train) × (slice_get s.trains k ≡ Some old) ×
-          (strays z plus minus (lie_of p s z) train.body ≡ true →
-          strays z plus minus (lie_of p s z) old.body ≡ true)
+          (is_wrong_under_body z plus minus (detected_position p s z) train.body ≡ true →
+          is_wrong_under_body z plus minus (detected_position p s z) old.body ≡ true)
       stray i train at plus minus = elim (head-trains p s t x it i train at) [
-        | inl moved ↦ (it.i, it.train, it.at, λ h. strays-longer z x it.y plus minus (lie_of p s z) it.train.body it.heads behind ahead_ (subst (λ (one : Train). strays z plus minus (lie_of p s z) one.body ≡ true) moved.1 h))
+        | inl moved ↦ (
+          it.i,
+          it.train,
+          it.at,
+          λ h. is_wrong_under_body-longer z x it.y plus minus (detected_position p s z) it.train.body it.heads behind ahead_
+              (subst (λ (one : Train). is_wrong_under_body z plus minus (detected_position p s z) one.body ≡ true) moved.1 h),
+        )
         | inr other ↦ (i, train, other.1, λ h. h)
       ]
 
   enter-there : (x : ℕ) → IsEntered p s t x → is_hazardous p t z ≡ false
   enter-there x it = no-hazard p t z alone right
     where
-      here : (train : Train) → train ≡ train_on x it.inward → has_section z train.body ≡ true → x ≡ z
+      here : (train : Train) → train ≡ new_train_on x it.inward → has_section z train.body ≡ true → x ≡ z
       here train new has = only-one z x (subst (λ (one : Train). has_section z one.body ≡ true) new has)
 
       vacant-still : (i : ℕ) (train : Train) → slice_get s.trains i ≡ Some train → has_section z train.body ≡ true → x ≡ z → ⊥
       vacant-still i train at has same = both_ways (is_occupied s z) (rw same at it.vacant) (occupied-from s i train z at has)
 
-      alone : is_two t z ≡ false
+      alone : has_two_trains t z ≡ false
       alone = two-from p t z (λ i j one other at also first second. elim (enter-trains p s t x it i one at) [
         | inl old ↦ elim (enter-trains p s t x it j other also) [
           | inl too ↦ two-at p s z two i j one other old too first second
@@ -200,24 +202,22 @@ module _ (p : PlantLists) (s t : State) (z : ℕ) (two : is_two s z ≡ false) (
         ]
       ])
 
-      -- a point is no border
       no-border : (stem plus minus : ℕ) (faces d : Dir) → slice_get p.sections z ≡ Some (Point stem plus minus faces) → border p z ≡ Some d → ⊥
       no-border stem plus minus faces d section at = let bad : None ≡ Some d = rw section at at in cc
 
-      right : is_wrong p t z ≡ false
+      right : is_wrong_under_train p t z ≡ false
       right = wrong-from p t z (λ stem plus minus faces section i train at. elim (enter-trains p s t x it i train at) [
         | inl old ↦ rw (points-lie it.points) (wrong-at p s z wrong stem plus minus faces section i train old)
-        | inr new ↦ false_from_ne_true (strays z plus minus (lie_of p t z) train.body) (λ h.
-            let same : x ≡ z = strays-one z x plus minus (lie_of p t z) (subst (λ (one : Train). strays z plus minus (lie_of p t z) one.body ≡ true) new.1 h) in
+        | inr new ↦ false_from_ne_true (is_wrong_under_body z plus minus (detected_position p t z) train.body) (λ h.
+            let same : x ≡ z = is_wrong_under_body-one z x plus minus (detected_position p t z) (subst (λ (one : Train). is_wrong_under_body z plus minus (detected_position p t z) one.body ≡ true) new.1 h) in
             no-border stem plus minus faces it.inward section (ap (border p) (sym same) ∙ it.borders))
       ])
 
--- an event leads to a hazard only at a section that it touches
-module _ (p : PlantLists) (s t : State) (z : ℕ) (two : is_two s z ≡ false) (wrong : is_wrong p s z ≡ false) where
-  untouched-free : (event : Event) → next p s event ≡ Some t → has_section z (touched p event) ≡ false → is_hazardous p t z ≡ false
+module _ (p : PlantLists) (s t : State) (z : ℕ) (two : has_two_trains s z ≡ false) (wrong : is_wrong_under_train p s z ≡ false) where
+  untouched-free : (event : Event) → next p s event ≡ Some t → has_section z (affected_sections p event) ≡ false → is_hazardous p t z ≡ false
   untouched-free (Mark r) e out = let it = mark-frame p s t r e in same-there p s t z two wrong it.points it.trains
   untouched-free (Allocate r) e out =
-      let it = allocate-frame p s t r e in lies-there p s t z two wrong (lie-kept p s t (wanted_points it.route) it.points z) it.trains
+      let it = allocate-frame p s t r e in lies-there p s t z two wrong (lie-kept p s t (required_points it.route) it.points z) it.trains
   untouched-free (Lock r) e out = let it = lock-frame p s t r e in same-there p s t z two wrong it.points it.trains
   untouched-free (Sense r) e out = let it = sense-frame p s t r e in same-there p s t z two wrong it.points it.trains
   untouched-free (Release r) e out = let it = release-frame p s t r e in same-there p s t z two wrong it.points it.trains
@@ -231,13 +231,13 @@ module _ (p : PlantLists) (s t : State) (z : ℕ) (two : is_two s z ≡ false) (
   untouched-free (Enter x) e out = enter-there p s t z two wrong x (enter-frame p s t x e)
   untouched-free (Head x) e out =
       let it = head-frame p s t x e in
-      let parts = neither (x == z) (has_section z (around p x)) out in
-      head-there p s t z two wrong x it (λ same. apart x z parts.0 (sym same)) (λ same. apart it.y z (not-around p x it.y z (headed-around p s t x it) parts.1) (sym same))
+      let parts = neither (x == z) (has_section z (neighbours_of p x)) out in
+      head-there p s t z two wrong x it (λ same. apart x z parts.0 (sym same)) (λ same. apart it.y z (not-neighbours_of p x it.y z (headed-neighbours_of p s t x it) parts.1) (sym same))
   untouched-free (Tail x) e out = tail-there p s t z two wrong x (tail-frame p s t x e)
   untouched-free (Leave x) e out = leave-there p s t z two wrong x (leave-frame p s t x e)
   untouched-free (Cancel r) e out = let it = cancel-frame p s t r e in same-there p s t z two wrong it.points it.trains
 
-pub untouched-calm : (p : PlantLists) (s t : State) (event : Event) → hazard p s ≡ None → next p s event ≡ Some t → (z : ℕ) → z < length p.sections → has_section z (touched p event) ≡ false → is_hazardous p t z ≡ false
+pub untouched-calm : (p : PlantLists) (s t : State) (event : Event) → hazard p s ≡ None → next p s event ≡ Some t → (z : ℕ) → z < length p.sections → has_section z (affected_sections p event) ≡ false → is_hazardous p t z ≡ false
 untouched-calm p s t event none e z within out =
-    let parts = neither (is_two s z) (is_wrong p s z) (calm-of p s none z within) in
+    let parts = neither (has_two_trains s z) (is_wrong_under_train p s z) (calm-of p s none z within) in
     untouched-free p s t z parts.0 parts.1 event e out

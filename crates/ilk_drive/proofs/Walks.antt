@@ -1,4 +1,4 @@
--- How many sections lie ahead of a section: with each step there are fewer.
+-- The number of sections ahead of a section falls with each step.
 use Rattle.std.proofs.Common.{◌≡◌, ℕ, zero, suc, ◌+◌, ◌<◌, ◌≤◌, Bool, true, false, not, ◌&&◌, ◌||◌, Option, Some, List, [], ◌∷◌, ◌++◌, length, slice_get, count_by, cond, inl, inr, refl, sym, ap, ◌∙◌, subst, arith}
 use Rattle.std.specs.List.{last_or, range_with_len}
 use Rattle.std.proofs.lemmas.Bool.{and_parts, eq-eqb, false_from_ne_true}
@@ -11,43 +11,42 @@ use Rattle.ilk_base.proofs.Truth.{either}
 use Rattle.ilk_plant.proofs.Leads.{leads-step, leads-through}
 use Rattle.ilk_plant.specs.Network.{has_section}
 use Rattle.ilk_plant.specs.NetworkRules.{leads_by}
-use Rattle.ilk_plant.specs.Once.{none_twice}
+use Rattle.ilk_plant.specs.Once.{numbers_differ}
 use Rattle.ilk_plant.specs.Plant.{IsPlant, PlantLists, next_to}
-use Rattle.ilk_plant.specs.Shape.{leads_on}
-use Rattle.ilk_plant.specs.Sound.{NeverReturns}
+use Rattle.ilk_plant.specs.Shape.{is_connected}
+use Rattle.ilk_plant.specs.Sound.{NoWalkReturns}
 use Rattle.ilk_plant.specs.declared.network.Dir.{Dir}
 use Rattle.ilk_plant.proofs.InLists.{section-behind}
 
--- whether y is next to x on side d
+-- Returns whether y is next to x on side d.
 abbrev pub is_step : PlantLists → Dir → ℕ → ℕ → Bool
 is_step p d x y = has_section y (next_to p x d)
 
--- whether some walk in direction d leads from x to y
+-- Returns whether a walk in direction d leads from x to y.
 abbrev pub reaches : PlantLists → Dir → ℕ → ℕ → Bool
 reaches p d x y = leads_by (is_step p d) (length p.sections) x y
 
--- how many sections some walk in direction d leads to from x
+-- The number of sections that walks in direction d reach from x.
 abbrev pub far : PlantLists → Dir → ℕ → ℕ
 far p d x = count_by (reaches p d x) (range_with_len 0 (length p.sections))
 
--- a walk in direction d from x to y, of one or more steps
+-- A walk in direction d from x to y, of one or more steps.
 record WalkTo (p : PlantLists) (d : Dir) (x y : ℕ) : Type 0 where
   walk : List ℕ
-  on : leads_on p d x walk ≡ true
+  on : is_connected p d x walk ≡ true
   comes : has_section y walk ≡ true
   ends : last_or (Some x) walk ≡ Some y
 
-walk-joined : (p : PlantLists) (d : Dir) (x z : ℕ) (front back : List ℕ) → leads_on p d x front ≡ true → last_or (Some x) front ≡ Some z → leads_on p d z back ≡ true → leads_on p d x (front ++ back) ≡ true
-walk-joined p d x z [] back on ends next = subst (λ (v : ℕ). leads_on p d v back ≡ true) (sym (same_Some _ _ ends)) next
+walk-joined : (p : PlantLists) (d : Dir) (x z : ℕ) (front back : List ℕ) → is_connected p d x front ≡ true → last_or (Some x) front ≡ Some z → is_connected p d z back ≡ true → is_connected p d x (front ++ back) ≡ true
+walk-joined p d x z [] back on ends next = subst (λ (v : ℕ). is_connected p d v back ≡ true) (sym (same_Some _ _ ends)) next
 walk-joined p d x z (u ∷ front) back on ends next =
-    let goes = and_parts (has_section u (next_to p x d)) (leads_on p d u front) on in
+    let goes = and_parts (has_section u (next_to p x d)) (is_connected p d u front) on in
     both_true goes.0 (walk-joined p d u z front back goes.1 ends next)
 
 ends-joined : (o : Option ℕ) (z : ℕ) (front back : List ℕ) → last_or o front ≡ Some z → last_or o (front ++ back) ≡ last_or (Some z) back
 ends-joined o z [] back e = ap (λ (v : Option ℕ). last_or v back) e
 ends-joined o z (u ∷ front) back e = ends-joined (Some u) z front back e
 
--- what is reached is reached by a walk
 walk-to : (p : PlantLists) (d : Dir) (n x y : ℕ) → leads_by (is_step p d) n x y ≡ true → WalkTo p d x y
 walk-to p d zero x y h = record {
   walk = y ∷ [];
@@ -73,20 +72,17 @@ walk-to p d (suc n) x y h =
     from-last : (z x : ℕ) → (b : WalkTo p d z y) → last_or (Some z) b.walk ≡ Some y
     from-last z x b = b.ends
 
--- no section is reached from itself
-never-back : (p : PlantLists) → NeverReturns p → (d : Dir) (x : ℕ) → reaches p d x x ≡ false
+never-back : (p : PlantLists) → NoWalkReturns p → (d : Dir) (x : ℕ) → reaches p d x x ≡ false
 never-back p never d x = false_from_ne_true (reaches p d x x) (λ h.
     let w = walk-to p d (length p.sections) x x h in
-    let once : (not (has_section x w.walk) && none_twice w.walk) ≡ true = never d x w.walk w.on in
-    let not_there : not (has_section x w.walk) ≡ true = (and_parts (not (has_section x w.walk)) (none_twice w.walk) once).0 in
+    let once : (not (has_section x w.walk) && numbers_differ w.walk) ≡ true = never d x w.walk w.on in
+    let not_there : not (has_section x w.walk) ≡ true = (and_parts (not (has_section x w.walk)) (numbers_differ w.walk) once).0 in
     let bad : not true ≡ true = subst (λ (b : Bool). not b ≡ true) w.comes not_there in
     cc)
 
--- one, where a test passes, or else none
 abbrev one_if : Bool → ℕ
 one_if b = cond b 1 0
 
--- where each that passes one test passes another, and some passes the other alone, fewer pass the one
 fewer : {X : Type 0} (f g : X → Bool) → ((x : X) → f x ≡ true → g x ≡ true) → (xs : List X) → count_by f xs ≤ count_by g xs
 fewer f g more [] = omega arith
 fewer f g more (x ∷ xs) =
@@ -119,8 +115,7 @@ fewer-by_one f g more (x ∷ xs) (suc i) y at fails passes =
     let rest = fewer-by_one f g more xs i y at fails passes in
     omega (arith, one, other, here, first, second, rest)
 
--- with each step fewer sections lie ahead
-pub far-falls : (p : PlantLists) → IsPlant p → NeverReturns p → (d : Dir) (x y : ℕ) → is_step p d x y ≡ true → far p d y + 1 ≤ far p d x
+pub far-falls : (p : PlantLists) → IsPlant p → NoWalkReturns p → (d : Dir) (x y : ℕ) → is_step p d x y ≡ true → far p d y + 1 ≤ far p d x
 far-falls p plant never d x y step =
     let known = plant.neighbours x y d step in
     let here = leads-step (is_step p d) (length p.sections) x y step in
@@ -129,8 +124,7 @@ far-falls p plant never d x y step =
     (range_with_len 0 (length p.sections)) y y (range-at (length p.sections) y known) (never-back p never d y) here in
     omega (arith, less)
 
--- fewer sections lie ahead of a section than there are
-pub far-few : (p : PlantLists) → NeverReturns p → (d : Dir) (x : ℕ) → x < length p.sections → far p d x + 1 ≤ length p.sections
+pub far-few : (p : PlantLists) → NoWalkReturns p → (d : Dir) (x : ℕ) → x < length p.sections → far p d x + 1 ≤ length p.sections
 far-few p never d x known =
     let less = fewer-by_one (reaches p d x) (λ z. true) (λ z h. refl) (range_with_len 0 (length p.sections)) x x (range-at (length p.sections) x known) (never-back p never d x) refl in
     let all = count_by-le-length (λ (z : ℕ). true) (range_with_len 0 (length p.sections)) in

@@ -1,4 +1,4 @@
--- Cited by private contracts alone: how the code of a drive goes on.
+-- The progress of the code of a drive. Used only by private contracts.
 use Rattle.std.specs.Prelude.{ℕ, ◌+◌, ◌≡◌, Option, Some, None, List, drop, unwrap_or}
 use Rattle.ilk_base.specs.Option.{◌>>=◌}
 use Rattle.ilk_plant.specs.Plant.{PlantLists}
@@ -7,16 +7,16 @@ use Rattle.ilk_model.specs.Event.{next}
 use Rattle.ilk_model.specs.declared.event.Event.{Event}
 use Rattle.ilk_drive.specs.Drive.{Moment, Turn, first_automatic}
 
--- the moment at which so many commands of the scenario were given
+-- The moment after `given` commands of the scenario.
 abbrev pub moment_of : List Event → State → ℕ → Moment
 moment_of scene s given = record { state = s; commands = drop given scene; number = given + 1 }
 
--- the state after the first automatic event that is enabled; the state as it was, where none is
-abbrev pub after_first : PlantLists → State → State
-after_first p s = unwrap_or (first_automatic p s >>= next p s) s
+-- The state after the first enabled automatic event, or the same state if there is none.
+abbrev pub after_automatic : PlantLists → State → State
+after_automatic p s = unwrap_or (first_automatic p s >>= next p s) s
 
--- the event is the one that comes by this turn, which leads to this moment; where there is none, no turn comes, and the
--- moment stays
-abbrev pub Comes : Option Turn → Moment → Moment → Option Event → Type 0
-Comes taken m after None = (taken ≡ None) × (after ≡ m)
-Comes taken m after (Some event) = taken ≡ Some (event, after)
+-- Holds if the event is that of the turn, which leads to this moment. Without an event, there is no
+-- turn and the moment is unchanged.
+abbrev pub IsTurnTaken : Option Turn → Moment → Moment → Option Event → Type 0
+IsTurnTaken taken m after None = (taken ≡ None) × (after ≡ m)
+IsTurnTaken taken m after (Some event) = taken ≡ Some (event, after)

@@ -1,50 +1,51 @@
--- The text of a scenario, by what is written: the line `drive 1`, a line for each command, and the line `end`; and the first
--- bad line of a text, by the texts of scenarios alone.
+-- The text of a scenario: the line `drive 1`, a line for each command, and the line `end`. Also the
+-- first bad line of a text, defined by the texts of scenarios alone.
 use Rattle.std.specs.Prelude.{ℕ, ◌≡◌, ◌≢◌, ◌≤◌, ◌+◌, ◌-◌, All, List, [], ◌∷◌, ◌++◌, codes, length, map, take}
 use Rattle.ilk_lines.specs.Lines.{Bytes, lines_of}
 use Rattle.ilk_lines.specs.Written.{text_of}
 use Rattle.ilk_plant.specs.Plant.{PlantLists}
 use Rattle.ilk_model.specs.declared.event.Event.{Event}
 use Rattle.ilk_replay.specs.RunText.{event_line}
-use Rattle.ilk_replay.specs.Writable.{IsAbout}
+use Rattle.ilk_replay.specs.Writable.{HasSubjectOf}
 use Rattle.ilk_drive.specs.Commands.{AreCommands}
-use Rattle.ilk_drive.specs.Scene.{scene_of}
+use Rattle.ilk_drive.specs.Scene.{scene_from_text}
 use Rattle.ilk_drive.specs.declared.scene.Scene.TheVariants.{Bad}
 
--- the lines of a scenario; a command's line is the one that a run text has for its event
+-- The lines of a scenario. A command's line is that of its event in a run text.
 abbrev pub scene_lines : PlantLists → List Event → List Bytes
 scene_lines p commands = codes "drive 1" ∷ (map (event_line p) commands ++ codes "end" ∷ [])
 
--- the text of a scenario, each line ended by one line feed
+-- The text of a scenario, with one line feed after each line.
 abbrev pub scene_text : PlantLists → List Event → Bytes
 scene_text p commands = text_of (scene_lines p commands)
 
--- commands over the plant, each about a route or a section that there is
+-- Commands whose subjects are routes or sections of the plant.
 pub record IsSceneOf (p : PlantLists) (commands : List Event) : Type 0 where
   pub commanded : AreCommands commands
-  pub about : All (IsAbout p) commands
+  pub about : All (HasSubjectOf p) commands
 
--- a text is the one that is written for these commands over the plant
-abbrev pub IsTextOf : PlantLists → List Event → Bytes → Type 0
-IsTextOf p commands text = IsSceneOf p commands × (text ≡ scene_text p commands)
+-- Holds if the text is the one written for these commands over the plant.
+abbrev pub IsTextOfScene : PlantLists → List Event → Bytes → Type 0
+IsTextOfScene p commands text = IsSceneOf p commands × (text ≡ scene_text p commands)
 
--- no line of a text is bad
+-- Holds if no line of the text is bad.
 abbrev pub HasNoBadLine : PlantLists → Bytes → Type 0
-HasNoBadLine p text = (n : ℕ) → scene_of p text ≢ Bad n
+HasNoBadLine p text = (n : ℕ) → scene_from_text p text ≢ Bad n
 
--- a text is the one of some scenario over the plant
-abbrev pub IsSomeText : PlantLists → Bytes → Type 0
-IsSomeText p text = (commands : List Event) × IsTextOf p commands text
+-- Holds if the text is that of some scenario over the plant.
+abbrev pub IsSceneText : PlantLists → Bytes → Type 0
+IsSceneText p text = (commands : List Event) × IsTextOfScene p commands text
 
--- the text of some scenario over the plant begins with these lines
-abbrev pub BeginsSome : PlantLists → List Bytes → Type 0
-BeginsSome p lines = (commands : List Event) × (more : List Bytes) × IsSceneOf p commands × (scene_lines p commands ≡ lines ++ more)
+-- Holds if the text of some scenario over the plant begins with these lines.
+abbrev pub BeginsSomeScene : PlantLists → List Bytes → Type 0
+BeginsSomeScene p lines = (commands : List Event) × (more : List Bytes) × IsSceneOf p commands × (scene_lines p commands ≡ lines ++ more)
 
--- line n, from 1, is the first bad line of a text that is no scenario's: the lines before it begin the text of some
--- scenario, and with it, where it isn't missing, they begin none
-pub record IsFirstBad (p : PlantLists) (text : Bytes) (n : ℕ) : Type 0 where
-  pub none : ¬ (IsSomeText p text)
+-- Holds if line n, from 1, is the first bad line of a text. The text is not the text of a scenario.
+-- The lines before line n begin the text of some scenario. Together with line n, unless it is
+-- missing, they begin none.
+pub record IsFirstBadLineOfScene (p : PlantLists) (text : Bytes) (n : ℕ) : Type 0 where
+  pub none : ¬ (IsSceneText p text)
   pub from_one : 1 ≤ n
   pub within : n ≤ length (lines_of text) + 1
-  pub before : BeginsSome p (take (n - 1) (lines_of text))
-  pub bad : n ≤ length (lines_of text) → ¬ (BeginsSome p (take n (lines_of text)))
+  pub before : BeginsSomeScene p (take (n - 1) (lines_of text))
+  pub bad : n ≤ length (lines_of text) → ¬ (BeginsSomeScene p (take n (lines_of text)))

@@ -1,4 +1,4 @@
--- The run of a drive, as its text tells it and as a replay shows it.
+-- The run of a drive, as its text describes it and a replay shows it.
 use Rattle.std.specs.Prelude.{◌≡◌, ◌≢◌, Some, List}
 use Rattle.ilk_plant.specs.Plant.{PlantLists}
 use Rattle.ilk_plant.specs.Start.{start}
@@ -11,16 +11,16 @@ use Rattle.ilk_replay.specs.declared.seen.Seen.TheVariants.{NoHazard, Hazard as 
 use Rattle.ilk_drive.specs.declared.outcome.Rest.{Rest}
 use Rattle.ilk_drive.specs.declared.outcome.Rest.TheVariants.{Driven, Stuck, Hazard}
 
--- these events are a run from the start
-abbrev pub IsRun : PlantLists → List Event → Type 0
-IsRun p events = (t : State) × (run p (start p) events ≡ Some t)
+-- Holds if these events are a run from the start.
+abbrev pub IsRunFromStart : PlantLists → List Event → Type 0
+IsRunFromStart p events = (t : State) × (run p (start p) events ≡ Some t)
 
--- what a replay shows of the events of a drive that rests so: the hazard in which it rests, or else none
-abbrev pub seen_at : Rest → Seen
-seen_at (Hazard at) = SeenHazard at
-seen_at Driven = NoHazard
-seen_at (Stuck n) = NoHazard
+-- The result of replaying a drive with this result: its hazard, or no hazard.
+abbrev pub replay_of_rest : Rest → Seen
+replay_of_rest (Hazard at) = SeenHazard at
+replay_of_rest Driven = NoHazard
+replay_of_rest (Stuck n) = NoHazard
 
--- a drive doesn't rest with a hazard
-abbrev pub RestsSafely : Rest → Type 0
-RestsSafely rest = (at : HazardAt) → rest ≢ Hazard at
+-- Holds if the drive doesn't end in a hazard.
+abbrev pub EndsWithoutHazard : Rest → Type 0
+EndsWithoutHazard rest = (at : HazardAt) → rest ≢ Hazard at

@@ -1,4 +1,5 @@
--- Cited by private contracts alone: where an event may lead to a hazard, so that no other section needs to be asked.
+-- The sections at which an event may cause a hazard, so that the others needn't be checked. Used
+-- only by private contracts.
 use Rattle.std.specs.Prelude.{ℕ, ◌<◌, ◌≤◌, ◌≡◌, true, false, Option, Some, None, List, [], ◌∷◌, ◌++◌, length}
 use Rattle.ilk_plant.specs.Network.{has_section}
 use Rattle.ilk_plant.specs.Plant.{PlantLists}
@@ -8,17 +9,17 @@ use Rattle.ilk_model.specs.Hazard.{hazard, is_hazardous}
 use Rattle.ilk_model.specs.declared.event.Event.{Event}
 use Rattle.ilk_model.specs.declared.event.Event.TheVariants.{Throw, Settle, Head}
 use Rattle.ilk_model.specs.declared.hazards.HazardAt.{HazardAt}
-use Rattle.ilk_drive.specs.Awakening.{around}
+use Rattle.ilk_drive.specs.Awakening.{neighbours_of}
 
--- the sections at which an event may lead to a hazard: that of a point which is thrown or settles; the one from which a
--- train's head goes on, and those next to it. Other events lead to none
-abbrev pub touched : PlantLists → Event → List ℕ
-touched p (Throw x) = x ∷ []
-touched p (Settle x) = x ∷ []
-touched p (Head x) = x ∷ around p x
-touched p event = []
+-- The sections at which an event may cause a hazard. For throw and settle: the section of the
+-- point. For head: the section that the head leaves, and its neighbours. Other events cause none.
+abbrev pub affected_sections : PlantLists → Event → List ℕ
+affected_sections p (Throw x) = x ∷ []
+affected_sections p (Settle x) = x ∷ []
+affected_sections p (Head x) = x ∷ neighbours_of p x
+affected_sections p event = []
 
--- the least of these sections that has a hazard; none where none has
+-- Holds if the result is the least of these sections that has a hazard, or `None` if none has.
 abbrev pub IsLeastHazardous : PlantLists → State → List ℕ → Option ℕ → Type 0
 IsLeastHazardous p s sections None =
     (x : ℕ) → has_section x sections ≡ true → x < length p.sections → is_hazardous p s x ≡ false
@@ -27,11 +28,12 @@ IsLeastHazardous p s sections (Some x) =
     × (is_hazardous p s x ≡ true)
     × ((y : ℕ) → has_section y sections ≡ true → y < length p.sections → is_hazardous p s y ≡ true → x ≤ y)
 
--- from the least of any sections that has a hazard comes the least of these and them
+-- Holds if, for each list whose least hazardous section is `found`, that of the list and `these` is
+-- `result`.
 abbrev pub IsLeastWith : PlantLists → State → List ℕ → Option ℕ → Option ℕ → Type 0
 IsLeastWith p s these found result =
     (sections : List ℕ) → IsLeastHazardous p s sections found → IsLeastHazardous p s (these ++ sections) result
 
--- the hazard of a state to which an event leads from one that had none
+-- Holds if `found` is the hazard after an event from any state without one.
 abbrev pub IsHazardAfter : PlantLists → State → Event → Option HazardAt → Type 0
 IsHazardAfter p t event found = (s : State) → hazard p s ≡ None → next p s event ≡ Some t → found ≡ hazard p t

@@ -2,16 +2,16 @@ ghost use Rattle.std.specs.Prelude.{ℕ, ◌≡◌, ◌++◌, ◌<◌, ◌^◌, 
 ghost use Rattle.std.specs.List.{range_with_len};
 ghost use Rattle.ilk_model.specs.declared.event.Event.{Event};
 ghost use Rattle.ilk_drive.specs.Drive.{automatic_events};
-ghost use Rattle.ilk_drive.specs.Places.{IsAutomaticOf, WakeAsListed};
+ghost use Rattle.ilk_drive.specs.Places.{IsAutomaticOf, HasEnabledByEach};
 ghost use Rattle.ilk_base.specs.Numbers.{has_number};
 
 use crate::candidates::Candidates;
-use crate::waking::places_woken;
+use crate::waking::indices_enabled_by;
 use ilk_model::Event;
 use ilk_plant::{Plant, Row};
 use std::alloc::{AllocError, Global};
 
-// Adds the events of one kind, with each number below the count.
+// Appends the events of one kind, with each number below `count`.
 fn push_numbers<F: Fn(u32) -> Event>(
     events: &mut Row<Event>,
     count: u32,
@@ -28,7 +28,7 @@ fn push_numbers<F: Fn(u32) -> Event>(
     Ok(())
 }
 
-// The automatic events of the plant, in the order in which a drive asks them.
+// Returns the automatic events of the plant, in the order in which a drive tries them.
 fn automatic_events(alloc: Global, plant: &Plant) -> Result<Row<Event>, AllocError>
     ensures { IfOk result (λ events. events ≡ automatic_events plant.now) }
 {
@@ -48,15 +48,15 @@ fn automatic_events(alloc: Global, plant: &Plant) -> Result<Row<Event>, AllocErr
     Ok(events)
 }
 
-/// The automatic events of a plant, in their order, and for each of them the places of those that it
-/// may enable.
+/// The automatic events of a plant in order, and for each of them the indices of those that it may
+/// enable.
 #[derive(Drop)]
 pub(crate) struct Automatic {
     pub(crate) events: Row<Event>,
     pub(crate) woken: Row<Row<u64>>,
 }
 
-// For each of these events the places of those that it may enable.
+// Returns, for each of these events, the indices of those that it may enable.
 fn woken_by_each(
     alloc: Global,
     plant: &Plant,
@@ -64,17 +64,17 @@ fn woken_by_each(
 ) -> Result<Row<Row<u64>>, AllocError>
     requires { events.now ≡ automatic_events plant.now }
     ensures long { IfOk result (λ woken. length woken ≡ length events.now) }
-    ensures woken { IfOk result (λ woken. WakeAsListed plant.now events.now woken) }
+    ensures woken { IfOk result (λ woken. HasEnabledByEach plant.now events.now woken) }
 {
     let mut woken = Row::new(alloc);
     for event in events.as_slice() {
-        woken.push(places_woken(alloc, plant, events, *event)?)?;
+        woken.push(indices_enabled_by(alloc, plant, events, *event)?)?;
     }
     Ok(woken)
 }
 
 impl Automatic {
-    /// The automatic events of a plant.
+    /// Creates the automatic events of a plant.
     pub(crate) fn of(alloc: Global, plant: &Plant) -> Result<Automatic, AllocError>
         ensures { IfOk result (IsAutomaticOf plant.now) }
     {
@@ -83,7 +83,7 @@ impl Automatic {
         Ok(Automatic { events, woken })
     }
 
-    /// The places of all of them.
+    /// Returns the indices of all automatic events.
     pub(crate) fn all_places(&self, alloc: Global) -> Result<Candidates, AllocError>
         ensures { IfOk result
             (λ candidates. (j : ℕ) → j < length self.now.events → has_number j candidates ≡ true) }

@@ -5,12 +5,11 @@ use std::alloc::{AllocError, Global};
 use std::collections::BinaryHeap;
 use std::marker::Model;
 
-/// Places in a list, of which the least is taken out first; a place may stand in it more than once.
-/// Contracts see the places, in no order.
+/// A priority queue of indices, least first, possibly with duplicates. Contracts see the indices in
+/// no order.
 #[derive(Drop)]
 pub(crate) struct Candidates {
-    // For each place how far it is from the greatest number there is, so that the least place is the
-    // greatest here.
+    // For each index its distance from `u64::MAX`, so that the least index is the greatest here.
     ranks: BinaryHeap<u64>,
 }
 
@@ -28,7 +27,7 @@ impl Model for Candidates {
 }
 
 impl Candidates {
-    /// No places.
+    /// Creates an empty queue.
     pub(crate) fn new(alloc: Global) -> Candidates
         ensures { result ≡ [] }
     {
@@ -37,7 +36,7 @@ impl Candidates {
         }
     }
 
-    /// Adds a place.
+    /// Adds an index.
     pub(crate) fn push(&mut self, place: u64) -> Result<(), AllocError>
         ensures { OnOk result
             ((j : ℕ) → has_number j self.new ≡ (place == j || has_number j self.old)) }
@@ -46,7 +45,7 @@ impl Candidates {
         Ok(())
     }
 
-    /// Takes out the least place. None exactly where there is none.
+    /// Removes and returns the least index. Returns `None` if the queue is empty.
     pub(crate) fn pop(&mut self) -> Option<u64>
         ensures taken { IfSome result
             (λ place. (j : ℕ) → has_number j self.old ≡ (place == j || has_number j self.new)) }

@@ -1,22 +1,22 @@
 ghost use Rattle.std.specs.Prelude.{◌≡◌};
-ghost use Rattle.ilk_drive.specs.CommandLine.{command_of};
+ghost use Rattle.ilk_drive.specs.CommandLine.{command_from_line};
 ghost use Rattle.ilk_drive.specs.Commands.{is_command};
 
 use ilk_model::Event;
 use ilk_plant::Plant;
-use ilk_replay::event_of;
+use ilk_replay::event_from_line;
 
-// Whether someone commands the event: an entry, the request of a route, or its cancellation.
+// Returns whether the event is a command: an entry, or the request or cancellation of a route.
 fn is_command(event: Event) -> bool
     ensures { result ≡ is_command event }
 {
     matches!(event, Event::Mark(_) | Event::Enter(_) | Event::Cancel(_))
 }
 
-/// The command that a line tells. None exactly where it is no command's line.
-pub(crate) fn command_of(plant: &Plant, line: &[u8]) -> Option<Event>
-    ensures { result ≡ command_of plant.now line.now }
+/// Returns the command of `line`, or `None` if it isn't the line of a command.
+pub(crate) fn command_from_line(plant: &Plant, line: &[u8]) -> Option<Event>
+    ensures { result ≡ command_from_line plant.now line.now }
 {
-    let event = event_of(plant, line)?;
+    let event = event_from_line(plant, line)?;
     if is_command(event) { Some(event) } else { None }
 }

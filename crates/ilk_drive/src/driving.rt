@@ -5,27 +5,27 @@ ghost use Rattle.ilk_plant.specs.Shape.{HasShape};
 ghost use Rattle.ilk_plant.specs.declared.state.Mode.TheVariants.{Free};
 ghost use Rattle.ilk_routes.specs.Modes.{same_mode};
 ghost use Rattle.ilk_model.specs.Hazard.{hazard};
-ghost use Rattle.ilk_replay.specs.Writable.{IsOfPlant};
-ghost use Rattle.ilk_replay.specs.Told.{told_of};
+ghost use Rattle.ilk_replay.specs.Writable.{IsRunOfPlant};
+ghost use Rattle.ilk_replay.specs.Told.{run_from_start};
 ghost use Rattle.ilk_strict.specs.IsStrict.{IsStrict};
-ghost use Rattle.ilk_drive.specs.Drive.{IsDriveOf, by_command, first_automatic, is_done, rest_at, turn};
-ghost use Rattle.ilk_drive.specs.Progress.{Comes, after_first, moment_of};
-ghost use Rattle.ilk_drive.specs.Places.{Covers, CoversWith, IsAutomaticOf, IsDone, IsFirst, IsLeast};
-ghost use Rattle.ilk_drive.specs.Told.{IsRun, RestsSafely};
-ghost use Rattle.ilk_drive.specs.declared.limits.TheConstants.{MAX_EVENTS_FOR_A_COMMAND};
+ghost use Rattle.ilk_drive.specs.Drive.{IsDriveOf, command_turn, first_automatic, is_done, final_rest, next_turn};
+ghost use Rattle.ilk_drive.specs.Progress.{IsTurnTaken, after_automatic, moment_of};
+ghost use Rattle.ilk_drive.specs.Places.{HasAllEnabled, HasAllEnabledWith, IsAutomaticOf, IsDone, IsFirst, IsLeast};
+ghost use Rattle.ilk_drive.specs.Told.{IsRunFromStart, EndsWithoutHazard};
+ghost use Rattle.ilk_drive.specs.declared.limits.TheConstants.{MAX_EVENTS_PER_COMMAND};
 ghost use Rattle.ilk_base.specs.Numbers.{has_number};
 
 use crate::automatic::Automatic;
 use crate::candidates::Candidates;
 use crate::touched::hazard_after;
-use crate::waking::places_woken;
+use crate::waking::indices_enabled_by;
 use crate::{Driven, Rest};
 use ilk_model::{Event, HazardAt, apply, start};
 use ilk_plant::{Mode, Plant, Row, State};
 use std::alloc::{AllocError, Global};
 
-/// Where a drive stands: the state with its hazard, how many commands of its scenario were given,
-/// and the places of the automatic events that may be enabled.
+/// The progress of a drive: the state with its hazard, the number of commands given, and the
+/// indices of the automatic events that may be enabled.
 #[derive(Drop)]
 pub(crate) struct Standing {
     pub(crate) state: State,
@@ -34,7 +34,7 @@ pub(crate) struct Standing {
     pub(crate) candidates: Candidates,
 }
 
-// Adds places to those that are to be asked.
+// Adds indices to the candidates.
 fn push_all(candidates: &mut Candidates, places: &Row<u64>) -> Result<(), AllocError>
     ensures kept { OnOk result
         ((j : ℕ) → has_number j candidates.old ≡ true → has_number j candidates.new ≡ true) }
@@ -47,8 +47,9 @@ fn push_all(candidates: &mut Candidates, places: &Row<u64>) -> Result<(), AllocE
     Ok(())
 }
 
-// Does the automatic event at this place, if it is enabled, and answers it; then it may be enabled
-// again, and so may those that it wakes. None where it isn't enabled; nothing changes then.
+// Executes the automatic event at `place`, if it is enabled, and returns it. Then it becomes a
+// candidate again, with the events that it may enable. Returns `None`, and changes nothing, if it
+// isn't enabled.
 fn try_place(
     alloc: Global,
     plant: &Plant,
@@ -59,11 +60,11 @@ fn try_place(
 ) -> Result<Option<Event>, AllocError>
     requires shape { HasShape plant.now s.old }
     requires all { IsAutomaticOf plant.now automatic.now }
-    requires covers { CoversWith plant.now s.old place candidates.old }
+    requires covers { HasAllEnabledWith plant.now s.old place candidates.old }
     requires least { IsLeast place candidates.old }
     ensures first { IfOk result (IsFirst plant.now s.old) }
     ensures next { IfOk result (IsDone plant.now s.old s.new) }
-    ensures covers { OnOk result (Covers plant.now s.new candidates.new) }
+    ensures covers { OnOk result (HasAllEnabled plant.now s.new candidates.new) }
     ensures same { IfOk result (λ event. event ≡ None → candidates.new ≡ candidates.old) }
     ensures shape { HasShape plant.now s.new }
 {
@@ -79,8 +80,8 @@ fn try_place(
     Ok(Some(*event))
 }
 
-// Does the first automatic event that is enabled, and answers it. None where none is; nothing
-// changes then.
+// Executes the first enabled automatic event and returns it. Returns `None`, and leaves the state
+// unchanged, if there is none.
 fn do_automatic(
     alloc: Global,
     plant: &Plant,
@@ -90,10 +91,10 @@ fn do_automatic(
 ) -> Result<Option<Event>, AllocError>
     requires shape { HasShape plant.now s.old }
     requires all { IsAutomaticOf plant.now automatic.now }
-    requires covers { Covers plant.now s.old candidates.old }
+    requires covers { HasAllEnabled plant.now s.old candidates.old }
     ensures first { IfOk result (λ event. event ≡ first_automatic plant.now s.old) }
-    ensures next { OnOk result (s.new ≡ after_first plant.now s.old) }
-    ensures covers { OnOk result (Covers plant.now s.new candidates.new) }
+    ensures next { OnOk result (s.new ≡ after_automatic plant.now s.old) }
+    ensures covers { OnOk result (HasAllEnabled plant.now s.new candidates.new) }
     ensures shape { HasShape plant.now s.new }
 {
     while let Some(place) = candidates.pop() {
@@ -104,7 +105,8 @@ fn do_automatic(
     Ok(None)
 }
 
-// Gives the next command, and answers it. None where all were given or it isn't enabled; nothing changes then.
+// Gives the next command and returns it. Returns `None`, and changes nothing, if none is left or it
+// isn't enabled.
 fn give_command(
     alloc: Global,
     plant: &Plant,
@@ -114,11 +116,11 @@ fn give_command(
 ) -> Result<Option<Event>, AllocError>
     requires shape { HasShape plant.now now.old.state }
     requires all { IsAutomaticOf plant.now automatic.now }
-    requires covers { Covers plant.now now.old.state now.old.candidates }
-    ensures covers { OnOk result (Covers plant.now now.new.state now.new.candidates) }
+    requires covers { HasAllEnabled plant.now now.old.state now.old.candidates }
+    ensures covers { OnOk result (HasAllEnabled plant.now now.new.state now.new.candidates) }
     ensures hazard { now.new.hazard ≡ now.old.hazard }
     ensures given { IfOk result
-        (Comes (by_command plant.now (moment_of scene.now now.old.state now.old.given))
+        (IsTurnTaken (command_turn plant.now (moment_of scene.now now.old.state now.old.given))
         (moment_of scene.now now.old.state now.old.given)
         (moment_of scene.now now.new.state now.new.given)) }
     ensures shape { HasShape plant.now now.new.state }
@@ -131,14 +133,14 @@ fn give_command(
     if !apply(alloc, plant, &mut now.state, *command)? {
         return Ok(None);
     }
-    let places = places_woken(alloc, plant, &automatic.events, *command)?;
+    let places = indices_enabled_by(alloc, plant, &automatic.events, *command)?;
     push_all(&mut now.candidates, &places)?;
     now.given += 1;
     Ok(Some(*command))
 }
 
-// Does what comes next where there is no hazard, and answers it. None where nothing comes; nothing
-// changes then.
+// Executes the next event, if there is no hazard, and returns it. Returns `None`, and leaves the
+// state unchanged, if there is no next event.
 fn go_on(
     alloc: Global,
     plant: &Plant,
@@ -148,12 +150,12 @@ fn go_on(
 ) -> Result<Option<Event>, AllocError>
     requires shape { HasShape plant.now now.old.state }
     requires all { IsAutomaticOf plant.now automatic.now }
-    requires covers { Covers plant.now now.old.state now.old.candidates }
+    requires covers { HasAllEnabled plant.now now.old.state now.old.candidates }
     requires calm { hazard plant.now now.old.state ≡ None }
-    ensures covers { OnOk result (Covers plant.now now.new.state now.new.candidates) }
+    ensures covers { OnOk result (HasAllEnabled plant.now now.new.state now.new.candidates) }
     ensures hazard { now.new.hazard ≡ now.old.hazard }
     ensures turn { IfOk result
-        (Comes (turn plant.now (moment_of scene.now now.old.state now.old.given))
+        (IsTurnTaken (next_turn plant.now (moment_of scene.now now.old.state now.old.given))
         (moment_of scene.now now.old.state now.old.given)
         (moment_of scene.now now.new.state now.new.given)) }
     ensures shape { HasShape plant.now now.new.state }
@@ -171,7 +173,8 @@ fn go_on(
     give_command(alloc, plant, automatic, scene, now)
 }
 
-// Does what comes next, and answers it. None where nothing comes; nothing changes then.
+// Executes the next event and returns it. Returns `None`, and leaves the state unchanged, if there
+// is no next event.
 fn take_turn(
     alloc: Global,
     plant: &Plant,
@@ -181,12 +184,12 @@ fn take_turn(
 ) -> Result<Option<Event>, AllocError>
     requires shape { HasShape plant.now now.old.state }
     requires all { IsAutomaticOf plant.now automatic.now }
-    requires covers { Covers plant.now now.old.state now.old.candidates }
+    requires covers { HasAllEnabled plant.now now.old.state now.old.candidates }
     requires hazard { now.old.hazard ≡ hazard plant.now now.old.state }
-    ensures covers { OnOk result (Covers plant.now now.new.state now.new.candidates) }
+    ensures covers { OnOk result (HasAllEnabled plant.now now.new.state now.new.candidates) }
     ensures hazard { OnOk result (now.new.hazard ≡ hazard plant.now now.new.state) }
     ensures turn { IfOk result
-        (Comes (turn plant.now (moment_of scene.now now.old.state now.old.given))
+        (IsTurnTaken (next_turn plant.now (moment_of scene.now now.old.state now.old.given))
         (moment_of scene.now now.old.state now.old.given)
         (moment_of scene.now now.new.state now.new.given)) }
     ensures shape { HasShape plant.now now.new.state }
@@ -202,7 +205,7 @@ fn take_turn(
     Ok(Some(event))
 }
 
-// Whether every route is Free.
+// Returns whether every route is Free.
 fn all_free(s: &State) -> bool
     ensures { result ≡ list_all (λ route. same_mode route.mode Free) s.now.routes }
 {
@@ -212,18 +215,18 @@ fn all_free(s: &State) -> bool
         .all(|route| matches!(route.mode, Mode::Free))
 }
 
-// Whether all commands were given, no train is there and every route is Free.
+// Returns whether all commands were given, no train is left and every route is Free.
 fn is_done(scene: &Row<Event>, now: &Standing) -> bool
     ensures { result ≡ is_done (moment_of scene.now now.now.state now.now.given) }
 {
     now.given >= scene.len() && now.state.trains.len() == 0 && all_free(&now.state)
 }
 
-// How a drive rests, after which nothing comes.
+// Returns the result of a drive that has no next event.
 fn rest_at(scene: &Row<Event>, now: &Standing) -> Rest
     requires within { now.now.given ≤ length scene.now }
     ensures { (p : PlantLists) → now.now.hazard ≡ hazard p now.now.state →
-        result ≡ rest_at p (moment_of scene.now now.now.state now.now.given) }
+        result ≡ final_rest p (moment_of scene.now now.now.state now.now.given) }
 {
     if let Some(at) = now.hazard {
         return Rest::Hazard(at);
@@ -235,21 +238,24 @@ fn rest_at(scene: &Row<Event>, now: &Standing) -> Rest
     Rest::Stuck { at: now.given + 1 }
 }
 
-/// Runs a scenario to its rest, from the start: as long as some automatic event is enabled, the
-/// first of them is done, and else the next command is given. `Stuck` comes exactly where no
-/// automatic event is enabled and the next command isn't, or all were given and a train is left or a
-/// route isn't Free; `Hazard` as soon as an event leads to one, which none does over a strict table.
-/// Want of memory is the only error.
+/// Runs a scenario from the start until it terminates. While an automatic event is enabled, the
+/// first one is executed; otherwise the next command is given.
+///
+/// The result is `Hazard` as soon as an event leads to a hazard, which never happens for a strict
+/// table. It is `Stuck` if neither an automatic event nor the next command is enabled. It is also
+/// `Stuck` if all commands were given, no automatic event is enabled, and a train or a route that
+/// isn't Free is left. Otherwise the end is `Driven`. Fails only if memory runs out.
 pub fn drive(alloc: Global, plant: &Plant, scene: &Row<Event>) -> Result<Driven, AllocError>
     ensures drive { IfOk result (IsDriveOf plant.now scene.now) }
-    ensures run { IfOk result (λ driven. IsRun plant.now driven.events) }
-    ensures told { IfOk result (λ driven. IsOfPlant plant.now (told_of plant.now driven.events)) }
+    ensures run { IfOk result (λ driven. IsRunFromStart plant.now driven.events) }
+    ensures told { IfOk result (λ driven. IsRunOfPlant plant.now
+        (run_from_start plant.now driven.events)) }
     ensures few { IfOk result
-        (λ driven. length driven.events ≤ MAX_EVENTS_FOR_A_COMMAND * length scene.now) }
-    ensures strict { IsStrict plant.now → IfOk result (λ driven. RestsSafely driven.rest) }
+        (λ driven. length driven.events ≤ MAX_EVENTS_PER_COMMAND * length scene.now) }
+    ensures strict { IsStrict plant.now → IfOk result (λ driven. EndsWithoutHazard driven.rest) }
 {
     plant.is_sound();
-    plant.is_of_drafts();
+    plant.is_from_drafts();
     let automatic = Automatic::of(alloc, plant)?;
     let mut now = Standing {
         state: start(alloc, plant)?,

@@ -1,65 +1,67 @@
-//! Laws, each the contract of a function that does nothing.
+//! Theorems, each the contract of a function with an empty body.
 ghost use Rattle.std.specs.Prelude.{ℕ, ◌≡◌, ◌≤◌, ◌↔◌, ◌*◌, List, length};
 ghost use Rattle.ilk_plant.specs.Start.{start};
 ghost use Rattle.ilk_model.specs.declared.event.Event.{Event};
 ghost use Rattle.ilk_replay.specs.RunText.{run_text};
-ghost use Rattle.ilk_replay.specs.Seen.{seen_of};
-ghost use Rattle.ilk_replay.specs.Told.{tale_of, told_of};
-ghost use Rattle.ilk_replay.specs.Writable.{IsOfPlant};
+ghost use Rattle.ilk_replay.specs.Seen.{replay_result};
+ghost use Rattle.ilk_replay.specs.Told.{run_from_text, run_from_start};
+ghost use Rattle.ilk_replay.specs.Writable.{IsRunOfPlant};
 ghost use Rattle.ilk_replay.specs.declared.told.Tale.TheVariants.{Told as IsTold};
 ghost use Rattle.ilk_strict.specs.IsStrict.{IsStrict};
 ghost use Rattle.ilk_drive.specs.Drive.{IsDriveOf};
-ghost use Rattle.ilk_drive.specs.Scene.{scene_of};
-ghost use Rattle.ilk_drive.specs.SceneText.{HasNoBadLine, IsFirstBad, IsSomeText, IsTextOf};
-ghost use Rattle.ilk_drive.specs.Told.{IsRun, RestsSafely, seen_at};
-ghost use Rattle.ilk_drive.specs.declared.limits.TheConstants.{MAX_EVENTS_FOR_A_COMMAND};
+ghost use Rattle.ilk_drive.specs.Scene.{scene_from_text};
+ghost use Rattle.ilk_drive.specs.SceneText.{HasNoBadLine, IsFirstBadLineOfScene, IsSceneText, IsTextOfScene};
+ghost use Rattle.ilk_drive.specs.Told.{IsRunFromStart, EndsWithoutHazard, replay_of_rest};
+ghost use Rattle.ilk_drive.specs.declared.limits.TheConstants.{MAX_EVENTS_PER_COMMAND};
 ghost use Rattle.ilk_drive.specs.declared.outcome.Driven.{Driven};
 ghost use Rattle.ilk_drive.specs.declared.scene.Scene.TheVariants.{Bad, Scene as IsScene};
 
 use ilk_plant::Plant;
 
 /// A scenario has one drive. Its events are a run from the start, at most
-/// `MAX_EVENTS_FOR_A_COMMAND` for each command; and over a strict table it doesn't rest with a
-/// hazard. The call does nothing, and tells a proof.
+/// `MAX_EVENTS_PER_COMMAND` per command. For a strict table it doesn't end in a hazard. Proof
+/// only; no run-time effect.
 pub fn drives_are_runs(plant: &Plant)
     ensures one { (scene : List Event) (a b : Driven) → IsDriveOf plant.now scene a →
         IsDriveOf plant.now scene b → a ≡ b }
     ensures run { (scene : List Event) (driven : Driven) → IsDriveOf plant.now scene driven →
-        IsRun plant.now driven.events }
+        IsRunFromStart plant.now driven.events }
     ensures few { (scene : List Event) (driven : Driven) → IsDriveOf plant.now scene driven →
-        length driven.events ≤ MAX_EVENTS_FOR_A_COMMAND * length scene }
+        length driven.events ≤ MAX_EVENTS_PER_COMMAND * length scene }
     ensures strict { IsStrict plant.now → (scene : List Event) (driven : Driven) →
-        IsDriveOf plant.now scene driven → RestsSafely driven.rest }
+        IsDriveOf plant.now scene driven → EndsWithoutHazard driven.rest }
 {
     plant.is_sound();
-    plant.is_of_drafts();
+    plant.is_from_drafts();
 }
 
-/// The run of a drive has a text, which says `start` and is read again as that run; and its replay
-/// shows the hazard in which the drive rests, or else none. The call does nothing, and tells a proof.
+/// The run of a drive has a text, which says `start` and is read back as that run. Its replay shows
+/// the hazard in which the drive ends, or none. Proof only; no run-time effect.
 pub fn drives_are_read_again(plant: &Plant)
     ensures writable { (scene : List Event) (driven : Driven) → IsDriveOf plant.now scene driven →
-        IsOfPlant plant.now (told_of plant.now driven.events) }
+        IsRunOfPlant plant.now (run_from_start plant.now driven.events) }
     ensures read { (scene : List Event) (driven : Driven) → IsDriveOf plant.now scene driven →
-        tale_of plant.now (run_text plant.now (told_of plant.now driven.events))
-        ≡ IsTold (told_of plant.now driven.events) }
+        run_from_text plant.now (run_text plant.now (run_from_start plant.now driven.events))
+        ≡ IsTold (run_from_start plant.now driven.events) }
     ensures seen { (scene : List Event) (driven : Driven) → IsDriveOf plant.now scene driven →
-        seen_of plant.now (start plant.now) driven.events ≡ seen_at driven.rest }
+        replay_result plant.now (start plant.now) driven.events ≡ replay_of_rest driven.rest }
 {
     plant.is_sound();
 }
 
-/// A text tells commands exactly where it is the one that is written for them over the plant, so what
-/// is written is read again, and no two texts tell the same commands. No line of a text is bad exactly
-/// where it is the text of some scenario; and the bad line that is named is exactly the first: the
-/// lines before it begin the text of some scenario, and with it they begin none. The call does
-/// nothing, and tells a proof.
+/// A text is read as commands if and only if it is the text written for them over the plant. So a
+/// written text is read back, and no two texts contain the same commands. A text has no bad line if
+/// and only if it is the text of some scenario. The reported bad line is the first: the lines
+/// before it begin the text of some scenario, and together with it they begin none. Proof only; no
+/// run-time effect.
 pub fn scenes_are_those_written(plant: &Plant, text: &[u8])
     ensures scene { (commands : List Event)
-        → (scene_of plant.now text.now ≡ IsScene commands) ↔ IsTextOf plant.now commands text.now }
-    ensures lines { HasNoBadLine plant.now text.now ↔ IsSomeText plant.now text.now }
+        → (scene_from_text plant.now text.now ≡ IsScene commands)
+        ↔ IsTextOfScene plant.now commands text.now }
+    ensures lines { HasNoBadLine plant.now text.now ↔ IsSceneText plant.now text.now }
     ensures first { (n : ℕ)
-        → (scene_of plant.now text.now ≡ Bad n) ↔ IsFirstBad plant.now text.now n }
+        → (scene_from_text plant.now text.now ≡ Bad n)
+        ↔ IsFirstBadLineOfScene plant.now text.now n }
 {
     plant.is_sound();
 }

@@ -1,19 +1,19 @@
 use ilk_model::{Event, HazardAt};
 use ilk_plant::Row;
 
-/// How a drive comes to rest.
+/// The result of a drive.
 #[derive(Clone, Copy, PartialEq, Eq, Debug)]
 pub enum Rest {
     /// All commands were given, no train is left, and every route is Free.
     Driven,
-    /// No automatic event is enabled, and no more is command `at`, from 1; where all commands were
-    /// given, `at` is one more than their number, and a train or a route that isn't Free is left.
+    /// No automatic event is enabled, nor is command `at`, from 1. If all commands were given, `at`
+    /// is their number plus one, and a train or a route that isn't Free is left.
     Stuck { at: u64 },
     /// The last event led to this hazard.
     Hazard(HazardAt),
 }
 
-/// What came of a scenario: the events of its drive, from the start, and how it rests.
+/// The events of a scenario's drive, from the start, and its result.
 #[derive(Drop)]
 pub struct Driven {
     pub rest: Rest,

@@ -1,42 +1,43 @@
 ghost use Rattle.std.specs.Prelude.{◌≡◌, IfOk};
-ghost use Rattle.ilk_lines.specs.Answers.{AnswersAsTold};
+ghost use Rattle.ilk_lines.specs.Answers.{MatchesResult};
 ghost use Rattle.ilk_lines.specs.Lines.{after_lines, lines_of};
-ghost use Rattle.ilk_drive.specs.CommandLine.{command_of};
-ghost use Rattle.ilk_drive.specs.Scene.{HasCommands, commands_told, scene_of};
+ghost use Rattle.ilk_drive.specs.CommandLine.{command_from_line};
+ghost use Rattle.ilk_drive.specs.Scene.{HasOnlyCommands, commands_from_lines, scene_from_text};
 
-use crate::command_line::command_of;
-use ilk_lines::{LineFault, Lines, read_leading};
+use crate::command_line::command_from_line;
+use ilk_lines::{LineFault, Lines, read_while_some};
 use ilk_model::Event;
 use ilk_plant::{Plant, Row};
 use std::alloc::{AllocError, Global};
 
-/// What the text of a scenario tells: its commands, or no scenario at all.
+/// The result of reading a scenario: its commands, or its first bad line.
 #[derive(Drop)]
 pub enum Scene {
-    /// Its commands, in order: each an entry, the request of a route or its cancellation.
+    /// Its commands, in order: each an entry, or the request or cancellation of a route.
     Scene(Row<Event>),
     /// The number of the first bad line, from 1.
     Bad { line: u64 },
 }
 
-// The commands that a text tells.
+// Reads the commands of a text.
 fn read_commands(alloc: Global, plant: &Plant, text: &[u8]) -> Result<Row<Event>, LineFault>
-    ensures { AnswersAsTold (commands_told plant.now (lines_of text.now) (after_lines text.now))
+    ensures { MatchesResult (commands_from_lines plant.now (lines_of text.now)
+        (after_lines text.now))
         result }
 {
-    let mut lines = Lines::of(text);
-    lines.pass(b"drive 1")?;
-    let commands = read_leading(alloc, &mut lines, |line| Ok(command_of(plant, line)))?;
-    lines.pass(b"end")?;
+    let mut lines = Lines::from_text(text);
+    lines.expect_line(b"drive 1")?;
+    let commands = read_while_some(alloc, &mut lines, |line| Ok(command_from_line(plant, line)))?;
+    lines.expect_line(b"end")?;
     lines.finish()?;
     Ok(commands)
 }
 
-/// Reads the text of a scenario: its commands, in order, or the number of its first bad line, from
-/// 1. Want of memory is the only error.
+/// Reads the text of a scenario. Returns its commands, in order, or the number of its first bad
+/// line, from 1. Fails only if memory runs out.
 pub fn read_scene(alloc: Global, plant: &Plant, text: &[u8]) -> Result<Scene, AllocError>
-    ensures scene { IfOk result (λ scene. scene ≡ scene_of plant.now text.now) }
-    ensures commands { IfOk result HasCommands }
+    ensures scene { IfOk result (λ scene. scene ≡ scene_from_text plant.now text.now) }
+    ensures commands { IfOk result HasOnlyCommands }
 {
     match read_commands(alloc, plant, text) {
         Ok(commands) => Ok(Scene::Scene(commands)),

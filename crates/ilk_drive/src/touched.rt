@@ -1,16 +1,16 @@
-//! The hazard to which an event leads from a state that had none: it is asked only at the sections
-//! that the event touches, so that a drive takes no longer over a larger plant.
+//! The hazard after an event, if there was none before. Only the sections that the event touches
+//! are checked, so the time doesn't grow with the plant.
 ghost use Rattle.std.specs.Prelude.{◌≡◌, [], ◌∷◌, option_to_list};
-ghost use Rattle.ilk_model.specs.Hazard.{is_hazardous, is_two};
-ghost use Rattle.ilk_drive.specs.Awakening.{around};
-ghost use Rattle.ilk_drive.specs.Touched.{IsHazardAfter, IsLeastHazardous, IsLeastWith, touched};
+ghost use Rattle.ilk_model.specs.Hazard.{is_hazardous, has_two_trains};
+ghost use Rattle.ilk_drive.specs.Awakening.{neighbours_of};
+ghost use Rattle.ilk_drive.specs.Touched.{IsHazardAfter, IsLeastHazardous, IsLeastWith, affected_sections};
 
-use ilk_model::{Event, HazardAt, is_wrong};
+use ilk_model::{Event, HazardAt, is_wrong_under_train};
 use ilk_plant::{Plant, Section, State, has_section};
 
-// Whether two or more trains have `x` in their bodies.
+// Returns whether two or more trains have `x` in their bodies.
 fn is_two(s: &State, x: u32) -> bool
-    ensures { result ≡ is_two s.now x }
+    ensures { result ≡ has_two_trains s.now x }
 {
     s.trains
         .as_slice()
@@ -20,14 +20,14 @@ fn is_two(s: &State, x: u32) -> bool
         > 1
 }
 
-// Whether two trains share `x`, or some train's body is wrong on it.
+// Returns whether two trains share `x`, or some train's body is wrong on it.
 fn is_hazardous(plant: &Plant, s: &State, x: u32) -> bool
     ensures { result ≡ is_hazardous plant.now s.now x }
 {
-    is_two(s, x) || is_wrong(plant, s, x)
+    is_two(s, x) || is_wrong_under_train(plant, s, x)
 }
 
-// The section, where it has a hazard and is before the one that was found; else the one that was.
+// Returns `x` if it has a hazard and is less than `found`, and otherwise `found`.
 fn lesser(plant: &Plant, s: &State, x: u32, found: Option<u32>) -> Option<u32>
     ensures { IsLeastWith plant.now s.now (x ∷ []) found result }
 {
@@ -43,7 +43,7 @@ fn lesser(plant: &Plant, s: &State, x: u32, found: Option<u32>) -> Option<u32>
     }
 }
 
-// The same, where there is such a section.
+// The same, if there is a section.
 fn lesser_if(plant: &Plant, s: &State, x: Option<u32>, found: Option<u32>) -> Option<u32>
     ensures { IsLeastWith plant.now s.now (option_to_list x) found result }
 {
@@ -53,9 +53,9 @@ fn lesser_if(plant: &Plant, s: &State, x: Option<u32>, found: Option<u32>) -> Op
     }
 }
 
-// The least section with a hazard, of those next to section `x`.
+// Returns the least section with a hazard among those next to `x`.
 fn least_around(plant: &Plant, s: &State, x: u32) -> Option<u32>
-    ensures { IsLeastHazardous plant.now s.now (around plant.now x) result }
+    ensures { IsLeastHazardous plant.now s.now (neighbours_of plant.now x) result }
 {
     if x >= plant.sections() {
         return None;
@@ -78,9 +78,9 @@ fn least_around(plant: &Plant, s: &State, x: u32) -> Option<u32>
     }
 }
 
-// The least section with a hazard, of those that the event touched.
+// Returns the least section with a hazard among those that the event touched.
 fn least_touched(plant: &Plant, s: &State, event: Event) -> Option<u32>
-    ensures { IsLeastHazardous plant.now s.now (touched plant.now event) result }
+    ensures { IsLeastHazardous plant.now s.now (affected_sections plant.now event) result }
 {
     match event {
         Event::Throw(x) => lesser(plant, s, x, None),
@@ -93,7 +93,7 @@ fn least_touched(plant: &Plant, s: &State, event: Event) -> Option<u32>
     }
 }
 
-/// The hazard of a state to which the event led from one that had none.
+/// Returns the hazard of the state after `event`, if the state before it had none.
 pub(crate) fn hazard_after(plant: &Plant, s: &State, event: Event) -> Option<HazardAt>
     ensures { IsHazardAfter plant.now s.now event result }
 {

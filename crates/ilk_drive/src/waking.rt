@@ -1,19 +1,20 @@
-//! Which automatic events an event may enable: the others needn't be asked again after it.
+//! The automatic events that an event may enable. A drive needn't try the others again after it.
 ghost use Rattle.std.specs.Prelude.{ℕ, ◌≡◌, ◌==◌, true, IsTrue, IfOk, OnOk};
 ghost use Rattle.ilk_model.specs.declared.event.Event.TheVariants.{Mark, Allocate, Lock, Sense, Release, Finish, Throw, Settle, Enter, Head, Tail, Leave, Cancel};
 ghost use Rattle.ilk_drive.specs.Drive.{automatic_events};
-ghost use Rattle.ilk_drive.specs.Places.{AreWoken};
-ghost use Rattle.ilk_drive.specs.Awakening.{begins_at, is_concerned, is_related, may_enable, wants_point};
+ghost use Rattle.ilk_drive.specs.Places.{HasAllEnabledBy};
+ghost use Rattle.ilk_drive.specs.Awakening.{has_source_at, depends_on_section, may_affect_route, may_enable, wants_point};
 ghost use Rattle.ilk_base.specs.Numbers.{has_number};
 
 use crate::concerns::{
-    begins_at, is_around, is_concerned, is_concerned_around, is_related, wants_point,
+    depends_on_neighbour, depends_on_section, has_source_at, is_neighbour, may_affect_route,
+    wants_point,
 };
 use ilk_model::Event;
 use ilk_plant::{Plant, Row};
 use std::alloc::{AllocError, Global};
 
-// Whether allocate of route `r` may enable the event.
+// Returns whether allocate of route `r` may enable the event.
 fn allocate_may_enable(plant: &Plant, r: u32, other: Event) -> bool
     ensures { result ≡ may_enable plant.now (Allocate r) other }
 {
@@ -24,24 +25,24 @@ fn allocate_may_enable(plant: &Plant, r: u32, other: Event) -> bool
     }
 }
 
-// Whether lock of route `r` may enable the event.
+// Returns whether lock of route `r` may enable the event.
 fn lock_may_enable(plant: &Plant, r: u32, other: Event) -> bool
     ensures { result ≡ may_enable plant.now (Lock r) other }
 {
     match other {
         Event::Sense(q) => q == r,
-        Event::Head(x) => begins_at(plant, r, x),
+        Event::Head(x) => has_source_at(plant, r, x),
         _ => false,
     }
 }
 
-// Whether sense of route `r` may enable the event.
+// Returns whether sense of route `r` may enable the event.
 fn sense_may_enable(plant: &Plant, r: u32, other: Event) -> bool
     ensures { result ≡ may_enable plant.now (Sense r) other }
 {
     match other {
-        Event::Allocate(q) => is_related(plant, r, q),
-        Event::Lock(q) => is_related(plant, r, q),
+        Event::Allocate(q) => may_affect_route(plant, r, q),
+        Event::Lock(q) => may_affect_route(plant, r, q),
         Event::Sense(q) => q == r,
         Event::Release(q) => q == r,
         Event::Finish(q) => q == r,
@@ -49,12 +50,12 @@ fn sense_may_enable(plant: &Plant, r: u32, other: Event) -> bool
     }
 }
 
-// Whether release of route `r` may enable the event.
+// Returns whether release of route `r` may enable the event.
 fn release_may_enable(plant: &Plant, r: u32, other: Event) -> bool
     ensures { result ≡ may_enable plant.now (Release r) other }
 {
     match other {
-        Event::Allocate(q) => is_related(plant, r, q),
+        Event::Allocate(q) => may_affect_route(plant, r, q),
         Event::Sense(q) => q == r,
         Event::Release(q) => q == r,
         Event::Finish(q) => q == r,
@@ -62,7 +63,7 @@ fn release_may_enable(plant: &Plant, r: u32, other: Event) -> bool
     }
 }
 
-// Whether throw of section `x` may enable the event.
+// Returns whether throw of section `x` may enable the event.
 fn throw_may_enable(plant: &Plant, x: u32, other: Event) -> bool
     ensures { result ≡ may_enable plant.now (Throw x) other }
 {
@@ -74,12 +75,12 @@ fn throw_may_enable(plant: &Plant, x: u32, other: Event) -> bool
     }
 }
 
-// Whether settle of section `x` may enable the event.
+// Returns whether settle of section `x` may enable the event.
 fn settle_may_enable(plant: &Plant, x: u32, other: Event) -> bool
     ensures { result ≡ may_enable plant.now (Settle x) other }
 {
     match other {
-        Event::Lock(q) => is_concerned(plant, x, q),
+        Event::Lock(q) => depends_on_section(plant, x, q),
         Event::Throw(y) => y == x,
         Event::Settle(y) => y == x,
         Event::Head(y) => y == x,
@@ -87,79 +88,79 @@ fn settle_may_enable(plant: &Plant, x: u32, other: Event) -> bool
     }
 }
 
-// Whether enter of section `x` may enable the event.
+// Returns whether enter of section `x` may enable the event.
 fn enter_may_enable(plant: &Plant, x: u32, other: Event) -> bool
     ensures { result ≡ may_enable plant.now (Enter x) other }
 {
     match other {
-        Event::Sense(q) => is_concerned(plant, x, q),
+        Event::Sense(q) => depends_on_section(plant, x, q),
         Event::Head(y) => y == x,
         Event::Leave(y) => y == x,
         _ => false,
     }
 }
 
-// Whether head of section `x` may enable the event.
+// Returns whether head of section `x` may enable the event.
 fn head_may_enable(plant: &Plant, x: u32, other: Event) -> bool
     ensures { result ≡ may_enable plant.now (Head x) other }
 {
     match other {
-        Event::Lock(q) => is_concerned(plant, x, q),
-        Event::Sense(q) => is_concerned_around(plant, x, q),
-        Event::Head(y) => y == x || is_around(plant, x, y),
+        Event::Lock(q) => depends_on_section(plant, x, q),
+        Event::Sense(q) => depends_on_neighbour(plant, x, q),
+        Event::Head(y) => y == x || is_neighbour(plant, x, y),
         Event::Tail(y) => y == x,
         Event::Leave(y) => y == x,
         _ => false,
     }
 }
 
-// Whether tail of section `x` may enable the event.
+// Returns whether tail of section `x` may enable the event.
 fn tail_may_enable(plant: &Plant, x: u32, other: Event) -> bool
     ensures { result ≡ may_enable plant.now (Tail x) other }
 {
     match other {
-        Event::Allocate(q) => is_concerned(plant, x, q),
-        Event::Release(q) => is_concerned(plant, x, q),
-        Event::Tail(y) => y == x || is_around(plant, x, y),
-        Event::Leave(y) => is_around(plant, x, y),
+        Event::Allocate(q) => depends_on_section(plant, x, q),
+        Event::Release(q) => depends_on_section(plant, x, q),
+        Event::Tail(y) => y == x || is_neighbour(plant, x, y),
+        Event::Leave(y) => is_neighbour(plant, x, y),
         _ => false,
     }
 }
 
-// Whether leave of section `x` may enable the event.
+// Returns whether leave of section `x` may enable the event.
 fn leave_may_enable(plant: &Plant, x: u32, other: Event) -> bool
     ensures { result ≡ may_enable plant.now (Leave x) other }
 {
     match other {
-        Event::Allocate(q) => is_concerned(plant, x, q),
-        Event::Release(q) => is_concerned(plant, x, q),
+        Event::Allocate(q) => depends_on_section(plant, x, q),
+        Event::Release(q) => depends_on_section(plant, x, q),
         Event::Head(y) => y == x,
         Event::Leave(y) => y == x,
         _ => false,
     }
 }
 
-// Whether finish of route `r` may enable the event.
+// Returns whether finish of route `r` may enable the event.
 fn finish_may_enable(plant: &Plant, r: u32, other: Event) -> bool
     ensures { result ≡ may_enable plant.now (Finish r) other }
 {
     match other {
-        Event::Allocate(q) => is_related(plant, r, q),
+        Event::Allocate(q) => may_affect_route(plant, r, q),
         _ => false,
     }
 }
 
-// Whether cancel of route `r` may enable the event.
+// Returns whether cancel of route `r` may enable the event.
 fn cancel_may_enable(plant: &Plant, r: u32, other: Event) -> bool
     ensures { result ≡ may_enable plant.now (Cancel r) other }
 {
     match other {
-        Event::Allocate(q) => is_related(plant, r, q),
+        Event::Allocate(q) => may_affect_route(plant, r, q),
         _ => false,
     }
 }
 
-// Whether mark of route `r` may enable the event.
+// Returns whether mark of route `r` may enable the event.
 fn mark_may_enable(plant: &Plant, r: u32, other: Event) -> bool
     ensures { result ≡ may_enable plant.now (Mark r) other }
 {
@@ -170,7 +171,7 @@ fn mark_may_enable(plant: &Plant, r: u32, other: Event) -> bool
     }
 }
 
-// Whether an event may enable the other, which is automatic.
+// Returns whether `event` may enable the automatic event `other`.
 fn may_enable(plant: &Plant, event: Event, other: Event) -> bool
     ensures { result ≡ may_enable plant.now event other }
 {
@@ -191,7 +192,7 @@ fn may_enable(plant: &Plant, event: Event, other: Event) -> bool
     }
 }
 
-// Adds the place, where it is wanted.
+// Adds the index if `wanted`.
 fn push_if(places: &mut Row<u64>, wanted: bool, place: u64) -> Result<(), AllocError>
     ensures kept { OnOk result
         ((j : ℕ) → has_number j places.old ≡ true → has_number j places.new ≡ true) }
@@ -203,15 +204,15 @@ fn push_if(places: &mut Row<u64>, wanted: bool, place: u64) -> Result<(), AllocE
     Ok(())
 }
 
-/// The places of the automatic events that the event may enable.
-pub(crate) fn places_woken(
+/// Returns the indices of the automatic events that `event` may enable.
+pub(crate) fn indices_enabled_by(
     alloc: Global,
     plant: &Plant,
     automatic: &Row<Event>,
     event: Event,
 ) -> Result<Row<u64>, AllocError>
     requires { automatic.now ≡ automatic_events plant.now }
-    ensures { IfOk result (AreWoken plant.now event) }
+    ensures { IfOk result (HasAllEnabledBy plant.now event) }
 {
     let mut places = Row::new(alloc);
     for (place, other) in automatic.as_slice().iter().enumerate() {

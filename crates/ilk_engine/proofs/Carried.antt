@@ -1,24 +1,21 @@
--- What a verdict rests on is so of runs of events where it is so of runs of values, if for each query the two exist together.
+-- A verdict's grounds carry over from runs of values to runs of events.
 use Rattle.std.proofs.Common.{◌≡◌, ℕ, ◌≤◌, true, arith}
 use Rattle.std.proofs.lemmas.Bool.{le-leb}
 use Rattle.ilk_unroll.specs.Goal.{wanted_valid}
 use Rattle.ilk_unroll.specs.declared.queries.Wanted.{Wanted}
 use Rattle.ilk_unroll.specs.declared.queries.Wanted.TheVariants.{Hazard, Breach, Step}
-use Rattle.ilk_evidence.specs.Evidence.{IsNever, Endangers, Breaks, Inducts}
+use Rattle.ilk_unroll.specs.Evidence.{HoldsForNoneUpTo, ReachesHazard, ReachesBreach, IsInductiveAt}
 use Rattle.ilk_forever.proofs.CarriedForever.{step-valid}
 use Rattle.ilk_induct.specs.Right.{IsUnsafe, IsBreach, IsSafe, IsNotInductive}
 
--- over two kinds of runs, of which the first exist for each query for which the second do, and the other way round for each
--- query that may be asked
 module _ (Values Events : Wanted → Type 0) (to : (q : Wanted) → Events q → Values q) (from : (q : Wanted) → wanted_valid q ≡ true → Values q → Events q) where
-  never-endangers : (depth : ℕ) → IsNever depth (Endangers Values) → IsNever depth (Endangers Events)
+  never-endangers : (depth : ℕ) → HoldsForNoneUpTo depth (ReachesHazard Values) → HoldsForNoneUpTo depth (ReachesHazard Events)
   never-endangers depth none n le has = none n le (to (Hazard n) has)
 
-  never-breaks : (depth : ℕ) → IsNever depth (Breaks Values) → IsNever depth (Breaks Events)
+  never-breaks : (depth : ℕ) → HoldsForNoneUpTo depth (ReachesBreach Values) → HoldsForNoneUpTo depth (ReachesBreach Events)
   never-breaks depth none n le has = none n le (to (Breach n) has)
 
-  -- where the invariant carries itself over events, it does over values
-  inducts : (n : ℕ) → n ≤ 16 → Inducts Events n → Inducts Values n
+  inducts : (n : ℕ) → n ≤ 16 → IsInductiveAt Events n → IsInductiveAt Values n
   inducts n few carries = (carries.0, λ has. carries.1 (from (Step n) (step-valid n carries.0 few) has))
 
   pub carried-unsafe : (depth h : ℕ) → depth ≤ 16 → IsUnsafe Values depth h → IsUnsafe Events depth h

@@ -1,4 +1,4 @@
--- The last state of a run, by its events one after another; and what it has where the run ends in a hazard or a breach.
+-- The last state of a run, and its hazard or broken family.
 use Rattle.std.proofs.Common.{◌≡◌, ℕ, ◌+◌, ◌<◌, Bool, true, false, not, ◌&&◌, Option, Some, None, List, [], ◌∷◌, drop, get_or, length, refl, sym, ap, ◌∙◌}
 use Rattle.std.specs.Prelude.{find, is_some, is_none, slice_get, unwrap_or, ◌-◌}
 use Rattle.std.specs.List.{range_with_len}
@@ -13,12 +13,11 @@ use Rattle.ilk_plant.specs.declared.state.State.{State}
 use Rattle.ilk_model.specs.Event.{next}
 use Rattle.ilk_model.specs.Families.{keeps_v1, keeps_v2, keeps_v3, keeps_v4, keeps_v5, keeps_v6, keeps_v7, keeps_v8, keeps_v9}
 use Rattle.ilk_model.specs.Hazard.{hazard}
-use Rattle.ilk_model.specs.Meets.{keeps_all, least_broken}
+use Rattle.ilk_model.specs.Meets.{keeps_all, least_broken_family}
 use Rattle.ilk_model.specs.Run.{run}
 use Rattle.ilk_model.specs.declared.event.Event.{Event}
 use Rattle.ilk_queries.specs.Asked.{ends_in_breach, ends_in_hazard}
 
--- the rest of a run goes on from the state after its first event
 pub run-next : (p : PlantLists) (s : State) (event : Event) (rest : List Event) (whole : Option State) → is_some whole ≡ true → run p s (event ∷ rest) ≡ whole → run p (unwrap_or (next p s event) s) rest ≡ whole
 run-next p s event rest whole some is = by_safe (is_none (hazard p s)) refl
   where
@@ -35,14 +34,12 @@ run-next p s event rest whole some is = by_safe (is_none (hazard p s)) refl
         let stuck : run p s (event ∷ rest) ≡ None = ap (λ b. (only_if b s >>= (λ safe. next p safe event)) >>= (λ t. run p t rest)) unsafe in
         absurd (false≢true (ap is_some (sym stuck ∙ is) ∙ some))
 
--- a run that ends so has a last state
 pub hazard-run : (p : PlantLists) (s : State) (events : List Event) → ends_in_hazard p s events ≡ true → is_some (run p s events) ≡ true
 hazard-run p s events ends = let found = some-and (run p s events) (λ t. is_some (hazard p t)) ends in ap is_some found.1
 
 pub breach-run : (p : PlantLists) (s : State) (events : List Event) → ends_in_breach p s events ≡ true → is_some (run p s events) ≡ true
 breach-run p s events ends = let found = some-and (run p s events) (λ t. is_none (hazard p t) && not (keeps_all p t)) ends in ap is_some found.1
 
--- of nine tests of which not all pass, one is the first
 nine : (a b c d e f g h i : Bool) → (a && (b && (c && (d && (e && (f && (g && (h && (i && true))))))))) ≡ false
     → is_some (find (λ j. not (is_some_and (slice_get (a ∷ b ∷ c ∷ d ∷ e ∷ f ∷ g ∷ h ∷ i ∷ []) (j - 1)) (λ x. x))) (range_with_len 1 9)) ≡ true
 nine false b c d e f g h i fails = refl
@@ -56,10 +53,9 @@ nine true true true true true true true false i fails = refl
 nine true true true true true true true true false fails = refl
 nine true true true true true true true true true fails = absurd (false≢true (sym fails))
 
-least-some : (p : PlantLists) (t : State) → keeps_all p t ≡ false → is_some (least_broken p t) ≡ true
+least-some : (p : PlantLists) (t : State) → keeps_all p t ≡ false → is_some (least_broken_family p t) ≡ true
 least-some p t broken = nine (keeps_v1 p t) (keeps_v2 p t) (keeps_v3 p t) (keeps_v4 p t) (keeps_v5 p t) (keeps_v6 p t) (keeps_v7 p t) (keeps_v8 p t) (keeps_v9 p t) broken
 
--- over the events of a run, one after another
 pub run-begins : (p : PlantLists) (s : State) (items events : List Event) → s ≡ start p → items ≡ events → run p s (drop 0 items) ≡ run p (start p) events
 run-begins p s items events at same = ap (λ (u : State). run p u items) at ∙ ap (run p (start p)) same
 

@@ -12,8 +12,8 @@ use Rattle.ilk_induct.specs.Spent.{IsSpentText}
 use Rattle.ilk_engine.specs.declared.verdict.Verdict.{Verdict}
 use Rattle.ilk_engine.specs.declared.verdict.Verdict.TheVariants.{Safe, Unsafe, Breach, NotInductive, Spent}
 
--- the text that is written for a verdict and what was asked for it: for a safe one without the step queries before the
--- last, which had runs; none for a verdict with a run
+-- The text written for a verdict and its queries. For a safe one it omits the step queries before
+-- the last, which had runs. For a verdict with a run it is empty.
 abbrev pub certificate_text_of : Verdict → List Asked → Bytes
 certificate_text_of (Safe k) asked = safe_text k (without_early_steps asked)
 certificate_text_of (Unsafe events at) asked = []
@@ -21,13 +21,15 @@ certificate_text_of (Breach events family) asked = []
 certificate_text_of (NotInductive first events) asked = []
 certificate_text_of Spent asked = spent_text (all_conflicts asked) asked
 
--- whether bytes, whoever wrote them, are the certificate of a verdict on the plant, by queries of its finite system
+-- Holds if `bytes`, regardless of their origin, are the certificate of a verdict on the plant, by
+-- queries of its finite system.
 abbrev pub IsCertificateOf : PlantLists → ℕ → ℕ → Verdict → Bytes → Type 0
--- a refutation of each hazard query and each breach query for up to k events, and of the step query for k
+-- A refutation of each hazard query and each breach query for up to k events, and of the step query
+-- for k.
 IsCertificateOf p depth conflicts (Safe k) bytes = IsCertificate (system_of p) (goal_of p) k bytes
--- a run shows its verdict itself: no bytes
+-- A run shows its verdict itself: no bytes.
 IsCertificateOf p depth conflicts (Unsafe events at) bytes = bytes ≡ []
 IsCertificateOf p depth conflicts (Breach events family) bytes = bytes ≡ []
 IsCertificateOf p depth conflicts (NotInductive first events) bytes = bytes ≡ []
--- the queries in their order up to the one that was given up, with exactly as many conflicts as might be taken
+-- The queries in order up to the one that was given up, with exactly `conflicts` conflicts.
 IsCertificateOf p depth conflicts Spent bytes = IsSpentText (system_of p) (goal_of p) depth conflicts bytes

@@ -1,5 +1,5 @@
 ghost use Rattle.std.specs.Prelude.{◌≡◌, IfOk, IsTrue};
-ghost use Rattle.ilk_certificate.specs.CertificateText.{all_hints_from_one};
+ghost use Rattle.ilk_certificate.specs.CertificateText.{have_no_hint_zero};
 ghost use Rattle.ilk_engine.specs.CertificateOf.{certificate_text_of};
 
 use crate::verdict::{Found, Verdict};
@@ -7,11 +7,11 @@ use ilk_base::Row;
 use ilk_certificate::{Asked, CertificateText, safe_text, spent_text};
 use std::alloc::{AllocError, Global};
 
-/// The text of the certificate for a verdict: its lines, each ended by one line feed. There are none,
-/// and the text is empty, unless the verdict is `Safe` or `Spent`. No hint is 0, as in what `decide`
-/// answers. No memory for the text is its only error.
+/// Returns the text of the certificate for a verdict; each of its lines ends in a line feed. The
+/// text is empty unless the verdict is `Safe` or `Spent`. No hint may be 0, as in the results of
+/// `decide`. Fails only if memory runs out.
 pub fn certificate(alloc: Global, found: &Found) -> Result<Vec<u8>, AllocError>
-    requires hints { IsTrue (all_hints_from_one found.now.asked) }
+    requires hints { IsTrue (have_no_hint_zero found.now.asked) }
     ensures { IfOk result
         (λ text. text.items ≡ certificate_text_of found.now.verdict found.now.asked) }
 {
@@ -23,10 +23,9 @@ pub fn certificate(alloc: Global, found: &Found) -> Result<Vec<u8>, AllocError>
     }
 }
 
-/// The text of the certificate for a verdict, as `certificate` gives it, to be taken in pieces. It owns
-/// the logs of what was asked, and is made of them as it is taken. No memory for its parts is its only
-/// error.
-pub fn certify(
+/// Returns the text of `certificate`, to be taken in pieces. It owns the logs of `asked`, and is
+/// made from them as it is taken. Fails only if memory runs out.
+pub fn certificate_in_pieces(
     alloc: Global,
     verdict: &Verdict,
     asked: Row<Asked>,
@@ -36,6 +35,6 @@ pub fn certify(
     match verdict {
         Verdict::Safe { k } => CertificateText::safe(alloc, *k, asked),
         Verdict::Spent => CertificateText::spent(alloc, asked),
-        _ => Ok(CertificateText::none(alloc)),
+        _ => Ok(CertificateText::empty(alloc)),
     }
 }

@@ -1,9 +1,9 @@
 ghost use Rattle.std.specs.Prelude.{◌≡◌, ◌<◌, ◌≤◌, ◌⊎◌, IfOk, IsTrue};
-ghost use Rattle.ilk_certificate.specs.CertificateText.{all_conflicts, all_hints_from_one};
-ghost use Rattle.ilk_engine.specs.AskedOf.{IsAskedOf};
+ghost use Rattle.ilk_certificate.specs.CertificateText.{all_conflicts, have_no_hint_zero};
+ghost use Rattle.ilk_engine.specs.AskedOf.{AreQueriesFor};
 ghost use Rattle.ilk_engine.specs.CertificateOf.{IsCertificateOf, certificate_text_of};
-ghost use Rattle.ilk_engine.specs.Forever.{LastsFor};
-ghost use Rattle.ilk_engine.specs.Right.{IsRightFor};
+ghost use Rattle.ilk_engine.specs.Forever.{HoldsAtAnyLength};
+ghost use Rattle.ilk_engine.specs.Right.{IsRightVerdict};
 ghost use Rattle.ilk_strict.specs.IsStrict.{IsStrict};
 
 use crate::lifting::lift;
@@ -14,36 +14,37 @@ use ilk_plant::Plant;
 use ilk_queries::goal;
 use std::alloc::{AllocError, Global};
 
-/// Decides whether a run of the plant's events reaches a hazard or breaks a family, by runs of at most
-/// `depth` events and searches that take at most so many conflicts together. The depth is from 1 to
-/// 16. The only refusal is want of memory.
+/// Decides whether a run of the plant's events reaches a hazard or breaks a family, by runs of at
+/// most `depth` events, from 1 to 16. The searches together take at most `conflicts` conflicts.
+/// Fails only if memory runs out.
 ///
-/// The queries are asked in this order: the hazard query and the breach query for no event, then for
-/// each number of events from 1 to the depth the hazard query, the breach query and the step query.
-/// After a breach was found only the hazard queries go on. The first hazard query that has a run ends
-/// the asking, and so does the first step query that has none.
+/// It first asks the hazard query and the breach query for no event. Then it asks the hazard,
+/// breach and step queries for each number of events up to `depth`. After a breach only hazard
+/// queries follow. The first hazard query with a run ends the asking, as does the first step query
+/// without one: the verdict is then `Safe`, for runs of any length. It is `Spent` if all conflicts
+/// are used up.
 pub fn decide(alloc: Global, plant: &Plant, depth: u32, conflicts: u64) -> Result<Found, AllocError>
     requires some_depth { 0 < depth }
     requires depth { depth ≤ 16 }
     ensures right { IfOk result
-        (λ found. IsRightFor plant.now depth found.verdict ⊎ (found.verdict ≡ Verdict.Spent)) }
+        (λ found. IsRightVerdict plant.now depth found.verdict ⊎ (found.verdict ≡ Verdict.Spent)) }
 
-    // What is safe is so for runs of any length.
-    ensures lasts { IfOk result (λ found. LastsFor plant.now found.verdict) }
+    // A safe verdict holds for runs of any length.
+    ensures lasts { IfOk result (λ found. HoldsAtAnyLength plant.now found.verdict) }
 
-    // Over a strict table it is safe with k = 1, or all conflicts are spent.
+    // For a strict table the verdict is safe with k = 1, or all conflicts are spent.
     ensures strict { IfOk result
         (λ found. IsStrict plant.now →
         (found.verdict ≡ Verdict.Safe 1) ⊎ (found.verdict ≡ Verdict.Spent)) }
     ensures asked { IfOk result
-        (λ found. IsAskedOf plant.now depth conflicts found.verdict found.asked) }
+        (λ found. AreQueriesFor plant.now depth conflicts found.verdict found.asked) }
     ensures few { IfOk result (λ found. all_conflicts found.asked ≤ conflicts) }
 
-    // What `certificate` writes of the answer is the certificate of its verdict.
+    // The text that `certificate` writes is the certificate of the verdict.
     ensures certified { IfOk result
         (λ found. IsCertificateOf plant.now depth conflicts found.verdict
         (certificate_text_of found.verdict found.asked)) }
-    ensures hints { IfOk result (λ found. IsTrue (all_hints_from_one found.asked)) }
+    ensures hints { IfOk result (λ found. IsTrue (have_no_hint_zero found.asked)) }
 {
     plant.is_sound();
     let system = behaviour(alloc, plant)?;

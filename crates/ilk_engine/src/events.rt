@@ -1,6 +1,6 @@
 ghost use Rattle.std.specs.Prelude.{◌≡◌, ◌++◌, IfOk, IsTrue, OnOk, Some, is_some, option_to_list};
 ghost use Rattle.ilk_behave.specs.Behaviour.{event_of_rule};
-ghost use Rattle.ilk_queries.specs.Lifting.{events_by};
+ghost use Rattle.ilk_queries.specs.Lifting.{events_by_rules};
 ghost use Rattle.ilk_engine.specs.Lifted.{events_fired};
 
 use ilk_base::Row;
@@ -24,7 +24,7 @@ fn push_event(plant: &Plant, events: &mut Row<Event>, rule: u32) -> Result<(), A
     }
 }
 
-// Adds the events of those of the rules that have one.
+// Adds the events of the rules that have one.
 fn push_events(plant: &Plant, events: &mut Row<Event>, rules: &Rows) -> Result<(), AllocError>
     ensures { OnOk result (events.new ≡ events.old ++ events_fired plant.now rules.now) }
 {
@@ -34,14 +34,14 @@ fn push_events(plant: &Plant, events: &mut Row<Event>, rules: &Rows) -> Result<(
     Ok(())
 }
 
-/// The events of rules, each of which has one.
+/// Returns the events of `rules`, each of which has one.
 pub(crate) fn events_of_rules(
     alloc: Global,
     plant: &Plant,
     rules: &Rows,
 ) -> Result<Row<Event>, AllocError>
-    requires { IsTrue (is_some (events_by plant.now rules.now)) }
-    ensures { IfOk result (λ events. events_by plant.now rules.now ≡ Some events) }
+    requires { IsTrue (is_some (events_by_rules plant.now rules.now)) }
+    ensures { IfOk result (λ events. events_by_rules plant.now rules.now ≡ Some events) }
 {
     let mut events = Row::new(alloc);
     push_events(plant, &mut events, rules)?;

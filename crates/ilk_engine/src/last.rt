@@ -10,7 +10,7 @@ use ilk_model::{Event, HazardAt, apply, broken_family, hazard, start};
 use ilk_plant::{Plant, State};
 use std::alloc::{AllocError, Global};
 
-// The state to which a run leads from the start.
+// Returns the state to which a run leads from the initial state.
 fn state_after(alloc: Global, plant: &Plant, events: &Row<Event>) -> Result<State, AllocError>
     requires { IsTrue (is_some (run plant.now (start plant.now) events.now)) }
     ensures state { IfOk result (λ s. run plant.now (start plant.now) events.now ≡ Some s) }
@@ -23,7 +23,7 @@ fn state_after(alloc: Global, plant: &Plant, events: &Row<Event>) -> Result<Stat
     Ok(s)
 }
 
-/// The hazard in which a run from the start ends.
+/// Returns the hazard in which a run from the initial state ends.
 pub(crate) fn hazard_after(
     alloc: Global,
     plant: &Plant,
@@ -36,14 +36,14 @@ pub(crate) fn hazard_after(
     Ok(hazard(plant, &last).unwrap())
 }
 
-/// The least family that the last state of a run from the start breaks.
-pub(crate) fn broken_after(
+/// Returns the least family that the last state of a run from the initial state breaks.
+pub(crate) fn broken_family_after(
     alloc: Global,
     plant: &Plant,
     events: &Row<Event>,
 ) -> Result<u8, AllocError>
     requires { IsTrue (ends_in_breach plant.now (start plant.now) events.now) }
-    ensures { IfOk result (λ family. right.broken_after plant.now events.now ≡ Some family) }
+    ensures { IfOk result (λ family. right.broken_family_after plant.now events.now ≡ Some family) }
 {
     let last = state_after(alloc, plant, events)?;
     Ok(broken_family(plant, &last).unwrap())

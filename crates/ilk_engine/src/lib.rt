@@ -1,18 +1,18 @@
-//! The verdict on a plant: whether a run of its events, of whatever length, reaches a hazard or breaks
-//! a family of the invariant.
+//! The verdict on a plant: whether a run of its events, of any length, reaches a hazard or breaks a
+//! family of the invariant.
 //!
-//! `specs/Right` says which verdict is right, in states and events. A safe plant is so for ever: each run
-//! from the start ends in a state that meets the invariant (`ilk_forever`). The verdict is found over the
-//! plant's finite system (`ilk_induct`). A query has a run there exactly where the plant has one
-//! (`runs_lift` of `ilk_forever`), so what is so of the system's runs is so of the plant's. `decide`
-//! tells the system's runs as runs of events.
+//! `specs/Right` defines the right verdicts, in states and events. If a plant is safe, each run
+//! from the initial state, of any length, ends in a state that meets the invariant (`ilk_forever`).
+//! `decide` searches over the plant's finite system (`ilk_induct`) and returns its runs as runs of
+//! events. A query has a run of the system if and only if the plant has one (`runs_correspond` of
+//! `ilk_forever`).
 //!
-//! `certificate` writes the text that shows a verdict of `decide` to others: `specs/CertificateOf` says
-//! what it is. `certify` gives the same text to be taken in pieces, so that it is never held as a whole.
-//! What a certificate shows, whoever wrote it, is said in `ilk_forever`. `formula`, of `ilk_queries`, makes the
-//! formula of one query, and an `Asked`, of `ilk_certificate`, is a query with the log of its search; both
-//! are handed on, and so are the text that is taken in pieces, and `CertAudit`, of `ilk_plant_audit`, which
-//! takes a certificate in pieces and says whether it is one.
+//! `certificate` writes the text that proves a verdict to others (`specs/CertificateOf`).
+//! `certificate_in_pieces` returns it in pieces, so that it is never held as a whole. `ilk_forever`
+//! says what a certificate shows, regardless of its origin.
+//!
+//! Re-exports: `formula` makes the formula of one query, an `Asked` is a query with the log of its
+//! search, and `CertAudit` checks a certificate in pieces.
 #![tactic(auto)]
 
 mod certifying;
@@ -22,7 +22,7 @@ mod last;
 mod lifting;
 mod verdict;
 
-pub use certifying::{certificate, certify};
+pub use certifying::{certificate, certificate_in_pieces};
 pub use deciding::decide;
 pub use ilk_certificate::{Asked, CertificateText};
 pub use ilk_plant_audit::{CertAudit, Ended, Fed};

@@ -1,14 +1,14 @@
 ghost use Rattle.std.specs.Prelude.{◌≡◌, ◌<◌, ◌≤◌, ◌⊎◌, IfOk};
 ghost use Rattle.ilk_behave.specs.Behaviour.{system_of};
-ghost use Rattle.ilk_behave.specs.Steps.{StepsAs};
-ghost use Rattle.ilk_induct.specs.Right.{IsRight, Lasts};
+ghost use Rattle.ilk_behave.specs.Steps.{StepsLikeEvents};
+ghost use Rattle.ilk_induct.specs.Right.{IsRightSystemVerdict, SystemHoldsAtAnyLength};
 ghost use Rattle.ilk_induct.specs.declared.verdict.Verdict.TheVariants as system;
 ghost use Rattle.ilk_queries.specs.Goal.{goal_of};
 ghost use Rattle.ilk_queries.specs.Lifting.{IsGoalOf};
-ghost use Rattle.ilk_engine.specs.Lifted.{IsMadeOf};
+ghost use Rattle.ilk_engine.specs.Lifted.{IsLiftedFrom};
 
 use crate::events::events_of_rules;
-use crate::last::{broken_after, hazard_after};
+use crate::last::{broken_family_after, hazard_after};
 use crate::verdict::Verdict;
 use ilk_decode::state_of;
 use ilk_induct::Verdict as SystemVerdict;
@@ -17,19 +17,19 @@ use ilk_plant::Plant;
 use ilk_unroll::Trace;
 use std::alloc::{AllocError, Global};
 
-// The verdict by a run to a hazard.
+// Returns `Unsafe` with the events of `trace`.
 fn lift_unsafe(
     alloc: Global,
     plant: &Plant,
     depth: u32,
     trace: &Trace,
 ) -> Result<Verdict, AllocError>
-    requires steps { StepsAs plant.now }
+    requires steps { StepsLikeEvents plant.now }
     requires goal { IsGoalOf plant.now (goal_of plant.now) }
     requires depth { depth ≤ 16 }
-    requires right { IsRight (system_of plant.now) (goal_of plant.now) depth
+    requires right { IsRightSystemVerdict (system_of plant.now) (goal_of plant.now) depth
         (system.Unsafe trace.now) }
-    ensures { IfOk result (IsMadeOf plant.now depth (system.Unsafe trace.now)) }
+    ensures { IfOk result (IsLiftedFrom plant.now depth (system.Unsafe trace.now)) }
 {
     plant.is_sound();
     let events = events_of_rules(alloc, plant, &trace.rules)?;
@@ -37,40 +37,40 @@ fn lift_unsafe(
     Ok(Verdict::Unsafe { events, hazard })
 }
 
-// The verdict by a run that breaks a family.
+// Returns `Breach` with the events of `trace`.
 fn lift_breach(
     alloc: Global,
     plant: &Plant,
     depth: u32,
     trace: &Trace,
 ) -> Result<Verdict, AllocError>
-    requires steps { StepsAs plant.now }
+    requires steps { StepsLikeEvents plant.now }
     requires goal { IsGoalOf plant.now (goal_of plant.now) }
     requires depth { depth ≤ 16 }
-    requires right { IsRight (system_of plant.now) (goal_of plant.now) depth
+    requires right { IsRightSystemVerdict (system_of plant.now) (goal_of plant.now) depth
         (system.Breach trace.now) }
-    ensures { IfOk result (IsMadeOf plant.now depth (system.Breach trace.now)) }
+    ensures { IfOk result (IsLiftedFrom plant.now depth (system.Breach trace.now)) }
 {
     plant.is_sound();
     let events = events_of_rules(alloc, plant, &trace.rules)?;
-    let family = broken_after(alloc, plant, &events)?;
+    let family = broken_family_after(alloc, plant, &events)?;
     Ok(Verdict::Breach { events, family })
 }
 
-// The verdict by a run out of the invariant.
+// Returns `NotInductive` with the first state and the events of `trace`.
 fn lift_not_inductive(
     alloc: Global,
     plant: &Plant,
     depth: u32,
     trace: &Trace,
 ) -> Result<Verdict, AllocError>
-    requires steps { StepsAs plant.now }
+    requires steps { StepsLikeEvents plant.now }
     requires goal { IsGoalOf plant.now (goal_of plant.now) }
     requires some_depth { 0 < depth }
     requires depth { depth ≤ 16 }
-    requires right { IsRight (system_of plant.now) (goal_of plant.now) depth
+    requires right { IsRightSystemVerdict (system_of plant.now) (goal_of plant.now) depth
         (system.NotInductive trace.now) }
-    ensures { IfOk result (IsMadeOf plant.now depth (system.NotInductive trace.now)) }
+    ensures { IfOk result (IsLiftedFrom plant.now depth (system.NotInductive trace.now)) }
 {
     plant.is_sound();
     wellformed_are_images(plant);
@@ -79,21 +79,22 @@ fn lift_not_inductive(
     Ok(Verdict::NotInductive { first, events })
 }
 
-/// The verdict on a plant, by that on its system.
+/// Translates a verdict on the plant's system into the verdict on the plant.
 pub(crate) fn lift(
     alloc: Global,
     plant: &Plant,
     depth: u32,
     verdict: &SystemVerdict,
 ) -> Result<Verdict, AllocError>
-    requires steps { StepsAs plant.now }
+    requires steps { StepsLikeEvents plant.now }
     requires goal { IsGoalOf plant.now (goal_of plant.now) }
     requires some_depth { 0 < depth }
     requires depth { depth ≤ 16 }
-    requires right { IsRight (system_of plant.now) (goal_of plant.now) depth verdict.now
+    requires right { IsRightSystemVerdict (system_of plant.now) (goal_of plant.now) depth
+        verdict.now
         ⊎ (verdict.now ≡ system.Spent) }
-    requires lasts { Lasts (system_of plant.now) (goal_of plant.now) verdict.now }
-    ensures { IfOk result (IsMadeOf plant.now depth verdict.now) }
+    requires lasts { SystemHoldsAtAnyLength (system_of plant.now) (goal_of plant.now) verdict.now }
+    ensures { IfOk result (IsLiftedFrom plant.now depth verdict.now) }
 {
     plant.is_sound();
     match verdict {

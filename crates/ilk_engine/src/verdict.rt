@@ -3,39 +3,38 @@ use ilk_certificate::Asked;
 use ilk_model::{Event, HazardAt};
 use ilk_plant::State;
 
-/// What is answered of a plant.
+/// The verdict on a plant.
 #[derive(Drop)]
 pub enum Verdict {
-    /// No run of any length from the start reaches a hazard or breaks a family. From `k` events on
-    /// the invariant carries itself.
+    /// No run of any length from the initial state reaches a hazard or breaks a family. The
+    /// invariant is inductive over `k` events.
     Safe {
         k: u32,
     },
-    /// These events are a run from the start to this hazard, as short as there is one.
+    /// These events are a shortest run from the initial state to a hazard, and end in this one.
     Unsafe {
         events: Row<Event>,
         hazard: HazardAt,
     },
-    /// No run within the depth reaches a hazard, and these events are a run from the start, as short
-    /// as there is one, to a state that breaks a family: this one, and none of a smaller number.
+    /// No run within the depth reaches a hazard. These events are a shortest run from the initial
+    /// state to a state that breaks a family; this is the least one that it breaks.
     Breach {
         events: Row<Event>,
         family: u8,
     },
-    /// None of these within the depth. From the first state, as many events as the depth lead through
-    /// states that meet the invariant to one that doesn't.
+    /// None of these within the depth. From the first state, as many events as the depth lead
+    /// through states that meet the invariant to one that doesn't.
     NotInductive {
         first: State,
         events: Row<Event>,
     },
-    /// The searches took as many conflicts as they might, and another one would be due.
+    /// The searches took all the conflicts that they were allowed, and another one would be needed.
     Spent,
 }
 
-/// A verdict, and what was asked for it.
+/// A verdict, and the queries that were asked for it.
 #[derive(Drop)]
 pub struct Found {
-    /// What is answered.
     pub verdict: Verdict,
     /// The queries in the order in which they were asked.
     pub asked: Row<Asked>,

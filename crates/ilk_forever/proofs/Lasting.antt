@@ -1,5 +1,5 @@
--- Where no run of any length ends in a hazard or breaks a family, each run from the start ends in a state that meets the
--- invariant.
+-- If no run ends in a hazard or breaks a family, each run from the start ends in a state that meets
+-- the invariant.
 use Rattle.std.proofs.Common.{◌≡◌, Bool, true, false, not, ◌&&◌, Option, Some, None, List, length, refl, ap, ◌∙◌}
 use Rattle.std.specs.Prelude.{is_some, is_none}
 use Rattle.std.proofs.lemmas.Bool.{and_from}
@@ -16,21 +16,19 @@ use Rattle.ilk_model.specs.declared.event.Event.{Event}
 use Rattle.ilk_model.specs.declared.hazards.HazardAt.{HazardAt}
 use Rattle.ilk_unroll.specs.Goal.{GoalTree}
 use Rattle.ilk_unroll.specs.declared.queries.Wanted.TheVariants.{Hazard, Breach}
-use Rattle.ilk_evidence.specs.Evidence.{IsForever}
-use Rattle.ilk_queries.specs.Asked.{HasEvents}
-use Rattle.ilk_queries.specs.Lifting.{IsGoalOf, RulesStep}
+use Rattle.ilk_unroll.specs.Evidence.{IsSafeForAllRuns}
+use Rattle.ilk_queries.specs.Asked.{HasQueriedRun}
+use Rattle.ilk_queries.specs.Lifting.{IsGoalOf, RulesStepLikeEvents}
 use Rattle.ilk_queries.proofs.Queries.{shaped-at}
 use Rattle.ilk_queries.proofs.Walks.{run-states, states-shaped}
-use Rattle.ilk_forever.specs.Forever.{IsForeverSafe}
+use Rattle.ilk_forever.specs.Forever.{IsAlwaysSafe}
 
--- the last state of a run has the shape
-pub run-shape : (p : PlantLists) (steps : RulesStep p) (g : GoalTree) (goal : IsGoalOf p g) (s t : State) (events : List Event) → HasShape p s → run p s events ≡ Some t → HasShape p t
+pub run-shape : (p : PlantLists) (steps : RulesStepLikeEvents p) (g : GoalTree) (goal : IsGoalOf p g) (s t : State) (events : List Event) → HasShape p s → run p s events ≡ Some t → HasShape p t
 run-shape p steps g goal s t events shape ends =
     let led = run-states p s t events ends in
     shaped-at p led.0 (length events) t (states-shaped p steps g goal s events led.0 shape led.1) led.3
 
--- a run from the start to a hazard
-to-hazard : (p : PlantLists) (events : List Event) (t : State) → run p (start p) events ≡ Some t → is_some (hazard p t) ≡ true → HasEvents p (Hazard (length events))
+to-hazard : (p : PlantLists) (events : List Event) (t : State) → run p (start p) events ≡ Some t → is_some (hazard p t) ≡ true → HasQueriedRun p (Hazard (length events))
 to-hazard p events t ends some = record {
   first = start p;
   shape = start-shape p;
@@ -38,8 +36,7 @@ to-hazard p events t ends some = record {
   run = (refl, refl, ap (λ o. is_some_and o (λ u. is_some (hazard p u))) ends ∙ some);
 }
 
--- a run from the start to a state that breaks a family
-to-breach : (p : PlantLists) (events : List Event) (t : State) → run p (start p) events ≡ Some t → hazard p t ≡ None → keeps_all p t ≡ false → HasEvents p (Breach (length events))
+to-breach : (p : PlantLists) (events : List Event) (t : State) → run p (start p) events ≡ Some t → hazard p t ≡ None → keeps_all p t ≡ false → HasQueriedRun p (Breach (length events))
 to-breach p events t ends none broken = record {
   first = start p;
   shape = start-shape p;
@@ -47,7 +44,7 @@ to-breach p events t ends none broken = record {
   run = (refl, refl, ap (λ o. is_some_and o (λ u. is_none (hazard p u) && not (keeps_all p u))) ends ∙ and_from _ _ (ap is_none none) (ap not broken));
 }
 
-pub forever-safe : (p : PlantLists) (steps : RulesStep p) (g : GoalTree) (goal : IsGoalOf p g) → IsForever (HasEvents p) → IsForeverSafe p
+pub forever-safe : (p : PlantLists) (steps : RulesStepLikeEvents p) (g : GoalTree) (goal : IsGoalOf p g) → IsSafeForAllRuns (HasQueriedRun p) → IsAlwaysSafe p
 forever-safe p steps g goal never events t ends = by_hazard (hazard p t) refl
   where
     by_kept : hazard p t ≡ None → (b : Bool) → keeps_all p t ≡ b → Meets p t

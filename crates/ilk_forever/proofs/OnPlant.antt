@@ -1,44 +1,42 @@
--- The verdict on a plant's system, lifted to the plant: a run exists over values exactly where one exists over states.
+-- The verdict on a plant's system, lifted to the plant.
 use Rattle.std.proofs.Common.{◌≡◌, ◌↔◌, ℕ, ◌<◌, ◌≤◌, true, arith}
 use Rattle.std.proofs.lemmas.Bool.{le-leb}
 use Rattle.ilk_plant.specs.Plant.{IsPlant, PlantLists}
 use Rattle.ilk_layout.specs.Image.{image_of}
 use Rattle.ilk_behave.specs.Behaviour.{system_of}
-use Rattle.ilk_behave.specs.Steps.{StepsAs}
+use Rattle.ilk_behave.specs.Steps.{StepsLikeEvents}
 use Rattle.ilk_unroll.specs.Goal.{GoalTree, wanted_valid}
 use Rattle.ilk_unroll.specs.declared.queries.Wanted.{Wanted}
 use Rattle.ilk_unroll.specs.declared.queries.Wanted.TheVariants.{Hazard, Breach, Step}
-use Rattle.ilk_queries.specs.Asked.{HasEvents}
+use Rattle.ilk_queries.specs.Asked.{HasQueriedRun}
 use Rattle.ilk_queries.specs.Goal.{goal_of}
-use Rattle.ilk_queries.specs.Lifting.{IsGoalOf, RulesStep}
+use Rattle.ilk_queries.specs.Lifting.{IsGoalOf, RulesStepLikeEvents}
 use Rattle.ilk_queries.proofs.Answered.{to-wanted}
 use Rattle.ilk_queries.proofs.Lifted.{has-events}
 use Rattle.ilk_queries.proofs.Steps.{rules-step}
-use Rattle.ilk_evidence.specs.Evidence.{HasRun, IsForever, IsNever, Endangers, Breaks}
-use Rattle.ilk_forever.specs.Forever.{IsForeverSafe}
+use Rattle.ilk_unroll.specs.Evidence.{HasRun, IsSafeForAllRuns, HoldsForNoneUpTo, ReachesHazard, ReachesBreach}
+use Rattle.ilk_forever.specs.Forever.{IsAlwaysSafe}
 use Rattle.ilk_forever.proofs.CarriedForever.{carried-forever, step-valid}
 use Rattle.ilk_forever.proofs.Lasting.{forever-safe}
 
-module _ (p : PlantLists) (steps : RulesStep p) (g : GoalTree) (goal : IsGoalOf p g) where
-  pub has-run : (q : Wanted) → HasEvents p q → HasRun (system_of p) g q
+module _ (p : PlantLists) (steps : RulesStepLikeEvents p) (g : GoalTree) (goal : IsGoalOf p g) where
+  pub has-run : (q : Wanted) → HasQueriedRun p q → HasRun (system_of p) g q
   has-run q has = let rules = to-wanted p steps g goal q has.first has.events has.shape has.run in (image_of p has.first, rules.0, rules.1)
 
-  pub has-lifted : (q : Wanted) → wanted_valid q ≡ true → HasRun (system_of p) g q → HasEvents p q
+  pub has-lifted : (q : Wanted) → wanted_valid q ≡ true → HasRun (system_of p) g q → HasQueriedRun p q
   has-lifted q valid has = has-events p steps g goal q has.0 has.1 valid has.2
 
-  pub safe-forever : IsForever (HasRun (system_of p) g) → IsForeverSafe p
-  safe-forever never = forever-safe p steps g goal (carried-forever (HasRun (system_of p) g) (HasEvents p) has-run never)
+  pub safe-forever : IsSafeForAllRuns (HasRun (system_of p) g) → IsAlwaysSafe p
+  safe-forever never = forever-safe p steps g goal (carried-forever (HasRun (system_of p) g) (HasQueriedRun p) has-run never)
 
--- over one plant, whose rules step as its events do
-pub lifts : (p : PlantLists) → IsPlant p → StepsAs p → IsGoalOf p (goal_of p) → (q : Wanted) → wanted_valid q ≡ true → HasRun (system_of p) (goal_of p) q ↔ HasEvents p q
+pub lifts : (p : PlantLists) → IsPlant p → StepsLikeEvents p → IsGoalOf p (goal_of p) → (q : Wanted) → wanted_valid q ≡ true → HasRun (system_of p) (goal_of p) q ↔ HasQueriedRun p q
 lifts p plant steps goal q valid =
     let lead = rules-step p plant steps in
     (has-lifted p lead (goal_of p) goal q valid, has-run p lead (goal_of p) goal q)
 
--- what holds of short runs holds of runs of any length, where the system's runs have this law
-pub lasting : (p : PlantLists) → IsPlant p → StepsAs p → IsGoalOf p (goal_of p) → (k : ℕ) → 0 < k → k ≤ 16
-    → (IsNever k (Endangers (HasRun (system_of p) (goal_of p))) → IsNever k (Breaks (HasRun (system_of p) (goal_of p))) → ¬ HasRun (system_of p) (goal_of p) (Step k) → IsForever (HasRun (system_of p) (goal_of p)))
-    → IsNever k (Endangers (HasEvents p)) → IsNever k (Breaks (HasEvents p)) → ¬ HasEvents p (Step k) → IsForeverSafe p
+pub lasting : (p : PlantLists) → IsPlant p → StepsLikeEvents p → IsGoalOf p (goal_of p) → (k : ℕ) → 0 < k → k ≤ 16
+    → (HoldsForNoneUpTo k (ReachesHazard (HasRun (system_of p) (goal_of p))) → HoldsForNoneUpTo k (ReachesBreach (HasRun (system_of p) (goal_of p))) → ¬ HasRun (system_of p) (goal_of p) (Step k) → IsSafeForAllRuns (HasRun (system_of p) (goal_of p)))
+    → HoldsForNoneUpTo k (ReachesHazard (HasQueriedRun p)) → HoldsForNoneUpTo k (ReachesBreach (HasQueriedRun p)) → ¬ HasQueriedRun p (Step k) → IsAlwaysSafe p
 lasting p plant steps goal k some few law hazards breaches step =
     let lead = rules-step p plant steps in
     let down = has-lifted p lead (goal_of p) goal in

@@ -1,5 +1,5 @@
--- What is a certificate shows that no run of any length ends in a hazard or breaks a family: each of its queries is refuted,
--- so none of them has a run.
+-- A certificate refutes each of its queries, so no run of any length ends in a hazard or breaks a
+-- family.
 use Rattle.std.proofs.Common.{◌≡◌, ℕ, zero, suc, ◌+◌, ◌<◌, ◌≤◌, All, List, [], ◌∷◌, ◌++◌, inl, inr, sym, ◌∙◌, subst, arith}
 use Rattle.std.specs.List.{flat_map, range_with_len}
 use Rattle.std.proofs.lemmas.Bool.{false≢true}
@@ -16,9 +16,8 @@ use Rattle.ilk_unroll.specs.declared.queries.Wanted.{Wanted}
 use Rattle.ilk_unroll.specs.declared.queries.Wanted.TheVariants.{Hazard, Breach, Step}
 use Rattle.ilk_certificate.specs.declared.asked.Asked.{Asked}
 use Rattle.ilk_certificate.specs.Certificate.{base_queries, certified_queries, IsCertificate, IsRefuted}
-use Rattle.ilk_evidence.specs.Evidence.{HasRun, IsForever, IsNever, Endangers, Breaks}
+use Rattle.ilk_unroll.specs.Evidence.{HasRun, IsSafeForAllRuns, HoldsForNoneUpTo, ReachesHazard, ReachesBreach}
 
--- of each hazard query and each breach query for a to a + m - 1 steps, where others come after them
 each-base : (P : Wanted → Type 0) (a m n : ℕ) (rest : List Wanted) → All P (flat_map base_queries (range_with_len a m) ++ rest) → a ≤ n → n < a + m → P (Hazard n) × P (Breach n)
 each-base P a zero n rest all from below = absurd (omega arith)
 each-base P a (suc m) n rest all from below =
@@ -30,14 +29,12 @@ each-base P a (suc m) n rest all from below =
           subst (λ k. P (Hazard k) × P (Breach k)) same (All-head P (Hazard a) (Breach a ∷ more) all, All-head P (Breach a) more later))
     ]
 
--- and of the one after them
 last-query : (P : Wanted → Type 0) (a m : ℕ) (q : Wanted) → All P (flat_map base_queries (range_with_len a m) ++ q ∷ []) → P q
 last-query P a zero q all = All-head P q [] all
 last-query P a (suc m) q all =
     let more = flat_map base_queries (range_with_len (a + 1) m) ++ q ∷ [] in
     last-query P (a + 1) m q (All-tail P (Breach a) more (All-tail P (Hazard a) (Breach a ∷ more) all))
 
--- over one system and goal, where each query that has a run has a formula that is satisfiable
 module _ (s : SystemTree) (g : GoalTree) (solves : (q : Wanted) → HasRun s g q → IsSatisfiable (query_formula s g q)) where
   no-run : (q : Wanted) (log : List LogStep) → IsRefuted s g q log → ¬ HasRun s g q
   no-run q log refuted has =
@@ -50,10 +47,9 @@ module _ (s : SystemTree) (g : GoalTree) (solves : (q : Wanted) → HasRun s g q
       let each : All (λ (a : Asked). Never a.query) c.asked = All-weaker (λ (a : Asked). IsRefuted s g a.query a.log) (λ (a : Asked). Never a.query) (λ a refuted. no-run a.query a.log refuted) c.asked c.refuted in
       subst (All Never) c.queries (All-map Never (λ (a : Asked). a.query) c.asked each)
 
-  -- where the system's runs have this law
   pub certified-forever : (k : ℕ) (bytes : Bytes)
-      → (IsNever k (Endangers (HasRun s g)) → IsNever k (Breaks (HasRun s g)) → ¬ HasRun s g (Step k) → IsForever (HasRun s g))
-      → IsCertificate s g k bytes → IsForever (HasRun s g)
+      → (HoldsForNoneUpTo k (ReachesHazard (HasRun s g)) → HoldsForNoneUpTo k (ReachesBreach (HasRun s g)) → ¬ HasRun s g (Step k) → IsSafeForAllRuns (HasRun s g))
+      → IsCertificate s g k bytes → IsSafeForAllRuns (HasRun s g)
   certified-forever k bytes law c =
       let Never : Wanted → Type 0 = λ q. ¬ HasRun s g q in
       let none : All Never (certified_queries k) = none-has-run k bytes c in

@@ -1,16 +1,23 @@
-//! What is so of a plant's runs of any length, and what shows it. `specs/Forever` says when a plant is
-//! safe for ever: each run from the start ends in a state that meets the invariant.
+//! Theorems about runs of any length of a plant. `specs/Forever` defines a safe plant: each run
+//! from the start ends in a state that meets the invariant.
 //!
-//! A query has a run over the plant's finite system exactly where the plant has one (`runs_lift`). So
-//! what is so of the system's runs is so of the plant's: where no short run reaches a hazard or breaks a
-//! family, and none of k events leaves the invariant, the plant is safe for ever (`safe_forever`); and so
-//! it is where bytes, whoever wrote them, are a certificate of it (`certificates_are_right`). A plant
-//! whose table is strict is so too (`proofs/StrictForever`, over `ilk_strict`).
+//! A query has a run over the plant's finite system if and only if it has one over the plant
+//! (`runs_correspond`). So results about the system's runs carry over. A plant is safe for runs of
+//! any length in each of these cases:
 //!
-//! No crate of the search stands below this one. The answers of `check`, `table` and `audit` that a
-//! plant is safe rest on these laws, and on no search.
+//! - For a k from 1 to 16, no run of up to k events from the start reaches a hazard or breaks a
+//!   family. Also, no run of k events leaves the invariant (`induction_implies_safety`).
+//!
+//! - Some bytes are a certificate of it, regardless of their origin (`certificates_imply_safety`).
+//!
+//! - Its table is strict (`proofs/StrictForever`, over `ilk_strict`).
+//!
+//! This crate depends on no search crate. If `check`, `table` or `audit` answers that a plant is
+//! safe, the answer depends on these theorems and not on a search.
 #![tactic(auto)]
 
 mod laws;
 
-pub use laws::{certificates_are_right, goal_means, runs_lift, safe_forever};
+pub use laws::{
+    certificates_imply_safety, goal_is_correct, induction_implies_safety, runs_correspond,
+};

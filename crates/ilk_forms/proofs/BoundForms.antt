@@ -1,4 +1,4 @@
--- Where there is a literal for each value up to one, the forms of a bound stand and say so.
+-- The forms of a bound say that the variable is at most its value.
 use Rattle.std.proofs.Common.{◌≡◌, ℕ, zero, suc, ◌+◌, ◌-◌, ◌<◌, ◌≤◌, Bool, true, false, not, ◌&&◌, ◌||◌, List, [], ◌++◌, length, slice_get, Option, Some, None, inl, inr, refl, sym, ap, ◌∙◌, subst, eqb, ltb, leb, arith}
 use Rattle.std.proofs.Math.Bool.{and-false}
 use Rattle.std.proofs.lemmas.Option.{same_Some, cond_some}
@@ -12,11 +12,10 @@ use Rattle.ilk_ir.specs.Tree.{Tree, yes, no, is, all_of, any_of, negation, Trees
 use Rattle.ilk_forms.specs.declared.bound.Bound.{Bound}
 use Rattle.ilk_forms.specs.Bound.{value_after, last_value, bound_of}
 
--- whether variable v is at most k
 abbrev pub at_most : List ℕ → ℕ → ℕ → Bool
 at_most ws v k = is_some_and (slice_get ws v) (λ w. leb w k)
 
--- there is a literal exactly where one is said to be, and it has the truth
+-- Holds if the literal exists exactly if `had` is true, and then has the value `truth`.
 abbrev pub Stands : List Bool → Option Literal → Bool → Bool → Type 0
 Stands a None had truth = had ≡ false
 Stands a (Some l) had truth = (had ≡ true) × (is_true a l ≡ truth)
@@ -28,8 +27,6 @@ stands-as a (Some l) p q r s e f h = (sym e ∙ h.0, h.1 ∙ f)
 pub stands-left : (a b : List Bool) (o : Option Literal) (p q : Bool) → ((l : Literal) → o ≡ Some l → l.var ≤ length a) → Stands a o p q → Stands (a ++ b) o p q
 stands-left a b None p q low h = h
 stands-left a b (Some l) p q low h = (h.0, is_true-left a b l (low l refl) ∙ h.1)
-
--- the forms
 
 after-is : (v c d : ℕ) (t : Tree) → value_after v c t ≡ Some d → (t ≡ is v d) × (d ≡ c + 1)
 after-is v c d yes e = absurd cc
@@ -53,8 +50,6 @@ last-low (more t ts) v c k e =
     let one = (after-is v c next.0 t next.1).1 in
     let rest = last-low ts v next.0 k next.2 in
     omega (arith, one, rest)
-
--- of no values, of the next one, and of zero
 
 no_value : (o : Option ℕ) (c : ℕ) → is_some_and o (λ w. ltb c w && leb w c) ≡ false
 no_value None c = refl
@@ -125,7 +120,7 @@ last-valid (more t ts) ranges v c k e h first =
     let parts = and_parts (tree_valid ranges t) (each_valid ranges ts) h in
     last-valid ts ranges v next.0 k next.2 parts.1 (sym (ap (tree_valid ranges) form.0) ∙ parts.0)
 
--- what is known where the forms are that a variable is at most a value
+-- The facts that follow if the forms say that a variable is at most a value.
 pub record SayBound (ts : Trees) (b : Bound) : Type 0 where
   pub some : 0 < b.most
   pub holds : (ws : List ℕ) → some_holds ws ts ≡ at_most ws b.var b.most
@@ -162,7 +157,6 @@ say-bound (more (all_of us) ts) b e = absurd cc
 say-bound (more (any_of us) ts) b e = absurd cc
 say-bound (more (negation t) ts) b e = absurd cc
 
--- a value below k + 2 is at most k exactly where it isn't k + 1
 pub below : (w k : ℕ) → w < k + 2 → not (eqb w (0 + (k + 1))) ≡ leb w k
 below w k less =
     elim (cases_eq w (0 + (k + 1))) [

@@ -1,4 +1,5 @@
--- Or of a variable's values up to one holds exactly where the copy's literal of that is true.
+-- An Or of a variable's values up to one holds exactly if the copy's literal for that bound is
+-- true.
 use Rattle.std.proofs.Common.{◌≡◌, ℕ, zero, suc, ◌+◌, ◌-◌, ◌<◌, Bool, true, false, not, ◌&&◌, ◌||◌, List, [], ◌∷◌, length, map, cond, slice_get, Option, Some, None, option_map, inl, inr, refl, sym, ap, ◌∙◌, subst, eqb, ltb, leb, arith}
 use Rattle.std.specs.Option.{option_and_then}
 use Rattle.std.proofs.lemmas.List.{length-map}
@@ -6,22 +7,20 @@ use Rattle.std.proofs.lemmas.Bool.{and_parts, false≢true, eqb-true, ltb-true, 
 use Rattle.ilk_base.specs.Option.{is_some_and}
 use Rattle.ilk_base.proofs.Options.{bind_some, mapped-Some}
 use Rattle.ilk_base.proofs.Tested.{list_all-slice_get}
-use Rattle.ilk_cnf.specs.Literal.{Literal, opposite}
-use Rattle.ilk_cnf.specs.Formula.{lit_in, clause_in}
+use Rattle.ilk_cnf.specs.Literal.{Literal, negated_lit}
+use Rattle.ilk_cnf.specs.Formula.{is_lit_over, is_clause_over}
 use Rattle.ilk_cnf.specs.Truth.{is_true}
-use Rattle.ilk_cnf.proofs.Gates.{is_true-opposite}
+use Rattle.ilk_cnf.proofs.Gates.{is_true-negated_lit}
 use Rattle.ilk_ints.specs.Named.{value_bits, bound_bits, bound_count}
 use Rattle.ilk_ints.proofs.ValuesLaw.{length-value_bits}
 use Rattle.ilk_ir.specs.Tree.{Trees, some_holds, each_valid, value_valid}
 use Rattle.ilk_ir.specs.System.{in_ranges}
-use Rattle.ilk_copy.specs.declared.copy.Column.{Column}
-use Rattle.ilk_copy.specs.Copy.{LiteralsSay}
+use Rattle.ilk_forms.specs.declared.copy.Column.{Column}
+use Rattle.ilk_forms.specs.Copy.{LiteralsEncode}
 use Rattle.ilk_forms.specs.declared.bound.Bound.{Bound}
 use Rattle.ilk_forms.specs.Leaf.{columns_in, ranges_of}
-use Rattle.ilk_forms.specs.Bound.{bound_of, column_bound, bound_leaf, any_leaf, has_bound, has_any_leaf}
+use Rattle.ilk_forms.specs.Bound.{bound_of, column_bound, bound_lit, or_bound_lit, has_bound_lit, has_or_bound_lit}
 use Rattle.ilk_forms.proofs.BoundForms.{Stands, at_most, below, say-bound, stands-as}
-
--- the literals of one variable
 
 shift : (i j : ℕ) → ltb i j ≡ ltb (suc i) (suc j)
 shift i j =
@@ -56,11 +55,11 @@ bound-stands a (l ∷ ls) w k (suc j) (suc i) h =
     let same : k + 1 + i ≡ k + suc i = omega arith in
     stands-as a (slice_get ls i) (ltb i j) (leb w (k + 1 + i)) (ltb (suc i) (suc j)) (leb w (k + suc i)) (shift i j) (ap (leb w) same) (bound-stands a ls w (k + 1) j i rest)
 
-greatest-stands : (a : List Bool) (o : Option Literal) (range w k : ℕ) → k + 2 ≡ range → w < range → Stands a o (ltb (k + 1) range) (eqb w (0 + (k + 1))) → Stands a (option_map opposite o) true (leb w k)
+greatest-stands : (a : List Bool) (o : Option Literal) (range w k : ℕ) → k + 2 ≡ range → w < range → Stands a o (ltb (k + 1) range) (eqb w (0 + (k + 1))) → Stands a (option_map negated_lit o) true (leb w k)
 greatest-stands a None range w k e less h =
     let there = lt-ltb (k + 1) range (omega arith) in
     absurd (false≢true (sym h ∙ there))
-greatest-stands a (Some l) range w k e less h = (refl, is_true-opposite a l ∙ ap not h.1 ∙ below w k (omega arith))
+greatest-stands a (Some l) range w k e less h = (refl, is_true-negated_lit a l ∙ ap not h.1 ∙ below w k (omega arith))
 
 column-says : (a : List Bool) (column : Column) (range w k : ℕ) →
     map (is_true a) column.values ≡ value_bits w 0 range →
@@ -69,7 +68,7 @@ column-says : (a : List Bool) (column : Column) (range w k : ℕ) →
 column-says a column range w k values bounds less some =
     subst
     (λ (n : ℕ). Stands a
-    (cond (eqb (k + 2) n) (option_map opposite (slice_get column.values (k + 1)))
+    (cond (eqb (k + 2) n) (option_map negated_lit (slice_get column.values (k + 1)))
     (slice_get column.bounds (k - 1)))
     (eqb (k + 2) range || ltb (k - 1) (bound_count range)) (leb w k)) (sym long)
     (by_case (eqb (k + 2) range) refl)
@@ -77,18 +76,16 @@ column-says a column range w k values bounds less some =
     long : length column.values ≡ range
     long = sym (length-map column.values (is_true a)) ∙ ap length values ∙ length-value_bits w 0 range
 
-    by_case : (b : Bool) → eqb (k + 2) range ≡ b → Stands a (cond b (option_map opposite (slice_get column.values (k + 1))) (slice_get column.bounds (k - 1))) (b || ltb (k - 1) (bound_count range)) (leb w k)
+    by_case : (b : Bool) → eqb (k + 2) range ≡ b → Stands a (cond b (option_map negated_lit (slice_get column.values (k + 1))) (slice_get column.bounds (k - 1))) (b || ltb (k - 1) (bound_count range)) (leb w k)
     by_case true e = greatest-stands a (slice_get column.values (k + 1)) range w k (eqb-true (k + 2) range e) less (value-stands a column.values w 0 range (k + 1) values)
     by_case false e =
         let same : 1 + (k - 1) ≡ k = omega arith in
         stands-as a (slice_get column.bounds (k - 1)) (ltb (k - 1) (bound_count range)) (leb w (1 + (k - 1))) (ltb (k - 1) (bound_count range)) (leb w k) refl (ap (leb w) same) (bound-stands a column.bounds w 1 (bound_count range) (k - 1) bounds)
 
--- the literals of a copy
-
 pub bound-says : (a : List Bool) (columns : List Column) (ranges ws : List ℕ) (v k : ℕ) →
-    LiteralsSay a columns ranges ws → in_ranges ws ranges ≡ true →
+    LiteralsEncode a columns ranges ws → in_ranges ws ranges ≡ true →
     value_valid (ranges_of columns) v k ≡ true → 0 < k →
-    Stands a (bound_leaf columns v k) (has_bound ranges v k) (at_most ws v k)
+    Stands a (bound_lit columns v k) (has_bound_lit ranges v k) (at_most ws v k)
 bound-says a [] ranges ws v k h inside valid some = absurd (false≢true valid)
 bound-says a (column ∷ columns) [] ws v k h inside valid some = absurd h
 bound-says a (column ∷ columns) (range ∷ ranges) [] v k h inside valid some = absurd h
@@ -99,39 +96,38 @@ bound-says a (column ∷ columns) (range ∷ ranges) (w ∷ ws) (suc v) k h insi
     let parts = and_parts (ltb w range) (in_ranges ws ranges) inside in
     bound-says a columns ranges ws v k h.2 parts.1 valid some
 
-column-in : (n : ℕ) (column : Column) (k : ℕ) (l : Literal) → clause_in n column.values ≡ true → clause_in n column.bounds ≡ true → column_bound column k ≡ Some l → lit_in n l ≡ true
+column-in : (n : ℕ) (column : Column) (k : ℕ) (l : Literal) → is_clause_over n column.values ≡ true → is_clause_over n column.bounds ≡ true → column_bound column k ≡ Some l → is_lit_over n l ≡ true
 column-in n column k l values bounds = by_case (eqb (k + 2) (length column.values))
   where
-    by_case : (b : Bool) → cond b (option_map opposite (slice_get column.values (k + 1))) (slice_get column.bounds (k - 1)) ≡ Some l → lit_in n l ≡ true
+    by_case : (b : Bool) → cond b (option_map negated_lit (slice_get column.values (k + 1))) (slice_get column.bounds (k - 1)) ≡ Some l → is_lit_over n l ≡ true
     by_case true e =
-        let m = mapped-Some opposite (slice_get column.values (k + 1)) l e in
-        let there : lit_in n (opposite m.0) ≡ true = list_all-slice_get (lit_in n) column.values (k + 1) m.0 values m.1 in
-        subst (λ (u : Literal). lit_in n u ≡ true) m.2 there
-    by_case false e = list_all-slice_get (lit_in n) column.bounds (k - 1) l bounds e
+        let m = mapped-Some negated_lit (slice_get column.values (k + 1)) l e in
+        let there : is_lit_over n (negated_lit m.0) ≡ true = list_all-slice_get (is_lit_over n) column.values (k + 1) m.0 values m.1 in
+        subst (λ (u : Literal). is_lit_over n u ≡ true) m.2 there
+    by_case false e = list_all-slice_get (is_lit_over n) column.bounds (k - 1) l bounds e
 
-pub bound-in : (columns : List Column) (v k n : ℕ) (l : Literal) → columns_in n columns ≡ true → bound_leaf columns v k ≡ Some l → lit_in n l ≡ true
+pub bound-in : (columns : List Column) (v k n : ℕ) (l : Literal) → columns_in n columns ≡ true → bound_lit columns v k ≡ Some l → is_lit_over n l ≡ true
 bound-in columns v k n l inside e =
     let c = bind_some (slice_get columns v) (λ column. column_bound column k) l e in
     let column = c.0 in
-    let here = and_parts (clause_in n column.values) (clause_in n column.bounds) (list_all-slice_get (λ (x : Column). clause_in n x.values && clause_in n x.bounds) columns v column inside c.1) in
+    let here = and_parts (is_clause_over n column.values) (is_clause_over n column.bounds) (list_all-slice_get (λ (x : Column). is_clause_over n x.values && is_clause_over n x.bounds) columns v column inside c.1) in
     column-in n column k l here.0 here.1 c.2
 
-pub any-in : (ts : Trees) (columns : List Column) (n : ℕ) (l : Literal) → columns_in n columns ≡ true → any_leaf columns ts ≡ Some l → lit_in n l ≡ true
+pub any-in : (ts : Trees) (columns : List Column) (n : ℕ) (l : Literal) → columns_in n columns ≡ true → or_bound_lit columns ts ≡ Some l → is_lit_over n l ≡ true
 any-in ts columns n l inside e =
-    let b = bind_some (bound_of ts) (λ b. bound_leaf columns b.var b.most) l e in
+    let b = bind_some (bound_of ts) (λ b. bound_lit columns b.var b.most) l e in
     bound-in columns b.0.var b.0.most n l inside b.2
 
--- of the forms, where each literal of a bound says it
 pub any-says : (ts : Trees) (a : List Bool) (columns : List Column) (ranges ws : List ℕ) →
     ((v k : ℕ) → value_valid (ranges_of columns) v k ≡ true → 0 < k →
-    Stands a (bound_leaf columns v k) (has_bound ranges v k) (at_most ws v k)) →
+    Stands a (bound_lit columns v k) (has_bound_lit ranges v k) (at_most ws v k)) →
     each_valid (ranges_of columns) ts ≡ true →
-    Stands a (any_leaf columns ts) (has_any_leaf ranges ts) (some_holds ws ts)
+    Stands a (or_bound_lit columns ts) (has_or_bound_lit ranges ts) (some_holds ws ts)
 any-says ts a columns ranges ws bounds valid = by_case (bound_of ts) refl
   where
-    by_case : (o : Option Bound) → bound_of ts ≡ o → Stands a (option_and_then (λ b. bound_leaf columns b.var b.most) o) (is_some_and o (λ b. has_bound ranges b.var b.most)) (some_holds ws ts)
+    by_case : (o : Option Bound) → bound_of ts ≡ o → Stands a (option_and_then (λ b. bound_lit columns b.var b.most) o) (is_some_and o (λ b. has_bound_lit ranges b.var b.most)) (some_holds ws ts)
     by_case None e = refl
     by_case (Some b) e =
         let said = say-bound ts b e in
-        let has = has_bound ranges b.var b.most in
-        stands-as a (bound_leaf columns b.var b.most) has (at_most ws b.var b.most) has (some_holds ws ts) refl (sym (said.holds ws)) (bounds b.var b.most (said.valid (ranges_of columns) valid) said.some)
+        let has = has_bound_lit ranges b.var b.most in
+        stands-as a (bound_lit columns b.var b.most) has (at_most ws b.var b.most) has (some_holds ws ts) refl (sym (said.holds ws)) (bounds b.var b.most (said.valid (ranges_of columns) valid) said.some)

@@ -1,24 +1,24 @@
--- The literals of a copy are of the formula that has it, and its variables have their ranges.
+-- The literals of a copy are over its formula, and its variables have their ranges.
 use Rattle.std.proofs.Common.{◌≡◌, ℕ, ◌+◌, ◌^◌, ◌<◌, ◌≤◌, true, List, [], ◌∷◌, take, refl, inl, inr, subst, arith}
 use Rattle.std.proofs.lemmas.Bool.{and_parts, and_from, leb-true, cases_lt}
 use Rattle.ilk_cnf.specs.Literal.{Literal}
-use Rattle.ilk_cnf.specs.Formula.{clause_in}
-use Rattle.ilk_cnf.proofs.Literals.{lit_in-more, clause_in-more}
+use Rattle.ilk_cnf.specs.Formula.{is_clause_over}
+use Rattle.ilk_cnf.proofs.Literals.{is_lit_over-more, is_clause_over-more}
 use Rattle.ilk_ints.specs.Bits.{bit_count}
 use Rattle.ilk_ints.specs.AtMost.{at_most_part, at_most_lit}
 use Rattle.ilk_ints.specs.Named.{values_part, bound_count, bounds_from, bounds_part}
 use Rattle.ilk_ints.proofs.AtMostLaw.{bits_some}
 use Rattle.ilk_ints.proofs.ValuesLaw.{values_part-low}
-use Rattle.ilk_ints.proofs.BoundsLaw.{at_most-low, at_most-lit_in, bounds-low}
+use Rattle.ilk_ints.proofs.BoundsLaw.{at_most-low, at_most-is_lit_over, bounds-low}
 use Rattle.ilk_ints.proofs.TableParts.{values_part-lits_in, length-values_part, bounds_part-low}
-use Rattle.ilk_copy.specs.Copy.{column_part, columns_part, copy_part, numbers_part, total_bits}
-use Rattle.ilk_copy.proofs.ColumnLaw.{ranges_fit, numbers-end, column-low, columns-low}
+use Rattle.ilk_forms.specs.Copy.{column_part, columns_part, copy_part, numbers_part, total_bits}
+use Rattle.ilk_forms.proofs.ColumnLaw.{ranges_fit, numbers-end, column-low, columns-low}
 use Rattle.ilk_forms.specs.Leaf.{columns_in, ranges_of}
 use Rattle.ilk_forms.proofs.Reading.{columns_in-more}
 
 bounds-lits_in : (es : List Literal) (first range k n : ℕ) (below : Literal) → 0 < first →
     0 < bit_count range → first + bit_count range ≤ n + 1 →
-    clause_in (bounds_from first range below k es n).part.vars (bounds_from first range below k es n).lits
+    is_clause_over (bounds_from first range below k es n).part.vars (bounds_from first range below k es n).lits
     ≡ true
 bounds-lits_in [] first range k n below low some high = refl
 bounds-lits_in (e ∷ es) first range k n below low some high =
@@ -26,16 +26,16 @@ bounds-lits_in (e ∷ es) first range k n below low some high =
     let l = at_most_lit first range k n in
     let end = (bounds_from first range l (k + 1) es m).part.vars in
     let grows : n ≤ m = at_most-low range k n below e in
-    and_from _ _ (lit_in-more m end l (bounds-low es first range (k + 1) m l) (at_most-lit_in first range k n below e low some high)) (bounds-lits_in es first range (k + 1) m l low some (omega (arith, high, grows)))
+    and_from _ _ (is_lit_over-more m end l (bounds-low es first range (k + 1) m l) (at_most-is_lit_over first range k n below e low some high)) (bounds-lits_in es first range (k + 1) m l low some (omega (arith, high, grows)))
 
-bounds_part-lits_in : (values : List Literal) (first range n : ℕ) → 0 < first → first + bit_count range ≤ n + 1 → range ≤ 2 ^ bit_count range → clause_in (bounds_part first range values n).part.vars (bounds_part first range values n).lits ≡ true
+bounds_part-lits_in : (values : List Literal) (first range n : ℕ) → 0 < first → first + bit_count range ≤ n + 1 → range ≤ 2 ^ bit_count range → is_clause_over (bounds_part first range values n).part.vars (bounds_part first range values n).lits ≡ true
 bounds_part-lits_in [] first range n low high enough = refl
 bounds_part-lits_in (e ∷ es) first range n low high enough =
     elim (cases_lt 1 range) [
       | inl more ↦ bounds-lits_in (take (bound_count range) es) first range 1 n e low (bits_some range (bit_count range) more enough) high
       | inr one ↦
           (let none : 0 ≡ bound_count range = omega arith in
-          subst (λ (j : ℕ). clause_in (bounds_from first range e 1 (take j es) n).part.vars (bounds_from first range e 1 (take j es) n).lits ≡ true) none refl)
+          subst (λ (j : ℕ). is_clause_over (bounds_from first range e 1 (take j es) n).part.vars (bounds_from first range e 1 (take j es) n).lits ≡ true) none refl)
     ]
 
 column-lits_in : (first range n : ℕ) → 0 < first → first + bit_count range ≤ n + 1 → range ≤ 2 ^ bit_count range → columns_in (column_part first range n).part.vars ((column_part first range n).column ∷ []) ≡ true
@@ -44,7 +44,7 @@ column-lits_in first range n low high enough =
     let m = v.part.vars in
     let end = (bounds_part first range v.lits m).part.vars in
     let grows : n ≤ m = values_part-low first range n in
-    and_from _ _ (and_from _ _ (clause_in-more m end v.lits (bounds_part-low v.lits first range m) (values_part-lits_in first range n low high)) (bounds_part-lits_in v.lits first range m low (omega (arith, high, grows)) enough)) refl
+    and_from _ _ (and_from _ _ (is_clause_over-more m end v.lits (bounds_part-low v.lits first range m) (values_part-lits_in first range n low high)) (bounds_part-lits_in v.lits first range m low (omega (arith, high, grows)) enough)) refl
 
 columns-lits_in : (ranges : List ℕ) (first n : ℕ) → 0 < first → first + total_bits ranges ≤ n + 1 → ranges_fit ranges ≡ true → columns_in (columns_part ranges first n).part.vars (columns_part ranges first n).columns ≡ true
 columns-lits_in [] first n low high fit = refl

@@ -1,4 +1,4 @@
--- The law of a demand: it extends exactly the assignments in which a first literal is true or the form holds.
+-- A demand extends exactly the assignments in which a first literal is true or the form holds.
 use Rattle.std.proofs.Common.{◌≡◌, ℕ, ◌≤◌, Bool, true, false, not, ◌&&◌, ◌||◌, List, [], ◌∷◌, ◌++◌, length, cond, Option, Some, None, refl, sym, ap, ◌∙◌, subst, arith}
 use Rattle.std.proofs.lemmas.List.{append-nil}
 use Rattle.std.proofs.lemmas.List.Folds.{list_all-append, list_any-append}
@@ -6,79 +6,78 @@ use Rattle.std.proofs.lemmas.Bool.{and_parts, and_from}
 use Rattle.std.proofs.Math.Bool.{and-true, or-false}
 use Rattle.ilk_base.proofs.Tested.{list_any-map}
 use Rattle.ilk_cnf.specs.Literal.{Literal}
-use Rattle.ilk_cnf.specs.Formula.{lit_in, clause_in, clauses_in}
-use Rattle.ilk_cnf.specs.Truth.{is_true, some_true, satisfies}
-use Rattle.ilk_cnf.specs.Extends.{Extends, OnlyIf}
+use Rattle.ilk_cnf.specs.Formula.{is_lit_over, is_clause_over, are_clauses_over}
+use Rattle.ilk_cnf.specs.Truth.{is_true, is_clause_true, satisfies}
+use Rattle.ilk_cnf.specs.Extends.{Extends, IsExactlyIf}
 use Rattle.ilk_cnf.specs.Part.{Part}
-use Rattle.ilk_cnf.proofs.Literals.{clause_in-more, clauses_in-more}
-use Rattle.ilk_cnf.proofs.Parts.{some_true-left}
+use Rattle.ilk_cnf.proofs.Literals.{is_clause_over-more, are_clauses_over-more}
+use Rattle.ilk_cnf.proofs.Parts.{is_clause_true-left}
 use Rattle.ilk_cnf.proofs.Extending.{no_more_if, if_from_only, if_then_if}
-use Rattle.ilk_ints.specs.Named.{Named}
+use Rattle.ilk_ints.specs.Named.{PartWithLits}
 use Rattle.ilk_ir.specs.Tree.{Tree, yes, no, is, all_of, any_of, negation, Trees, none, more, tree_holds, each_holds, some_holds, tree_valid, each_valid, has_value}
-use Rattle.ilk_copy.specs.declared.copy.Column.{Column}
-use Rattle.ilk_forms.specs.Leaf.{leaf, columns_in, ranges_of}
-use Rattle.ilk_forms.specs.Bound.{any_leaf, has_any_leaf}
-use Rattle.ilk_forms.specs.Gathered.{same_truth, signed, gathered_each}
+use Rattle.ilk_forms.specs.declared.copy.Column.{Column}
+use Rattle.ilk_forms.specs.Leaf.{value_lit, columns_in, ranges_of}
+use Rattle.ilk_forms.specs.Bound.{or_bound_lit, has_or_bound_lit}
+use Rattle.ilk_forms.specs.Gathered.{bool_equals, signed, each_form_lits}
 use Rattle.ilk_forms.specs.Truths.{Truths, gate_truth, truths_each, demand_of_bits, demand_each_bits}
-use Rattle.ilk_forms.specs.Demand.{one_clause, some_part, clause_or, demand_of, demand_each}
+use Rattle.ilk_forms.specs.Demand.{one_clause, any_true_part, clause_or_else, demand_of, demand_each}
 use Rattle.ilk_forms.proofs.BoundForms.{Stands}
 use Rattle.ilk_forms.proofs.BoundLaw.{any-in, any-says}
-use Rattle.ilk_forms.proofs.Reading.{Reads, reads-more, columns_in-more, leaf-in}
-use Rattle.ilk_forms.proofs.GatheredFits.{Fits, signed-in, gathered_each-fits}
+use Rattle.ilk_forms.proofs.Reading.{Reads, reads-more, columns_in-more, value_lit-in}
+use Rattle.ilk_forms.proofs.GatheredFits.{Fits, signed-in, each_form_lits-fits}
 use Rattle.ilk_base.proofs.Lengths.{longer}
-use Rattle.ilk_forms.proofs.GatheredLaw.{Says, signed-says, here, same, gathered_each-says}
+use Rattle.ilk_forms.proofs.GatheredLaw.{Says, signed-says, here, same, each_form_lits-says}
 use Rattle.ilk_forms.proofs.TruthsMean.{forms_are, all-are, some-are, turned, truths_each-mean}
-
--- where a demand ends, and what its clauses are over
 
 pub record PartFits (n : ℕ) (p : Part) : Type 0 where
   pub low : n ≤ p.vars
-  pub inside : clauses_in p.vars p.clauses ≡ true
+  pub inside : are_clauses_over p.vars p.clauses ≡ true
 
-clause-fits : (ls : List Literal) (n : ℕ) → clause_in n ls ≡ true → PartFits n (one_clause ls n)
+clause-fits : (ls : List Literal) (n : ℕ) → is_clause_over n ls ≡ true → PartFits n (one_clause ls n)
 clause-fits ls n h = record { low = same n; inside = and_from _ _ h refl }
 
-pub joined-in : (first ls : List Literal) (n : ℕ) → clause_in n first ≡ true → clause_in n ls ≡ true → clause_in n (first ++ ls) ≡ true
-joined-in first ls n h k = list_all-append (lit_in n) first ls ∙ and_from _ _ h k
+pub joined-in : (first ls : List Literal) (n : ℕ) → is_clause_over n first ≡ true → is_clause_over n ls ≡ true → is_clause_over n (first ++ ls) ≡ true
+joined-in first ls n h k = list_all-append (is_lit_over n) first ls ∙ and_from _ _ h k
 
-pub some-fits : (first : List Literal) (n : ℕ) (g : Named) → clause_in n first ≡ true → Fits n g → PartFits n (some_part first g)
+pub some-fits : (first : List Literal) (n : ℕ) (g : PartWithLits) → is_clause_over n first ≡ true → Fits n g → PartFits n (any_true_part first g)
 some-fits first n g h fits =
     let m = g.part.vars in
     let ls = first ++ g.lits in
     record {
       low = fits.low;
-      inside = list_all-append (clause_in m) g.part.clauses (ls ∷ []) ∙ and_from _ _ fits.inside (and_from _ _ (joined-in first g.lits m (clause_in-more n m first fits.low h) fits.lits) refl);
+      inside = list_all-append (is_clause_over m) g.part.clauses (ls ∷ []) ∙ and_from _ _ fits.inside (and_from _ _ (joined-in first g.lits m (is_clause_over-more n m first fits.low h) fits.lits) refl);
     }
 
-signed_clause-fits : (first : List Literal) (positive : Bool) (l : Literal) (n : ℕ) → clause_in n first ≡ true → lit_in n l ≡ true → PartFits n (one_clause (first ++ signed positive l ∷ []) n)
+signed_clause-fits : (first : List Literal) (positive : Bool) (l : Literal) (n : ℕ) → is_clause_over n first ≡ true → is_lit_over n l ≡ true → PartFits n (one_clause (first ++ signed positive l ∷ []) n)
 signed_clause-fits first positive l n f h =
     clause-fits (first ++ signed positive l ∷ []) n (joined-in first (signed positive l ∷ []) n f (and_from _ _ (signed-in positive n l h) refl))
 
-clause_or-fits : (first : List Literal) (positive : Bool) (o : Option Literal) (n : ℕ) (p : Part) → clause_in n first ≡ true → ((l : Literal) → o ≡ Some l → lit_in n l ≡ true) → PartFits n p → PartFits n (clause_or first positive o n p)
-clause_or-fits first positive None n p f inside h = h
-clause_or-fits first positive (Some l) n p f inside h = signed_clause-fits first positive l n f (inside l refl)
+clause_or_else-fits : (first : List Literal) (positive : Bool) (o : Option Literal) (n : ℕ) (p : Part) → is_clause_over n first ≡ true → ((l : Literal) → o ≡ Some l → is_lit_over n l ≡ true) → PartFits n p
+    → PartFits n (clause_or_else first positive o n p)
+clause_or_else-fits first positive None n p f inside h = h
+clause_or_else-fits first positive (Some l) n p f inside h = signed_clause-fits first positive l n f (inside l refl)
 
 mutual
   pub demand_of-fits : (t : Tree) (columns : List Column) (first : List Literal) (positive : Bool) (n : ℕ) →
-      columns_in n columns ≡ true → clause_in n first ≡ true → tree_valid (ranges_of columns) t ≡ true →
+      columns_in n columns ≡ true → is_clause_over n first ≡ true → tree_valid (ranges_of columns) t ≡ true →
       PartFits n (demand_of columns first positive t n)
   demand_of-fits yes columns first true n h f k = record { low = same n; inside = refl }
   demand_of-fits yes columns first false n h f k = clause-fits first n f
   demand_of-fits no columns first true n h f k = clause-fits first n f
   demand_of-fits no columns first false n h f k = record { low = same n; inside = refl }
-  demand_of-fits (is v c) columns first positive n h f k = signed_clause-fits first positive (leaf columns v c) n f (leaf-in columns v c n h k)
+  demand_of-fits (is v c) columns first positive n h f k = signed_clause-fits first positive (value_lit columns v c) n f (value_lit-in columns v c n h k)
   demand_of-fits (all_of ts) columns first true n h f k = demand_each-fits ts columns first true n h f k
-  demand_of-fits (all_of ts) columns first false n h f k = some-fits first n (gathered_each columns false false ts n) f (gathered_each-fits ts columns false false n h k)
+  demand_of-fits (all_of ts) columns first false n h f k = some-fits first n (each_form_lits columns false false ts n) f (each_form_lits-fits ts columns false false n h k)
   demand_of-fits (any_of ts) columns first true n h f k =
-      let g = gathered_each columns false true ts n in
-      clause_or-fits first true (any_leaf columns ts) n (some_part first g) f (λ l e. any-in ts columns n l h e) (some-fits first n g f (gathered_each-fits ts columns false true n h k))
+      let g = each_form_lits columns false true ts n in
+      clause_or_else-fits first true (or_bound_lit columns ts) n (any_true_part first g) f (λ l e. any-in ts columns n l h e) (some-fits first n g f (each_form_lits-fits ts columns false true n h k))
   demand_of-fits (any_of ts) columns first false n h f k =
-      clause_or-fits first false (any_leaf columns ts) n (demand_each columns first false ts n) f (λ l e. any-in ts columns n l h e) (demand_each-fits ts columns first false n h f k)
+      clause_or_else-fits first false (or_bound_lit columns ts) n (demand_each columns first false ts n) f (λ l e. any-in ts columns n l h e) (demand_each-fits ts columns first false n h f k)
   demand_of-fits (negation t) columns first positive n h f k = demand_of-fits t columns first (not positive) n h f k
 
   pub demand_each-fits :
       (ts : Trees) (columns : List Column) (first : List Literal) (positive : Bool) (n : ℕ) →
-      columns_in n columns ≡ true → clause_in n first ≡ true → each_valid (ranges_of columns) ts ≡ true →
+      columns_in n columns ≡ true → is_clause_over n first ≡ true → each_valid (ranges_of columns) ts ≡ true →
       PartFits n (demand_each columns first positive ts n)
   demand_each-fits none columns first positive n h f k = record { low = same n; inside = refl }
   demand_each-fits (more t ts) columns first positive n h f k =
@@ -88,14 +87,12 @@ mutual
       let q = demand_each columns first positive ts m in
       let one = demand_of-fits t columns first positive n h f parts.0 in
       let low = one.low in
-      let two = demand_each-fits ts columns first positive m (columns_in-more n m columns low h) (clause_in-more n m first low f) parts.1 in
+      let two = demand_each-fits ts columns first positive m (columns_in-more n m columns low h) (is_clause_over-more n m first low f) parts.1 in
       let next = two.low in
       record {
         low = omega arith;
-        inside = list_all-append (clause_in q.vars) p.clauses q.clauses ∙ and_from _ _ (clauses_in-more m q.vars p.clauses next one.inside) two.inside;
+        inside = list_all-append (is_clause_over q.vars) p.clauses q.clauses ∙ and_from _ _ (are_clauses_over-more m q.vars p.clauses next one.inside) two.inside;
       }
-
--- the law
 
 end : (b : Bool) → (b && true) ≡ (b || false)
 end true = refl
@@ -105,55 +102,55 @@ always : (b : Bool) → true ≡ (b || true)
 always true = refl
 always false = refl
 
-no_clause-law : (a : List Bool) (first : List Literal) (n : ℕ) → length a ≡ n → Extends a n [] (OnlyIf (some_true a first || true) [])
-no_clause-law a first n size = no_more_if a n [] (some_true a first || true) size (always (some_true a first))
+no_clause-law : (a : List Bool) (first : List Literal) (n : ℕ) → length a ≡ n → Extends a n [] (IsExactlyIf (is_clause_true a first || true) [])
+no_clause-law a first n size = no_more_if a n [] (is_clause_true a first || true) size (always (is_clause_true a first))
 
-clause-law : (a : List Bool) (first : List Literal) (n : ℕ) → length a ≡ n → Extends a n (first ∷ []) (OnlyIf (some_true a first || false) [])
-clause-law a first n size = no_more_if a n (first ∷ []) (some_true a first || false) size (end (some_true a first))
+clause-law : (a : List Bool) (first : List Literal) (n : ℕ) → length a ≡ n → Extends a n (first ∷ []) (IsExactlyIf (is_clause_true a first || false) [])
+clause-law a first n size = no_more_if a n (first ∷ []) (is_clause_true a first || false) size (end (is_clause_true a first))
 
-leaf-law : (a : List Bool) (first : List Literal) (l : Literal) (truth : Bool) (n : ℕ) → length a ≡ n → is_true a l ≡ truth → Extends a n ((first ++ l ∷ []) ∷ []) (OnlyIf (some_true a first || truth) [])
-leaf-law a first l truth n size h =
-    no_more_if a n ((first ++ l ∷ []) ∷ []) (some_true a first || truth) size
-    (and-true (some_true a (first ++ l ∷ [])) ∙ list_any-append (is_true a) first (l ∷ [])
+value_lit-law : (a : List Bool) (first : List Literal) (l : Literal) (truth : Bool) (n : ℕ) → length a ≡ n → is_true a l ≡ truth → Extends a n ((first ++ l ∷ []) ∷ []) (IsExactlyIf (is_clause_true a first || truth) [])
+value_lit-law a first l truth n size h =
+    no_more_if a n ((first ++ l ∷ []) ∷ []) (is_clause_true a first || truth) size
+    (and-true (is_clause_true a (first ++ l ∷ [])) ∙ list_any-append (is_true a) first (l ∷ [])
     ∙
     (let one : (is_true a l || false) ≡ truth = or-false (is_true a l) ∙ h in
-    ap (λ (b : Bool). some_true a first || b) one))
+    ap (λ (b : Bool). is_clause_true a first || b) one))
 
-pub some-law : (a : List Bool) (first : List Literal) (g : Named) (t : Truths) (truth : Bool) (n : ℕ) →
-    length a ≡ n → clause_in n first ≡ true → Fits n g → Says a g t → gate_truth false t.lits ≡ truth →
-    Extends a (some_part first g).vars (some_part first g).clauses
-    (OnlyIf (some_true a first || truth) t.bits)
+pub some-law : (a : List Bool) (first : List Literal) (g : PartWithLits) (t : Truths) (truth : Bool) (n : ℕ) →
+    length a ≡ n → is_clause_over n first ≡ true → Fits n g → Says a g t → gate_truth false t.lits ≡ truth →
+    Extends a (any_true_part first g).vars (any_true_part first g).clauses
+    (IsExactlyIf (is_clause_true a first || truth) t.bits)
 some-law a first g t truth n size f fits says means =
     let m = g.part.vars in
     let e = t.bits in
     let ls = first ++ g.lits in
-    let ok = some_true a first || truth in
+    let ok = is_clause_true a first || truth in
     let long : length (a ++ e) ≡ m = says.part.sized e refl in
     let low : length a ≤ m = rw size fits.low in
-    let old : some_true (a ++ e) first ≡ some_true a first = some_true-left a e first (rw size f) in
-    let new : some_true (a ++ e) g.lits ≡ truth = sym (list_any-map (λ (q : Bool). q) (is_true (a ++ e)) g.lits) ∙ ap (gate_truth false) says.means ∙ means in
-    let one : satisfies (a ++ e) (ls ∷ []) ≡ ok = and-true (some_true (a ++ e) ls) ∙ list_any-append (is_true (a ++ e)) first g.lits ∙ rw (old, new) refl in
-    let both : Extends a m (g.part.clauses ++ ls ∷ []) (OnlyIf ok (e ++ [])) = if_then_if a e [] true ok m m
+    let old : is_clause_true (a ++ e) first ≡ is_clause_true a first = is_clause_true-left a e first (rw size f) in
+    let new : is_clause_true (a ++ e) g.lits ≡ truth = sym (list_any-map (λ (q : Bool). q) (is_true (a ++ e)) g.lits) ∙ ap (gate_truth false) says.means ∙ means in
+    let one : satisfies (a ++ e) (ls ∷ []) ≡ ok = and-true (is_clause_true (a ++ e) ls) ∙ list_any-append (is_true (a ++ e)) first g.lits ∙ rw (old, new) refl in
+    let both : Extends a m (g.part.clauses ++ ls ∷ []) (IsExactlyIf ok (e ++ [])) = if_then_if a e [] true ok m m
     g.part.clauses (ls ∷ []) low (same m) fits.inside (if_from_only a m g.part.clauses e says.part)
     (λ _. no_more_if (a ++ e) m (ls ∷ []) ok long one) in
-    subst (λ (d : List Bool). Extends a m (g.part.clauses ++ ls ∷ []) (OnlyIf ok d)) (append-nil e) both
+    subst (λ (d : List Bool). Extends a m (g.part.clauses ++ ls ∷ []) (IsExactlyIf ok d)) (append-nil e) both
 
-clause_or-law :
+clause_or_else-law :
     (a : List Bool) (first : List Literal) (positive : Bool) (o : Option Literal) (has truth : Bool) (n : ℕ)
     (p : Part) (bits : List Bool) → length a ≡ n →
     Stands a o has truth →
-    Extends a p.vars p.clauses (OnlyIf (some_true a first || same_truth positive truth) bits) →
-    Extends a (clause_or first positive o n p).vars (clause_or first positive o n p).clauses
-    (OnlyIf (some_true a first || same_truth positive truth) (cond has [] bits))
-clause_or-law a first positive None has truth n p bits size h law =
-    subst (λ (b : Bool). Extends a p.vars p.clauses (OnlyIf (some_true a first || same_truth positive truth) (cond {A = List Bool} b [] bits))) (sym h) law
-clause_or-law a first positive (Some l) has truth n p bits size h law =
+    Extends a p.vars p.clauses (IsExactlyIf (is_clause_true a first || bool_equals positive truth) bits) →
+    Extends a (clause_or_else first positive o n p).vars (clause_or_else first positive o n p).clauses
+    (IsExactlyIf (is_clause_true a first || bool_equals positive truth) (cond has [] bits))
+clause_or_else-law a first positive None has truth n p bits size h law =
+    subst (λ (b : Bool). Extends a p.vars p.clauses (IsExactlyIf (is_clause_true a first || bool_equals positive truth) (cond {A = List Bool} b [] bits))) (sym h) law
+clause_or_else-law a first positive (Some l) has truth n p bits size h law =
     subst
     (λ (b : Bool). Extends a n ((first ++ signed positive l ∷ []) ∷ [])
-    (OnlyIf (some_true a first || same_truth positive truth) (cond {A = List Bool} b [] bits)))
+    (IsExactlyIf (is_clause_true a first || bool_equals positive truth) (cond {A = List Bool} b [] bits)))
     (sym h.0)
-    (leaf-law a first (signed positive l) (same_truth positive truth) n size
-    (signed-says a positive l ∙ ap (same_truth positive) h.1))
+    (value_lit-law a first (signed positive l) (bool_equals positive truth) n size
+    (signed-says a positive l ∙ ap (bool_equals positive) h.1))
 
 share : (x p q : Bool) → ((x || p) && (x || q)) ≡ (x || (p && q))
 share true p q = refl
@@ -163,59 +160,59 @@ mutual
   pub demand_of-law :
       (t : Tree) (columns : List Column) (ranges ws : List ℕ) (first : List Literal) (positive : Bool)
       (a : List Bool) (n : ℕ) → length a ≡ n →
-      Reads a columns ranges ws → clause_in n first ≡ true → tree_valid (ranges_of columns) t ≡ true →
+      Reads a columns ranges ws → is_clause_over n first ≡ true → tree_valid (ranges_of columns) t ≡ true →
       Extends a (demand_of columns first positive t n).vars (demand_of columns first positive t n).clauses
-      (OnlyIf (some_true a first || same_truth positive (tree_holds ws t))
+      (IsExactlyIf (is_clause_true a first || bool_equals positive (tree_holds ws t))
       (demand_of_bits ranges ws positive t))
   demand_of-law yes columns ranges ws first true a n size r f k = no_clause-law a first n size
   demand_of-law yes columns ranges ws first false a n size r f k = clause-law a first n size
   demand_of-law no columns ranges ws first true a n size r f k = clause-law a first n size
   demand_of-law no columns ranges ws first false a n size r f k = no_clause-law a first n size
   demand_of-law (is v c) columns ranges ws first positive a n size r f k =
-      leaf-law a first (signed positive (leaf columns v c)) (same_truth positive (has_value ws v c)) n size (signed-says a positive (leaf columns v c) ∙ ap (same_truth positive) (r.says v c k))
+      value_lit-law a first (signed positive (value_lit columns v c)) (bool_equals positive (has_value ws v c)) n size (signed-says a positive (value_lit columns v c) ∙ ap (bool_equals positive) (r.says v c k))
   demand_of-law (all_of ts) columns ranges ws first true a n size r f k =
       subst
       (λ (q : Bool). Extends a (demand_each columns first true ts n).vars
       (demand_each columns first true ts n).clauses
-      (OnlyIf (some_true a first || q) (demand_each_bits ranges ws true ts)))
+      (IsExactlyIf (is_clause_true a first || q) (demand_each_bits ranges ws true ts)))
       (all-are ws true ts) (demand_each-law ts columns ranges ws first true a n size r f k)
   demand_of-law (all_of ts) columns ranges ws first false a n size r f k =
-      some-law a first (gathered_each columns false false ts n) (truths_each ranges ws false false ts)
+      some-law a first (each_form_lits columns false false ts n) (truths_each ranges ws false false ts)
       (not (each_holds ws ts)) n size f
-      (gathered_each-fits ts columns false false n (here columns ranges ws a n size r) k)
-      (gathered_each-says ts columns ranges ws false false a n size r k)
+      (each_form_lits-fits ts columns false false n (here columns ranges ws a n size r) k)
+      (each_form_lits-says ts columns ranges ws false false a n size r k)
       (truths_each-mean ts ranges ws false false ∙ all-are ws false ts)
   demand_of-law (any_of ts) columns ranges ws first true a n size r f k =
-      let g = gathered_each columns false true ts n in
+      let g = each_form_lits columns false true ts n in
       let s = truths_each ranges ws false true ts in
-      clause_or-law a first true (any_leaf columns ts) (has_any_leaf ranges ts) (some_holds ws ts) n
-      (some_part first g) s.bits size (any-says ts a columns ranges ws r.bounded k)
+      clause_or_else-law a first true (or_bound_lit columns ts) (has_or_bound_lit ranges ts) (some_holds ws ts) n
+      (any_true_part first g) s.bits size (any-says ts a columns ranges ws r.bounded k)
       (some-law a first g s (some_holds ws ts) n size f
-      (gathered_each-fits ts columns false true n (here columns ranges ws a n size r) k)
-      (gathered_each-says ts columns ranges ws false true a n size r k)
+      (each_form_lits-fits ts columns false true n (here columns ranges ws a n size r) k)
+      (each_form_lits-says ts columns ranges ws false true a n size r k)
       (truths_each-mean ts ranges ws false true ∙ some-are ws true ts))
   demand_of-law (any_of ts) columns ranges ws first false a n size r f k =
       let p = demand_each columns first false ts n in
       let bits = demand_each_bits ranges ws false ts in
-      clause_or-law a first false (any_leaf columns ts) (has_any_leaf ranges ts) (some_holds ws ts) n p bits
+      clause_or_else-law a first false (or_bound_lit columns ts) (has_or_bound_lit ranges ts) (some_holds ws ts) n p bits
       size (any-says ts a columns ranges ws r.bounded k)
-      (subst (λ (q : Bool). Extends a p.vars p.clauses (OnlyIf (some_true a first || q) bits))
+      (subst (λ (q : Bool). Extends a p.vars p.clauses (IsExactlyIf (is_clause_true a first || q) bits))
       (some-are ws false ts) (demand_each-law ts columns ranges ws first false a n size r f k))
   demand_of-law (negation t) columns ranges ws first positive a n size r f k =
       subst
       (λ (q : Bool). Extends a (demand_of columns first (not positive) t n).vars
       (demand_of columns first (not positive) t n).clauses
-      (OnlyIf (some_true a first || q) (demand_of_bits ranges ws (not positive) t)))
+      (IsExactlyIf (is_clause_true a first || q) (demand_of_bits ranges ws (not positive) t)))
       (turned positive (tree_holds ws t))
       (demand_of-law t columns ranges ws first (not positive) a n size r f k)
 
   pub demand_each-law :
       (ts : Trees) (columns : List Column) (ranges ws : List ℕ) (first : List Literal) (positive : Bool)
       (a : List Bool) (n : ℕ) → length a ≡ n →
-      Reads a columns ranges ws → clause_in n first ≡ true → each_valid (ranges_of columns) ts ≡ true →
+      Reads a columns ranges ws → is_clause_over n first ≡ true → each_valid (ranges_of columns) ts ≡ true →
       Extends a (demand_each columns first positive ts n).vars
       (demand_each columns first positive ts n).clauses
-      (OnlyIf (some_true a first || forms_are ws true positive ts)
+      (IsExactlyIf (is_clause_true a first || forms_are ws true positive ts)
       (demand_each_bits ranges ws positive ts))
   demand_each-law none columns ranges ws first positive a n size r f k = no_clause-law a first n size
   demand_each-law (more t ts) columns ranges ws first positive a n size r f k =
@@ -225,18 +222,18 @@ mutual
       let q = demand_each columns first positive ts m in
       let e = demand_of_bits ranges ws positive t in
       let d = demand_each_bits ranges ws positive ts in
-      let x = some_true a first in
-      let truth = same_truth positive (tree_holds ws t) in
+      let x = is_clause_true a first in
+      let truth = bool_equals positive (tree_holds ws t) in
       let others = forms_are ws true positive ts in
       let inside = here columns ranges ws a n size r in
       let one = demand_of-law t columns ranges ws first positive a n size r f parts.0 in
       let fits = demand_of-fits t columns first positive n inside f parts.0 in
-      let rest = demand_each-fits ts columns first positive m (columns_in-more n m columns fits.low inside) (clause_in-more n m first fits.low f) parts.1 in
+      let rest = demand_each-fits ts columns first positive m (columns_in-more n m columns fits.low inside) (is_clause_over-more n m first fits.low f) parts.1 in
       let low : length a ≤ m = rw size fits.low in
-      let old : some_true (a ++ e) first ≡ x = some_true-left a e first (rw size f) in
-      let two : (x || truth) ≡ true → Extends (a ++ e) q.vars q.clauses (OnlyIf (x || others) d) =
-      λ ok. subst (λ (b : Bool). Extends (a ++ e) q.vars q.clauses (OnlyIf (b || others) d)) old
+      let old : is_clause_true (a ++ e) first ≡ x = is_clause_true-left a e first (rw size f) in
+      let two : (x || truth) ≡ true → Extends (a ++ e) q.vars q.clauses (IsExactlyIf (x || others) d) =
+      λ ok. subst (λ (b : Bool). Extends (a ++ e) q.vars q.clauses (IsExactlyIf (b || others) d)) old
       (demand_each-law ts columns ranges ws first positive (a ++ e) m (one.sized e (ok, refl))
-      (reads-more a e columns ranges ws (longer a e) r) (clause_in-more n m first fits.low f) parts.1)
+      (reads-more a e columns ranges ws (longer a e) r) (is_clause_over-more n m first fits.low f) parts.1)
       in
-      subst (λ (b : Bool). Extends a q.vars (p.clauses ++ q.clauses) (OnlyIf b (e ++ d))) (share x truth others) (if_then_if a e d (x || truth) (x || others) m q.vars p.clauses q.clauses low rest.low fits.inside one two)
+      subst (λ (b : Bool). Extends a q.vars (p.clauses ++ q.clauses) (IsExactlyIf b (e ++ d))) (share x truth others) (if_then_if a e d (x || truth) (x || others) m q.vars p.clauses q.clauses low rest.low fits.inside one two)

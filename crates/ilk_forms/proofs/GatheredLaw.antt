@@ -1,4 +1,5 @@
--- At values of a copy, gathered literals have their truths, and the new variables one value each.
+-- At values of a copy, gathered literals have their truth values, and each new variable has one
+-- value.
 use Rattle.std.proofs.Common.{◌≡◌, ℕ, ◌+◌, ◌≤◌, Bool, true, false, not, List, [], ◌∷◌, ◌++◌, length, map, cond, Option, Some, None, refl, sym, ap, ◌∙◌, subst, arith, append_assoc}
 use Rattle.std.specs.List.{list_all, list_any}
 use Rattle.std.proofs.lemmas.List.{append-nil, map-append}
@@ -6,49 +7,50 @@ use Rattle.std.proofs.lemmas.List.Folds.{list_all-map}
 use Rattle.std.proofs.lemmas.Bool.{and_parts}
 use Rattle.ilk_base.proofs.Tested.{list_any-map}
 use Rattle.ilk_base.proofs.Lengths.{longer}
-use Rattle.ilk_cnf.specs.Literal.{Literal, plus}
-use Rattle.ilk_cnf.specs.Formula.{clause_in}
+use Rattle.ilk_cnf.specs.Literal.{Literal, positive_lit}
+use Rattle.ilk_cnf.specs.Formula.{is_clause_over}
 use Rattle.ilk_cnf.specs.Truth.{is_true}
-use Rattle.ilk_cnf.specs.Extends.{Extends, Only}
+use Rattle.ilk_cnf.specs.Extends.{Extends, IsExactly}
 use Rattle.ilk_cnf.proofs.Parts.{value-new, one_by_one}
-use Rattle.ilk_cnf.proofs.Gates.{is_true-opposite}
+use Rattle.ilk_cnf.proofs.Gates.{is_true-negated_lit}
 use Rattle.ilk_cnf.proofs.Extending.{no_more_if, only_from_if, all_of-law, any_of-law}
-use Rattle.ilk_ints.specs.Named.{Named}
+use Rattle.ilk_ints.specs.Named.{PartWithLits}
 use Rattle.ilk_ints.proofs.OneOfLaw.{map-left}
 use Rattle.ilk_ir.specs.Tree.{Tree, yes, no, is, all_of, any_of, negation, Trees, none, more, some_holds, tree_valid, each_valid, has_value}
-use Rattle.ilk_copy.specs.declared.copy.Column.{Column}
-use Rattle.ilk_forms.specs.Leaf.{leaf, columns_in, ranges_of}
-use Rattle.ilk_forms.specs.Bound.{any_leaf, has_any_leaf}
-use Rattle.ilk_forms.specs.Gathered.{Single, same_truth, signed, no_literals, one_literal, literal_or, then_named, gate_part, single_of, single, taken_in, gathered, gathered_each}
-use Rattle.ilk_forms.specs.Truths.{Truths, no_truths, one_truth, then_truths, gate_truth, gate_bits, truths_taken_in, truths, truths_each}
+use Rattle.ilk_forms.specs.declared.copy.Column.{Column}
+use Rattle.ilk_forms.specs.Leaf.{value_lit, columns_in, ranges_of}
+use Rattle.ilk_forms.specs.Bound.{or_bound_lit, has_or_bound_lit}
+use Rattle.ilk_forms.specs.Gathered.{PartWithLit, bool_equals, signed, no_literals, one_literal, lit_or_else, append_part_lits, gate_part, combined_lit, combined, merged_into, form_lits, each_form_lits}
+use Rattle.ilk_forms.specs.Truths.{Truths, no_truths, single_truth, append_truths, gate_truth, gate_bits, merged_truths, truths, truths_each}
 use Rattle.ilk_forms.proofs.BoundForms.{Stands}
 use Rattle.ilk_forms.proofs.BoundLaw.{any-says}
 use Rattle.ilk_forms.proofs.Reading.{Reads, reads-more}
 use Rattle.ilk_forms.proofs.TruthsMean.{alone}
-use Rattle.ilk_forms.proofs.GatheredFits.{Fits, gathered-fits, gathered_each-fits}
+use Rattle.ilk_forms.proofs.GatheredFits.{Fits, form_lits-fits, each_form_lits-fits}
 
-pub record Says (a : List Bool) (g : Named) (t : Truths) : Type 0 where
-  pub part : Extends a g.part.vars g.part.clauses (Only t.bits)
+pub record Says (a : List Bool) (g : PartWithLits) (t : Truths) : Type 0 where
+  pub part : Extends a g.part.vars g.part.clauses (IsExactly t.bits)
   pub means : map (is_true (a ++ t.bits)) g.lits ≡ t.lits
 
-pub record SingleSays (a : List Bool) (s : Single) (bits : List Bool) (truth : Bool) : Type 0 where
-  pub part : Extends a s.part.vars s.part.clauses (Only bits)
+pub record SingleSays (a : List Bool) (s : PartWithLit) (bits : List Bool) (truth : Bool) : Type 0 where
+  pub part : Extends a s.part.vars s.part.clauses (IsExactly bits)
   pub means : is_true (a ++ bits) s.lit ≡ truth
 
-nothing : (a : List Bool) (n : ℕ) → length a ≡ n → Extends a n [] (Only [])
+nothing : (a : List Bool) (n : ℕ) → length a ≡ n → Extends a n [] (IsExactly [])
 nothing a n size = only_from_if a n [] [] (no_more_if a n [] true size refl)
 
 pub no_literals-says : (a : List Bool) (n : ℕ) → length a ≡ n → Says a (no_literals n) no_truths
 no_literals-says a n size = record { part = nothing a n size; means = refl }
 
-pub then-says : (a : List Bool) (n : ℕ) (g : Named) (h : ℕ → Named) (s t : Truths) → length a ≡ n → Fits n g → Fits g.part.vars (h g.part.vars) → Says a g s → Says (a ++ s.bits) (h g.part.vars) t → Says a (then_named g h) (then_truths s t)
+pub then-says : (a : List Bool) (n : ℕ) (g : PartWithLits) (h : ℕ → PartWithLits) (s t : Truths) → length a ≡ n → Fits n g → Fits g.part.vars (h g.part.vars) → Says a g s → Says (a ++ s.bits) (h g.part.vars) t
+    → Says a (append_part_lits g h) (append_truths s t)
 then-says a n g h s t size fits next_fits one two =
     let m = g.part.vars in
     let k = (h m).part.vars in
     let long : length (a ++ s.bits) ≡ m = one.part.sized s.bits refl in
     let low : length a ≤ m = rw size fits.low in
     let whole : (a ++ s.bits) ++ t.bits ≡ a ++ (s.bits ++ t.bits) = append_assoc a s.bits t.bits in
-    let inside : clause_in (length (a ++ s.bits)) g.lits ≡ true = rw long fits.lits in
+    let inside : is_clause_over (length (a ++ s.bits)) g.lits ≡ true = rw long fits.lits in
     let first : map (is_true (a ++ (s.bits ++ t.bits))) g.lits ≡ s.lits = subst (λ (u : List Bool). map (is_true u) g.lits ≡ s.lits) whole (map-left (a ++ s.bits) t.bits g.lits inside ∙ one.means) in
     let next : map (is_true (a ++ (s.bits ++ t.bits))) (h m).lits ≡ t.lits = subst (λ (u : List Bool). map (is_true u) (h m).lits ≡ t.lits) whole two.means in
     record {
@@ -56,62 +58,58 @@ then-says a n g h s t size fits next_fits one two =
       means = map-append (is_true (a ++ (s.bits ++ t.bits))) g.lits (h m).lits ∙ rw (first, next) refl;
     }
 
--- one literal in place of several
-
-gate-says : (a : List Bool) (all : Bool) (ls : List Literal) (n : ℕ) → length a ≡ n → clause_in n ls ≡ true →
-    SingleSays a (record { part = gate_part all ls n; lit = plus (n + 1) })
+gate-says : (a : List Bool) (all : Bool) (ls : List Literal) (n : ℕ) → length a ≡ n → is_clause_over n ls ≡ true →
+    SingleSays a (record { part = gate_part all ls n; lit = positive_lit (n + 1) })
     (gate_truth all (map (is_true a) ls) ∷ []) (gate_truth all (map (is_true a) ls))
 gate-says a true ls n size h =
     let e : list_all (is_true a) ls ≡ gate_truth true (map (is_true a) ls) = sym (list_all-map (λ (q : Bool). q) (is_true a) ls) in
     record {
-      part = subst (λ (q : Bool). Extends a (n + 1) (gate_part true ls n).clauses (Only (q ∷ []))) e (all_of-law a n ls size h);
+      part = subst (λ (q : Bool). Extends a (n + 1) (gate_part true ls n).clauses (IsExactly (q ∷ []))) e (all_of-law a n ls size h);
       means = value-new a [] (gate_truth true (map (is_true a) ls)) (n + 1) (ap (λ (k : ℕ). k + 1) size);
     }
 gate-says a false ls n size h =
     let e : list_any (is_true a) ls ≡ gate_truth false (map (is_true a) ls) = sym (list_any-map (λ (q : Bool). q) (is_true a) ls) in
     record {
-      part = subst (λ (q : Bool). Extends a (n + 1) (gate_part false ls n).clauses (Only (q ∷ []))) e (any_of-law a n ls size h);
+      part = subst (λ (q : Bool). Extends a (n + 1) (gate_part false ls n).clauses (IsExactly (q ∷ []))) e (any_of-law a n ls size h);
       means = value-new a [] (gate_truth false (map (is_true a) ls)) (n + 1) (ap (λ (k : ℕ). k + 1) size);
     }
 
-single_of-says : (a : List Bool) (all : Bool) (ls : List Literal) (n : ℕ) → length a ≡ n → clause_in n ls ≡ true → SingleSays a (single_of all ls n) (gate_bits all (map (is_true a) ls)) (gate_truth all (map (is_true a) ls))
-single_of-says a all [] n size h = gate-says a all [] n size h
-single_of-says a all (l ∷ []) n size h = record {
+combined_lit-says : (a : List Bool) (all : Bool) (ls : List Literal) (n : ℕ) → length a ≡ n → is_clause_over n ls ≡ true → SingleSays a (combined_lit all ls n) (gate_bits all (map (is_true a) ls)) (gate_truth all (map (is_true a) ls))
+combined_lit-says a all [] n size h = gate-says a all [] n size h
+combined_lit-says a all (l ∷ []) n size h = record {
   part = nothing a n size;
   means = ap (λ (u : List Bool). is_true u l) (append-nil a) ∙ sym (alone all (is_true a l));
 }
-single_of-says a all (l ∷ m ∷ ls) n size h = gate-says a all (l ∷ m ∷ ls) n size h
+combined_lit-says a all (l ∷ m ∷ ls) n size h = gate-says a all (l ∷ m ∷ ls) n size h
 
-pub single-says : (a : List Bool) (all : Bool) (n : ℕ) (g : Named) (t : Truths) → length a ≡ n → Fits n g → Says a g t → SingleSays a (single all g) (t.bits ++ gate_bits all t.lits) (gate_truth all t.lits)
-single-says a all n g t size fits one =
+pub combined-says : (a : List Bool) (all : Bool) (n : ℕ) (g : PartWithLits) (t : Truths) → length a ≡ n → Fits n g → Says a g t → SingleSays a (combined all g) (t.bits ++ gate_bits all t.lits) (gate_truth all t.lits)
+combined-says a all n g t size fits one =
     let m = g.part.vars in
-    let s = single_of all g.lits m in
+    let s = combined_lit all g.lits m in
     let long : length (a ++ t.bits) ≡ m = one.part.sized t.bits refl in
     let low : length a ≤ m = rw size fits.low in
     let e = gate_bits all t.lits in
-    let last : SingleSays (a ++ t.bits) s e (gate_truth all t.lits) = subst (λ (qs : List Bool). SingleSays (a ++ t.bits) s (gate_bits all qs) (gate_truth all qs)) one.means (single_of-says (a ++ t.bits) all g.lits m long fits.lits) in
+    let last : SingleSays (a ++ t.bits) s e (gate_truth all t.lits) = subst (λ (qs : List Bool). SingleSays (a ++ t.bits) s (gate_bits all qs) (gate_truth all qs)) one.means (combined_lit-says (a ++ t.bits) all g.lits m long fits.lits) in
     record {
       part = one_by_one a t.bits e m s.part.vars g.part.clauses s.part.clauses low (single_of-low all g.lits m) fits.inside one.part last.part;
       means = subst (λ (u : List Bool). is_true u s.lit ≡ gate_truth all t.lits) (append_assoc a t.bits e) last.means;
     }
   where
-    single_of-low : (all : Bool) (ls : List Literal) (n : ℕ) → n ≤ (single_of all ls n).part.vars
+    single_of-low : (all : Bool) (ls : List Literal) (n : ℕ) → n ≤ (combined_lit all ls n).part.vars
     single_of-low true [] n = omega arith
     single_of-low false [] n = omega arith
     single_of-low all (l ∷ []) n = omega arith
     single_of-low true (l ∷ m ∷ ls) n = omega arith
     single_of-low false (l ∷ m ∷ ls) n = omega arith
 
-taken_in-says : (a : List Bool) (outer inner : Bool) (n : ℕ) (g : Named) (t : Truths) → length a ≡ n → Fits n g → Says a g t → Says a (taken_in outer inner g) (truths_taken_in outer inner t)
-taken_in-says a outer inner n g t size fits one = by_case (same_truth outer inner)
+merged_into-says : (a : List Bool) (outer inner : Bool) (n : ℕ) (g : PartWithLits) (t : Truths) → length a ≡ n → Fits n g → Says a g t → Says a (merged_into outer inner g) (merged_truths outer inner t)
+merged_into-says a outer inner n g t size fits one = by_case (bool_equals outer inner)
   where
-    by_case : (b : Bool) → Says a (cond b g (record { part = (single inner g).part; lits = (single inner g).lit ∷ [] })) (cond b t (record { bits = t.bits ++ gate_bits inner t.lits; lits = gate_truth inner t.lits ∷ [] }))
+    by_case : (b : Bool) → Says a (cond b g (record { part = (combined inner g).part; lits = (combined inner g).lit ∷ [] })) (cond b t (record { bits = t.bits ++ gate_bits inner t.lits; lits = gate_truth inner t.lits ∷ [] }))
     by_case true = one
     by_case false =
-        let s = single-says a inner n g t size fits one in
+        let s = combined-says a inner n g t size fits one in
         record { part = s.part; means = ap (λ (q : Bool). q ∷ []) s.means }
-
--- forms
 
 pub here : (columns : List Column) (ranges ws : List ℕ) (a : List Bool) (n : ℕ) → length a ≡ n → Reads a columns ranges ws → columns_in n columns ≡ true
 here columns ranges ws a n size r = rw (← size) r.within
@@ -119,64 +117,64 @@ here columns ranges ws a n size r = rw (← size) r.within
 pub same : (n : ℕ) → n ≤ n
 same n = omega arith
 
-pub signed-says : (a : List Bool) (positive : Bool) (l : Literal) → is_true a (signed positive l) ≡ same_truth positive (is_true a l)
+pub signed-says : (a : List Bool) (positive : Bool) (l : Literal) → is_true a (signed positive l) ≡ bool_equals positive (is_true a l)
 signed-says a true l = refl
-signed-says a false l = is_true-opposite a l
+signed-says a false l = is_true-negated_lit a l
 
-one_literal-says : (a : List Bool) (positive : Bool) (l : Literal) (truth : Bool) (n : ℕ) → length a ≡ n → is_true a l ≡ truth → Says a (one_literal positive l n) (one_truth positive truth)
+one_literal-says : (a : List Bool) (positive : Bool) (l : Literal) (truth : Bool) (n : ℕ) → length a ≡ n → is_true a l ≡ truth → Says a (one_literal positive l n) (single_truth positive truth)
 one_literal-says a positive l truth n size h =
-    let says : is_true (a ++ []) (signed positive l) ≡ same_truth positive truth = ap (λ (u : List Bool). is_true u (signed positive l)) (append-nil a) ∙ signed-says a positive l ∙ ap (same_truth positive) h in
+    let says : is_true (a ++ []) (signed positive l) ≡ bool_equals positive truth = ap (λ (u : List Bool). is_true u (signed positive l)) (append-nil a) ∙ signed-says a positive l ∙ ap (bool_equals positive) h in
     record { part = nothing a n size; means = ap (λ (q : Bool). q ∷ []) says }
 
-literal_or-says :
-    (a : List Bool) (positive : Bool) (o : Option Literal) (has truth : Bool) (n : ℕ) (g : Named) (t : Truths)
+lit_or_else-says :
+    (a : List Bool) (positive : Bool) (o : Option Literal) (has truth : Bool) (n : ℕ) (g : PartWithLits) (t : Truths)
     → length a ≡ n →
     Stands a o has truth → Says a g t →
-    Says a (literal_or positive o n g) (cond has (one_truth positive truth) t)
-literal_or-says a positive None has truth n g t size h one = subst (λ (b : Bool). Says a g (cond {A = Truths} b (one_truth positive truth) t)) (sym h) one
-literal_or-says a positive (Some l) has truth n g t size h one =
-    subst (λ (b : Bool). Says a (one_literal positive l n) (cond {A = Truths} b (one_truth positive truth) t)) (sym h.0) (one_literal-says a positive l truth n size h.1)
+    Says a (lit_or_else positive o n g) (cond has (single_truth positive truth) t)
+lit_or_else-says a positive None has truth n g t size h one = subst (λ (b : Bool). Says a g (cond {A = Truths} b (single_truth positive truth) t)) (sym h) one
+lit_or_else-says a positive (Some l) has truth n g t size h one =
+    subst (λ (b : Bool). Says a (one_literal positive l n) (cond {A = Truths} b (single_truth positive truth) t)) (sym h.0) (one_literal-says a positive l truth n size h.1)
 
 mutual
-  pub gathered-says :
+  pub form_lits-says :
       (t : Tree) (columns : List Column) (ranges ws : List ℕ) (all positive : Bool) (a : List Bool) (n : ℕ) →
       length a ≡ n → Reads a columns ranges ws → tree_valid (ranges_of columns) t ≡ true →
-      Says a (gathered columns all positive t n) (truths ranges ws all positive t)
-  gathered-says yes columns ranges ws all positive a n size r k = taken_in-says a all positive n (no_literals n) no_truths size (record { low = same n; inside = refl; lits = refl }) (no_literals-says a n size)
-  gathered-says no columns ranges ws all positive a n size r k = taken_in-says a all (not positive) n (no_literals n) no_truths size (record { low = same n; inside = refl; lits = refl }) (no_literals-says a n size)
-  gathered-says (is v c) columns ranges ws all positive a n size r k = one_literal-says a positive (leaf columns v c) (has_value ws v c) n size (r.says v c k)
-  gathered-says (all_of ts) columns ranges ws all positive a n size r k =
-      taken_in-says a all positive n (gathered_each columns positive positive ts n)
+      Says a (form_lits columns all positive t n) (truths ranges ws all positive t)
+  form_lits-says yes columns ranges ws all positive a n size r k = merged_into-says a all positive n (no_literals n) no_truths size (record { low = same n; inside = refl; lits = refl }) (no_literals-says a n size)
+  form_lits-says no columns ranges ws all positive a n size r k = merged_into-says a all (not positive) n (no_literals n) no_truths size (record { low = same n; inside = refl; lits = refl }) (no_literals-says a n size)
+  form_lits-says (is v c) columns ranges ws all positive a n size r k = one_literal-says a positive (value_lit columns v c) (has_value ws v c) n size (r.says v c k)
+  form_lits-says (all_of ts) columns ranges ws all positive a n size r k =
+      merged_into-says a all positive n (each_form_lits columns positive positive ts n)
       (truths_each ranges ws positive positive ts) size
-      (gathered_each-fits ts columns positive positive n (here columns ranges ws a n size r) k)
-      (gathered_each-says ts columns ranges ws positive positive a n size r k)
-  gathered-says (any_of ts) columns ranges ws all positive a n size r k =
-      let g = gathered_each columns (not positive) positive ts n in
+      (each_form_lits-fits ts columns positive positive n (here columns ranges ws a n size r) k)
+      (each_form_lits-says ts columns ranges ws positive positive a n size r k)
+  form_lits-says (any_of ts) columns ranges ws all positive a n size r k =
+      let g = each_form_lits columns (not positive) positive ts n in
       let s = truths_each ranges ws (not positive) positive ts in
-      literal_or-says a positive (any_leaf columns ts) (has_any_leaf ranges ts) (some_holds ws ts) n
-      (taken_in all (not positive) g) (truths_taken_in all (not positive) s) size
+      lit_or_else-says a positive (or_bound_lit columns ts) (has_or_bound_lit ranges ts) (some_holds ws ts) n
+      (merged_into all (not positive) g) (merged_truths all (not positive) s) size
       (any-says ts a columns ranges ws r.bounded k)
-      (taken_in-says a all (not positive) n g s size
-      (gathered_each-fits ts columns (not positive) positive n (here columns ranges ws a n size r) k)
-      (gathered_each-says ts columns ranges ws (not positive) positive a n size r k))
-  gathered-says (negation t) columns ranges ws all positive a n size r k = gathered-says t columns ranges ws all (not positive) a n size r k
+      (merged_into-says a all (not positive) n g s size
+      (each_form_lits-fits ts columns (not positive) positive n (here columns ranges ws a n size r) k)
+      (each_form_lits-says ts columns ranges ws (not positive) positive a n size r k))
+  form_lits-says (negation t) columns ranges ws all positive a n size r k = form_lits-says t columns ranges ws all (not positive) a n size r k
 
-  pub gathered_each-says :
+  pub each_form_lits-says :
       (ts : Trees) (columns : List Column) (ranges ws : List ℕ) (all positive : Bool) (a : List Bool) (n : ℕ)
       → length a ≡ n →
       Reads a columns ranges ws → each_valid (ranges_of columns) ts ≡ true →
-      Says a (gathered_each columns all positive ts n) (truths_each ranges ws all positive ts)
-  gathered_each-says none columns ranges ws all positive a n size r k = no_literals-says a n size
-  gathered_each-says (more t ts) columns ranges ws all positive a n size r k =
+      Says a (each_form_lits columns all positive ts n) (truths_each ranges ws all positive ts)
+  each_form_lits-says none columns ranges ws all positive a n size r k = no_literals-says a n size
+  each_form_lits-says (more t ts) columns ranges ws all positive a n size r k =
       let parts = and_parts _ _ k in
-      let g = gathered columns all positive t n in
+      let g = form_lits columns all positive t n in
       let s = truths ranges ws all positive t in
-      let fits = gathered-fits t columns all positive n (here columns ranges ws a n size r) parts.0 in
-      let one = gathered-says t columns ranges ws all positive a n size r parts.0 in
+      let fits = form_lits-fits t columns all positive n (here columns ranges ws a n size r) parts.0 in
+      let one = form_lits-says t columns ranges ws all positive a n size r parts.0 in
       let long : length (a ++ s.bits) ≡ g.part.vars = one.part.sized s.bits refl in
       let next = reads-more a s.bits columns ranges ws (longer a s.bits) r in
-      then-says a n g (gathered_each columns all positive ts) s (truths_each ranges ws all positive ts) size
+      then-says a n g (each_form_lits columns all positive ts) s (truths_each ranges ws all positive ts) size
       fits
-      (gathered_each-fits ts columns all positive g.part.vars
+      (each_form_lits-fits ts columns all positive g.part.vars
       (here columns ranges ws (a ++ s.bits) g.part.vars long next) parts.1) one
-      (gathered_each-says ts columns ranges ws all positive (a ++ s.bits) g.part.vars long next parts.1)
+      (each_form_lits-says ts columns ranges ws all positive (a ++ s.bits) g.part.vars long next parts.1)

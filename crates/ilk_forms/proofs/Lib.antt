@@ -1,3 +1,8 @@
+pub mod ColumnLaw
+pub mod CopyLaw
+pub mod CopySays
+pub mod CopyFew
+pub mod CopyWidth
 pub mod BoundForms
 pub mod BoundLaw
 pub mod Reading

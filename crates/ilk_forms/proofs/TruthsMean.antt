@@ -1,19 +1,17 @@
--- The truths of gathered literals are all true, or some, exactly where the form is what it is to be.
+-- All (or some) truths of gathered literals are true exactly if the form is as required.
 use Rattle.std.proofs.Common.{◌≡◌, ℕ, Bool, true, false, not, ◌&&◌, ◌||◌, List, [], ◌∷◌, ◌++◌, cond, refl, ap, ◌∙◌}
 use Rattle.std.proofs.lemmas.List.Folds.{list_all-append, list_any-append}
 use Rattle.ilk_ir.specs.Tree.{Tree, yes, no, is, all_of, any_of, negation, Trees, none, more, tree_holds, each_holds, some_holds}
-use Rattle.ilk_forms.specs.Gathered.{same_truth}
-use Rattle.ilk_forms.specs.Bound.{has_any_leaf}
-use Rattle.ilk_forms.specs.Truths.{Truths, no_truths, one_truth, gate_truth, truths_taken_in, truths, truths_each}
+use Rattle.ilk_forms.specs.Gathered.{bool_equals}
+use Rattle.ilk_forms.specs.Bound.{has_or_bound_lit}
+use Rattle.ilk_forms.specs.Truths.{Truths, no_truths, single_truth, gate_truth, merged_truths, truths, truths_each}
 
--- both, or one of the two
 abbrev pub both_or_one : Bool → Bool → Bool → Bool
 both_or_one all p q = cond all (p && q) (p || q)
 
--- whether all forms are what they are to be, or some
 abbrev pub forms_are : List ℕ → Bool → Bool → Trees → Bool
 forms_are ws all positive none = all
-forms_are ws all positive (more t ts) = both_or_one all (same_truth positive (tree_holds ws t)) (forms_are ws all positive ts)
+forms_are ws all positive (more t ts) = both_or_one all (bool_equals positive (tree_holds ws t)) (forms_are ws all positive ts)
 
 pub alone : (all q : Bool) → gate_truth all (q ∷ []) ≡ q
 alone true true = refl
@@ -25,7 +23,7 @@ gate_truth-append : (all : Bool) (ps qs : List Bool) → gate_truth all (ps ++ q
 gate_truth-append true ps qs = list_all-append (λ (q : Bool). q) ps qs
 gate_truth-append false ps qs = list_any-append (λ (q : Bool). q) ps qs
 
-taken_in-means : (outer inner : Bool) (t : Truths) → gate_truth outer (truths_taken_in outer inner t).lits ≡ gate_truth inner t.lits
+taken_in-means : (outer inner : Bool) (t : Truths) → gate_truth outer (merged_truths outer inner t).lits ≡ gate_truth inner t.lits
 taken_in-means true true t = refl
 taken_in-means true false t = alone true (gate_truth false t.lits)
 taken_in-means false true t = alone false (gate_truth true t.lits)
@@ -35,7 +33,7 @@ none_means : (positive : Bool) → gate_truth positive [] ≡ positive
 none_means true = refl
 none_means false = refl
 
-pub all-are : (ws : List ℕ) (positive : Bool) (ts : Trees) → forms_are ws positive positive ts ≡ same_truth positive (each_holds ws ts)
+pub all-are : (ws : List ℕ) (positive : Bool) (ts : Trees) → forms_are ws positive positive ts ≡ bool_equals positive (each_holds ws ts)
 all-are ws true none = refl
 all-are ws false none = refl
 all-are ws true (more t ts) = ap (λ (b : Bool). tree_holds ws t && b) (all-are ws true ts)
@@ -45,7 +43,7 @@ all-are ws false (more t ts) = ap (λ (b : Bool). not (tree_holds ws t) || b) (a
     apart true q = refl
     apart false q = refl
 
-pub some-are : (ws : List ℕ) (positive : Bool) (ts : Trees) → forms_are ws (not positive) positive ts ≡ same_truth positive (some_holds ws ts)
+pub some-are : (ws : List ℕ) (positive : Bool) (ts : Trees) → forms_are ws (not positive) positive ts ≡ bool_equals positive (some_holds ws ts)
 some-are ws true none = refl
 some-are ws false none = refl
 some-are ws true (more t ts) = ap (λ (b : Bool). tree_holds ws t || b) (some-are ws true ts)
@@ -55,32 +53,32 @@ some-are ws false (more t ts) = ap (λ (b : Bool). not (tree_holds ws t) && b) (
     apart true q = refl
     apart false q = refl
 
-constant : (positive : Bool) → positive ≡ same_truth positive true
+constant : (positive : Bool) → positive ≡ bool_equals positive true
 constant true = refl
 constant false = refl
 
-other_constant : (positive : Bool) → not positive ≡ same_truth positive false
+other_constant : (positive : Bool) → not positive ≡ bool_equals positive false
 other_constant true = refl
 other_constant false = refl
 
-pub turned : (positive b : Bool) → same_truth (not positive) b ≡ same_truth positive (not b)
+pub turned : (positive b : Bool) → bool_equals (not positive) b ≡ bool_equals positive (not b)
 turned true b = refl
 turned false true = refl
 turned false false = refl
 
-one_or-means : (all has positive q : Bool) (t : Truths) → gate_truth all t.lits ≡ same_truth positive q → gate_truth all (cond has (one_truth positive q) t).lits ≡ same_truth positive q
-one_or-means all true positive q t means = alone all (same_truth positive q)
+one_or-means : (all has positive q : Bool) (t : Truths) → gate_truth all t.lits ≡ bool_equals positive q → gate_truth all (cond has (single_truth positive q) t).lits ≡ bool_equals positive q
+one_or-means all true positive q t means = alone all (bool_equals positive q)
 one_or-means all false positive q t means = means
 
 mutual
-  pub truths-mean : (t : Tree) (ranges ws : List ℕ) (all positive : Bool) → gate_truth all (truths ranges ws all positive t).lits ≡ same_truth positive (tree_holds ws t)
+  pub truths-mean : (t : Tree) (ranges ws : List ℕ) (all positive : Bool) → gate_truth all (truths ranges ws all positive t).lits ≡ bool_equals positive (tree_holds ws t)
   truths-mean yes ranges ws all positive = taken_in-means all positive no_truths ∙ none_means positive ∙ constant positive
   truths-mean no ranges ws all positive = taken_in-means all (not positive) no_truths ∙ none_means (not positive) ∙ other_constant positive
-  truths-mean (is v c) ranges ws all positive = alone all (same_truth positive (tree_holds ws (is v c)))
+  truths-mean (is v c) ranges ws all positive = alone all (bool_equals positive (tree_holds ws (is v c)))
   truths-mean (all_of ts) ranges ws all positive = taken_in-means all positive (truths_each ranges ws positive positive ts) ∙ truths_each-mean ts ranges ws positive positive ∙ all-are ws positive ts
   truths-mean (any_of ts) ranges ws all positive =
-      let g = truths_taken_in all (not positive) (truths_each ranges ws (not positive) positive ts) in
-      one_or-means all (has_any_leaf ranges ts) positive (some_holds ws ts) g (taken_in-means all (not positive) (truths_each ranges ws (not positive) positive ts) ∙ truths_each-mean ts ranges ws (not positive) positive ∙ some-are ws positive ts)
+      let g = merged_truths all (not positive) (truths_each ranges ws (not positive) positive ts) in
+      one_or-means all (has_or_bound_lit ranges ts) positive (some_holds ws ts) g (taken_in-means all (not positive) (truths_each ranges ws (not positive) positive ts) ∙ truths_each-mean ts ranges ws (not positive) positive ∙ some-are ws positive ts)
   truths-mean (negation t) ranges ws all positive = truths-mean t ranges ws all (not positive) ∙ turned positive (tree_holds ws t)
 
   pub truths_each-mean : (ts : Trees) (ranges ws : List ℕ) (all positive : Bool) → gate_truth all (truths_each ranges ws all positive ts).lits ≡ forms_are ws all positive ts

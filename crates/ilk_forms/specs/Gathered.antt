@@ -1,78 +1,80 @@
--- Literals that stand for a form of a copy.
+-- Literals that represent a form of a copy.
 use Rattle.std.specs.Prelude.{ℕ, ◌+◌, Bool, not, List, [], ◌∷◌, ◌++◌, Option, Some, None, if◌then◌else◌}
-use Rattle.ilk_cnf.specs.Literal.{Literal, plus, opposite}
-use Rattle.ilk_cnf.specs.Part.{Part, nothing_at, and_then, all_of_part, any_of_part}
-use Rattle.ilk_ints.specs.Named.{Named}
+use Rattle.ilk_cnf.specs.Literal.{Literal, positive_lit, negated_lit}
+use Rattle.ilk_cnf.specs.Part.{Part, empty_part, and_then, and_gate_part, or_gate_part}
+use Rattle.ilk_ints.specs.Named.{PartWithLits}
 use Rattle.ilk_ir.specs.Tree.{Tree, yes, no, is, all_of, any_of, negation, Trees, none, more}
-use Rattle.ilk_copy.specs.declared.copy.Column.{Column}
-use Rattle.ilk_forms.specs.Leaf.{leaf}
-use Rattle.ilk_forms.specs.Bound.{any_leaf}
+use Rattle.ilk_forms.specs.declared.copy.Column.{Column}
+use Rattle.ilk_forms.specs.Leaf.{value_lit}
+use Rattle.ilk_forms.specs.Bound.{or_bound_lit}
 
--- a part, and the one literal that it answers
-pub record Single : Type 0 where
+-- A part, and its one literal.
+pub record PartWithLit : Type 0 where
   pub part : Part
   pub lit : Literal
 
--- whether two truths are one
-abbrev pub same_truth : Bool → Bool → Bool
-same_truth p q = if p then q else not q
+-- Returns whether two truth values are equal.
+abbrev pub bool_equals : Bool → Bool → Bool
+bool_equals p q = if p then q else not q
 
--- the literal, or the other of its variable
+-- The literal, or its negation if not `positive`.
 abbrev pub signed : Bool → Literal → Literal
-signed positive l = if positive then l else opposite l
+signed positive l = if positive then l else negated_lit l
 
--- no part and no literal, after n variables
-abbrev pub no_literals : ℕ → Named
-no_literals n = record { part = nothing_at n; lits = [] }
+-- No part and no literal, after `n` variables.
+abbrev pub no_literals : ℕ → PartWithLits
+no_literals n = record { part = empty_part n; lits = [] }
 
--- no part, and the one literal, or the other of its variable
-abbrev pub one_literal : Bool → Literal → ℕ → Named
-one_literal positive l n = record { part = nothing_at n; lits = signed positive l ∷ [] }
+-- No part, and the one literal or its negation.
+abbrev pub one_literal : Bool → Literal → ℕ → PartWithLits
+one_literal positive l n = record { part = empty_part n; lits = signed positive l ∷ [] }
 
--- that of the literal where there is one, else what stands in its place
-abbrev pub literal_or : Bool → Option Literal → ℕ → Named → Named
-literal_or positive (Some l) n g = one_literal positive l n
-literal_or positive None n g = g
+-- The one literal if it is given, otherwise `g`.
+abbrev pub lit_or_else : Bool → Option Literal → ℕ → PartWithLits → PartWithLits
+lit_or_else positive (Some l) n g = one_literal positive l n
+lit_or_else positive None n g = g
 
--- a part's literals, and then those of the one that begins where it ends
-abbrev pub then_named : Named → (ℕ → Named) → Named
-then_named g h = record { part = and_then g.part (λ m. (h m).part); lits = g.lits ++ (h g.part.vars).lits }
+-- The literals of a part, then those of the part that begins at its end.
+abbrev pub append_part_lits : PartWithLits → (ℕ → PartWithLits) → PartWithLits
+append_part_lits g h = record { part = and_then g.part (λ m. (h m).part); lits = g.lits ++ (h g.part.vars).lits }
 
--- after n variables, one more, which is true exactly where all of the literals are, or some of them
+-- One more variable, after `n`, that is true exactly if all (`all`) or some of the literals are.
 abbrev pub gate_part : Bool → List Literal → ℕ → Part
-gate_part all ls n = if all then all_of_part ls n else any_of_part ls n
+gate_part all ls n = if all then and_gate_part ls n else or_gate_part ls n
 
--- one literal in place of several, which is true exactly where all of them are, or some of them; one alone stands for itself
-abbrev pub single_of : Bool → List Literal → ℕ → Single
-single_of all [] n = record { part = gate_part all [] n; lit = plus (n + 1) }
-single_of all (l ∷ []) n = record { part = nothing_at n; lit = l }
-single_of all (l ∷ m ∷ ls) n = record { part = gate_part all (l ∷ m ∷ ls) n; lit = plus (n + 1) }
+-- One literal in place of several, true exactly if all (`all`) or some of them are. A single
+-- literal represents itself.
+abbrev pub combined_lit : Bool → List Literal → ℕ → PartWithLit
+combined_lit all [] n = record { part = gate_part all [] n; lit = positive_lit (n + 1) }
+combined_lit all (l ∷ []) n = record { part = empty_part n; lit = l }
+combined_lit all (l ∷ m ∷ ls) n = record { part = gate_part all (l ∷ m ∷ ls) n; lit = positive_lit (n + 1) }
 
-abbrev pub single : Bool → Named → Single
-single all g =
+abbrev pub combined : Bool → PartWithLits → PartWithLit
+combined all g =
     record {
-      part = and_then g.part (λ m. (single_of all g.lits m).part);
-      lit = (single_of all g.lits g.part.vars).lit;
+      part = and_then g.part (λ m. (combined_lit all g.lits m).part);
+      lit = (combined_lit all g.lits g.part.vars).lit;
     }
 
--- literals of which all are to be true (inner), or some, as parts of such literals (outer): taken in where both ask the same, else one literal in their place
-abbrev pub taken_in : Bool → Bool → Named → Named
-taken_in outer inner g =
-    if same_truth outer inner then g else record { part = (single inner g).part; lits = (single inner g).lit ∷ [] }
+-- Literals of which all (`inner`) or some have to be true, merged into such literals (`outer`) if
+-- both agree, otherwise replaced by one.
+abbrev pub merged_into : Bool → Bool → PartWithLits → PartWithLits
+merged_into outer inner g =
+    if bool_equals outer inner then g else record { part = (combined inner g).part; lits = (combined inner g).lit ∷ [] }
 
--- after n variables, literals of which all are true, or some, exactly where the form holds (positive), or where it doesn't
+-- Literals, after `n` variables, of which all (`all`) or some are true exactly if the form holds
+-- (`positive`) or fails.
 abbrev mutual
-  pub gathered : List Column → Bool → Bool → Tree → ℕ → Named
-  gathered columns all positive yes n = taken_in all positive (no_literals n)
-  gathered columns all positive no n = taken_in all (not positive) (no_literals n)
-  gathered columns all positive (is v c) n = one_literal positive (leaf columns v c) n
-  gathered columns all positive (all_of ts) n = taken_in all positive (gathered_each columns positive positive ts n)
-  gathered columns all positive (any_of ts) n =
-      literal_or positive (any_leaf columns ts) n (taken_in all (not positive) (gathered_each columns (not positive) positive ts n))
-  gathered columns all positive (negation t) n = gathered columns all (not positive) t n
+  pub form_lits : List Column → Bool → Bool → Tree → ℕ → PartWithLits
+  form_lits columns all positive yes n = merged_into all positive (no_literals n)
+  form_lits columns all positive no n = merged_into all (not positive) (no_literals n)
+  form_lits columns all positive (is v c) n = one_literal positive (value_lit columns v c) n
+  form_lits columns all positive (all_of ts) n = merged_into all positive (each_form_lits columns positive positive ts n)
+  form_lits columns all positive (any_of ts) n =
+      lit_or_else positive (or_bound_lit columns ts) n (merged_into all (not positive) (each_form_lits columns (not positive) positive ts n))
+  form_lits columns all positive (negation t) n = form_lits columns all (not positive) t n
 
-  -- the same of each of some forms
-  pub gathered_each : List Column → Bool → Bool → Trees → ℕ → Named
-  gathered_each columns all positive none n = no_literals n
-  gathered_each columns all positive (more t ts) n =
-      then_named (gathered columns all positive t n) (gathered_each columns all positive ts)
+  pub each_form_lits : List Column → Bool → Bool → Trees → ℕ → PartWithLits
+  each_form_lits columns all positive none n = no_literals n
+  each_form_lits columns all positive (more t ts) n =
+      append_part_lits (form_lits columns all positive t n) (each_form_lits columns all positive ts)

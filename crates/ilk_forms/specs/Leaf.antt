@@ -1,18 +1,18 @@
 -- The literal of a copy that says that a variable has a value.
 use Rattle.std.specs.Prelude.{ℕ, Bool, List, map, length, slice_get, unwrap_or, option_and_then, ◌&&◌}
 use Rattle.std.specs.List.{list_all}
-use Rattle.ilk_cnf.specs.Literal.{Literal, plus}
-use Rattle.ilk_cnf.specs.Formula.{clause_in}
-use Rattle.ilk_copy.specs.declared.copy.Column.{Column}
+use Rattle.ilk_cnf.specs.Literal.{Literal, positive_lit}
+use Rattle.ilk_cnf.specs.Formula.{is_clause_over}
+use Rattle.ilk_forms.specs.declared.copy.Column.{Column}
 
--- that literal; where there is none, one of no variable
-abbrev pub leaf : List Column → ℕ → ℕ → Literal
-leaf columns v c = unwrap_or (option_and_then (λ column. slice_get column.values c) (slice_get columns v)) (plus 0)
+-- That literal, or a literal of variable 0 if there is none.
+abbrev pub value_lit : List Column → ℕ → ℕ → Literal
+value_lit columns v c = unwrap_or (option_and_then (λ column. slice_get column.values c) (slice_get columns v)) (positive_lit 0)
 
--- how many values each variable of the copy has
+-- The number of values of each variable of the copy.
 abbrev pub ranges_of : List Column → List ℕ
 ranges_of columns = map (λ column. length column.values) columns
 
--- whether the literals are over the variables 1 to n
+-- Returns whether the literals are over the variables 1 to `n`.
 abbrev pub columns_in : ℕ → List Column → Bool
-columns_in n columns = list_all (λ column. clause_in n column.values && clause_in n column.bounds) columns
+columns_in n columns = list_all (λ column. is_clause_over n column.values && is_clause_over n column.bounds) columns

@@ -1,3 +1,4 @@
+pub mod Copy
 pub mod Leaf
 pub mod Bound
 pub mod Gathered

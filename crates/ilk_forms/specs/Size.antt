@@ -1,4 +1,4 @@
--- How many constructors a form has.
+-- The number of constructors of a form.
 use Rattle.std.specs.Prelude.{ℕ, ◌+◌}
 use Rattle.ilk_ir.specs.Tree.{Tree, yes, no, is, all_of, any_of, negation, Trees, none, more}
 

@@ -1,73 +1,77 @@
--- The demand that some of several instances is violated, by the first one that is.
+-- The demand that some instance is violated, by the first one that is.
 use Rattle.std.specs.Prelude.{ℕ, ◌+◌, Bool, true, false, not, List, [], ◌∷◌, ◌++◌, ◌&&◌, ◌||◌, if◌then◌else◌}
-use Rattle.ilk_cnf.specs.Literal.{Literal, plus, minus, opposite}
-use Rattle.ilk_cnf.specs.Part.{Part, nothing_at, and_then, all_of_part, any_of_part}
-use Rattle.ilk_ints.specs.Named.{Named}
+use Rattle.ilk_cnf.specs.Literal.{Literal, positive_lit, negative_lit, negated_lit}
+use Rattle.ilk_cnf.specs.Part.{Part, empty_part, and_then, and_gate_part, or_gate_part}
+use Rattle.ilk_ints.specs.Named.{PartWithLits}
 use Rattle.ilk_ir.specs.Tree.{Tree, yes, no, is, all_of, any_of, negation, Trees, none, more}
-use Rattle.ilk_copy.specs.declared.copy.Column.{Column}
-use Rattle.ilk_forms.specs.Gathered.{no_literals, then_named, gathered}
-use Rattle.ilk_forms.specs.Demand.{one_clause, some_part}
-use Rattle.ilk_forms.specs.Truths.{Truths, no_truths, then_truths, truths}
+use Rattle.ilk_forms.specs.declared.copy.Column.{Column}
+use Rattle.ilk_forms.specs.Gathered.{no_literals, append_part_lits, form_lits}
+use Rattle.ilk_forms.specs.Demand.{one_clause, any_true_part}
+use Rattle.ilk_forms.specs.Truths.{Truths, no_truths, append_truths, truths}
 
--- after n variables, where `before` says that each instance before is kept and `kept` that this one is: a variable that is false exactly where this is the first that isn't, and one that is true where each is kept so far
-abbrev pub next_violated : Literal → Literal → ℕ → Named
+-- Two new variables after `n`. One is false exactly if this instance is the first violated one, the
+-- other true exactly if each so far is satisfied. `before` says so of the earlier instances, `kept`
+-- of this one.
+abbrev pub next_violated : Literal → Literal → ℕ → PartWithLits
 next_violated before kept n =
     record {
-      part = and_then (any_of_part (opposite before ∷ kept ∷ []) n) (all_of_part (before ∷ kept ∷ []));
-      lits = minus (n + 1) ∷ [];
+      part = and_then (or_gate_part (negated_lit before ∷ kept ∷ []) n) (and_gate_part (before ∷ kept ∷ []));
+      lits = negative_lit (n + 1) ∷ [];
     }
 
--- for each of the further instances, the literal that it is the first that isn't kept
-abbrev pub violated_after : Literal → List Literal → ℕ → Named
+-- For each further instance, the literal that says that it is the first violated one.
+abbrev pub violated_after : Literal → List Literal → ℕ → PartWithLits
 violated_after before [] n = no_literals n
-violated_after before (kept ∷ others) n = then_named (next_violated before kept n) (violated_after (plus (n + 1 + 1)) others)
+violated_after before (kept ∷ others) n = append_part_lits (next_violated before kept n) (violated_after (positive_lit (n + 1 + 1)) others)
 
--- after n variables: one of the instances is the first that isn't kept; of none, none is
+-- The demand, after `n` variables, that one of the instances is the first violated one; false if
+-- there are none.
 abbrev pub first_violated_part : List Literal → ℕ → Part
 first_violated_part [] n = one_clause [] n
-first_violated_part (kept ∷ others) n = some_part (opposite kept ∷ []) (violated_after kept others n)
+first_violated_part (kept ∷ others) n = any_true_part (negated_lit kept ∷ []) (violated_after kept others n)
 
--- the values of the new variables, and of the literals, where it is known of each instance whether it is kept
+-- The values of the new variables and literals, if it is known whether each instance is satisfied.
 abbrev pub next_truths : Bool → Bool → Truths
 next_truths before kept = record { bits = not (before && not kept) ∷ (before && kept) ∷ []; lits = (before && not kept) ∷ [] }
 
 abbrev pub truths_after : Bool → List Bool → Truths
 truths_after before [] = no_truths
-truths_after before (kept ∷ others) = then_truths (next_truths before kept) (truths_after (before && kept) others)
+truths_after before (kept ∷ others) = append_truths (next_truths before kept) (truths_after (before && kept) others)
 
 abbrev pub first_violated_bits : List Bool → List Bool
 first_violated_bits [] = []
 first_violated_bits (kept ∷ others) = (truths_after kept others).bits
 
--- whether there are no trees
 abbrev pub no_trees : Trees → Bool
 no_trees none = true
 no_trees (more t ts) = false
 
--- whether some instance of the form (positive), or of its negation, is plainly never kept: it is No, or Or of nothing
+-- Returns whether some instance of the form (`positive`) or of its negation is trivially
+-- unsatisfiable: No, or Or of nothing.
 abbrev mutual
-  pub never_kept : Bool → Tree → Bool
-  never_kept positive yes = not positive
-  never_kept positive no = positive
-  never_kept positive (is v c) = false
-  never_kept true (all_of ts) = some_never true ts
-  never_kept false (all_of ts) = no_trees ts
-  never_kept true (any_of ts) = no_trees ts
-  never_kept false (any_of ts) = some_never false ts
-  never_kept positive (negation t) = never_kept (not positive) t
+  pub is_trivially_false : Bool → Tree → Bool
+  is_trivially_false positive yes = not positive
+  is_trivially_false positive no = positive
+  is_trivially_false positive (is v c) = false
+  is_trivially_false true (all_of ts) = has_trivially_false true ts
+  is_trivially_false false (all_of ts) = no_trees ts
+  is_trivially_false true (any_of ts) = no_trees ts
+  is_trivially_false false (any_of ts) = has_trivially_false false ts
+  is_trivially_false positive (negation t) = is_trivially_false (not positive) t
 
-  pub some_never : Bool → Trees → Bool
-  some_never positive none = false
-  some_never positive (more t ts) = never_kept positive t || some_never positive ts
+  pub has_trivially_false : Bool → Trees → Bool
+  has_trivially_false positive none = false
+  has_trivially_false positive (more t ts) = is_trivially_false positive t || has_trivially_false positive ts
 
--- after n variables: the form doesn't hold, by the first of its instances that isn't kept; the instances are the parts of And at its top. Nothing is demanded where one is plainly never kept
+-- The demand, after `n` variables, that the form fails, by its first violated instance. The
+-- instances are the parts of And at its top. Nothing is demanded if one is trivially unsatisfiable.
 abbrev pub violated_part : List Column → Tree → ℕ → Part
 violated_part columns t n =
-    if never_kept true t
-    then nothing_at n
-    else and_then (gathered columns true true t n).part (first_violated_part (gathered columns true true t n).lits)
+    if is_trivially_false true t
+    then empty_part n
+    else and_then (form_lits columns true true t n).part (first_violated_part (form_lits columns true true t n).lits)
 
--- the values of the new variables, where the copy's variables have these ranges and the values ws
+-- The values of the new variables, if the copy has these ranges and the values `ws`.
 abbrev pub violated_bits : List ℕ → List ℕ → Tree → List Bool
 violated_bits ranges ws t =
-    if never_kept true t then [] else (truths ranges ws true true t).bits ++ first_violated_bits (truths ranges ws true true t).lits
+    if is_trivially_false true t then [] else (truths ranges ws true true t).bits ++ first_violated_bits (truths ranges ws true true t).lits

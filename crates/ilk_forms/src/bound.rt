@@ -1,21 +1,21 @@
 ghost use Rattle.std.specs.Prelude.{◌≡◌, ℕ, IfSome, IsTrue};
-ghost use Rattle.ilk_cnf.specs.Formula.{lit_in};
+ghost use Rattle.ilk_cnf.specs.Formula.{is_lit_over};
 ghost use Rattle.ilk_ir.specs.Form.{tree_of, trees_of};
 ghost use Rattle.ilk_forms.specs.Leaf.{columns_in};
-ghost use Rattle.ilk_forms.specs.Bound.{value_after, last_value, bound_of, column_bound, bound_leaf, any_leaf};
+ghost use Rattle.ilk_forms.specs.Bound.{value_after, last_value, bound_of, column_bound, bound_lit, or_bound_lit};
 
+use crate::copy::{Column, Table};
 use ilk_cnf::Lit;
-use ilk_copy::{Column, Table};
 use ilk_ir::Form;
 
-// That a variable is at most a value.
+/// The bound that variable `var` is at most `most`.
 #[derive(Clone, Copy)]
 pub struct Bound {
     pub var: u32,
     pub most: u8,
 }
 
-// The value after c, where the form is that the variable has it.
+// Returns the value after `c` if the form says that the variable has it.
 fn value_after(v: u32, c: u8, form: &Form) -> Option<u8>
     ensures { result ≡ value_after v c (tree_of form.now) }
 {
@@ -25,7 +25,7 @@ fn value_after(v: u32, c: u8, form: &Form) -> Option<u8>
     }
 }
 
-// The last value, where the forms are that the variable is c + 1, c + 2 and so on.
+// Returns the last value if the forms say that the variable is `c` + 1, `c` + 2 and so on.
 fn last_value(v: u32, c: u8, forms: &[Form]) -> Option<u8>
     ensures { result ≡ last_value v c (trees_of forms.now) }
 {
@@ -36,7 +36,7 @@ fn last_value(v: u32, c: u8, forms: &[Form]) -> Option<u8>
     Some(last)
 }
 
-// The bound, where the forms are that a variable is 0, 1 and so on, two at least.
+// Returns the bound if at least two forms say that a variable is 0, 1 and so on.
 fn bound_of(forms: &[Form]) -> Option<Bound>
     ensures { result ≡ bound_of (trees_of forms.now) }
 {
@@ -49,8 +49,8 @@ fn bound_of(forms: &[Form]) -> Option<Bound>
     }
 }
 
-// The literal that says that the variable is at most k, from 1 on: the opposite of its greatest
-// value's where k is the value before that, else its bound's.
+// Returns the literal for "at most `k`", from 1 on. If `k` is the second-greatest value, it is the
+// negation of the greatest value's literal, otherwise the bound's literal.
 fn column_bound(column: &Column, k: u8) -> Option<Lit>
     ensures { result ≡ column_bound column.now k }
 {
@@ -65,20 +65,20 @@ fn column_bound(column: &Column, k: u8) -> Option<Lit>
         .copied()
 }
 
-// The literal that says that the variable is at most a value, where the copy has one.
+// Returns the literal that says that the variable is at most a value, if the copy has one.
 fn bound_leaf(table: &Table, bound: Bound) -> Option<Lit>
-    ensures { result ≡ bound_leaf table.now bound.var bound.most }
+    ensures { result ≡ bound_lit table.now bound.var bound.most }
 {
     let column = table.as_slice().get(bound.var as usize)?;
     column_bound(column, bound.most)
 }
 
-// The one literal that stands for an Or of these forms, where there is one: they say that a
-// variable is at most a value, and the copy has a literal of that.
-pub fn any_leaf(table: &Table, forms: &[Form]) -> Option<Lit>
-    ensures leaf { result ≡ any_leaf table.now (trees_of forms.now) }
+/// Returns the one literal that represents an Or of `forms`, if they say that a variable is at most
+/// a value and the copy has a literal for that. Returns `None` otherwise.
+pub fn or_bound_lit(table: &Table, forms: &[Form]) -> Option<Lit>
+    ensures leaf { result ≡ or_bound_lit table.now (trees_of forms.now) }
     ensures within { (n : ℕ) → IsTrue (columns_in n table.now) →
-        IfSome result (λ l. IsTrue (lit_in n l)) }
+        IfSome result (λ l. IsTrue (is_lit_over n l)) }
 {
     let bound = bound_of(forms)?;
     bound_leaf(table, bound)

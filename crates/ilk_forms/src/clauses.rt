@@ -1,45 +1,44 @@
 ghost use Rattle.std.specs.Prelude.{◌≡◌, ℕ, ◌+◌, ◌*◌, ◌≤◌, ◌++◌, List, Bool, false, length, ◌||◌, OnOk, IsTrue};
-ghost use Rattle.ilk_cnf.specs.Extends.{PartExtends, OnlyIf};
-ghost use Rattle.ilk_cnf.specs.Formula.{clause_in};
+ghost use Rattle.ilk_cnf.specs.Extends.{PartExtends, IsExactlyIf};
+ghost use Rattle.ilk_cnf.specs.Formula.{is_clause_over};
 ghost use Rattle.ilk_cnf.specs.Part.{with_part};
-ghost use Rattle.ilk_cnf.specs.Truth.{some_true};
+ghost use Rattle.ilk_cnf.specs.Truth.{is_clause_true};
 ghost use Rattle.ilk_ir.specs.Form.{tree_of, trees_of};
 ghost use Rattle.ilk_ir.specs.Tree.{tree_holds, tree_valid, each_valid};
 ghost use Rattle.ilk_ir.specs.System.{in_ranges};
-ghost use Rattle.ilk_copy.specs.Copy.{LiteralsSay};
+ghost use Rattle.ilk_forms.specs.Copy.{LiteralsEncode};
 ghost use Rattle.ilk_forms.specs.Leaf.{columns_in, ranges_of};
-ghost use Rattle.ilk_forms.specs.Gathered.{gathered_each};
-ghost use Rattle.ilk_forms.specs.Demand.{one_clause, some_part, demand_of, demand_each, demand_part};
+ghost use Rattle.ilk_forms.specs.Gathered.{each_form_lits};
+ghost use Rattle.ilk_forms.specs.Demand.{one_clause, any_true_part, demand_of, demand_each, demand_part};
 ghost use Rattle.ilk_forms.specs.Size.{tree_size};
 ghost use Rattle.ilk_forms.specs.Truths.{demand_bits};
 
-use crate::bound::any_leaf;
-use crate::literals::{gather_each, leaf, push_all, signed};
+use crate::bound::or_bound_lit;
+use crate::copy::Table;
+use crate::literals::{each_form_lits, push_all, signed, value_lit};
 use ilk_cnf::{Cnf, Lit, Lits};
-use ilk_copy::Table;
 use ilk_ir::Form;
 use std::alloc::{AllocError, Global};
 
-// Demands that one of the first literals or of the others is true.
-pub fn add_some(
+/// Demands that one of the literals of `first` or `others` is true.
+pub fn add_joined_clause(
     alloc: Global,
     cnf: &mut Cnf,
     first: &[Lit],
     others: &[Lit],
 ) -> Result<(), AllocError>
-    requires first { IsTrue (clause_in cnf.old.vars first.now) }
-    requires others { IsTrue (clause_in cnf.old.vars others.now) }
+    requires first { IsTrue (is_clause_over cnf.old.vars first.now) }
+    requires others { IsTrue (is_clause_over cnf.old.vars others.now) }
     ensures { OnOk result
         (cnf.new ≡ with_part cnf.old (one_clause (first.now ++ others.now) cnf.old.vars)) }
 {
     let mut lits = Lits::new(alloc);
     push_all(&mut lits, first)?;
     push_all(&mut lits, others)?;
-    cnf.add_lits(lits.as_slice())
+    cnf.add_clause_of(lits.as_slice())
 }
 
-// Demands that one of the first literals is true, or some of the forms holds (`positive`), or
-// doesn't.
+// Demands that a literal of `first` is true, or some form holds (`positive`) or fails.
 fn demand_some(
     alloc: Global,
     cnf: &mut Cnf,
@@ -49,20 +48,20 @@ fn demand_some(
     forms: &[Form],
 ) -> Result<(), AllocError>
     requires within { IsTrue (columns_in cnf.old.vars table.now) }
-    requires first { IsTrue (clause_in cnf.old.vars first.now) }
+    requires first { IsTrue (is_clause_over cnf.old.vars first.now) }
     requires valid { IsTrue (each_valid (ranges_of table.now) (trees_of forms.now)) }
     ensures { OnOk result
         (cnf.new
         ≡ with_part cnf.old
-        (some_part first.now
-        (gathered_each table.now false positive (trees_of forms.now) cnf.old.vars))) }
+        (any_true_part first.now
+        (each_form_lits table.now false positive (trees_of forms.now) cnf.old.vars))) }
 {
-    let lits = gather_each(alloc, cnf, table, false, positive, forms)?;
-    add_some(alloc, cnf, first, lits.as_slice())?;
+    let lits = each_form_lits(alloc, cnf, table, false, positive, forms)?;
+    add_joined_clause(alloc, cnf, first, lits.as_slice())?;
     Ok(())
 }
 
-// Demands that one of the first literals is true, or the form holds (`positive`), or doesn't.
+// Demands that a literal of `first` is true, or the form holds (`positive`) or fails.
 #[cycle(demand)]
 fn demand_of(
     alloc: Global,
@@ -73,7 +72,7 @@ fn demand_of(
     form: &Form,
 ) -> Result<(), AllocError>
     requires within { IsTrue (columns_in cnf.old.vars table.now) }
-    requires first { IsTrue (clause_in cnf.old.vars first.now) }
+    requires first { IsTrue (is_clause_over cnf.old.vars first.now) }
     requires valid { IsTrue (tree_valid (ranges_of table.now) (tree_of form.now)) }
     ensures { OnOk result
         (cnf.new
@@ -82,17 +81,17 @@ fn demand_of(
 {
     match form {
         Form::Yes if positive => Ok(()),
-        Form::Yes => cnf.add_lits(first),
-        Form::No if positive => cnf.add_lits(first),
+        Form::Yes => cnf.add_clause_of(first),
+        Form::No if positive => cnf.add_clause_of(first),
         Form::No => Ok(()),
         Form::Is(v, c) => {
-            let lit = signed(positive, leaf(table, *v, *c));
-            add_some(alloc, cnf, first, &[lit])
+            let lit = signed(positive, value_lit(table, *v, *c));
+            add_joined_clause(alloc, cnf, first, &[lit])
         }
         Form::And(forms) if positive => demand_each(alloc, cnf, table, first, true, forms),
         Form::And(forms) => demand_some(alloc, cnf, table, first, false, forms),
-        Form::Or(forms) => match any_leaf(table, forms) {
-            Some(lit) => add_some(alloc, cnf, first, &[signed(positive, lit)]),
+        Form::Or(forms) => match or_bound_lit(table, forms) {
+            Some(lit) => add_joined_clause(alloc, cnf, first, &[signed(positive, lit)]),
             None if positive => demand_some(alloc, cnf, table, first, true, forms),
             None => demand_each(alloc, cnf, table, first, false, forms),
         },
@@ -100,7 +99,6 @@ fn demand_of(
     }
 }
 
-// The same of each of the forms.
 #[cycle(demand)]
 fn demand_each(
     alloc: Global,
@@ -111,7 +109,7 @@ fn demand_each(
     forms: &[Form],
 ) -> Result<(), AllocError>
     requires within { IsTrue (columns_in cnf.old.vars table.now) }
-    requires first { IsTrue (clause_in cnf.old.vars first.now) }
+    requires first { IsTrue (is_clause_over cnf.old.vars first.now) }
     requires valid { IsTrue (each_valid (ranges_of table.now) (trees_of forms.now)) }
     ensures { OnOk result
         (cnf.new
@@ -124,12 +122,11 @@ fn demand_each(
     Ok(())
 }
 
-/// Adds clauses that say that one of the first literals is true, or the form holds of the copy's
-/// values. And at the top becomes several demands, one after another; Or one clause, with Or
-/// within Or taken in; Or of a variable's values up to one is the copy's literal for that, where
-/// there is one; a part that is no literal gets a new variable, which is true exactly where the part
-/// holds. The form is valid over the copy's variables. Where memory runs out the formula may have
-/// grown, and its owner drops it.
+/// Adds clauses that say that a literal of `first` is true, or the form holds of the copy's values.
+/// And at the top becomes several demands, in order. Or becomes one clause that includes any Or
+/// within it. An Or of a variable's values up to one is the copy's literal for that bound, if there
+/// is one. A part that is not a literal gets a new variable, true exactly if the part holds. The
+/// form has to be valid over the copy's variables. If memory runs out, `cnf` may have grown.
 pub fn demand(
     alloc: Global,
     cnf: &mut Cnf,
@@ -138,20 +135,19 @@ pub fn demand(
     form: &Form,
 ) -> Result<(), AllocError>
     requires within { IsTrue (columns_in cnf.old.vars table.now) }
-    requires first { IsTrue (clause_in cnf.old.vars first.now) }
+    requires first { IsTrue (is_clause_over cnf.old.vars first.now) }
     requires valid { IsTrue (tree_valid (ranges_of table.now) (tree_of form.now)) }
     ensures made { OnOk result
         (cnf.new
         ≡ with_part cnf.old (demand_part table.now first.now (tree_of form.now) cnf.old.vars)) }
 
-    // Where the copy's literals say the values ws, exactly the assignments in which a first literal
-    // is true or the form holds of ws extend over the part, and the new variables have one value
-    // each.
+    // If the copy's literals say the values `ws`, an assignment extends over the part exactly if a
+    // literal of `first` is true or the form holds of `ws`. Each new variable then has one value.
     ensures law { OnOk result
         ((a : List Bool) (ranges ws : List ℕ) → length a ≡ cnf.old.vars →
-        LiteralsSay a table.now ranges ws → IsTrue (in_ranges ws ranges) →
+        LiteralsEncode a table.now ranges ws → IsTrue (in_ranges ws ranges) →
         PartExtends a (demand_part table.now first.now (tree_of form.now) cnf.old.vars)
-        (OnlyIf (some_true a first.now || tree_holds ws (tree_of form.now))
+        (IsExactlyIf (is_clause_true a first.now || tree_holds ws (tree_of form.now))
         (demand_bits ranges ws (tree_of form.now)))) }
     ensures more { OnOk result (cnf.old.vars ≤ cnf.new.vars) }
     ensures vars { OnOk result (cnf.new.vars ≤ cnf.old.vars + tree_size (tree_of form.now)) }

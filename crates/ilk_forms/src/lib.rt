@@ -1,23 +1,35 @@
 //! Forms as clauses over a copy of a system's values.
 //!
-//! A form speaks of a copy by the literals of the copy's table (`specs/Leaf`). `demand` adds the
-//! clauses that say that one of some literals is true or the form holds: And at the top becomes
-//! several demands, Or one clause with Or within Or taken in, and Not is pushed inward
-//! (`specs/Demand`). Or of a variable's values 0, 1 and so on up to one says that the variable is at
-//! most this one: where the copy has a literal for that, the Or is this literal (`specs/Bound`). A
-//! part that is no literal gets one new variable, which is true exactly where the part holds
-//! (`specs/Gathered`), so that every assignment of what stood before extends in exactly one way, by
-//! the values of `specs/Truths`.
+//! A form refers to a copy by the literals of the copy's table (`specs/Leaf`). `demand` adds the
+//! clauses that say that one of some literals is true or the form holds (`specs/Demand`). And at
+//! the top becomes several demands. Or becomes one clause that includes any Or within it. Not is
+//! pushed inward. An Or of a variable's values 0, 1 and so on says that it is at most the last of
+//! them. It is the copy's literal for that, if there is one (`specs/Bound`). A part that is not a
+//! literal gets one new variable, true exactly if the part holds (`specs/Gathered`). So every
+//! earlier assignment extends in exactly one way, by the values of `specs/Truths`.
 //!
-//! Where some form is not to hold, its instances are the parts of And at its top. `some_fails` and
-//! `holds_or_some_fails` give each instance a literal, and `first_violated` demands that some
-//! instance is the first that isn't kept (`specs/Violated`).
+//! If some form has to fail, its instances are the parts of And at its top. `demand_some_fails` and
+//! `demand_holds_or_fails` give each instance a literal, and `demand_some_violated` demands that
+//! some instance is the first violated one (`specs/Violated`).
+//!
+//! A copy: a system's values at one moment of a run, as integers of a formula.
+//!
+//! A copy has one integer for each variable of the system (`specs/Copy`). The bits of all of them
+//! come first, in order. The literals of their values and bounds follow, variable by variable.
+//! Forms and rules use only these literals, so a search sees a value in one literal and not in its
+//! bits.
+//!
+//! `reserve_copy` adds the variables of a copy, so copies may have their variables in another order
+//! than their clauses. `add_copy` then adds the clauses and returns the literals. The earlier
+//! assignment extends over the copy in exactly one way for each list of values in range.
 #![tactic(auto)]
 
 mod bound;
 mod clauses;
+mod copy;
 mod literals;
 mod violated;
 
 pub use clauses::demand;
-pub use violated::{first_violated, holds_or_some_fails, some_fails};
+pub use copy::{Column, Table, add_copy, reserve_copy};
+pub use violated::{demand_holds_or_fails, demand_some_fails, demand_some_violated};

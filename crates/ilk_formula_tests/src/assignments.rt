@@ -3,7 +3,8 @@ ghost use Rattle.std.specs.Prelude.{◌≡◌, length, IfOk};
 use ilk_cnf::Assignment;
 use std::alloc::{AllocError, Global};
 
-// The assignment of so many variables whose values are the bits of `pattern`, the lowest first.
+/// Returns the assignment of `vars` variables whose values are the bits of `pattern`, the lowest
+/// first.
 pub fn assignment_of(alloc: Global, vars: u64, pattern: u64) -> Result<Assignment, AllocError>
     ensures { IfOk result (λ a. length a ≡ vars) }
 {

@@ -4,7 +4,6 @@ use ilk_log::read_step;
 use std::alloc::Global;
 use std::test::Fail;
 
-// What is said of a step.
 fn taken_name(taken: Taken) -> &'static str {
     match taken {
         Taken::Good => " good",
@@ -16,7 +15,7 @@ fn taken_name(taken: Taken) -> &'static str {
     }
 }
 
-// The same of the step of a line. An auditor that is closed takes none.
+// Returns the auditor's answer to the step of a line. A closed auditor takes none.
 fn said_of(alloc: Global, auditor: &mut Auditor, line: &str) -> Result<&'static str, Fail> {
     let Some(step) = read_step(alloc, line.as_bytes())? else {
         return Err(Fail::new("a line that is no step"));
@@ -27,7 +26,6 @@ fn said_of(alloc: Global, auditor: &mut Auditor, line: &str) -> Result<&'static 
     Ok(taken_name(auditor.take(&step)?))
 }
 
-// What is said of steps, one after the other, over the four clauses.
 fn said(alloc: Global, lines: &[&str]) -> Result<String, Fail> {
     let mut auditor = Auditor::new(alloc, &formula(alloc, 4)?)?;
     let mut text = String::new(alloc);

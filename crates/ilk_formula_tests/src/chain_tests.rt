@@ -1,13 +1,13 @@
 ghost use Rattle.std.specs.Prelude.{IsTrue};
-ghost use Rattle.ilk_cnf.specs.Formula.{lit_in};
+ghost use Rattle.ilk_cnf.specs.Formula.{is_lit_over};
 
 use ilk_arena::Arena;
 use ilk_cnf::Lit;
 use std::test::Fail;
 
-// Whether the clauses that watch a literal are just these, in this order.
+// Returns whether the clauses that watch a literal are exactly these, in this order.
 fn is_chain(arena: &Arena, l: Lit, clauses: &[u64]) -> bool
-    requires { IsTrue (lit_in arena.now.vars l) }
+    requires { IsTrue (is_lit_over arena.now.vars l) }
 {
     let mut next = arena.first_watch(l);
     for c in clauses {
@@ -19,8 +19,8 @@ fn is_chain(arena: &Arena, l: Lit, clauses: &[u64]) -> bool
     next.is_none()
 }
 
-// The clauses (1 2), (1 -2) and (1 2 3), added in this order, and a watch of the last that moves from 1
-// to 3.
+// The clauses (1 2), (1 -2) and (1 2 3), added in this order. A watch of the last moves from 1 to
+// 3.
 #[test]
 fn chains_of_three_clauses(rt: HostRuntime) -> Result<(), Fail> {
     let mut arena = Arena::new(rt.alloc(), 3)?;

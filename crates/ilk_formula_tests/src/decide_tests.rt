@@ -22,7 +22,7 @@ fn harmless_goal(alloc: Global) -> Result<Goal, AllocError>
     })
 }
 
-// The same, and the family is that it stays at 0.
+// The same, with the family that it stays at 0.
 fn broken_goal(alloc: Global) -> Result<Goal, AllocError>
     ensures { IfOk result (λ g. IsTrue (goal_valid (2 ∷ []) (goal_tree g))) }
 {
@@ -36,7 +36,7 @@ fn broken_goal(alloc: Global) -> Result<Goal, AllocError>
     })
 }
 
-// The same, and it starts nowhere.
+// The same, without an initial state.
 fn unreached_goal(alloc: Global) -> Result<Goal, AllocError>
     ensures { IfOk result (λ g. IsTrue (goal_valid (2 ∷ []) (goal_tree g))) }
 {
@@ -50,7 +50,6 @@ fn unreached_goal(alloc: Global) -> Result<Goal, AllocError>
     })
 }
 
-// A query in words, where it asks for at most two steps.
 fn query_name(q: Wanted) -> &'static str {
     match q {
         Wanted::Hazard(0) => ", hazard 0",
@@ -65,7 +64,6 @@ fn query_name(q: Wanted) -> &'static str {
     }
 }
 
-// A verdict in words, where its runs have at most two steps.
 fn verdict_name(verdict: &Verdict) -> &'static str {
     match verdict {
         Verdict::Safe { k: 1 } => "safe at 1",
@@ -89,7 +87,6 @@ fn verdict_name(verdict: &Verdict) -> &'static str {
     }
 }
 
-// What is answered of the switch, and what was asked.
 fn answer(alloc: Global, goal: &Goal, depth: u32, conflicts: u64) -> Result<String, AllocError>
     requires goal { IsTrue (goal_valid (2 ∷ []) (goal_tree goal.now)) }
     requires some_depth { 0 < depth }
@@ -124,7 +121,7 @@ fn nothing_can_happen(rt: HostRuntime) -> Result<(), Fail> {
     Ok(())
 }
 
-// After the breach hazard queries alone are asked.
+// After the breach only hazard queries are asked.
 #[test]
 fn the_family_is_broken(rt: HostRuntime) -> Result<(), Fail> {
     let goal = broken_goal(rt.alloc())?;
@@ -136,7 +133,7 @@ fn the_family_is_broken(rt: HostRuntime) -> Result<(), Fail> {
     Ok(())
 }
 
-// One step leads out of the family from where no run comes, and two steps don't.
+// One step leads out of the family from an unreachable state; two steps don't.
 #[test]
 fn the_family_is_left_from_elsewhere(rt: HostRuntime) -> Result<(), Fail> {
     let goal = unreached_goal(rt.alloc())?;

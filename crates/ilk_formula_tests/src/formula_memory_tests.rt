@@ -1,15 +1,13 @@
 ghost use Rattle.std.specs.Prelude.{◌≡◌, IfOk, IsTrue};
-ghost use Rattle.ilk_cnf.specs.Formula.{clause_in};
+ghost use Rattle.ilk_cnf.specs.Formula.{is_clause_over};
 
 use ilk_base::{Row, Text};
-use ilk_cnf::{Clause, Cnf, Lit, all_of, any_of, opposites};
-use ilk_copy::{add_copy, take_copy};
-use ilk_forms::first_violated;
+use ilk_cnf::{Clause, Cnf, Lit, add_and_gate, add_or_gate, negated_lits};
+use ilk_forms::{add_copy, demand_some_violated, reserve_copy};
 use ilk_ints::one_of;
 use std::alloc::{AllocError, Global};
 use std::test::Fail;
 
-// A formula of three variables.
 fn formula(alloc: Global) -> Result<Cnf, AllocError>
     ensures { IfOk result (λ cnf. cnf.vars ≡ 3) }
 {
@@ -20,26 +18,26 @@ fn formula(alloc: Global) -> Result<Cnf, AllocError>
     Ok(cnf)
 }
 
-// Demands that one of the literals is true, and how many clauses that makes.
+// Demands that one of the literals is true. Returns the number of clauses that this makes.
 fn demanded(alloc: Global, lits: &[Lit]) -> Result<u64, AllocError>
-    requires { IsTrue (clause_in 3 lits.now) }
+    requires { IsTrue (is_clause_over 3 lits.now) }
 {
     let mut cnf = formula(alloc)?;
-    cnf.add_lits(lits)?;
+    cnf.add_clause_of(lits)?;
     Ok(cnf.clauses())
 }
 
-// Each call that makes something of literals, over these.
+// Makes each call that builds something from literals, with these.
 fn made_of(alloc: Global, lits: &[Lit]) -> Result<(), AllocError>
-    requires { IsTrue (clause_in 3 lits.now) }
+    requires { IsTrue (is_clause_over 3 lits.now) }
 {
-    let _ = opposites(alloc, lits)?;
+    let _ = negated_lits(alloc, lits)?;
     let mut cnf = formula(alloc)?;
-    let _ = all_of(alloc, &mut cnf, lits)?;
+    let _ = add_and_gate(alloc, &mut cnf, lits)?;
     let mut cnf = formula(alloc)?;
-    let _ = any_of(alloc, &mut cnf, lits)?;
+    let _ = add_or_gate(alloc, &mut cnf, lits)?;
     let mut cnf = formula(alloc)?;
-    first_violated(alloc, &mut cnf, lits)
+    demand_some_violated(alloc, &mut cnf, lits)
 }
 
 #[test]
@@ -74,7 +72,8 @@ fn clauses(rt: HostRuntime) -> Result<(), Fail> {
     Ok(())
 }
 
-// Adds a copy of variables of 1, 2, 3, 5 and 8 values: of how many variables its literals speak.
+// Adds a copy of variables with 1, 2, 3, 5 and 8 values. Returns the number of variables that its
+// literals speak of.
 fn copied(alloc: Global) -> Result<u64, AllocError> {
     let mut ranges = Row::new(alloc);
     ranges.push(1)?;
@@ -83,7 +82,7 @@ fn copied(alloc: Global) -> Result<u64, AllocError> {
     ranges.push(5)?;
     ranges.push(8)?;
     let mut cnf = Cnf::new(alloc);
-    take_copy(&mut cnf, &ranges)?;
+    reserve_copy(&mut cnf, &ranges)?;
     let table = add_copy(alloc, &mut cnf, &ranges, 0)?;
     Ok(table.len())
 }

@@ -1,10 +1,9 @@
-//! Tests of formulas and of the search over them, in a crate of their own: a crate with tests is
+//! Tests of formulas and of the search over them, in a separate crate because a crate with tests is
 //! proved twice.
 //!
-//! Two modules see that no call tells want of memory where memory is ample, in each of its kinds of
-//! answer, which no clause can say. What the program's commands go through is tried so by the cases
-//! of `tests/`, none of which may end with the status of want of memory; here stand the calls that
-//! no command goes through yet.
+//! `formula_memory_tests` and `search_memory_tests` check that no call reports out of memory if
+//! memory is ample; no clause can say so. The cases of `tests/` check this for the program's
+//! commands. These two modules have the calls that no command uses yet.
 #![tactic(auto)]
 
 #[cfg(test)]

@@ -6,8 +6,8 @@ use ilk_ints::{is, number, value_of};
 use std::alloc::{AllocError, Global};
 use std::test::Fail;
 
-// The values that an integer of `range` has in those of the first `patterns` assignments that
-// satisfy the formula of it alone.
+// Returns the values of an integer of `range` in those of the first `patterns` assignments that
+// satisfy its formula.
 fn values_found(alloc: Global, range: u8, patterns: u64) -> Result<Vec<u8>, AllocError>
     requires { 0 < range }
 {
@@ -37,15 +37,15 @@ fn ten_values(rt: HostRuntime) -> Result<(), Fail> {
     Ok(())
 }
 
-// Which of the first `patterns` assignments satisfy the formula in which an integer of `range` has
-// the value.
+// Returns which of the first `patterns` assignments satisfy the formula in which an integer of
+// `range` has the value.
 fn patterns_with(alloc: Global, range: u8, value: u8, patterns: u64) -> Result<Vec<u64>, AllocError>
     requires { value < range }
 {
     let mut cnf = Cnf::new(alloc);
     let n = number(alloc, &mut cnf, range)?;
     let lit = is(alloc, &mut cnf, n, value)?;
-    cnf.add_lits(&[lit])?;
+    cnf.add_clause_of(&[lit])?;
     let mut found = Vec::new(alloc);
     for pattern in 0..patterns {
         let a = assignment_of(alloc, cnf.vars(), pattern)?;
@@ -56,7 +56,7 @@ fn patterns_with(alloc: Global, range: u8, value: u8, patterns: u64) -> Result<V
     Ok(found)
 }
 
-// Two bits and the literal: of their eight assignments one has the value.
+// Two bits and the literal: one of their eight assignments has the value.
 #[test]
 fn one_value(rt: HostRuntime) -> Result<(), Fail> {
     assert_eq!(rt; patterns_with(rt.alloc(), 3, 0, 8)?.len(), 1);

@@ -5,7 +5,7 @@ use ilk_cnf::Lit;
 use ilk_solver::{Picker, View};
 use std::alloc::{AllocError, Global};
 
-/// The negative literal of the least unset variable.
+/// Picks the negative literal of the least unset variable.
 pub fn least(view: &View) -> Lit
     ensures unset { (v : ℕ) → IsTrue (is_unset view.now v) → IsTrue (is_unset view.now result.var) }
     ensures negative { result.positive ≡ false }
@@ -18,7 +18,7 @@ pub fn least(view: &View) -> Lit
     Lit::new(1, false)
 }
 
-/// The positive literal of the greatest unset variable.
+/// Picks the positive literal of the greatest unset variable.
 pub fn greatest(view: &View) -> Lit
     ensures unset { (v : ℕ) → IsTrue (is_unset view.now v) → IsTrue (is_unset view.now result.var) }
     ensures positive { result.positive ≡ true }
@@ -33,7 +33,7 @@ pub fn greatest(view: &View) -> Lit
     Lit::new(1, true)
 }
 
-/// The negative literal of the heaviest unset variable.
+/// Picks the negative literal of the heaviest unset variable.
 pub fn heaviest(view: &View) -> Lit
     ensures unset { (v : ℕ) → IsTrue (is_unset view.now v) → IsTrue (is_unset view.now result.var) }
     ensures negative { result.positive ≡ false }
@@ -45,8 +45,8 @@ pub fn heaviest(view: &View) -> Lit
     }
 }
 
-/// The same of a variable that stands in a step; that of the least unset variable where none does.
-pub fn weighed(view: &View) -> Lit
+/// Picks the same if that variable occurs in a step, or else the literal of `least`.
+pub fn heaviest_in_steps(view: &View) -> Lit
     ensures unset { (v : ℕ) → IsTrue (is_unset view.now v) → IsTrue (is_unset view.now result.var) }
     ensures negative { result.positive ≡ false }
 {
@@ -57,32 +57,32 @@ pub fn weighed(view: &View) -> Lit
     }
 }
 
-/// The picker that decides by `weighed`.
+/// Creates the picker `heaviest_in_steps`.
 pub fn by_weighed(alloc: Global) -> Result<Picker, AllocError> {
-    Ok(Picker::new(Box::new(alloc, weighed)?))
+    Ok(Picker::new(Box::new(alloc, heaviest_in_steps)?))
 }
 
-/// The picker that decides by `least`.
+/// Creates the picker `least`.
 pub fn by_least(alloc: Global) -> Result<Picker, AllocError> {
     Ok(Picker::new(Box::new(alloc, least)?))
 }
 
-/// The picker that decides by `greatest`.
+/// Creates the picker `greatest`.
 pub fn by_greatest(alloc: Global) -> Result<Picker, AllocError> {
     Ok(Picker::new(Box::new(alloc, greatest)?))
 }
 
-/// The picker that decides by `heaviest`.
+/// Creates the picker `heaviest`.
 pub fn by_heaviest(alloc: Global) -> Result<Picker, AllocError> {
     Ok(Picker::new(Box::new(alloc, heaviest)?))
 }
 
-/// A restart after each step.
+/// Restarts after each step.
 pub fn always(_: u64) -> bool {
     true
 }
 
-/// No restart.
+/// Never restarts.
 pub fn never(_: u64) -> bool {
     false
 }

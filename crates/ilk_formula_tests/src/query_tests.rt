@@ -8,7 +8,7 @@ use ilk_unroll::{Goal, Trace, Wanted, query, read_back};
 use std::alloc::{AllocError, Global};
 use std::test::Fail;
 
-// One variable of two values, and one rule, which sets it from 0 to 1.
+/// Creates a system with one variable of two values, and one rule that sets it from 0 to 1.
 pub fn switch(alloc: Global) -> Result<System, AllocError>
     ensures ranges { IfOk result (λ s. s.ranges ≡ 2 ∷ []) }
     ensures valid { IfOk result (λ s. IsTrue (system_valid (system_tree s))) }
@@ -25,7 +25,8 @@ pub fn switch(alloc: Global) -> Result<System, AllocError>
     Ok(System { ranges, rules })
 }
 
-// It starts at 0, 1 is the hazard, and there is one family, which always holds.
+/// Creates the goal of the switch. It starts at 0, the hazard is 1, and the only family always
+/// holds.
 pub fn switch_goal(alloc: Global) -> Result<Goal, AllocError>
     ensures { IfOk result (λ g. IsTrue (goal_valid (2 ∷ []) (goal_tree g))) }
 {
@@ -39,7 +40,7 @@ pub fn switch_goal(alloc: Global) -> Result<Goal, AllocError>
     })
 }
 
-// How large a query's formula is, and the runs that its satisfying assignments are.
+// The size of a query's formula, and the runs of its satisfying assignments.
 #[derive(Drop)]
 struct Found {
     vars: u64,
@@ -47,7 +48,6 @@ struct Found {
     runs: Vec<Trace>,
 }
 
-// The same of a query of the switch, over so many patterns of values.
 fn ask(alloc: Global, q: Wanted, patterns: u64) -> Result<Found, AllocError>
     requires { IsTrue (wanted_valid q) }
 {

@@ -5,18 +5,17 @@ use ilk_solver::{Answer, Picker, Restart, Solver};
 use std::alloc::{AllocError, Global};
 use std::test::Fail;
 
-/// The first so many of the clauses (1 2), (1 -2), (-1 2), (-1 -2).
+/// Creates a formula of the first `clauses` of (1 2), (1 -2), (-1 2), (-1 -2).
 pub fn formula(alloc: Global, clauses: u8) -> Result<Cnf, AllocError> {
     let mut cnf = Cnf::new(alloc);
     cnf.fresh()?;
     cnf.fresh()?;
     for i in 0..clauses {
-        cnf.add_lits(&[Lit::new(1, i < 2), Lit::new(2, i % 2 == 0)])?;
+        cnf.add_clause_of(&[Lit::new(1, i < 2), Lit::new(2, i % 2 == 0)])?;
     }
     Ok(cnf)
 }
 
-// The values of an assignment, after a text.
 fn push_values(text: &mut String, a: &Assignment) -> Result<(), AllocError> {
     for i in 0..a.len() {
         text.push_str(if *a.at(i) { " true" } else { " false" })?;
@@ -24,7 +23,6 @@ fn push_values(text: &mut String, a: &Assignment) -> Result<(), AllocError> {
     Ok(())
 }
 
-// How many literals each step has, after a text.
 fn push_sizes(text: &mut String, log: &Log) -> Result<(), AllocError> {
     for i in 0..log.len() {
         let step = log.at(i)?;
@@ -37,7 +35,7 @@ fn push_sizes(text: &mut String, log: &Log) -> Result<(), AllocError> {
     Ok(())
 }
 
-/// What a search answers, and the sizes of its steps.
+/// Returns the answer of a search, and the sizes of its steps.
 pub fn search_of(
     alloc: Global,
     cnf: &Cnf,
@@ -59,7 +57,7 @@ pub fn search_of(
     Ok(text)
 }
 
-/// The same of a search over the first so many clauses.
+/// The same for a search over the first `clauses` clauses.
 pub fn search(
     alloc: Global,
     clauses: u8,
@@ -71,7 +69,7 @@ pub fn search(
     search_of(alloc, &cnf, picker, restart, budget)
 }
 
-// The four clauses leave no assignment. Each search learns one clause, a unit, and then the empty one.
+// The four clauses are unsatisfiable. Each search learns one unit clause, and then the empty one.
 #[test]
 fn four_clauses(rt: HostRuntime) -> Result<(), Fail> {
     for (budget, answer) in [
@@ -123,8 +121,8 @@ fn four_clauses(rt: HostRuntime) -> Result<(), Fail> {
     Ok(())
 }
 
-// The first three have just one: both variables true. The picker that begins with false learns a
-// unit on the way, the other none.
+// The first three have only one model: both variables true. The picker that begins with false
+// learns a unit on the way, the other none.
 #[test]
 fn three_clauses(rt: HostRuntime) -> Result<(), Fail> {
     let a = search(
@@ -146,7 +144,6 @@ fn three_clauses(rt: HostRuntime) -> Result<(), Fail> {
     Ok(())
 }
 
-// Nothing is forced at first, and where the first variable is false a clause is false.
 #[test]
 fn no_clause(rt: HostRuntime) -> Result<(), Fail> {
     let a = search(

@@ -5,7 +5,6 @@ use ilk_log::{Hints, Log, Step, read_step, write_step};
 use std::alloc::{AllocError, Global};
 use std::test::Fail;
 
-// The line of the step without literals and hints.
 fn empty_line(alloc: Global) -> Result<Vec<u8>, AllocError> {
     let step = Step {
         clause: Row::new(alloc),
@@ -14,7 +13,7 @@ fn empty_line(alloc: Global) -> Result<Vec<u8>, AllocError> {
     write_step(alloc, &step)
 }
 
-// The line of a step with two literals and two hints.
+// Returns the line of a step with two literals and two hints.
 fn full_line(alloc: Global) -> Result<Vec<u8>, AllocError> {
     let mut clause = Row::new(alloc);
     clause.push(Lit::new(12, true))?;
@@ -50,7 +49,7 @@ fn lines_of_steps(rt: HostRuntime) -> Result<(), Fail> {
     Ok(())
 }
 
-// The line of the step of a line, which was kept in a log; or that there is none.
+// Returns the line of a step after it was kept in a log, or `none`.
 fn kept_line(alloc: Global, line: &str) -> Result<Vec<u8>, AllocError> {
     let Some(step) = read_step(alloc, line.as_bytes())? else {
         return Vec::from_slice(alloc, b"none".as_slice());

@@ -8,8 +8,8 @@ use ilk_solver::{Picker, Restart, Solver, View};
 use std::alloc::{AllocError, Global};
 use std::test::Fail;
 
-// The negative literal of the first variable of an order that is unset; that of the least unset one
-// where the order has none.
+// Picks the negative literal of the first unset variable of an order, or else that of the least
+// unset one.
 fn first_of(order: &[u64], view: &View) -> Lit
     ensures unset { (v : ℕ) → IsTrue (is_unset view.now v) → IsTrue (is_unset view.now result.var) }
     ensures negative { result.positive ≡ false }
@@ -22,8 +22,8 @@ fn first_of(order: &[u64], view: &View) -> Lit
     least(view)
 }
 
-// A closure decides, which holds an order of variables. Of the clause (1 2) the variable that is decided
-// first is false, and the other one is forced.
+// A closure with an order of variables decides. Over the clause (1 2) the variable decided first is
+// false, and the other is forced.
 #[test]
 fn decisions_by_an_order(rt: HostRuntime) -> Result<(), Fail> {
     for (order, answer) in [([1, 2], "sat false true"), ([2, 1], "sat true false")] {
@@ -43,15 +43,15 @@ fn weighing(alloc: Global) -> Result<Cnf, AllocError> {
     cnf.fresh()?;
     cnf.fresh()?;
     cnf.fresh()?;
-    cnf.add_lits(&[Lit::new(2, true), Lit::new(3, true), Lit::new(4, true)])?;
-    cnf.add_lits(&[Lit::new(2, true), Lit::new(3, true), Lit::new(4, false)])?;
-    cnf.add_lits(&[Lit::new(1, true), Lit::new(3, false)])?;
+    cnf.add_clause_of(&[Lit::new(2, true), Lit::new(3, true), Lit::new(4, true)])?;
+    cnf.add_clause_of(&[Lit::new(2, true), Lit::new(3, true), Lit::new(4, false)])?;
+    cnf.add_clause_of(&[Lit::new(1, true), Lit::new(3, false)])?;
     Ok(cnf)
 }
 
-// A closure restarts, which holds a number of steps. Variable 1 is decided to be false, so 3 is false too,
-// and 2 can't be: the step (2 3) is learned, by which 2 is true. Where the search goes back to its start
-// then, 2 and 3 are the heaviest, and 2 is decided to be false: so 3 is true, and 1 too.
+// A closure with a number of steps restarts. Variable 1 is decided false, so 3 is false and 2 can't
+// be: the step (2 3) is learned, which makes 2 true. If the search then restarts, 2 and 3 are the
+// heaviest. 2 is decided false, so 3 is true, and 1 too.
 #[test]
 fn restarts_at_a_number(rt: HostRuntime) -> Result<(), Fail> {
     for (number, answer) in [
@@ -68,7 +68,7 @@ fn restarts_at_a_number(rt: HostRuntime) -> Result<(), Fail> {
     Ok(())
 }
 
-// A picker that asks for weights decides as the one that asks for the heaviest variable.
+// A picker that asks for weights decides as one that asks for the heaviest variable.
 #[test]
 fn decisions_by_weights(rt: HostRuntime) -> Result<(), Fail> {
     let cnf = weighing(rt.alloc())?;
@@ -78,20 +78,20 @@ fn decisions_by_weights(rt: HostRuntime) -> Result<(), Fail> {
     Ok(())
 }
 
-// The clauses (1), (-1 2) and, where they are to be refuted, (-1 -2).
+// The clauses (1), (-1 2) and, if `refuted`, (-1 -2).
 fn forcing(alloc: Global, refuted: bool) -> Result<Cnf, AllocError> {
     let mut cnf = Cnf::new(alloc);
     cnf.fresh()?;
     cnf.fresh()?;
-    cnf.add_lits(&[Lit::new(1, true)])?;
-    cnf.add_lits(&[Lit::new(1, false), Lit::new(2, true)])?;
+    cnf.add_clause_of(&[Lit::new(1, true)])?;
+    cnf.add_clause_of(&[Lit::new(1, false), Lit::new(2, true)])?;
     if refuted {
-        cnf.add_lits(&[Lit::new(1, false), Lit::new(2, false)])?;
+        cnf.add_clause_of(&[Lit::new(1, false), Lit::new(2, false)])?;
     }
     Ok(cnf)
 }
 
-// Where nothing is false propagation answers nothing, else a clause that is false.
+// Propagation returns a false clause, if there is one.
 #[test]
 fn propagation_of_a_solver(rt: HostRuntime) -> Result<(), Fail> {
     for refuted in [false, true] {

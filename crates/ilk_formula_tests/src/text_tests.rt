@@ -14,7 +14,6 @@ fn the_text_of_four_clauses(rt: HostRuntime) -> Result<(), Fail> {
     Ok(())
 }
 
-// What is said of a refutation of the four clauses.
 fn judged(alloc: Global, text: &str) -> Result<String, AllocError> {
     match check_rup(alloc, &formula(alloc, 4)?, text.as_bytes())? {
         Rup::Refuted(_) => String::from_str(alloc, "refuted"),

@@ -1,4 +1,4 @@
--- The rules of the table of 1 to 16 stations, by computing.
+-- Table rules of 1 to 16 stations, by computation.
 use Rattle.std.proofs.Common.{◌≡◌, ℕ, ◌≤◌, [], refl}
 use Rattle.std.specs.Fmt.{digits}
 use Rattle.ilk_gen.proofs.Sixteen.{any_of_sixteen}
@@ -6,7 +6,6 @@ use Rattle.ilk_gen.specs.StationRoutes.{stations_table}
 use Rattle.ilk_gen.specs.Stations.{stations_net}
 use Rattle.ilk_plant.specs.TableRules.{table_rules_broken}
 
--- no rule is broken
 pub table-kept : (n : ℕ) → 1 ≤ n → n ≤ 16 → table_rules_broken (stations_net n) (stations_table n) ≡ []
 unfolding digits
 table-kept = any_of_sixteen (λ n. table_rules_broken (stations_net n) (stations_table n) ≡ []) refl refl refl refl refl refl refl refl refl refl refl refl refl refl refl refl

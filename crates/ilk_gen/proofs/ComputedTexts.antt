@@ -1,4 +1,4 @@
--- The texts of 1 to 16 stations are read as their drafts, by computing.
+-- The texts of 1 to 16 stations are read as their drafts, by computation.
 use Rattle.std.proofs.Common.{◌≡◌, ℕ, ◌≤◌, true, Some, Ok, refl, ltb}
 use Rattle.std.specs.Fmt.{digits}
 use Rattle.std.specs.List.{list_all}
@@ -19,22 +19,18 @@ use Rattle.serde_json.specs.Read.{read}
 abbrev stations_value : ℕ → Data
 stations_value n = configuration_value First (stations_net n) (stations_table n)
 
--- the text has no characters but those of ASCII
 ascii-text : (n : ℕ) → 1 ≤ n → n ≤ 16 → list_all (λ b. ltb b 128) (stations_text n) ≡ true
 unfolding digits serde_json_on_literals
 ascii-text = any_of_sixteen (λ n. list_all (λ b. ltb b 128) (stations_text n) ≡ true) refl refl refl refl refl refl refl refl refl refl refl refl refl refl refl refl
 
--- and reads as the value that it was written for
 value-read : (n : ℕ) → 1 ≤ n → n ≤ 16 → read (stations_text n) ≡ Some (stations_value n)
 unfolding digits serde_json_on_literals
 value-read = any_of_sixteen (λ n. read (stations_text n) ≡ Some (stations_value n)) refl refl refl refl refl refl refl refl refl refl refl refl refl refl refl refl
 
--- which gives the network
 network-read : (n : ℕ) → 1 ≤ n → n ≤ 16 → network_of (stations_value n) ≡ Ok (stations_net n)
 unfolding digits
 network-read = any_of_sixteen (λ n. network_of (stations_value n) ≡ Ok (stations_net n)) refl refl refl refl refl refl refl refl refl refl refl refl refl refl refl refl
 
--- and the table
 table-read : (n : ℕ) → 1 ≤ n → n ≤ 16 → table_of (stations_value n) ≡ Ok (stations_table n)
 unfolding digits
 table-read = any_of_sixteen (λ n. table_of (stations_value n) ≡ Ok (stations_table n)) refl refl refl refl refl refl refl refl refl refl refl refl refl refl refl refl

@@ -1,17 +1,16 @@
--- The definitions, worked on lines of one and two stations.
+-- The definitions on lines of one and two stations.
 use Rattle.std.proofs.Common.{◌≡◌, Some, None, [], ◌∷◌, ◌++◌, codes, map, refl, take}
 use Rattle.std.specs.Fmt.{digits}
 use Rattle.serde_json.proofs.OnLiterals.{serde_json_on_literals}
 use Rattle.ilk_gen.specs.StationRoutes.{stations_table}
 use Rattle.ilk_gen.specs.Stations.{stations_net}
 use Rattle.ilk_gen.specs.StationsText.{stations_text}
-use Rattle.ilk_plant.specs.Draft.{names_of_sections, numbered}
+use Rattle.ilk_plant.specs.Draft.{names_of_sections, plant_from_drafts}
 use Rattle.ilk_plant.specs.declared.draft.RouteDraft.{RouteDraft}
 use Rattle.ilk_plant.specs.declared.network.Dir.TheVariants.{Up, Down}
 use Rattle.ilk_plant.specs.declared.network.Section.TheVariants.{Linear, Point}
 use Rattle.ilk_plant.specs.declared.table.Route.{Route}
 
--- the text of one station
 one-text : stations_text 1
     ≡ codes "{\"routes\":[{\"conflicts\":[\"s1r2\",\"s1r5\",\"s1r7\",\"s1r8\"],"
     ++ codes "\"destination\":\"t1U\",\"name\":\"s1r1\",\"overlap\":[],"
@@ -52,33 +51,32 @@ one-text : stations_text 1
 unfolding digits serde_json_on_literals
 one-text = refl
 
--- its sections in numbers, from down to up
-one-sections : (numbered (stations_net 1) (stations_table 1)).sections
+-- Its sections as numbers, from down to up.
+one-sections : (plant_from_drafts (stations_net 1) (stations_table 1)).sections
     ≡ Linear None (Some 1) None (Some 0) ∷ Point 0 2 3 Up ∷ Linear (Some 1) (Some 4) (Some 1) (Some 2)
     ∷ Linear (Some 1) (Some 4) (Some 3) (Some 4) ∷ Point 5 2 3 Down ∷ Linear (Some 4) None (Some 5) None
     ∷ []
 unfolding digits
 one-sections = refl
 
--- the paths of its routes in numbers
-one-paths : map (λ (route : Route). route.path) (numbered (stations_net 1) (stations_table 1)).routes ≡ (1 ∷ 2 ∷ []) ∷ (1 ∷ 3 ∷ []) ∷ (4 ∷ 5 ∷ []) ∷ (4 ∷ 5 ∷ []) ∷ (4 ∷ 2 ∷ []) ∷ (4 ∷ 3 ∷ []) ∷ (1 ∷ 0 ∷ []) ∷ (1 ∷ 0 ∷ []) ∷ []
+-- The paths of its routes as numbers.
+one-paths : map (λ (route : Route). route.path) (plant_from_drafts (stations_net 1) (stations_table 1)).routes ≡ (1 ∷ 2 ∷ []) ∷ (1 ∷ 3 ∷ []) ∷ (4 ∷ 5 ∷ []) ∷ (4 ∷ 5 ∷ []) ∷ (4 ∷ 2 ∷ []) ∷ (4 ∷ 3 ∷ []) ∷ (1 ∷ 0 ∷ []) ∷ (1 ∷ 0 ∷ []) ∷ []
 unfolding digits
 one-paths = refl
 
--- and their conflicts in numbers
-one-conflicts : map (λ (route : Route). route.conflicts) (numbered (stations_net 1) (stations_table 1)).routes
+-- Their conflicts as numbers.
+one-conflicts : map (λ (route : Route). route.conflicts) (plant_from_drafts (stations_net 1) (stations_table 1)).routes
     ≡ (1 ∷ 4 ∷ 6 ∷ 7 ∷ []) ∷ (0 ∷ 5 ∷ 6 ∷ 7 ∷ []) ∷ (3 ∷ 4 ∷ 5 ∷ []) ∷ (2 ∷ 4 ∷ 5 ∷ []) ∷ (0 ∷ 2 ∷ 3 ∷ 5 ∷ [])
     ∷ (1 ∷ 2 ∷ 3 ∷ 4 ∷ []) ∷ (0 ∷ 1 ∷ 7 ∷ []) ∷ (0 ∷ 1 ∷ 6 ∷ []) ∷ []
 unfolding digits
 one-conflicts = refl
 
--- the sections of two stations
 two-names : names_of_sections (stations_net 2).sections ≡ codes "l0" ∷ codes "p1" ∷ codes "t1" ∷ codes "u1" ∷ codes "q1" ∷ codes "l1" ∷ codes "p2" ∷ codes "t2" ∷ codes "u2" ∷ codes "q2" ∷ codes "l2" ∷ []
 unfolding digits
 two-names = refl
 
--- the routes up out of the first of two stations are in conflict with those down out of the second, since all end on the line
--- between them
+-- Up routes out of station 1 conflict with down routes out of station 2: both end on the line
+-- between.
 two-conflicts : map (λ (route : RouteDraft). route.conflicts) (take 4 (stations_table 2).routes)
     ≡ (codes "s1r2" ∷ codes "s1r5" ∷ codes "s1r7" ∷ codes "s1r8" ∷ [])
     ∷ (codes "s1r1" ∷ codes "s1r6" ∷ codes "s1r7" ∷ codes "s1r8" ∷ [])

@@ -1,4 +1,4 @@
--- A text that reads as a value from which drafts are read is read as these.
+-- A text is read as the drafts of the value that it encodes.
 use Rattle.std.proofs.Common.{◌≡◌, ℕ, List, Some, Ok, refl}
 use Rattle.std.specs.Str.{IsUtf8}
 use Rattle.serde_json.specs.Data.{Data}

@@ -1,37 +1,36 @@
--- The rules of a network that its draft's own computation tells, and those that it doesn't: N7 asks of walks of any
--- length, and comes from how the sections are listed.
+-- The network rules, with N7 separate. N7 concerns walks of any length and follows from the order
+-- of the sections.
 use Rattle.std.proofs.Common.{◌≡◌, Bool, true, ◌&&◌, List, [], ◌∷◌, ◌++◌, length, refl}
 use Rattle.std.specs.List.{list_all}
 use Rattle.std.proofs.lemmas.Bool.{and_parts, leb-true}
-use Rattle.ilk_net_read.proofs.Limits.{lies_within-true}
-use Rattle.ilk_plant.specs.Broken.{broken_at, each_broken_at, places_of}
+use Rattle.ilk_net_read.proofs.Limits.{is_between-true}
+use Rattle.ilk_plant.specs.Broken.{broken_at, broken_rules_at, places_of}
 use Rattle.ilk_plant.specs.Limits.{HasLimits, counts_are_allowed, route_has_limits, route_has_names, section_has_names}
-use Rattle.ilk_plant.specs.NetworkRules.{breaks_network, count_in_network, network_rules_broken, returns}
+use Rattle.ilk_plant.specs.NetworkRules.{breaks_network, count_in_network, network_rules_broken, walk_returns}
 use Rattle.ilk_plant.specs.declared.broken.Broken.{Broken}
 use Rattle.ilk_plant.specs.declared.broken.Rule.{Rule}
 use Rattle.ilk_plant.specs.declared.broken.Rule.TheVariants.{N1, N2, N3, N4, N5, N6, N7, N8}
 use Rattle.ilk_plant.specs.declared.draft.NetDraft.{NetDraft}
 use Rattle.ilk_plant.specs.declared.draft.TableDraft.{TableDraft}
 use Rattle.ilk_plant.specs.declared.limits.TheConstants.{MAX_ROUTES, MAX_SECTIONS}
-use Rattle.ilk_gen.proofs.Upwards.{lists_upwards, never-broken, never-returns}
+use Rattle.ilk_gen.proofs.Upwards.{lists_upwards, never-broken, never-walk_returns}
 
--- the broken rules of a network but N7
+-- The violated rules of a network except N7.
 abbrev pub others_broken : NetDraft → List Broken
-others_broken net = each_broken_at (N1 ∷ N2 ∷ N3 ∷ N4 ∷ N5 ∷ N6 ∷ N8 ∷ []) (count_in_network net) (breaks_network net)
+others_broken net = broken_rules_at (N1 ∷ N2 ∷ N3 ∷ N4 ∷ N5 ∷ N6 ∷ N8 ∷ []) (count_in_network net) (breaks_network net)
 
 both-none : {X : Type 0} (xs ys : List X) → xs ≡ [] → ys ≡ [] → xs ++ ys ≡ []
 both-none xs ys a b = rw (a, b) refl
 
--- seven lists that are empty together, and one more among them
 among_seven : (a b c d e f g h : List Broken) → a ++ (b ++ (c ++ (d ++ (e ++ (f ++ (h ++ [])))))) ≡ [] → g ≡ [] → a ++ (b ++ (c ++ (d ++ (e ++ (f ++ (g ++ (h ++ []))))))) ≡ []
 among_seven a b c d e f g h all none = rw none all
 
 pub network_rules-kept : (net : NetDraft) → others_broken net ≡ [] → lists_upwards net ≡ true → network_rules_broken net ≡ []
 network_rules-kept net others upwards =
     let broken : Rule → List Broken = λ rule. broken_at rule (count_in_network net (places_of rule)) (breaks_network net rule) in
-    among_seven (broken N1) (broken N2) (broken N3) (broken N4) (broken N5) (broken N6) (broken N7) (broken N8) others (never-broken N7 (length net.sections) (returns net) (never-returns net upwards))
+    among_seven (broken N1) (broken N2) (broken N3) (broken N4) (broken N5) (broken N6) (broken N7) (broken N8) others (never-broken N7 (length net.sections) (walk_returns net) (never-walk_returns net upwards))
 
--- whether drafts are within the limits
+-- Returns whether drafts are within the limits.
 abbrev pub has_limits : NetDraft → TableDraft → Bool
 has_limits net table =
     counts_are_allowed (length net.sections) (length table.routes)
@@ -44,7 +43,7 @@ limits-kept net table h =
     let named = and_parts (list_all section_has_names net.sections) _ counts.1 in
     let routes = and_parts (list_all route_has_limits table.routes) (list_all route_has_names table.routes) named.1 in
     let allowed = and_parts _ _ counts.0 in
-    let sections = lies_within-true 1 MAX_SECTIONS (length net.sections) allowed.0 in
+    let sections = is_between-true 1 MAX_SECTIONS (length net.sections) allowed.0 in
     record {
       of_network = record { some = sections.0; few = sections.1; named = named.0 };
       of_table = record { few = leb-true (length table.routes) MAX_ROUTES allowed.1; each = routes.0; named = routes.1 };

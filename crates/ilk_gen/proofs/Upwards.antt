@@ -1,4 +1,4 @@
--- No walk returns in a network that is listed from down to up, where each neighbour up of a section has a greater number.
+-- No walk returns in a network listed from down to up: each up neighbour has a greater number.
 use Rattle.std.proofs.Common.{◌≡◌, ℕ, zero, suc, ◌<◌, Bool, true, false, not, ◌&&◌, ◌||◌, ◌==◌, Option, Some, None, List, [], ◌∷◌, length, map, nat_lt, slice_get, inl, inr, refl, ap, arith}
 use Rattle.std.specs.List.{list_all, range_with_len}
 use Rattle.std.specs.Prelude.{filter}
@@ -8,16 +8,17 @@ use Rattle.ilk_base.proofs.Ranges.{range-at}
 use Rattle.ilk_base.proofs.Tested.{list_all-slice_get, list_any-at}
 use Rattle.ilk_base.proofs.Truth.{either}
 use Rattle.ilk_base.specs.Option.{is_some_and}
-use Rattle.ilk_plant.proofs.Neighbours.{ends-within}
+use Rattle.ilk_plant.proofs.Neighbours.{ends_of_kind-within}
 use Rattle.ilk_plant.specs.Broken.{broken_at}
 use Rattle.ilk_plant.specs.Network.{same_direction}
-use Rattle.ilk_plant.specs.NetworkRules.{End, ends_of, is_next_up, leads_by, names_section, returns, section_named}
+use Rattle.ilk_plant.specs.NetworkRules.{End, ends_of, is_next_up, leads_by, names_section, walk_returns, section_named}
 use Rattle.ilk_plant.specs.declared.broken.Broken.{Broken}
 use Rattle.ilk_plant.specs.declared.broken.Rule.{Rule}
 use Rattle.ilk_plant.specs.declared.draft.NetDraft.{NetDraft}
 use Rattle.ilk_plant.specs.declared.network.Dir.TheVariants.{Up}
 
--- whether an end of section x isn't on the up side, or names a section with a greater number
+-- Returns whether an end of section x isn't on the up side, or names a section with a greater
+-- number.
 abbrev pub leads_to_greater : NetDraft → ℕ → End → Bool
 leads_to_greater net x end = not (same_direction end.side Up) || is_some_and (section_named net end.name) (nat_lt x)
 
@@ -29,15 +30,13 @@ greater false named x y a b = cc
 greater true None x y a b = cc
 greater true (Some z) x y a b = grind (arith, nat_tests)
 
--- a step up is to a greater number
 step-above : (net : NetDraft) → lists_upwards net ≡ true → (x y : ℕ) → is_next_up net x y ≡ true → x < y
 step-above net upwards x y h =
     let found : (k : ℕ) × (end : End) × (slice_get (ends_of net x) k ≡ Some end) × ((same_direction end.side Up && names_section net y end) ≡ true) = list_any-at (λ end. same_direction end.side Up && names_section net y end) (ends_of net x) h in
-    let within = ends-within net x found.0 found.1 found.2 in
+    let within = ends_of_kind-within net x found.0 found.1 found.2 in
     let here = list_all-slice_get (λ z. list_all (leads_to_greater net z) (ends_of net z)) (range_with_len 0 (length net.sections)) x x upwards (range-at (length net.sections) x within) in
     greater (same_direction found.1.side Up) (section_named net found.1.name) x y (list_all-slice_get (leads_to_greater net x) (ends_of net x) found.0 found.1 here found.2) found.3
 
--- and so are many
 leads-above : (step : ℕ → ℕ → Bool) → ((x y : ℕ) → step x y ≡ true → x < y) → (n x y : ℕ) → leads_by step n x y ≡ true → x < y
 leads-above step above zero x y h = above x y h
 leads-above step above (suc n) x y h =
@@ -53,10 +52,9 @@ never : (b : Bool) → (b ≡ true → ⊥) → b ≡ false
 never true h = absurd (h refl)
 never false h = refl
 
--- no section is come back to
-pub never-returns : (net : NetDraft) → lists_upwards net ≡ true → (x : ℕ) → returns net x ≡ false
-never-returns net upwards x =
-    never (returns net x) (λ h.
+pub never-walk_returns : (net : NetDraft) → lists_upwards net ≡ true → (x : ℕ) → walk_returns net x ≡ false
+never-walk_returns net upwards x =
+    never (walk_returns net x) (λ h.
     let less : x < x = leads-above (is_next_up net) (step-above net upwards) (length net.sections) x x h in
     omega arith)
 
@@ -64,6 +62,5 @@ filter-never : (test : ℕ → Bool) (xs : List ℕ) → ((x : ℕ) → test x �
 filter-never test [] none = refl
 filter-never test (x ∷ xs) none = rw (none x) (filter-never test xs none)
 
--- a rule that nothing breaks
 pub never-broken : (rule : Rule) (n : ℕ) (test : ℕ → Bool) → ((x : ℕ) → test x ≡ false) → broken_at rule n test ≡ []
 never-broken rule n test none = ap {B = List Broken} (map (λ i. record { rule = rule; first = i; second = None })) (filter-never test (range_with_len 0 n) none)

@@ -1,11 +1,10 @@
--- The conflicts of the routes of 1 to 16 stations, by computing.
+-- The constant conflicts of 1 to 16 stations are right, by computation.
 use Rattle.std.proofs.Common.{◌≡◌, ℕ, ◌≤◌, refl}
 use Rattle.std.specs.Fmt.{digits}
 use Rattle.ilk_gen.proofs.Sixteen.{any_of_sixteen}
 use Rattle.ilk_gen.specs.StationRoutes.{stations_table}
-use Rattle.ilk_gen.specs.WrittenRoutes.{all_written_routes}
+use Rattle.ilk_gen.specs.WrittenRoutes.{all_constant_routes}
 
--- the routes are written with the conflicts that they have
-pub conflicts-written : (n : ℕ) → 1 ≤ n → n ≤ 16 → all_written_routes n ≡ (stations_table n).routes
+pub conflicts-written : (n : ℕ) → 1 ≤ n → n ≤ 16 → all_constant_routes n ≡ (stations_table n).routes
 unfolding digits
-conflicts-written = any_of_sixteen (λ n. all_written_routes n ≡ (stations_table n).routes) refl refl refl refl refl refl refl refl refl refl refl refl refl refl refl refl
+conflicts-written = any_of_sixteen (λ n. all_constant_routes n ≡ (stations_table n).routes) refl refl refl refl refl refl refl refl refl refl refl refl refl refl refl refl

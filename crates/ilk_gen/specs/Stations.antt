@@ -1,12 +1,14 @@
--- A line of stations, as a network. Single lines join the stations, and each station has two tracks between two points:
+-- A line of stations as a network. Single lines join the stations, and each station has two tracks
+-- between two points:
 --
---          t1             t2
---         /  \           /  \
---   l0--p1    q1--l1--p2    q2--l2    (up is to the right)
---         \  /           \  /
---          u1             u2
+--              t1             t2
+--             /  \           /  \
+--       l0--p1    q1--l1--p2    q2--l2    (up is to the right)
+--             \  /           \  /
+--              u1             u2
 --
--- Each section has a board for each direction in which it leads on, but for the points, which have none.
+-- Each linear section has a board for each direction in which it has a neighbour. Points have no
+-- boards.
 use Rattle.std.specs.Prelude.{ℕ, ◌+◌, ◌-◌, Option, Some, List, [], ◌∷◌, ◌++◌, codes, decimal, flat_map, nat_lt}
 use Rattle.std.specs.List.{range_with_len}
 use Rattle.ilk_base.specs.Option.{only_if}
@@ -18,63 +20,65 @@ use Rattle.ilk_plant.specs.declared.network.Dir.TheVariants.{Up, Down}
 use Rattle.ilk_plant.specs.declared.network.Position.{Position}
 use Rattle.ilk_plant.specs.declared.network.Position.TheVariants.{Plus, Minus}
 
--- the names of the sections: line j lies behind station j, and line 0 before the first station
+-- Names of the sections. Line j is above station j; line 0 is below station 1.
 abbrev pub line : ℕ → Name
 line j = codes "l" ++ decimal j
 
--- the point at the down end of station j
+-- The point at the down end of station j.
 abbrev pub down_point : ℕ → Name
 down_point j = codes "p" ++ decimal j
 
--- the track of station j on the legs of its points at a position
+-- The track of station j on the legs of its points at a position.
 abbrev pub track : ℕ → Position → Name
 track j Plus = codes "t" ++ decimal j
 track j Minus = codes "u" ++ decimal j
 
--- the point at the up end of station j
+-- The point at the up end of station j.
 abbrev pub up_point : ℕ → Name
 up_point j = codes "q" ++ decimal j
 
--- the boards on a section, for trains that run up and for those that run down
+-- The boards on a section, for up trains and for down trains.
 abbrev pub up_board : Name → Name
 up_board section = section ++ codes "U"
 
 abbrev pub down_board : Name → Name
 down_board section = section ++ codes "D"
 
--- the boards on line j of n stations: one for up unless the last station lies below it, one for down unless j is 0
+-- The boards on line j of n stations: an up board unless the line is the last, a down board unless
+-- it is line 0.
 abbrev pub line_up_board : ℕ → ℕ → Option Name
 line_up_board n j = only_if (nat_lt j n) (up_board (line j))
 
 abbrev pub line_down_board : ℕ → Option Name
 line_down_board j = only_if (nat_lt 0 j) (down_board (line j))
 
--- what lies beside line j of n stations: down from it station j, if j isn't 0, and up from it station j + 1, if j isn't n
-abbrev pub point_below : ℕ → Option Name
-point_below j = only_if (nat_lt 0 j) (up_point j)
+-- The neighbours of line j of n stations. The down one is a point of station j, unless j is 0. The
+-- up one is a point of station j + 1, unless the line is the last.
+abbrev pub neighbour_down_of : ℕ → Option Name
+neighbour_down_of j = only_if (nat_lt 0 j) (up_point j)
 
-abbrev pub point_above : ℕ → ℕ → Option Name
-point_above n j = only_if (nat_lt j n) (down_point (j + 1))
+abbrev pub neighbour_up_of : ℕ → ℕ → Option Name
+neighbour_up_of n j = only_if (nat_lt j n) (down_point (j + 1))
 
--- line j of n stations
+-- Line j of n stations.
 abbrev pub line_section : ℕ → ℕ → SectionDraft
-line_section n j = record { name = line j; kind = Linear (point_below j) (point_above n j) (line_down_board j) (line_up_board n j) }
+line_section n j = record { name = line j; kind = Linear (neighbour_down_of j) (neighbour_up_of n j) (line_down_board j) (line_up_board n j) }
 
--- a track of station j
+-- A track of station j.
 abbrev pub track_section : ℕ → Position → SectionDraft
 track_section j at = record {
   name = track j at;
   kind = Linear (Some (down_point j)) (Some (up_point j)) (Some (down_board (track j at))) (Some (up_board (track j at)));
 }
 
--- the points of station j, which face its tracks
+-- The points of station j. They face its tracks.
 abbrev pub down_point_section : ℕ → SectionDraft
 down_point_section j = record { name = down_point j; kind = Point (line (j - 1)) (track j Plus) (track j Minus) Up }
 
 abbrev pub up_point_section : ℕ → SectionDraft
 up_point_section j = record { name = up_point j; kind = Point (line j) (track j Plus) (track j Minus) Down }
 
--- the sections of station j, and the line behind it
+-- The sections of station j, and the line above it.
 abbrev pub station_sections : ℕ → ℕ → List SectionDraft
 station_sections n j =
     down_point_section j
@@ -84,10 +88,10 @@ station_sections n j =
     ∷ line_section n j
     ∷ []
 
--- the sections of the stations 1 to n
+-- The sections of stations 1 to n.
 abbrev pub all_station_sections : ℕ → List SectionDraft
 all_station_sections n = flat_map (station_sections n) (range_with_len 1 n)
 
--- the network of n stations: line 0, and then the stations
+-- The network of n stations: line 0, then the stations.
 abbrev pub stations_net : ℕ → NetDraft
 stations_net n = record { sections = line_section n 0 ∷ all_station_sections n }

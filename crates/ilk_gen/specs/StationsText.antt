@@ -5,6 +5,6 @@ use Rattle.ilk_conf_write.specs.ConfigurationText.{configuration_text}
 use Rattle.ilk_gen.specs.StationRoutes.{stations_table}
 use Rattle.ilk_gen.specs.Stations.{stations_net}
 
--- the text of the configuration of n stations
+-- The text of the configuration of n stations, in version 1.
 abbrev pub stations_text : ℕ → List ℕ
 stations_text n = configuration_text First (stations_net n) (stations_table n)

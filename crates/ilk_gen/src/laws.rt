@@ -1,8 +1,8 @@
-//! What holds of the definitions of made configurations.
+//! Theorems about generated configurations.
 
 ghost use Rattle.std.specs.Prelude.{◌≡◌, ◌≤◌, ◌+◌, ◌*◌, Ok, [], length};
 ghost use Rattle.ilk_plant.specs.ColumnRules.{column_rules_broken};
-ghost use Rattle.ilk_plant.specs.Draft.{numbered};
+ghost use Rattle.ilk_plant.specs.Draft.{plant_from_drafts};
 ghost use Rattle.ilk_plant.specs.Limits.{HasLimits};
 ghost use Rattle.ilk_plant.specs.NetworkRules.{network_rules_broken};
 ghost use Rattle.ilk_plant.specs.TableRules.{table_rules_broken};
@@ -12,27 +12,28 @@ ghost use Rattle.ilk_gen.specs.StationRoutes.{stations_table};
 ghost use Rattle.ilk_gen.specs.Stations.{stations_net};
 ghost use Rattle.ilk_gen.specs.declared.making.TheConstants.{MAX_STATIONS};
 
-/// The text of 1 to `MAX_STATIONS` stations is read as exactly their drafts. The call does nothing, and
-/// tells a proof.
+/// The text of 1 to `MAX_STATIONS` stations is read as exactly their drafts. Proof only; no
+/// run-time effect.
 pub fn stations_are_read(n: u32)
     requires some { 1 ≤ n }
     requires few { n ≤ MAX_STATIONS }
     ensures { drafts_of (stations_text n) ≡ Ok (stations_net n, stations_table n) }
 {}
 
-/// The drafts of 1 to `MAX_STATIONS` stations are within the limits, and break no rule of the network,
-/// of the table or of its columns. The call does nothing, and tells a proof.
+/// The drafts of 1 to `MAX_STATIONS` stations are within the limits, and violate no rule of the
+/// network, table or columns. Proof only; no run-time effect.
 pub fn stations_break_no_rule(n: u32)
     requires some { 1 ≤ n }
     requires few { n ≤ MAX_STATIONS }
     ensures limits { HasLimits (stations_net n) (stations_table n) }
     ensures network { network_rules_broken (stations_net n) ≡ [] }
     ensures table { table_rules_broken (stations_net n) (stations_table n) ≡ [] }
-    ensures columns { column_rules_broken (numbered (stations_net n) (stations_table n)) ≡ [] }
+    ensures columns { column_rules_broken (plant_from_drafts (stations_net n) (stations_table n))
+        ≡ [] }
 {}
 
-/// How many sections and routes 1 to `MAX_STATIONS` stations have. The call does nothing, and tells a
-/// proof.
+/// A line of `n` stations, 1 to `MAX_STATIONS`, has `5 * n + 1` sections and `8 * n` routes. Proof
+/// only; no run-time effect.
 pub fn stations_are_counted(n: u32)
     requires some { 1 ≤ n }
     requires few { n ≤ MAX_STATIONS }

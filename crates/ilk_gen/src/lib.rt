@@ -1,14 +1,14 @@
-//! Made configurations: lines of up to sixteen stations, for trials, measurements and demonstrations,
-//! where a plant of a known size and shape is wanted.
+//! Generates configurations of known size and shape, for tests, measurements and demonstrations:
+//! lines of up to sixteen stations.
 //!
-//! `stations` writes the configuration of so many stations as a text, `stations_plant` makes its plant
-//! without one. What such a line has is said in `specs/Stations` and `specs/StationRoutes`; its text is
-//! written by `ilk_conf_write`. Three laws tell a proof what holds of
-//! it: `stations_are_read`, that the text is read as exactly these drafts, `stations_break_no_rule`, and
-//! `stations_are_counted`. They are found by computing, since there are only sixteen such lines
-//! (`proofs/Computed..`); only that no walk returns (N7) is reasoned (`proofs/Upwards`).
+//! `stations` writes the configuration of `n` stations as a text; `stations_plant` creates its
+//! plant without a text. `specs/Stations` and `specs/StationRoutes` define the line;
+//! `ilk_conf_write` writes its text.
 //!
-//! The drafts are made name by name (`names`, `sections`, `routes`).
+//! There are three theorems: `stations_are_read` (the text is read as exactly these drafts),
+//! `stations_break_no_rule` and `stations_are_counted`. They are proved by computation, since there
+//! are only sixteen such lines (`proofs/Computed..`). Only N7, that no walk returns, is proved by
+//! reasoning (`proofs/Upwards`).
 #![tactic(auto)]
 
 mod laws;

@@ -1,5 +1,5 @@
 ghost use Rattle.std.specs.Prelude.{◌≡◌, ◌≤◌, ◌+◌, ◌*◌, IfOk, length};
-ghost use Rattle.ilk_plant.specs.Draft.{numbered};
+ghost use Rattle.ilk_plant.specs.Draft.{plant_from_drafts};
 ghost use Rattle.ilk_gen.specs.StationsText.{stations_text};
 ghost use Rattle.ilk_gen.specs.StationRoutes.{stations_table};
 ghost use Rattle.ilk_gen.specs.Stations.{stations_net};
@@ -11,12 +11,12 @@ use ilk_conf_write::{Version, write_configuration};
 use ilk_plant::Plant;
 use std::alloc::{AllocError, Global};
 
-/// The greatest number of stations in a line.
+/// The maximum number of stations in a line.
 pub const MAX_STATIONS: u32 = 16;
 
-/// The configuration of a line of `n` stations, 1 to `MAX_STATIONS`, in version 1: JSON without spaces
-/// and without a line end. It has `5 * n + 1` sections and `8 * n` routes. The only refusal is want of
-/// memory.
+/// Returns the configuration of a line of `n` stations, 1 to `MAX_STATIONS`, in version 1. It is
+/// JSON without spaces and without a final line feed. It has `5 * n + 1` sections and `8 * n`
+/// routes. Fails only if memory runs out.
 pub fn stations(alloc: Global, n: u32) -> Result<Vec<u8>, AllocError>
     requires some { 1 ≤ n }
     requires few { n ≤ MAX_STATIONS }
@@ -28,12 +28,13 @@ pub fn stations(alloc: Global, n: u32) -> Result<Vec<u8>, AllocError>
     write_configuration(alloc, Version::First, &net, &table)
 }
 
-/// The plant of a line of `n` stations, 1 to `MAX_STATIONS`: that of the configuration which
-/// `stations` writes. The only refusal is want of memory.
+/// Creates the plant of a line of `n` stations, 1 to `MAX_STATIONS`, as in the configuration from
+/// `stations`. Fails only if memory runs out.
 pub fn stations_plant(alloc: Global, n: u32) -> Result<Plant, AllocError>
     requires some { 1 ≤ n }
     requires few { n ≤ MAX_STATIONS }
-    ensures plant { IfOk result (λ plant. plant ≡ numbered (stations_net n) (stations_table n)) }
+    ensures plant { IfOk result (λ plant. plant
+        ≡ plant_from_drafts (stations_net n) (stations_table n)) }
     ensures sections { IfOk result (λ plant. length plant.sections ≡ 5 * n + 1) }
     ensures routes { IfOk result (λ plant. length plant.routes ≡ 8 * n) }
 {

@@ -1,4 +1,4 @@
-//! The names of sections, boards and routes.
+//! Names of sections, boards and routes.
 
 ghost use Rattle.std.specs.Prelude.{◌≡◌, ◌<◌, IfOk};
 ghost use Rattle.ilk_gen.specs.StationRoutes as routes;
@@ -7,21 +7,20 @@ ghost use Rattle.ilk_gen.specs.Stations as stations;
 use ilk_plant::{Position, Text};
 use std::alloc::{AllocError, Global};
 
-// Line `j`.
 pub(crate) fn line(alloc: Global, j: u32) -> Result<Text, AllocError>
     ensures { IfOk result (λ name. name ≡ stations.line j) }
 {
     Ok(Text::of(format!(in alloc; "l{j}")?))
 }
 
-// The point at the down end of station `j`.
+// Returns the name of the point at the down end of station `j`.
 pub(crate) fn down_point(alloc: Global, j: u32) -> Result<Text, AllocError>
     ensures { IfOk result (λ name. name ≡ stations.down_point j) }
 {
     Ok(Text::of(format!(in alloc; "p{j}")?))
 }
 
-// The track of station `j` on the legs of its points at a position.
+// Returns the name of station `j`'s track on the legs at position `at`.
 pub(crate) fn track(alloc: Global, j: u32, at: Position) -> Result<Text, AllocError>
     ensures { IfOk result (λ name. name ≡ stations.track j at) }
 {
@@ -31,14 +30,13 @@ pub(crate) fn track(alloc: Global, j: u32, at: Position) -> Result<Text, AllocEr
     }
 }
 
-// The point at the up end of station `j`.
+// Returns the name of the point at the up end of station `j`.
 pub(crate) fn up_point(alloc: Global, j: u32) -> Result<Text, AllocError>
     ensures { IfOk result (λ name. name ≡ stations.up_point j) }
 {
     Ok(Text::of(format!(in alloc; "q{j}")?))
 }
 
-// The board on a section for trains that run up.
 pub(crate) fn up_board(alloc: Global, section: &Text) -> Result<Text, AllocError>
     ensures { IfOk result (λ name. name ≡ stations.up_board section.now) }
 {
@@ -46,7 +44,6 @@ pub(crate) fn up_board(alloc: Global, section: &Text) -> Result<Text, AllocError
     Ok(Text::of(format!(in alloc; "{section}U")?))
 }
 
-// The board on a section for trains that run down.
 pub(crate) fn down_board(alloc: Global, section: &Text) -> Result<Text, AllocError>
     ensures { IfOk result (λ name. name ≡ stations.down_board section.now) }
 {
@@ -54,7 +51,7 @@ pub(crate) fn down_board(alloc: Global, section: &Text) -> Result<Text, AllocErr
     Ok(Text::of(format!(in alloc; "{section}D")?))
 }
 
-// The board for up on line `j` of `n` stations. None on the last line.
+// Returns the up board of line `j` of `n` stations. Returns `None` on the last line.
 pub(crate) fn line_up_board(alloc: Global, n: u32, j: u32) -> Result<Option<Text>, AllocError>
     ensures { IfOk result (λ name. name ≡ stations.line_up_board n j) }
 {
@@ -66,7 +63,7 @@ pub(crate) fn line_up_board(alloc: Global, n: u32, j: u32) -> Result<Option<Text
     }
 }
 
-// The board for down on line `j`. None on line 0.
+// Returns the down board of line `j`. Returns `None` on line 0.
 pub(crate) fn line_down_board(alloc: Global, j: u32) -> Result<Option<Text>, AllocError>
     ensures { IfOk result (λ name. name ≡ stations.line_down_board j) }
 {
@@ -78,9 +75,9 @@ pub(crate) fn line_down_board(alloc: Global, j: u32) -> Result<Option<Text>, All
     }
 }
 
-// What lies down from line `j`. None for line 0.
+// Returns the neighbour of line `j` on its down side. Returns `None` for line 0.
 pub(crate) fn point_below(alloc: Global, j: u32) -> Result<Option<Text>, AllocError>
-    ensures { IfOk result (λ name. name ≡ stations.point_below j) }
+    ensures { IfOk result (λ name. name ≡ stations.neighbour_down_of j) }
 {
     if 0 < j {
         Ok(Some(up_point(alloc, j)?))
@@ -89,9 +86,10 @@ pub(crate) fn point_below(alloc: Global, j: u32) -> Result<Option<Text>, AllocEr
     }
 }
 
-// What lies up from line `j` of `n` stations. None for the last line.
+// Returns the neighbour of line `j` of `n` stations on its up side. Returns `None` for the last
+// line.
 pub(crate) fn point_above(alloc: Global, n: u32, j: u32) -> Result<Option<Text>, AllocError>
-    ensures { IfOk result (λ name. name ≡ stations.point_above n j) }
+    ensures { IfOk result (λ name. name ≡ stations.neighbour_up_of n j) }
 {
     if j < n {
         Ok(Some(down_point(alloc, j + 1)?))
@@ -100,7 +98,6 @@ pub(crate) fn point_above(alloc: Global, n: u32, j: u32) -> Result<Option<Text>,
     }
 }
 
-// Route `k` of station `j`.
 pub(crate) fn route_name(alloc: Global, j: u32, k: u32) -> Result<Text, AllocError>
     ensures { IfOk result (λ name. name ≡ routes.route_name j k) }
 {

@@ -1,5 +1,5 @@
-//! The table: the routes of the stations. `WrittenRoutes` has them as they are written here, with the
-//! numbers of their conflicts; a proof says that these are the conflicts.
+//! The interlocking table: the routes of the stations. The conflicts are constants in the code, as
+//! in `WrittenRoutes`; they are proved to be the routes that share a path section.
 
 ghost use Rattle.std.specs.Prelude.{◌≡◌, ◌≤◌, ◌∷◌, ◌++◌, [], IfOk, OnOk};
 ghost use Rattle.ilk_gen.specs.StationRoutes as stations;
@@ -13,7 +13,6 @@ use crate::names::{
 use ilk_plant::{ListedDraft, Position, RouteDraft, Row, TableDraft, Text};
 use std::alloc::{AllocError, Global};
 
-// A path of two sections.
 fn path_of(alloc: Global, first: &Text, last: &Text) -> Result<Row<Text>, AllocError>
     ensures { IfOk result (λ path. path ≡ first.now ∷ last.now ∷ []) }
 {
@@ -23,7 +22,6 @@ fn path_of(alloc: Global, first: &Text, last: &Text) -> Result<Row<Text>, AllocE
     Ok(path)
 }
 
-// One point, listed in a position.
 fn listed(alloc: Global, point: &Text, at: Position) -> Result<Row<ListedDraft>, AllocError>
     ensures { IfOk result (λ points. points ≡ record { point = point.now; at = at } ∷ []) }
 {
@@ -33,7 +31,7 @@ fn listed(alloc: Global, point: &Text, at: Position) -> Result<Row<ListedDraft>,
     Ok(points)
 }
 
-// The ends of a route: its name and its boards.
+// The name and the boards of a route.
 #[derive(Drop)]
 struct Ends {
     name: Text,
@@ -41,7 +39,6 @@ struct Ends {
     destination: Option<Text>,
 }
 
-// A route over a point in one position and the section behind it, with these conflicts.
 fn over_point(
     alloc: Global,
     ends: Ends,
@@ -52,8 +49,8 @@ fn over_point(
 ) -> Result<RouteDraft, AllocError>
     ensures { IfOk result
         (λ route. route
-        ≡ written.listing conflicts
-        (stations.over_point ends.name ends.source ends.destination point.now at
+        ≡ written.with_listed_conflicts conflicts
+        (stations.route_over_point ends.name ends.source ends.destination point.now at
         behind.now)) }
 {
     let path = path_of(alloc, point, behind)?;
@@ -76,7 +73,7 @@ fn over_point(
     })
 }
 
-// Route `k` of station `j`, up into it by one track.
+// Creates route `k` of station `j`, up into it by one track.
 fn up_into(
     alloc: Global,
     j: u32,
@@ -85,7 +82,8 @@ fn up_into(
     conflicts: Row<Text>,
 ) -> Result<RouteDraft, AllocError>
     requires { 1 ≤ j }
-    ensures { IfOk result (λ route. route ≡ written.listing conflicts (stations.up_into j k at)) }
+    ensures { IfOk result (λ route. route
+        ≡ written.with_listed_conflicts conflicts (stations.up_route_into j k at)) }
 {
     let below = line(alloc, j - 1)?;
     let point = down_point(alloc, j)?;
@@ -101,7 +99,7 @@ fn up_into(
     over_point(alloc, ends, &point, at, &track, conflicts)
 }
 
-// Route `k` of station `j` of `n`, up out of it by one track.
+// Creates route `k` of station `j` of `n`, up out of it by one track.
 fn up_out_of(
     alloc: Global,
     n: u32,
@@ -111,7 +109,8 @@ fn up_out_of(
     conflicts: Row<Text>,
 ) -> Result<RouteDraft, AllocError>
     ensures { IfOk result
-        (λ route. route ≡ written.listing conflicts (stations.up_out_of n j k at)) }
+        (λ route. route ≡ written.with_listed_conflicts conflicts
+        (stations.up_route_out_of n j k at)) }
 {
     let above = line(alloc, j)?;
     let point = up_point(alloc, j)?;
@@ -127,7 +126,7 @@ fn up_out_of(
     over_point(alloc, ends, &point, at, &above, conflicts)
 }
 
-// Route `k` of station `j`, down into it by one track.
+// Creates route `k` of station `j`, down into it by one track.
 fn down_into(
     alloc: Global,
     j: u32,
@@ -135,7 +134,8 @@ fn down_into(
     at: Position,
     conflicts: Row<Text>,
 ) -> Result<RouteDraft, AllocError>
-    ensures { IfOk result (λ route. route ≡ written.listing conflicts (stations.down_into j k at)) }
+    ensures { IfOk result (λ route. route
+        ≡ written.with_listed_conflicts conflicts (stations.down_route_into j k at)) }
 {
     let above = line(alloc, j)?;
     let point = up_point(alloc, j)?;
@@ -151,7 +151,7 @@ fn down_into(
     over_point(alloc, ends, &point, at, &track, conflicts)
 }
 
-// Route `k` of station `j`, down out of it by one track.
+// Creates route `k` of station `j`, down out of it by one track.
 fn down_out_of(
     alloc: Global,
     j: u32,
@@ -161,7 +161,8 @@ fn down_out_of(
 ) -> Result<RouteDraft, AllocError>
     requires { 1 ≤ j }
     ensures { IfOk result
-        (λ route. route ≡ written.listing conflicts (stations.down_out_of j k at)) }
+        (λ route. route ≡ written.with_listed_conflicts conflicts
+        (stations.down_route_out_of j k at)) }
 {
     let below = line(alloc, j - 1)?;
     let point = down_point(alloc, j)?;
@@ -177,7 +178,6 @@ fn down_out_of(
     over_point(alloc, ends, &point, at, &below, conflicts)
 }
 
-// Adds the names of these routes of station `j`.
 fn push_names(
     alloc: Global,
     j: u32,
@@ -192,7 +192,6 @@ fn push_names(
     Ok(())
 }
 
-// The names of these routes of station `j`.
 fn names_of(alloc: Global, j: u32, own: &[u32]) -> Result<Row<Text>, AllocError>
     ensures { IfOk result (λ names. names ≡ written.route_names j own.now) }
 {
@@ -201,9 +200,9 @@ fn names_of(alloc: Global, j: u32, own: &[u32]) -> Result<Row<Text>, AllocError>
     Ok(names)
 }
 
-// The conflicts of a route up out of station `j` of `n`.
+// Returns the conflicts of a route up out of station `j` of `n`.
 fn names_up_out(alloc: Global, n: u32, j: u32, own: &[u32]) -> Result<Row<Text>, AllocError>
-    ensures { IfOk result (λ names. names ≡ written.names_up_out n j own.now) }
+    ensures { IfOk result (λ names. names ≡ written.conflicts_up_out_of n j own.now) }
 {
     let mut names = names_of(alloc, j, own)?;
     if j < n {
@@ -212,9 +211,9 @@ fn names_up_out(alloc: Global, n: u32, j: u32, own: &[u32]) -> Result<Row<Text>,
     Ok(names)
 }
 
-// The conflicts of a route down out of station `j`.
+// Returns the conflicts of a route down out of station `j`.
 fn names_down_out(alloc: Global, j: u32, own: &[u32]) -> Result<Row<Text>, AllocError>
-    ensures { IfOk result (λ names. names ≡ written.names_down_out j own.now) }
+    ensures { IfOk result (λ names. names ≡ written.conflicts_down_out_of j own.now) }
 {
     let mut names = Row::new(alloc);
     if 1 < j {
@@ -224,7 +223,6 @@ fn names_down_out(alloc: Global, j: u32, own: &[u32]) -> Result<Row<Text>, Alloc
     Ok(names)
 }
 
-// Adds the routes of station `j` of `n`.
 fn push_station(
     alloc: Global,
     n: u32,
@@ -232,7 +230,7 @@ fn push_station(
     routes: &mut Row<RouteDraft>,
 ) -> Result<(), AllocError>
     requires { 1 ≤ j }
-    ensures { OnOk result (routes.new ≡ routes.old ++ written.written_routes n j) }
+    ensures { OnOk result (routes.new ≡ routes.old ++ written.constant_routes n j) }
 {
     let (plus, minus) = (Position::Plus, Position::Minus);
     routes.push(up_into(alloc, j, 1, plus, names_of(alloc, j, &[2, 5, 7, 8])?)?)?;
@@ -252,9 +250,8 @@ fn push_station(
     routes.push(down_out_of(alloc, j, 8, minus, names_down_out(alloc, j, &[1, 2, 7])?)?)
 }
 
-// Adds the routes of the stations 1 to `n`.
 fn push_routes(alloc: Global, n: u32, routes: &mut Row<RouteDraft>) -> Result<(), AllocError>
-    ensures { OnOk result (routes.new ≡ routes.old ++ written.all_written_routes n) }
+    ensures { OnOk result (routes.new ≡ routes.old ++ written.all_constant_routes n) }
 {
     for i in 0..n {
         push_station(alloc, n, i + 1, routes)?;
@@ -262,7 +259,7 @@ fn push_routes(alloc: Global, n: u32, routes: &mut Row<RouteDraft>) -> Result<()
     Ok(())
 }
 
-/// The table of `n` stations.
+/// Creates the interlocking table of `n` stations.
 pub(crate) fn stations_table(alloc: Global, n: u32) -> Result<TableDraft, AllocError>
     requires some { 1 ≤ n }
     requires few { n ≤ MAX_STATIONS }

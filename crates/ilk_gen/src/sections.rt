@@ -10,7 +10,6 @@ use crate::names::{
 use ilk_plant::{Dir, KindDraft, NetDraft, Position, Row, SectionDraft};
 use std::alloc::{AllocError, Global};
 
-// Line `j` of `n` stations.
 fn line_section(alloc: Global, n: u32, j: u32) -> Result<SectionDraft, AllocError>
     ensures { IfOk result (λ section. section ≡ stations.line_section n j) }
 {
@@ -28,7 +27,6 @@ fn line_section(alloc: Global, n: u32, j: u32) -> Result<SectionDraft, AllocErro
     Ok(SectionDraft { name, kind })
 }
 
-// A track of station `j`.
 fn track_section(alloc: Global, j: u32, at: Position) -> Result<SectionDraft, AllocError>
     ensures { IfOk result (λ section. section ≡ stations.track_section j at) }
 {
@@ -46,7 +44,6 @@ fn track_section(alloc: Global, j: u32, at: Position) -> Result<SectionDraft, Al
     Ok(SectionDraft { name, kind })
 }
 
-// The point at the down end of station `j`.
 fn down_point_section(alloc: Global, j: u32) -> Result<SectionDraft, AllocError>
     requires { 1 ≤ j }
     ensures { IfOk result (λ section. section ≡ stations.down_point_section j) }
@@ -64,7 +61,6 @@ fn down_point_section(alloc: Global, j: u32) -> Result<SectionDraft, AllocError>
     Ok(SectionDraft { name, kind })
 }
 
-// The point at the up end of station `j`.
 fn up_point_section(alloc: Global, j: u32) -> Result<SectionDraft, AllocError>
     ensures { IfOk result (λ section. section ≡ stations.up_point_section j) }
 {
@@ -81,7 +77,7 @@ fn up_point_section(alloc: Global, j: u32) -> Result<SectionDraft, AllocError>
     Ok(SectionDraft { name, kind })
 }
 
-// Adds the sections of station `j` of `n`, and the line behind it.
+// Adds the sections of station `j` of `n`, and the line above it.
 fn push_station(
     alloc: Global,
     n: u32,
@@ -98,7 +94,6 @@ fn push_station(
     sections.push(line_section(alloc, n, j)?)
 }
 
-// Adds the sections of the stations 1 to `n`.
 fn push_stations(alloc: Global, n: u32, sections: &mut Row<SectionDraft>) -> Result<(), AllocError>
     ensures { OnOk result (sections.new ≡ sections.old ++ stations.all_station_sections n) }
 {
@@ -108,7 +103,7 @@ fn push_stations(alloc: Global, n: u32, sections: &mut Row<SectionDraft>) -> Res
     Ok(())
 }
 
-/// The network of `n` stations.
+/// Creates the network of `n` stations.
 pub(crate) fn stations_net(alloc: Global, n: u32) -> Result<NetDraft, AllocError>
     ensures { IfOk result (λ net. net ≡ stations.stations_net n) }
 {

@@ -1,4 +1,4 @@
--- What follows where a hazard is reached, and where a breach is found.
+-- The continuation after a hazard, and after a breach.
 use Rattle.std.proofs.Common.{◌≡◌, ℕ, ◌+◌, ◌-◌, ◌*◌, ◌≤◌, ◌<◌, Bool, true, false, cond, List, [], ◌∷◌, ◌++◌, length, Option, Some, None, refl, sym, ap, ◌∙◌, subst, arith, nat_lt, inl, inr}
 use Rattle.std.proofs.lemmas.Bool.{le-leb}
 use Rattle.std.proofs.lemmas.Bool.Decides.{nat_tests}
@@ -18,14 +18,13 @@ use Rattle.ilk_certificate.specs.declared.asked.Asked.{Asked}
 use Rattle.ilk_certificate.specs.Certificate.{IsRefuted}
 use Rattle.ilk_certificate.specs.CertificateText.{all_conflicts}
 use Rattle.ilk_induct.specs.declared.verdict.Verdict.TheVariants.{Unsafe, Breach}
-use Rattle.ilk_evidence.specs.Evidence.{HasRun}
-use Rattle.ilk_induct.specs.Right.{IsRun, IsRight}
+use Rattle.ilk_unroll.specs.Evidence.{HasRun}
+use Rattle.ilk_induct.specs.Right.{IsRunOfQuery, IsRightSystemVerdict}
 use Rattle.ilk_induct.specs.Spent.{IsLogOf}
-use Rattle.ilk_induct.specs.Due.{asked_with, queries_to, after_breach, IsKnown, IsFoundBreach, IsInOrder, IsEnd, IsNext}
-use Rattle.ilk_evidence.proofs.Demands.{wanted-parts}
+use Rattle.ilk_induct.specs.Due.{query_with_log, queries_to, after_breach, IsKnown, IsFoundBreach, IsInOrder, IsEnd, IsNext}
+use Rattle.ilk_unroll.proofs.QueryDemands.{wanted-parts}
 use Rattle.ilk_induct.proofs.Orders.{to-hazard-after, all-to-hazard, more-queries, more-conflicts, asked-to, go-on, found-order, found-to, go-on-found}
 
--- what is so below n, and at n
 pub below-more : (P : ℕ → Type 0) (n : ℕ) → ((m : ℕ) → m < n → P m) → P n → (m : ℕ) → m < n + 1 → P m
 below-more P n below at m less =
     elim (eq-or-lt_of_le (let le : m ≤ n = omega arith in le)) [ inl e ↦ subst P (sym e) at | inr lt ↦ below m lt ]
@@ -33,23 +32,22 @@ below-more P n below at m less =
 pub hazard-valid : (depth n : ℕ) → depth ≤ 16 → n < depth → wanted_valid (Hazard (n + 1)) ≡ true
 hazard-valid depth n few less = le-leb (n + 1) 16 (omega arith)
 
-pub steps-of : (s : SystemTree) (g : GoalTree) (q : Wanted) (t : Trace) → IsRun s g q t → length t.rules ≡ step_count q
+pub steps-of : (s : SystemTree) (g : GoalTree) (q : Wanted) (t : Trace) → IsRunOfQuery s g q t → length t.rules ≡ step_count q
 steps-of s g q t run = (wanted-parts s g q t.first t.rules run).many
 
 pub few : (total rest conflicts : ℕ) → total + rest ≡ conflicts → total ≤ conflicts
 few total rest conflicts h = omega (arith, h)
 
--- a hazard is reached
 pub endangered :
     (s : SystemTree) (g : GoalTree) (depth conflicts : ℕ) (breach : Option ℕ) (n : ℕ) (t : Trace)
     (log : List LogStep) (asked : List Asked) (left rest : ℕ) →
     IsInOrder s g depth conflicts breach (Hazard n) asked left → ((m : ℕ) → m < n → ¬ HasRun s g (Hazard m)) →
-    IsLogOf s g (asked_with (Hazard n) log) → conflicts_of log + rest ≡ left → IsRun s g (Hazard n) t →
-    IsEnd s g depth conflicts (Unsafe t) (asked ++ asked_with (Hazard n) log ∷ [])
+    IsLogOf s g (query_with_log (Hazard n) log) → conflicts_of log + rest ≡ left → IsRunOfQuery s g (Hazard n) t →
+    IsEnd s g depth conflicts (Unsafe t) (asked ++ query_with_log (Hazard n) log ∷ [])
 endangered s g depth conflicts breach n t log asked left rest d none logged count run =
-    let a = asked_with (Hazard n) log in
+    let a = query_with_log (Hazard n) log in
     let e : length t.rules ≡ n = steps-of s g (Hazard n) t run in
-    let same : IsRun s g (Hazard (length t.rules)) t = subst (λ (k : ℕ). IsRun s g (Hazard k) t) (sym e) run in
+    let same : IsRunOfQuery s g (Hazard (length t.rules)) t = subst (λ (k : ℕ). IsRunOfQuery s g (Hazard k) t) (sym e) run in
     let within = d.within in
     record {
       right = inl (record { hazard = record { within = omega (arith, e, within); so = (t.first, t.rules, same); least = λ m less. none m (omega (arith, e, less)) } }, same);
@@ -58,28 +56,26 @@ endangered s g depth conflicts breach n t log asked left rest d none logged coun
       few = few (all_conflicts (asked ++ a ∷ [])) rest conflicts (more-conflicts asked a left rest conflicts d.counted count);
     }
 
--- no hazard query up to the depth has a run, and the breach that was found is the verdict
-breach-end : (s : SystemTree) (g : GoalTree) (depth : ℕ) (t : Trace) → length t.rules ≤ depth → IsKnown s g (depth + 1) (length t.rules) 0 → IsRun s g (BreachQuery (length t.rules)) t → IsRight s g depth (Breach t)
+breach-end : (s : SystemTree) (g : GoalTree) (depth : ℕ) (t : Trace) → length t.rules ≤ depth → IsKnown s g (depth + 1) (length t.rules) 0 → IsRunOfQuery s g (BreachQuery (length t.rules)) t → IsRightSystemVerdict s g depth (Breach t)
 breach-end s g depth t within known run =
     (record { no_hazard = λ m le. known.no_hazard m (omega arith); breach = record { within = within; so = (t.first, t.rules, run); least = known.no_breach } }, run)
 
--- after a breach, a hazard query is refuted
 pub after-broken :
     (s : SystemTree) (g : GoalTree) (depth conflicts n : ℕ) (t : Trace) (log : List LogStep)
     (asked : List Asked) (left rest : ℕ) → depth ≤ 16 →
     IsInOrder s g depth conflicts (Some (length t.rules)) (Hazard n) asked left → IsFoundBreach s g n t →
-    IsLogOf s g (asked_with (Hazard n) log) → conflicts_of log + rest ≡ left → IsRefuted s g (Hazard n) log →
+    IsLogOf s g (query_with_log (Hazard n) log) → conflicts_of log + rest ≡ left → IsRefuted s g (Hazard n) log →
     ¬ HasRun s g (Hazard n) →
     IsNext s g depth conflicts (3 * (depth - n) + 2) (after_breach depth n t)
-    (asked ++ asked_with (Hazard n) log ∷ []) rest
+    (asked ++ query_with_log (Hazard n) log ∷ []) rest
 after-broken s g depth conflicts n t log asked left rest low d found logged count refuted none = by_case (nat_lt n depth) refl
   where
     no_hazard : (m : ℕ) → m < n + 1 → ¬ HasRun s g (Hazard m)
     no_hazard = below-more (λ m. ¬ HasRun s g (Hazard m)) n found.known.no_hazard none
 
-    by_case : (b : Bool) → nat_lt n depth ≡ b → IsNext s g depth conflicts (3 * (depth - n) + 2) (cond b (Ask (Broken (n + 1) t)) (End (Breach t))) (asked ++ asked_with (Hazard n) log ∷ []) rest
+    by_case : (b : Bool) → nat_lt n depth ≡ b → IsNext s g depth conflicts (3 * (depth - n) + 2) (cond b (Ask (Broken (n + 1) t)) (End (Breach t))) (asked ++ query_with_log (Hazard n) log ∷ []) rest
     by_case true e =
-        let a = asked_with (Hazard n) log in
+        let a = query_with_log (Hazard n) log in
         let less : n < depth = grind (arith, nat_tests) in
         let later = found.later in (
           record {
@@ -89,7 +85,7 @@ after-broken s g depth conflicts n t log asked left rest low d found logged coun
           omega arith,
         )
     by_case false e =
-        let a = asked_with (Hazard n) log in
+        let a = query_with_log (Hazard n) log in
         let least : depth ≤ n = grind (arith, nat_tests) in
         let within = d.within in
         let same : n ≡ depth = omega arith in
@@ -109,23 +105,22 @@ after-broken s g depth conflicts n t log asked left rest low d found logged coun
           few = few (all_conflicts (asked ++ a ∷ [])) rest conflicts (more-conflicts asked a left rest conflicts d.counted count);
         }
 
--- a breach is found
 broke-at :
     (s : SystemTree) (g : GoalTree) (depth conflicts : ℕ) (t : Trace) (log : List LogStep)
     (asked : List Asked) (left rest : ℕ) → depth ≤ 16 →
     IsInOrder s g depth conflicts None (BreachQuery (length t.rules)) asked left →
     IsKnown s g (length t.rules + 1) (length t.rules) (length t.rules) →
-    IsLogOf s g (asked_with (BreachQuery (length t.rules)) log) → conflicts_of log + rest ≡ left →
-    IsRun s g (BreachQuery (length t.rules)) t →
+    IsLogOf s g (query_with_log (BreachQuery (length t.rules)) log) → conflicts_of log + rest ≡ left →
+    IsRunOfQuery s g (BreachQuery (length t.rules)) t →
     IsSatisfiable (query_formula s g (BreachQuery (length t.rules))) →
     IsNext s g depth conflicts (3 * (depth - length t.rules) + 1) (after_breach depth (length t.rules) t)
-    (asked ++ asked_with (BreachQuery (length t.rules)) log ∷ []) rest
+    (asked ++ query_with_log (BreachQuery (length t.rules)) log ∷ []) rest
 broke-at s g depth conflicts t log asked left rest low d known logged count run has = by_case (nat_lt (length t.rules) depth) refl
   where
     by_case : (c : Bool) → nat_lt (length t.rules) depth ≡ c →
         IsNext s g depth conflicts (3 * (depth - length t.rules) + 1)
         (cond c (Ask (Broken (length t.rules + 1) t)) (End (Breach t)))
-        (asked ++ asked_with (BreachQuery (length t.rules)) log ∷ []) rest
+        (asked ++ query_with_log (BreachQuery (length t.rules)) log ∷ []) rest
     by_case true e =
         let less : length t.rules < depth = grind (arith, nat_tests) in (
           record {
@@ -135,7 +130,7 @@ broke-at s g depth conflicts t log asked left rest low d known logged count run 
           omega arith,
         )
     by_case false e =
-        let a = asked_with (BreachQuery (length t.rules)) log in
+        let a = query_with_log (BreachQuery (length t.rules)) log in
         let least : depth ≤ length t.rules = grind (arith, nat_tests) in
         let within = d.within in
         let same : length t.rules ≡ depth = omega (arith, least, within) in
@@ -158,15 +153,15 @@ pub broke :
     (s : SystemTree) (g : GoalTree) (depth conflicts n : ℕ) (t : Trace) (log : List LogStep)
     (asked : List Asked) (left rest : ℕ) → depth ≤ 16 →
     length t.rules ≡ n → IsInOrder s g depth conflicts None (BreachQuery n) asked left →
-    IsKnown s g (n + 1) n n → IsLogOf s g (asked_with (BreachQuery n) log) → conflicts_of log + rest ≡ left →
-    IsRun s g (BreachQuery n) t → IsSatisfiable (query_formula s g (BreachQuery n)) →
+    IsKnown s g (n + 1) n n → IsLogOf s g (query_with_log (BreachQuery n) log) → conflicts_of log + rest ≡ left →
+    IsRunOfQuery s g (BreachQuery n) t → IsSatisfiable (query_formula s g (BreachQuery n)) →
     IsNext s g depth conflicts (3 * (depth - n) + 1) (after_breach depth n t)
-    (asked ++ asked_with (BreachQuery n) log ∷ []) rest
+    (asked ++ query_with_log (BreachQuery n) log ∷ []) rest
 broke s g depth conflicts n t log asked left rest low size =
     subst
     (λ (k : ℕ). IsInOrder s g depth conflicts None (BreachQuery k) asked left → IsKnown s g (k + 1) k k →
-    IsLogOf s g (asked_with (BreachQuery k) log) → conflicts_of log + rest ≡ left →
-    IsRun s g (BreachQuery k) t → IsSatisfiable (query_formula s g (BreachQuery k)) →
+    IsLogOf s g (query_with_log (BreachQuery k) log) → conflicts_of log + rest ≡ left →
+    IsRunOfQuery s g (BreachQuery k) t → IsSatisfiable (query_formula s g (BreachQuery k)) →
     IsNext s g depth conflicts (3 * (depth - k) + 1) (after_breach depth k t)
-    (asked ++ asked_with (BreachQuery k) log ∷ []) rest) size
+    (asked ++ query_with_log (BreachQuery k) log ∷ []) rest) size
     (broke-at s g depth conflicts t log asked left rest low)

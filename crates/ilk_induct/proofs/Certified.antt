@@ -1,4 +1,4 @@
--- What was asked for a safe verdict has the refutations that show it.
+-- The queries of a safe verdict have the refutations that prove it.
 use Rattle.std.proofs.Common.{◌≡◌, ℕ, zero, suc, ◌+◌, Bool, true, false, cond, List, [], ◌∷◌, ◌++◌, map, Some, None, refl, sym, ap, ◌∙◌, subst, arith, inl, inr, All}
 use Rattle.std.specs.List.{range_with_len, flat_map}
 use Rattle.std.proofs.lemmas.List.{append-nil, map-append}
@@ -14,12 +14,11 @@ use Rattle.ilk_certificate.specs.Certificate.{IsRefuted, base_queries}
 use Rattle.ilk_certificate.specs.Kept.{is_step_query, without_early_steps}
 use Rattle.ilk_induct.specs.declared.verdict.Verdict.{Verdict}
 use Rattle.ilk_induct.specs.declared.verdict.Verdict.TheVariants.{Safe, Unsafe, Breach, NotInductive, Spent}
-use Rattle.ilk_induct.specs.Order.{round, rounds, query_order}
-use Rattle.ilk_induct.specs.Spent.{IsPassed, HasPassed, AreAsked}
-use Rattle.ilk_induct.specs.Asked.{IsAskedFor}
+use Rattle.ilk_induct.specs.Order.{queries_of_length, queries_below, query_order}
+use Rattle.ilk_induct.specs.Spent.{AllowsNextQuery, HasPassed, IsAskedPrefix}
+use Rattle.ilk_induct.specs.Asked.{AreQueriesOfVerdict}
 use Rattle.ilk_induct.specs.Certified.{IsCertified, Certifies}
 
--- queries without step queries
 abbrev base_of : List Wanted → List Wanted
 base_of [] = []
 base_of (q ∷ qs) = cond (is_step_query q) (base_of qs) (q ∷ base_of qs)
@@ -30,23 +29,23 @@ base_of-append (Hazard n ∷ qs) rs = ap (λ (us : List Wanted). Hazard n ∷ us
 base_of-append (BreachQuery n ∷ qs) rs = ap (λ (us : List Wanted). BreachQuery n ∷ us) (base_of-append qs rs)
 base_of-append (Step n ∷ qs) rs = base_of-append qs rs
 
-base_of-round : (n : ℕ) → base_of (round n) ≡ base_queries n
-base_of-round zero = refl
-base_of-round (suc n) = refl
+base_of-queries_of_length : (n : ℕ) → base_of (queries_of_length n) ≡ base_queries n
+base_of-queries_of_length zero = refl
+base_of-queries_of_length (suc n) = refl
 
-base_of-rounds : (n : ℕ) → base_of (rounds n) ≡ flat_map base_queries (range_with_len 0 n)
-base_of-rounds zero = refl
-base_of-rounds (suc n) =
+base_of-queries_below : (n : ℕ) → base_of (queries_below n) ≡ flat_map base_queries (range_with_len 0 n)
+base_of-queries_below zero = refl
+base_of-queries_below (suc n) =
     let one : suc n ≡ n + 1 = omega arith in
-    ap (λ (k : ℕ). base_of (rounds k)) one
-    ∙ ap base_of (listed_all-more round n)
-    ∙ base_of-append (rounds n) (round n)
-    ∙ ap (λ (us : List Wanted). us ++ base_of (round n)) (base_of-rounds n)
-    ∙ ap (λ (us : List Wanted). flat_map base_queries (range_with_len 0 n) ++ us) (base_of-round n)
+    ap (λ (k : ℕ). base_of (queries_below k)) one
+    ∙ ap base_of (listed_all-more queries_of_length n)
+    ∙ base_of-append (queries_below n) (queries_of_length n)
+    ∙ ap (λ (us : List Wanted). us ++ base_of (queries_of_length n)) (base_of-queries_below n)
+    ∙ ap (λ (us : List Wanted). flat_map base_queries (range_with_len 0 n) ++ us) (base_of-queries_of_length n)
     ∙ sym (listed_all-more base_queries n)
     ∙ ap (λ (k : ℕ). flat_map base_queries (range_with_len 0 k)) (sym one)
 
--- the asked ones before the last, without the step queries among them
+-- The queries before the last, without step queries.
 abbrev bases : List Asked → List Asked
 bases [] = []
 bases (a ∷ asked) = cond (is_step_query a.query) (bases asked) (a ∷ bases asked)
@@ -72,8 +71,7 @@ bases-queries (a ∷ asked) = by_case (is_step_query a.query) (bases asked) (bas
     by_case true rest more e = e
     by_case false rest more e = ap (λ (us : List Wanted). a.query ∷ us) e
 
--- while no breach is found, what has passed and isn't a step query is refuted
-base-refuted : (s : SystemTree) (g : GoalTree) (q : Wanted) (log : List LogStep) → is_step_query q ≡ false → IsPassed s g None q log → IsRefuted s g q log
+base-refuted : (s : SystemTree) (g : GoalTree) (q : Wanted) (log : List LogStep) → is_step_query q ≡ false → AllowsNextQuery s g None q log → IsRefuted s g q log
 base-refuted s g (Hazard n) log base h = h
 base-refuted s g (BreachQuery n) log base h = elim h [ inl refuted ↦ refuted | inr found ↦ absurd (none n found) ]
   where
@@ -89,9 +87,8 @@ bases-refuted s g last (a ∷ before) r h = by_case (is_step_query a.query) refl
     by_case true e rest = rest
     by_case false e rest = All-cons (λ (x : Asked). IsRefuted s g x.query x.log) a (bases before ++ last ∷ []) (base-refuted s g a.query a.log e (All-head (HasPassed s g None) a before h)) rest
 
--- all together
 certified : (s : SystemTree) (g : GoalTree) (depth k : ℕ) (asked : List Asked) (last : Asked) →
-    map (λ (a : Asked). a.query) asked ≡ query_order None k → AreAsked s g depth None asked last →
+    map (λ (a : Asked). a.query) asked ≡ query_order None k → IsAskedPrefix s g depth None asked last →
     last.query ≡ Step k → IsRefuted s g last.query last.log → IsCertified s g k asked
 certified s g depth k asked last order are is refuted =
     let query : Asked → Wanted = λ a. a.query in
@@ -105,12 +102,12 @@ certified s g depth k asked last order are is refuted =
     record {
       queries = ap (map query) split
           ∙ map-append query (bases are.before) (last ∷ [])
-          ∙ ap (λ (us : List Wanted). us ++ query last ∷ []) (bases-queries are.before ∙ front ∙ ap base_of order ∙ base_of-rounds (k + 1))
+          ∙ ap (λ (us : List Wanted). us ++ query last ∷ []) (bases-queries are.before ∙ front ∙ ap base_of order ∙ base_of-queries_below (k + 1))
           ∙ ap (λ (q : Wanted). flat_map base_queries (range_with_len 0 (k + 1)) ++ q ∷ []) is;
       refuted = subst (λ (xs : List Asked). All (λ (a : Asked). IsRefuted s g a.query a.log) xs) (sym split) (bases-refuted s g last are.before refuted are.passed);
     }
 
-pub certifies : (s : SystemTree) (g : GoalTree) (depth conflicts : ℕ) (verdict : Verdict) (asked : List Asked) → IsAskedFor s g depth conflicts verdict asked → Certifies s g verdict asked
+pub certifies : (s : SystemTree) (g : GoalTree) (depth conflicts : ℕ) (verdict : Verdict) (asked : List Asked) → AreQueriesOfVerdict s g depth conflicts verdict asked → Certifies s g verdict asked
 certifies s g depth conflicts (Unsafe t) asked h = tt
 certifies s g depth conflicts (Breach t) asked h = tt
 certifies s g depth conflicts (Safe k) asked h = certified s g k k asked h.1.ends.0 h.1.all h.1.ends.1 h.1.ends.2.0 h.1.ends.2.1

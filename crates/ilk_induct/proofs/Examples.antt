@@ -1,4 +1,4 @@
--- The order of the queries, worked through.
+-- Examples of the order of queries.
 use Rattle.std.proofs.Common.{◌≡◌, [], ◌∷◌, Some, None, refl}
 use Rattle.ilk_unroll.specs.declared.queries.Wanted.TheVariants.{Hazard, Breach, Step}
 use Rattle.ilk_induct.specs.Order.{query_order}
@@ -6,7 +6,7 @@ use Rattle.ilk_induct.specs.Order.{query_order}
 pub up-to-two : query_order None 2 ≡ Hazard 0 ∷ Breach 0 ∷ Hazard 1 ∷ Breach 1 ∷ Step 1 ∷ Hazard 2 ∷ Breach 2 ∷ Step 2 ∷ []
 up-to-two = refl
 
--- after a breach of no step, of one step, and of as many as there may be
+-- A breach of no step, of one step, and of the most steps possible.
 pub after-none : query_order (Some 0) 2 ≡ Hazard 0 ∷ Breach 0 ∷ Hazard 1 ∷ Hazard 2 ∷ []
 after-none = refl
 

@@ -1,4 +1,4 @@
--- The order of queries: one query more, and the queries up to one of them as a prefix of the order.
+-- The order of queries: one more query, and prefixes of the order.
 use Rattle.std.proofs.Common.{◌≡◌, ℕ, zero, suc, ◌+◌, ◌-◌, ◌≤◌, ◌<◌, Bool, true, not, cond, List, [], ◌∷◌, ◌++◌, length, map, Option, Some, None, refl, sym, ap, ◌∙◌, subst, arith, append_assoc, inl, inr, All}
 use Rattle.std.specs.List.{range_with_len}
 use Rattle.std.proofs.lemmas.Bool.{and_parts, ltb-true}
@@ -10,7 +10,7 @@ use Rattle.ilk_ir.specs.System.{SystemTree}
 use Rattle.ilk_log.specs.declared.step.Step.{Step as LogStep}
 use Rattle.ilk_log.specs.Conflicts.{conflicts_of}
 use Rattle.ilk_log.specs.Derived.{is_empty}
-use Rattle.ilk_solver.specs.Answered.{none_empty}
+use Rattle.ilk_solver.specs.Answered.{has_no_empty_step}
 use Rattle.ilk_unroll.specs.declared.queries.Wanted.{Wanted}
 use Rattle.ilk_unroll.specs.declared.queries.Wanted.TheVariants.{Hazard, Breach as BreachQuery, Step}
 use Rattle.ilk_unroll.specs.Goal.{GoalTree, step_count, wanted_valid}
@@ -18,33 +18,29 @@ use Rattle.ilk_unroll.specs.Query.{query_formula}
 use Rattle.ilk_unroll.specs.Satisfied.{IsSatisfiable}
 use Rattle.ilk_certificate.specs.declared.asked.Asked.{Asked}
 use Rattle.ilk_certificate.specs.CertificateText.{all_conflicts}
-use Rattle.ilk_induct.specs.Order.{round, rounds, query_order, IsPrefix}
-use Rattle.ilk_induct.specs.Spent.{IsLogOf, IsPassed, HasPassed, AreAsked}
-use Rattle.ilk_induct.specs.Asked.{AllAsked}
-use Rattle.ilk_induct.specs.Due.{asked_with, queries_to, IsInOrder}
-
--- the queries up to the next
+use Rattle.ilk_induct.specs.Order.{queries_of_length, queries_below, query_order, IsPrefix}
+use Rattle.ilk_induct.specs.Spent.{IsLogOf, AllowsNextQuery, HasPassed, IsAskedPrefix}
+use Rattle.ilk_induct.specs.Asked.{AreAllQueries}
+use Rattle.ilk_induct.specs.Due.{query_with_log, queries_to, IsInOrder}
 
 pub to-breach : (n : ℕ) → queries_to None (Hazard n) ++ BreachQuery n ∷ [] ≡ queries_to None (BreachQuery n)
-to-breach n = append_assoc (rounds n) (Hazard n ∷ []) (BreachQuery n ∷ [])
+to-breach n = append_assoc (queries_below n) (Hazard n ∷ []) (BreachQuery n ∷ [])
 
 pub to-step : (n : ℕ) → queries_to None (BreachQuery n) ++ Step n ∷ [] ≡ queries_to None (Step n)
-to-step n = append_assoc (rounds n) (Hazard n ∷ BreachQuery n ∷ []) (Step n ∷ [])
+to-step n = append_assoc (queries_below n) (Hazard n ∷ BreachQuery n ∷ []) (Step n ∷ [])
 
 pub to-hazard : (n : ℕ) → 0 < n → queries_to None (Step n) ++ Hazard (n + 1) ∷ [] ≡ queries_to None (Hazard (n + 1))
 to-hazard zero pos = absurd (omega arith)
-to-hazard (suc n) pos = ap (λ (qs : List Wanted). qs ++ Hazard (suc n + 1) ∷ []) (sym (listed_all-more round (suc n)))
+to-hazard (suc n) pos = ap (λ (qs : List Wanted). qs ++ Hazard (suc n + 1) ∷ []) (sym (listed_all-more queries_of_length (suc n)))
 
--- those up to the breach that was found
 pub to-found : (n : ℕ) → queries_to None (BreachQuery n) ≡ queries_to (Some n) (BreachQuery n)
 to-found n =
     let none : n - n ≡ 0 = omega arith in
-    sym (append-nil (rounds n ++ Hazard n ∷ BreachQuery n ∷ [])) ∙ ap (λ (k : ℕ). (rounds n ++ Hazard n ∷ BreachQuery n ∷ []) ++ map Hazard (range_with_len (n + 1) k)) (sym none)
+    sym (append-nil (queries_below n ++ Hazard n ∷ BreachQuery n ∷ [])) ∙ ap (λ (k : ℕ). (queries_below n ++ Hazard n ∷ BreachQuery n ∷ []) ++ map Hazard (range_with_len (n + 1) k)) (sym none)
 
--- and after it
 pub to-hazard-after : (b n : ℕ) (q : Wanted) → step_count q ≡ n → b ≤ n → queries_to (Some b) q ++ Hazard (n + 1) ∷ [] ≡ queries_to (Some b) (Hazard (n + 1))
 to-hazard-after b n q e le =
-    let front = rounds b ++ Hazard b ∷ BreachQuery b ∷ [] in
+    let front = queries_below b ++ Hazard b ∷ BreachQuery b ∷ [] in
     let more : (n + 1) - b ≡ suc (n - b) = omega arith in
     let last : (b + 1) + (n - b) ≡ n + 1 = omega arith in
     let grown : map Hazard (range_with_len (b + 1) ((n + 1) - b)) ≡ map Hazard (range_with_len (b + 1) (n - b)) ++ Hazard (n + 1) ∷ [] =
@@ -56,8 +52,6 @@ to-hazard-after b n q e le =
     ∙ append_assoc front (map Hazard (range_with_len (b + 1) (n - b))) (Hazard (n + 1) ∷ [])
     ∙ ap (λ (qs : List Wanted). front ++ qs) (sym grown)
 
--- the queries up to one of them are a prefix of the order
-
 prefix-then : (qs rs all : List Wanted) → IsPrefix qs rs → IsPrefix rs all → IsPrefix qs all
 prefix-then qs rs all one two =
     (one.0 ++ two.0, sym (append_assoc qs one.0 two.0) ∙ ap (λ (us : List Wanted). us ++ two.0) one.1 ∙ two.1)
@@ -65,7 +59,6 @@ prefix-then qs rs all one two =
 prefix-behind : (front qs all : List Wanted) → IsPrefix qs all → IsPrefix (front ++ qs) (front ++ all)
 prefix-behind front qs all p = (p.0, append_assoc front qs p.0 ∙ ap (λ (us : List Wanted). front ++ us) p.1)
 
--- where each of some lists begins with the one before it, it begins with all before it
 prefix-up : (L : ℕ → List Wanted) → ((n : ℕ) → IsPrefix (L n) (L (n + 1))) → (i k : ℕ) → IsPrefix (L i) (L (i + k))
 prefix-up L up i zero =
     let same : i + 0 ≡ i = omega arith in
@@ -74,10 +67,10 @@ prefix-up L up i (suc k) =
     let same : (i + k) + 1 ≡ i + suc k = omega arith in
     subst (λ (m : ℕ). IsPrefix (L i) (L m)) same (prefix-then (L i) (L (i + k)) (L ((i + k) + 1)) (prefix-up L up i k) (up (i + k)))
 
-rounds-up : (n : ℕ) → IsPrefix (rounds n) (rounds (n + 1))
-rounds-up n = (round n, sym (listed_all-more round n))
+queries_below-up : (n : ℕ) → IsPrefix (queries_below n) (queries_below (n + 1))
+queries_below-up n = (queries_of_length n, sym (listed_all-more queries_of_length n))
 
--- the n hazard queries after a breach of b steps
+-- The `n` hazard queries after a breach of `b` steps.
 abbrev hazards : ℕ → ℕ → List Wanted
 hazards b n = map Hazard (range_with_len (b + 1) n)
 
@@ -90,41 +83,38 @@ hazards-up b n =
           ∙ map-append Hazard (range_with_len (b + 1) n) (((b + 1) + n) ∷ [])),
     )
 
--- those of the last runs
-to-round : (q : Wanted) → wanted_valid q ≡ true → IsPrefix (queries_to None q) (rounds (step_count q + 1))
-to-round (Hazard zero) valid = (BreachQuery 0 ∷ [], refl)
-to-round (Hazard (suc n)) valid =
-    (BreachQuery (suc n) ∷ Step (suc n) ∷ [], append_assoc (rounds (suc n)) (Hazard (suc n) ∷ []) (BreachQuery (suc n) ∷ Step (suc n) ∷ []) ∙ sym (listed_all-more round (suc n)))
-to-round (BreachQuery zero) valid = ([], refl)
-to-round (BreachQuery (suc n)) valid =
-    (Step (suc n) ∷ [], append_assoc (rounds (suc n)) (Hazard (suc n) ∷ BreachQuery (suc n) ∷ []) (Step (suc n) ∷ []) ∙ sym (listed_all-more round (suc n)))
-to-round (Step zero) valid = absurd cc
-to-round (Step (suc n)) valid =
-    let all = rounds (suc n) ++ round (suc n) in
-    ([], append-nil all ∙ sym (listed_all-more round (suc n)))
+to-queries_of_length : (q : Wanted) → wanted_valid q ≡ true → IsPrefix (queries_to None q) (queries_below (step_count q + 1))
+to-queries_of_length (Hazard zero) valid = (BreachQuery 0 ∷ [], refl)
+to-queries_of_length (Hazard (suc n)) valid =
+    (BreachQuery (suc n) ∷ Step (suc n) ∷ [], append_assoc (queries_below (suc n)) (Hazard (suc n) ∷ []) (BreachQuery (suc n) ∷ Step (suc n) ∷ []) ∙ sym (listed_all-more queries_of_length (suc n)))
+to-queries_of_length (BreachQuery zero) valid = ([], refl)
+to-queries_of_length (BreachQuery (suc n)) valid =
+    (Step (suc n) ∷ [], append_assoc (queries_below (suc n)) (Hazard (suc n) ∷ BreachQuery (suc n) ∷ []) (Step (suc n) ∷ []) ∙ sym (listed_all-more queries_of_length (suc n)))
+to-queries_of_length (Step zero) valid = absurd cc
+to-queries_of_length (Step (suc n)) valid =
+    let all = queries_below (suc n) ++ queries_of_length (suc n) in
+    ([], append-nil all ∙ sym (listed_all-more queries_of_length (suc n)))
 
 pub all-to-step : (n : ℕ) → 0 < n → queries_to None (Step n) ≡ query_order None n
 all-to-step zero pos = absurd (omega arith)
-all-to-step (suc n) pos = sym (listed_all-more round (suc n))
+all-to-step (suc n) pos = sym (listed_all-more queries_of_length (suc n))
 
 pub all-to-hazard : (b n : ℕ) (q : Wanted) → step_count q ≡ n → queries_to (Some b) q ≡ query_order (Some b) n
 all-to-hazard b n q e =
-    ap (λ (k : ℕ). (rounds b ++ Hazard b ∷ BreachQuery b ∷ []) ++ map Hazard (range_with_len (b + 1) (k - b))) e
-    ∙ append_assoc (rounds b) (Hazard b ∷ BreachQuery b ∷ []) (map Hazard (range_with_len (b + 1) (n - b)))
+    ap (λ (k : ℕ). (queries_below b ++ Hazard b ∷ BreachQuery b ∷ []) ++ map Hazard (range_with_len (b + 1) (k - b))) e
+    ∙ append_assoc (queries_below b) (Hazard b ∷ BreachQuery b ∷ []) (map Hazard (range_with_len (b + 1) (n - b)))
 
 pub to-prefix : (depth : ℕ) (breach : Option ℕ) (q : Wanted) → wanted_valid q ≡ true → step_count q ≤ depth → IsPrefix (queries_to breach q) (query_order breach depth)
 to-prefix depth None q valid within =
     let far : (step_count q + 1) + (depth - step_count q) ≡ depth + 1 = omega arith in
-    let all = subst (λ (m : ℕ). IsPrefix (rounds (step_count q + 1)) (rounds m)) far (prefix-up rounds rounds-up (step_count q + 1) (depth - step_count q)) in
-    prefix-then (queries_to None q) (rounds (step_count q + 1)) (rounds (depth + 1)) (to-round q valid) all
+    let all = subst (λ (m : ℕ). IsPrefix (queries_below (step_count q + 1)) (queries_below m)) far (prefix-up queries_below queries_below-up (step_count q + 1) (depth - step_count q)) in
+    prefix-then (queries_to None q) (queries_below (step_count q + 1)) (queries_below (depth + 1)) (to-queries_of_length q valid) all
 to-prefix depth (Some b) q valid within =
     let i = step_count q - b in
     let far : i + ((depth - b) - i) ≡ depth - b = omega arith in
-    let front = rounds b ++ Hazard b ∷ BreachQuery b ∷ [] in
+    let front = queries_below b ++ Hazard b ∷ BreachQuery b ∷ [] in
     let behind = prefix-behind front (hazards b i) (hazards b (depth - b)) (subst (λ (m : ℕ). IsPrefix (hazards b i) (hazards b m)) far (prefix-up (hazards b) (hazards-up b) i ((depth - b) - i))) in
-    subst (IsPrefix (front ++ hazards b i)) (append_assoc (rounds b) (Hazard b ∷ BreachQuery b ∷ []) (hazards b (depth - b))) behind
-
--- with one query more
+    subst (IsPrefix (front ++ hazards b i)) (append_assoc (queries_below b) (Hazard b ∷ BreachQuery b ∷ []) (hazards b (depth - b))) behind
 
 pub more-queries : (asked : List Asked) (a : Asked) (qs : List Wanted) → map (λ (x : Asked). x.query) asked ++ a.query ∷ [] ≡ qs → map (λ (x : Asked). x.query) (asked ++ a ∷ []) ≡ qs
 more-queries asked a qs h = map-append (λ (x : Asked). x.query) asked (a ∷ []) ∙ h
@@ -138,12 +128,11 @@ more-conflicts asked a left rest conflicts h one =
 as-prefix : (asked : List Asked) (qs all : List Wanted) → map (λ (x : Asked). x.query) asked ≡ qs → IsPrefix qs all → IsPrefix (map (λ (x : Asked). x.query) asked) all
 as-prefix asked qs all e p = subst (λ (us : List Wanted). IsPrefix us all) (sym e) p
 
--- what was asked, up to the query that was due
 pub asked-to :
     (s : SystemTree) (g : GoalTree) (depth conflicts : ℕ) (breach : Option ℕ) (a : Asked) (asked : List Asked)
     (left : ℕ) →
     IsInOrder s g depth conflicts breach a.query asked left → IsLogOf s g a →
-    AreAsked s g depth breach (asked ++ a ∷ []) a
+    IsAskedPrefix s g depth breach (asked ++ a ∷ []) a
 asked-to s g depth conflicts breach a asked left d log =
     record {
       before = asked;
@@ -154,7 +143,6 @@ asked-to s g depth conflicts breach a asked left d log =
       logs = All-push (IsLogOf s g) asked a d.logs log;
     }
 
--- the next is due
 pub go-on :
     (s : SystemTree) (g : GoalTree) (depth conflicts : ℕ) (breach : Option ℕ) (a : Asked) (q : Wanted)
     (asked : List Asked) (left rest : ℕ) →
@@ -173,8 +161,7 @@ go-on s g depth conflicts breach a q asked left rest d log passed count order va
       counted = more-conflicts asked a left rest conflicts d.counted count;
     }
 
--- what has passed before a breach was found has passed
-pub passed-after : (s : SystemTree) (g : GoalTree) (b : ℕ) (q : Wanted) (log : List LogStep) → IsPassed s g None q log → IsPassed s g (Some b) q log
+pub passed-after : (s : SystemTree) (g : GoalTree) (b : ℕ) (q : Wanted) (log : List LogStep) → AllowsNextQuery s g None q log → AllowsNextQuery s g (Some b) q log
 passed-after s g b (Hazard n) log h = h
 passed-after s g b (BreachQuery n) log h = elim h [ inl refuted ↦ inl refuted | inr found ↦ absurd (none n found) ]
   where
@@ -185,22 +172,21 @@ passed-after s g b (Step n) log h = h
 pub all-passed-after : (s : SystemTree) (g : GoalTree) (b : ℕ) (asked : List Asked) → All (HasPassed s g None) asked → All (HasPassed s g (Some b)) asked
 all-passed-after s g b asked h = All-weaker (HasPassed s g None) (HasPassed s g (Some b)) (λ a k. passed-after s g b a.query a.log k) asked h
 
--- what was asked, up to the breach query that is satisfiable
 pub found-order : (asked : List Asked) (n : ℕ) (log : List LogStep) →
     map (λ (x : Asked). x.query) asked ++ BreachQuery n ∷ [] ≡ queries_to None (BreachQuery n) →
-    map (λ (x : Asked). x.query) (asked ++ asked_with (BreachQuery n) log ∷ [])
+    map (λ (x : Asked). x.query) (asked ++ query_with_log (BreachQuery n) log ∷ [])
     ≡ queries_to (Some n) (BreachQuery n)
-found-order asked n log order = more-queries asked (asked_with (BreachQuery n) log) (queries_to None (BreachQuery n)) order ∙ to-found n
+found-order asked n log order = more-queries asked (query_with_log (BreachQuery n) log) (queries_to None (BreachQuery n)) order ∙ to-found n
 
 pub found-to :
     (s : SystemTree) (g : GoalTree) (depth conflicts n : ℕ) (log : List LogStep) (asked : List Asked)
     (left : ℕ) →
     IsInOrder s g depth conflicts None (BreachQuery n) asked left →
-    IsLogOf s g (asked_with (BreachQuery n) log) → IsSatisfiable (query_formula s g (BreachQuery n)) →
-    AreAsked s g depth (Some n) (asked ++ asked_with (BreachQuery n) log ∷ [])
-    (asked_with (BreachQuery n) log)
+    IsLogOf s g (query_with_log (BreachQuery n) log) → IsSatisfiable (query_formula s g (BreachQuery n)) →
+    IsAskedPrefix s g depth (Some n) (asked ++ query_with_log (BreachQuery n) log ∷ [])
+    (query_with_log (BreachQuery n) log)
 found-to s g depth conflicts n log asked left d logged has =
-    let a = asked_with (BreachQuery n) log in
+    let a = query_with_log (BreachQuery n) log in
     record {
       before = asked;
       split = refl;
@@ -210,17 +196,16 @@ found-to s g depth conflicts n log asked left d logged has =
       logs = All-push (IsLogOf s g) asked a d.logs logged;
     }
 
--- and the hazard query after it is due
 pub go-on-found :
     (s : SystemTree) (g : GoalTree) (depth conflicts n : ℕ) (log : List LogStep) (asked : List Asked)
     (left rest : ℕ) →
     IsInOrder s g depth conflicts None (BreachQuery n) asked left →
-    IsLogOf s g (asked_with (BreachQuery n) log) → IsSatisfiable (query_formula s g (BreachQuery n)) →
+    IsLogOf s g (query_with_log (BreachQuery n) log) → IsSatisfiable (query_formula s g (BreachQuery n)) →
     conflicts_of log + rest ≡ left → wanted_valid (Hazard (n + 1)) ≡ true → n + 1 ≤ depth →
-    IsInOrder s g depth conflicts (Some n) (Hazard (n + 1)) (asked ++ asked_with (BreachQuery n) log ∷ [])
+    IsInOrder s g depth conflicts (Some n) (Hazard (n + 1)) (asked ++ query_with_log (BreachQuery n) log ∷ [])
     rest
 go-on-found s g depth conflicts n log asked left rest d logged has count valid within =
-    let a = asked_with (BreachQuery n) log in
+    let a = query_with_log (BreachQuery n) log in
     record {
       order = ap (λ (qs : List Wanted). qs ++ Hazard (n + 1) ∷ []) (found-order asked n log d.order) ∙ to-hazard-after n n (BreachQuery n) refl (omega arith);
       valid = valid;
@@ -231,13 +216,11 @@ go-on-found s g depth conflicts n log asked left rest d logged has count valid w
       counted = more-conflicts asked a left rest conflicts d.counted count;
     }
 
--- all queries of the order were asked
-
 pub asked-all :
     (s : SystemTree) (g : GoalTree) (depth conflicts n : ℕ) (a : Asked) (asked : List Asked) (left : ℕ)
     (Ends : Asked → Type 0) →
     IsInOrder s g depth conflicts None a.query asked left → IsLogOf s g a → a.query ≡ Step n → Ends a →
-    AllAsked s g n None Ends (asked ++ a ∷ [])
+    AreAllQueries s g n None Ends (asked ++ a ∷ [])
 asked-all s g depth conflicts n a asked left Ends d log is ends =
     let pos : 0 < n = ltb-true 0 n (and_parts _ _ (ap wanted_valid (sym is) ∙ d.valid)).0 in
     let all : map (λ (x : Asked). x.query) (asked ++ a ∷ []) ≡ query_order None n = more-queries asked a (queries_to None a.query) d.order ∙ ap (queries_to None) is ∙ all-to-step n pos in
@@ -246,11 +229,10 @@ asked-all s g depth conflicts n a asked left Ends d log is ends =
       ends = (a, record { before = asked; split = refl; order = ([], append-nil (map (λ (x : Asked). x.query) (asked ++ a ∷ [])) ∙ all); found = tt; passed = d.passed; logs = All-push (IsLogOf s g) asked a d.logs log }, ends);
     }
 
--- a log in which each step has a literal
-pub all-conflicts : (log : List LogStep) → none_empty log ≡ true → conflicts_of log ≡ length log
+pub all-conflicts : (log : List LogStep) → has_no_empty_step log ≡ true → conflicts_of log ≡ length log
 all-conflicts [] h = refl
 all-conflicts (s ∷ log) h =
-    let parts = and_parts (not (is_empty s.clause)) (none_empty log) h in
+    let parts = and_parts (not (is_empty s.clause)) (has_no_empty_step log) h in
     let rest = all-conflicts log parts.1 in
     let one : 1 + conflicts_of log ≡ length (s ∷ log) = omega (arith, rest) in
     sum_by-cons (λ (x : LogStep). cond (not (is_empty x.clause)) 1 0) s log ∙ ap (λ (b : Bool). cond b 1 0 + conflicts_of log) parts.0 ∙ one

@@ -1,4 +1,4 @@
--- The queries of the order may all be asked.
+-- The queries of the order are valid.
 use Rattle.std.proofs.Common.{◌≡◌, ℕ, zero, suc, ◌+◌, ◌-◌, ◌≤◌, true, List, ◌∷◌, map, Option, Some, None, refl, sym, ap, ◌∙◌, arith}
 use Rattle.std.specs.Prelude.{IfSome}
 use Rattle.std.specs.List.{list_all, range_with_len}
@@ -12,35 +12,34 @@ use Rattle.ilk_unroll.specs.Goal.{GoalTree, wanted_valid}
 use Rattle.ilk_unroll.specs.Query.{query_formula}
 use Rattle.ilk_unroll.specs.Satisfied.{IsSatisfiable}
 use Rattle.ilk_certificate.specs.declared.asked.Asked.{Asked}
-use Rattle.ilk_induct.specs.Order.{round, rounds, query_order, IsPrefix}
+use Rattle.ilk_induct.specs.Order.{queries_of_length, queries_below, query_order, IsPrefix}
 use Rattle.ilk_induct.specs.Spent.{IsSpentText}
 
-round-valid : (n : ℕ) → n ≤ 16 → list_all wanted_valid (round n) ≡ true
-round-valid zero low = refl
-round-valid (suc n) low = rw (le-leb (suc n) 16 low, lt-ltb 0 (suc n) (omega arith)) refl
+queries_of_length-valid : (n : ℕ) → n ≤ 16 → list_all wanted_valid (queries_of_length n) ≡ true
+queries_of_length-valid zero low = refl
+queries_of_length-valid (suc n) low = rw (le-leb (suc n) 16 low, lt-ltb 0 (suc n) (omega arith)) refl
 
-rounds-valid : (n : ℕ) → n ≤ 17 → list_all wanted_valid (rounds n) ≡ true
-rounds-valid zero low = refl
-rounds-valid (suc n) low =
+queries_below-valid : (n : ℕ) → n ≤ 17 → list_all wanted_valid (queries_below n) ≡ true
+queries_below-valid zero low = refl
+queries_below-valid (suc n) low =
     let one : suc n ≡ n + 1 = omega arith in
-    ap (λ (k : ℕ). list_all wanted_valid (rounds k)) one
-    ∙ ap (list_all wanted_valid) (listed_all-more round n)
-    ∙ list_all-append wanted_valid (rounds n) (round n)
-    ∙ and_from _ _ (rounds-valid n (omega arith)) (round-valid n (omega arith))
+    ap (λ (k : ℕ). list_all wanted_valid (queries_below k)) one
+    ∙ ap (list_all wanted_valid) (listed_all-more queries_of_length n)
+    ∙ list_all-append wanted_valid (queries_below n) (queries_of_length n)
+    ∙ and_from _ _ (queries_below-valid n (omega arith)) (queries_of_length-valid n (omega arith))
 
 hazards-valid : (a n : ℕ) → a + n ≤ 17 → list_all wanted_valid (map Hazard (range_with_len a n)) ≡ true
 hazards-valid a zero low = refl
 hazards-valid a (suc n) low = and_from _ _ (le-leb a 16 (omega arith)) (hazards-valid (a + 1) n (omega arith))
 
 order-valid : (breach : Option ℕ) (depth : ℕ) → depth ≤ 16 → IfSome breach (λ b. b ≤ depth) → list_all wanted_valid (query_order breach depth) ≡ true
-order-valid None depth low within = rounds-valid (depth + 1) (omega arith)
+order-valid None depth low within = queries_below-valid (depth + 1) (omega arith)
 order-valid (Some b) depth low within =
     let base : wanted_valid (Hazard b) ≡ true = le-leb b 16 (omega (arith, low, within)) in
     let later = hazards-valid (b + 1) (depth - b) (omega (arith, low, within)) in
-    list_all-append wanted_valid (rounds b) (Hazard b ∷ Breach b ∷ map Hazard (range_with_len (b + 1) (depth - b)))
-    ∙ and_from _ _ (rounds-valid b (omega (arith, low, within))) (and_from _ _ base (and_from _ _ base later))
+    list_all-append wanted_valid (queries_below b) (Hazard b ∷ Breach b ∷ map Hazard (range_with_len (b + 1) (depth - b)))
+    ∙ and_from _ _ (queries_below-valid b (omega (arith, low, within))) (and_from _ _ base (and_from _ _ base later))
 
--- and so may those that are a prefix of it
 pub prefix-valid : (asked : List Asked) (breach : Option ℕ) (depth : ℕ) → depth ≤ 16 →
     IfSome breach (λ b. b ≤ depth) →
     IsPrefix (map (λ (a : Asked). a.query) asked) (query_order breach depth) →

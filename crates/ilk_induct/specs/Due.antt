@@ -1,9 +1,10 @@
--- Only private contracts and proofs need this file: which query is due, and what follows once it was answered.
+-- Used only in private contracts and proofs: the query that is due, and the continuation after its
+-- answer.
 use Rattle.std.specs.Prelude.{ℕ, zero, suc, ◌+◌, ◌-◌, ◌*◌, ◌≡◌, ◌<◌, ◌≤◌, ◌⊎◌, nat_lt, Option, Some, None, IfSome, List, [], ◌∷◌, ◌++◌, length, map, IsTrue, All, if◌then◌else◌}
 use Rattle.std.specs.List.{range_with_len}
 use Rattle.ilk_ir.specs.System.{SystemTree}
 use Rattle.ilk_log.specs.declared.step.Step.{Step as LogStep}
-use Rattle.ilk_solver.specs.Answered.{IsSpent}
+use Rattle.ilk_solver.specs.Answered.{IsSpentLog}
 use Rattle.ilk_unroll.specs.declared.queries.Wanted.{Wanted}
 use Rattle.ilk_unroll.specs.declared.queries.Wanted.TheVariants.{Hazard, Breach as BreachQuery, Step}
 use Rattle.ilk_unroll.specs.declared.reading.Trace.{Trace}
@@ -21,82 +22,81 @@ use Rattle.ilk_induct.specs.declared.due.Next.{Next}
 use Rattle.ilk_induct.specs.declared.due.Next.TheVariants.{Ask, End}
 use Rattle.ilk_induct.specs.declared.verdict.Verdict.{Verdict}
 use Rattle.ilk_induct.specs.declared.verdict.Verdict.TheVariants.{Safe, Unsafe, Breach, NotInductive, Spent}
-use Rattle.ilk_evidence.specs.Evidence.{HasRun}
-use Rattle.ilk_induct.specs.Right.{IsRun, IsRight, Lasts}
-use Rattle.ilk_induct.specs.Order.{rounds}
+use Rattle.ilk_unroll.specs.Evidence.{HasRun}
+use Rattle.ilk_induct.specs.Right.{IsRunOfQuery, IsRightSystemVerdict, SystemHoldsAtAnyLength}
+use Rattle.ilk_induct.specs.Order.{queries_below}
 use Rattle.ilk_induct.specs.Spent.{IsLogOf, HasPassed}
-use Rattle.ilk_induct.specs.Asked.{IsAskedFor}
+use Rattle.ilk_induct.specs.Asked.{AreQueriesOfVerdict}
 
--- what each response says of its query
+-- The meaning of each answer to a query.
 abbrev pub IsResponse : SystemTree → GoalTree → Wanted → ℕ → Response → List LogStep → Type 0
-IsResponse s g q budget (Run t) log = IsRun s g q t × IsSatisfiable (query_formula s g q)
+IsResponse s g q budget (Run t) log = IsRunOfQuery s g q t × IsSatisfiable (query_formula s g q)
 IsResponse s g q budget Refuted log = IsRefuted s g q log × ¬ HasRun s g q
-IsResponse s g q budget GivenUp log = IsSpent (query_formula s g q) budget log
+IsResponse s g q budget GivenUp log = IsSpentLog (query_formula s g q) budget log
 
--- a query with its log
-abbrev pub asked_with : Wanted → List LogStep → Asked
-asked_with q log = record { query = q; log = log }
+abbrev pub query_with_log : Wanted → List LogStep → Asked
+query_with_log q log = record { query = q; log = log }
 
--- the queries up to one of them; after a breach of b steps was found, hazard queries alone
+-- The queries up to one of them; after a breach of `b` steps, only hazard queries.
 abbrev pub queries_to : Option ℕ → Wanted → List Wanted
-queries_to None (Hazard n) = rounds n ++ Hazard n ∷ []
-queries_to None (BreachQuery n) = rounds n ++ Hazard n ∷ BreachQuery n ∷ []
-queries_to None (Step n) = rounds n ++ Hazard n ∷ BreachQuery n ∷ Step n ∷ []
-queries_to (Some b) q = (rounds b ++ Hazard b ∷ BreachQuery b ∷ []) ++ map Hazard (range_with_len (b + 1) (step_count q - b))
+queries_to None (Hazard n) = queries_below n ++ Hazard n ∷ []
+queries_to None (BreachQuery n) = queries_below n ++ Hazard n ∷ BreachQuery n ∷ []
+queries_to None (Step n) = queries_below n ++ Hazard n ∷ BreachQuery n ∷ Step n ∷ []
+queries_to (Some b) q = (queries_below b ++ Hazard b ∷ BreachQuery b ∷ []) ++ map Hazard (range_with_len (b + 1) (step_count q - b))
 
--- the query that is due, and the number of steps of the breach that was found
+-- The query that is due, and the number of steps of the breach that was found.
 abbrev pub due_query : Due → Wanted
 due_query (Unbroken q) = q
 due_query (Broken n t) = Hazard n
 
-abbrev pub due_breach : Due → Option ℕ
-due_breach (Unbroken q) = None
-due_breach (Broken n t) = Some (length t.rules)
+abbrev pub breach_length : Due → Option ℕ
+breach_length (Unbroken q) = None
+breach_length (Broken n t) = Some (length t.rules)
 
--- what follows a breach by the run t, where a hazard query for n steps was refuted
+-- The continuation after a breach by run `t`, and a refuted hazard query for `n` steps.
 abbrev pub after_breach : ℕ → ℕ → Trace → Next
 after_breach depth n t = if nat_lt n depth then Ask (Broken (n + 1) t) else End (Breach t)
 
--- what follows where the run t was found
+-- The continuation if run `t` was found.
 abbrev pub after_run : ℕ → Due → Trace → Next
 after_run depth (Unbroken (Hazard n)) t = End (Unsafe t)
 after_run depth (Unbroken (BreachQuery n)) t = after_breach depth n t
 after_run depth (Unbroken (Step n)) t = if nat_lt n depth then Ask (Unbroken (Hazard (n + 1))) else End (NotInductive t)
 after_run depth (Broken n breach) t = End (Unsafe t)
 
--- what follows where there is none
-abbrev pub after_none : ℕ → Due → Next
-after_none depth (Unbroken (Hazard n)) = Ask (Unbroken (BreachQuery n))
-after_none depth (Unbroken (BreachQuery zero)) = Ask (Unbroken (Hazard 1))
-after_none depth (Unbroken (BreachQuery (suc n))) = Ask (Unbroken (Step (suc n)))
-after_none depth (Unbroken (Step n)) = End (Safe n)
-after_none depth (Broken n breach) = after_breach depth n breach
+-- The continuation if there is no run.
+abbrev pub after_no_run : ℕ → Due → Next
+after_no_run depth (Unbroken (Hazard n)) = Ask (Unbroken (BreachQuery n))
+after_no_run depth (Unbroken (BreachQuery zero)) = Ask (Unbroken (Hazard 1))
+after_no_run depth (Unbroken (BreachQuery (suc n))) = Ask (Unbroken (Step (suc n)))
+after_no_run depth (Unbroken (Step n)) = End (Safe n)
+after_no_run depth (Broken n breach) = after_breach depth n breach
 
 abbrev pub after_response : ℕ → Due → Response → Next
 after_response depth due (Run t) = after_run depth due t
-after_response depth due Refuted = after_none depth due
+after_response depth due Refuted = after_no_run depth due
 after_response depth due GivenUp = End Spent
 
--- what is known by the queries so far: no hazard by fewer than h steps, no breach by fewer than b, and a run of each step
--- query of fewer than i
+-- Holds if there is no hazard in fewer than `h` steps, no breach in fewer than `b`, and a run of
+-- each step query of fewer than `i`.
 pub record IsKnown (s : SystemTree) (g : GoalTree) (h b i : ℕ) : Type 0 where
   pub no_hazard : (m : ℕ) → m < h → ¬ HasRun s g (Hazard m)
   pub no_breach : (m : ℕ) → m < b → ¬ HasRun s g (BreachQuery m)
   pub runs : (m : ℕ) → 0 < m → m < i → HasRun s g (Step m)
 
--- the breach that was found, and that its run is shorter than those that are asked for
+-- Holds if this is the run of the breach found, shorter than those that are asked for.
 pub record IsFoundBreach (s : SystemTree) (g : GoalTree) (n : ℕ) (t : Trace) : Type 0 where
   pub known : IsKnown s g n (length t.rules) 0
-  pub run : IsRun s g (BreachQuery (length t.rules)) t
+  pub run : IsRunOfQuery s g (BreachQuery (length t.rules)) t
   pub later : length t.rules < n
 
-abbrev pub AreKnown : SystemTree → GoalTree → Due → Type 0
-AreKnown s g (Unbroken (Hazard n)) = IsKnown s g n n n
-AreKnown s g (Unbroken (BreachQuery n)) = IsKnown s g (n + 1) n n
-AreKnown s g (Unbroken (Step n)) = IsKnown s g (n + 1) (n + 1) n
-AreKnown s g (Broken n t) = IsFoundBreach s g n t
+abbrev pub IsKnownBefore : SystemTree → GoalTree → Due → Type 0
+IsKnownBefore s g (Unbroken (Hazard n)) = IsKnown s g n n n
+IsKnownBefore s g (Unbroken (BreachQuery n)) = IsKnown s g (n + 1) n n
+IsKnownBefore s g (Unbroken (Step n)) = IsKnown s g (n + 1) (n + 1) n
+IsKnownBefore s g (Broken n t) = IsFoundBreach s g n t
 
--- what is so where a query is due, after these were asked and with so many conflicts left
+-- Holds if a query is due after these were asked, with `left` conflicts left.
 pub record IsInOrder (s : SystemTree) (g : GoalTree) (depth conflicts : ℕ) (breach : Option ℕ) (q : Wanted) (asked : List Asked) (left : ℕ) : Type 0 where
   pub order : map (λ (a : Asked). a.query) asked ++ q ∷ [] ≡ queries_to breach q
   pub valid : IsTrue (wanted_valid q)
@@ -107,24 +107,24 @@ pub record IsInOrder (s : SystemTree) (g : GoalTree) (depth conflicts : ℕ) (br
   pub counted : all_conflicts asked + left ≡ conflicts
 
 pub record IsDue (s : SystemTree) (g : GoalTree) (depth conflicts : ℕ) (due : Due) (asked : List Asked) (left : ℕ) : Type 0 where
-  pub in_order : IsInOrder s g depth conflicts (due_breach due) (due_query due) asked left
-  pub known : AreKnown s g due
+  pub in_order : IsInOrder s g depth conflicts (breach_length due) (due_query due) asked left
+  pub known : IsKnownBefore s g due
 
--- what is so at the end
+-- Holds at the end.
 pub record IsEnd (s : SystemTree) (g : GoalTree) (depth conflicts : ℕ) (verdict : Verdict) (asked : List Asked) : Type 0 where
-  pub right : IsRight s g depth verdict ⊎ (verdict ≡ Spent)
-  pub lasts : Lasts s g verdict
-  pub queries : IsAskedFor s g depth conflicts verdict asked
+  pub right : IsRightSystemVerdict s g depth verdict ⊎ (verdict ≡ Spent)
+  pub lasts : SystemHoldsAtAnyLength s g verdict
+  pub queries : AreQueriesOfVerdict s g depth conflicts verdict asked
   pub few : all_conflicts asked ≤ conflicts
 
--- how many queries may still be asked
-abbrev pub still_due : ℕ → Due → ℕ
-still_due depth (Unbroken (Hazard n)) = 3 * (depth - n) + 2
-still_due depth (Unbroken (BreachQuery n)) = 3 * (depth - n) + 1
-still_due depth (Unbroken (Step n)) = 3 * (depth - n)
-still_due depth (Broken n t) = 3 * (depth - n) + 2
+-- A bound on the number of queries still to be asked.
+abbrev pub queries_left : ℕ → Due → ℕ
+queries_left depth (Unbroken (Hazard n)) = 3 * (depth - n) + 2
+queries_left depth (Unbroken (BreachQuery n)) = 3 * (depth - n) + 1
+queries_left depth (Unbroken (Step n)) = 3 * (depth - n)
+queries_left depth (Broken n t) = 3 * (depth - n) + 2
 
--- what is so of what follows a query, where at most `due` queries were still due
+-- Holds for the continuation after a query, if at most `due` queries were still due.
 abbrev pub IsNext : SystemTree → GoalTree → ℕ → ℕ → ℕ → Next → List Asked → ℕ → Type 0
-IsNext s g depth conflicts due (Ask next) asked left = IsDue s g depth conflicts next asked left × (still_due depth next < due)
+IsNext s g depth conflicts due (Ask next) asked left = IsDue s g depth conflicts next asked left × (queries_left depth next < due)
 IsNext s g depth conflicts due (End verdict) asked left = IsEnd s g depth conflicts verdict asked

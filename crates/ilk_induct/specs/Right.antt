@@ -1,4 +1,4 @@
--- Which verdict is right.
+-- Verdicts that are right.
 use Rattle.std.specs.Prelude.{ℕ, length, IsTrue}
 use Rattle.ilk_ir.specs.System.{SystemTree}
 use Rattle.ilk_unroll.specs.declared.queries.Wanted.{Wanted}
@@ -8,45 +8,47 @@ use Rattle.ilk_unroll.specs.Goal.{GoalTree}
 use Rattle.ilk_unroll.specs.Run.{is_wanted_run}
 use Rattle.ilk_induct.specs.declared.verdict.Verdict.{Verdict}
 use Rattle.ilk_induct.specs.declared.verdict.Verdict.TheVariants.{Safe, Unsafe, Breach, NotInductive, Spent}
-use Rattle.ilk_evidence.specs.Evidence.{HasRun, IsLeast, IsNever, Endangers, Breaks, Inducts, IsForever}
+use Rattle.ilk_unroll.specs.Evidence.{HasRun, IsLeast, HoldsForNoneUpTo, ReachesHazard, ReachesBreach, IsInductiveAt, IsSafeForAllRuns}
 
--- a hazard is reached, by no fewer than h steps
+-- Holds if a hazard is reached, in no fewer than `h` steps.
 pub record IsUnsafe (Has : Wanted → Type 0) (depth h : ℕ) : Type 0 where
-  pub hazard : IsLeast depth (Endangers Has) h
+  pub hazard : IsLeast depth (ReachesHazard Has) h
 
--- no hazard is reached; a family is broken, by no fewer than b steps
+-- Holds if no hazard is reached, and a family is broken, in no fewer than `b` steps.
 pub record IsBreach (Has : Wanted → Type 0) (depth b : ℕ) : Type 0 where
-  pub no_hazard : IsNever depth (Endangers Has)
-  pub breach : IsLeast depth (Breaks Has) b
+  pub no_hazard : HoldsForNoneUpTo depth (ReachesHazard Has)
+  pub breach : IsLeast depth (ReachesBreach Has) b
 
--- no hazard is reached and no family broken; i is the least number from which the invariant carries itself
+-- Holds if no hazard is reached, no family is broken, and `i` is the least number from which the
+-- invariant is inductive.
 pub record IsSafe (Has : Wanted → Type 0) (depth i : ℕ) : Type 0 where
-  pub no_hazard : IsNever depth (Endangers Has)
-  pub no_breach : IsNever depth (Breaks Has)
-  pub induction : IsLeast depth (Inducts Has) i
+  pub no_hazard : HoldsForNoneUpTo depth (ReachesHazard Has)
+  pub no_breach : HoldsForNoneUpTo depth (ReachesBreach Has)
+  pub induction : IsLeast depth (IsInductiveAt Has) i
 
--- no hazard is reached and no family broken; and the invariant carries itself from no number
+-- Holds if no hazard is reached, no family is broken, and the invariant is inductive from no
+-- number.
 pub record IsNotInductive (Has : Wanted → Type 0) (depth : ℕ) : Type 0 where
-  pub no_hazard : IsNever depth (Endangers Has)
-  pub no_breach : IsNever depth (Breaks Has)
-  pub no_induction : IsNever depth (Inducts Has)
+  pub no_hazard : HoldsForNoneUpTo depth (ReachesHazard Has)
+  pub no_breach : HoldsForNoneUpTo depth (ReachesBreach Has)
+  pub no_induction : HoldsForNoneUpTo depth (IsInductiveAt Has)
 
--- the trace is a run that the query asks for
-abbrev pub IsRun : SystemTree → GoalTree → Wanted → Trace → Type 0
-IsRun s g q t = IsTrue (is_wanted_run s g q t.first t.rules)
+-- Holds if the trace is a run that the query asks for.
+abbrev pub IsRunOfQuery : SystemTree → GoalTree → Wanted → Trace → Type 0
+IsRunOfQuery s g q t = IsTrue (is_wanted_run s g q t.first t.rules)
 
--- whether a verdict is right: spent never is
-abbrev pub IsRight : SystemTree → GoalTree → ℕ → Verdict → Type 0
-IsRight s g depth (Unsafe t) = IsUnsafe (HasRun s g) depth (length t.rules) × IsRun s g (Hazard (length t.rules)) t
-IsRight s g depth (Breach t) = IsBreach (HasRun s g) depth (length t.rules) × IsRun s g (BreachQuery (length t.rules)) t
-IsRight s g depth (Safe k) = IsSafe (HasRun s g) depth k
-IsRight s g depth (NotInductive t) = IsNotInductive (HasRun s g) depth × IsRun s g (Step depth) t
-IsRight s g depth Spent = ⊥
+-- Holds if a verdict is right; `Spent` never is.
+abbrev pub IsRightSystemVerdict : SystemTree → GoalTree → ℕ → Verdict → Type 0
+IsRightSystemVerdict s g depth (Unsafe t) = IsUnsafe (HasRun s g) depth (length t.rules) × IsRunOfQuery s g (Hazard (length t.rules)) t
+IsRightSystemVerdict s g depth (Breach t) = IsBreach (HasRun s g) depth (length t.rules) × IsRunOfQuery s g (BreachQuery (length t.rules)) t
+IsRightSystemVerdict s g depth (Safe k) = IsSafe (HasRun s g) depth k
+IsRightSystemVerdict s g depth (NotInductive t) = IsNotInductive (HasRun s g) depth × IsRunOfQuery s g (Step depth) t
+IsRightSystemVerdict s g depth Spent = ⊥
 
--- what a verdict says of runs of any length
-abbrev pub Lasts : SystemTree → GoalTree → Verdict → Type 0
-Lasts s g (Unsafe t) = Unit {0}
-Lasts s g (Breach t) = Unit {0}
-Lasts s g (Safe k) = IsForever (HasRun s g)
-Lasts s g (NotInductive t) = Unit {0}
-Lasts s g Spent = Unit {0}
+-- The meaning of a verdict for runs of any length.
+abbrev pub SystemHoldsAtAnyLength : SystemTree → GoalTree → Verdict → Type 0
+SystemHoldsAtAnyLength s g (Unsafe t) = Unit {0}
+SystemHoldsAtAnyLength s g (Breach t) = Unit {0}
+SystemHoldsAtAnyLength s g (Safe k) = IsSafeForAllRuns (HasRun s g)
+SystemHoldsAtAnyLength s g (NotInductive t) = Unit {0}
+SystemHoldsAtAnyLength s g Spent = Unit {0}

@@ -1,4 +1,4 @@
--- What a spent text is: queries in their order up to one whose search was given up.
+-- Spent texts: queries in their order, up to one whose search was given up.
 use Rattle.std.specs.Prelude.{ℕ, ◌≡◌, ◌≤◌, ◌⊎◌, Option, Some, IfSome, List, [], ◌∷◌, ◌++◌, length, map, IsTrue, All}
 use Rattle.ilk_ir.specs.System.{SystemTree}
 use Rattle.ilk_lines.specs.Lines.{Bytes}
@@ -16,24 +16,24 @@ use Rattle.ilk_certificate.specs.Certificate.{IsRefuted}
 use Rattle.ilk_certificate.specs.CertificateText.{all_conflicts, spent_text}
 use Rattle.ilk_induct.specs.Order.{query_order, IsPrefix}
 
--- each step is derived, and fresh where its clause has a literal
+-- Holds if each step is derived, and fresh if its clause has a literal.
 pub record IsLogOf (s : SystemTree) (g : GoalTree) (a : Asked) : Type 0 where
   pub derived : IsTrue (is_derived_log (query_formula s g a.query) a.log)
   pub fresh : EachFresh (query_formula s g a.query).clauses a.log
 
--- what came of a query after which the next is asked: a hazard query is refuted; so is a breach query, but for
--- that of the breach which was found; a step query is satisfiable
-abbrev pub IsPassed : SystemTree → GoalTree → Option ℕ → Wanted → List LogStep → Type 0
-IsPassed s g breach (Hazard n) log = IsRefuted s g (Hazard n) log
-IsPassed s g breach (Breach n) log = IsRefuted s g (Breach n) log ⊎ (breach ≡ Some n)
-IsPassed s g breach (Step n) log = IsSatisfiable (query_formula s g (Step n))
+-- Holds if the next query may follow this one. A hazard query is refuted; so is a breach query,
+-- except that of the breach found; a step query is satisfiable.
+abbrev pub AllowsNextQuery : SystemTree → GoalTree → Option ℕ → Wanted → List LogStep → Type 0
+AllowsNextQuery s g breach (Hazard n) log = IsRefuted s g (Hazard n) log
+AllowsNextQuery s g breach (Breach n) log = IsRefuted s g (Breach n) log ⊎ (breach ≡ Some n)
+AllowsNextQuery s g breach (Step n) log = IsSatisfiable (query_formula s g (Step n))
 
 abbrev pub HasPassed : SystemTree → GoalTree → Option ℕ → Asked → Type 0
-HasPassed s g breach a = IsPassed s g breach a.query a.log
+HasPassed s g breach a = AllowsNextQuery s g breach a.query a.log
 
--- these were asked: a prefix of the order up to the depth, where the breach that was found, if one was, is satisfiable;
--- and each but the last has passed
-pub record AreAsked (s : SystemTree) (g : GoalTree) (depth : ℕ) (breach : Option ℕ) (asked : List Asked) (last : Asked) : Type 0 where
+-- Holds if these were asked: a prefix of the order up to the depth. The breach query of a found
+-- breach is satisfiable, and each query but the last has passed.
+pub record IsAskedPrefix (s : SystemTree) (g : GoalTree) (depth : ℕ) (breach : Option ℕ) (asked : List Asked) (last : Asked) : Type 0 where
   pub before : List Asked
   pub split : asked ≡ before ++ last ∷ []
   pub order : IsPrefix (map (λ (a : Asked). a.query) asked) (query_order breach depth)
@@ -41,20 +41,21 @@ pub record AreAsked (s : SystemTree) (g : GoalTree) (depth : ℕ) (breach : Opti
   pub passed : All (HasPassed s g breach) before
   pub logs : All (IsLogOf s g) asked
 
--- the asking ended with a query of which `Ends` is so
-abbrev pub EndsWith : SystemTree → GoalTree → ℕ → Option ℕ → (Asked → Type 0) → List Asked → Type 0
-EndsWith s g depth breach Ends asked = (last : Asked) × AreAsked s g depth breach asked last × Ends last
+-- Holds if the series ended with a query for which `Ends` holds.
+abbrev pub EndsWithQuery : SystemTree → GoalTree → ℕ → Option ℕ → (Asked → Type 0) → List Asked → Type 0
+EndsWithQuery s g depth breach Ends asked = (last : Asked) × IsAskedPrefix s g depth breach asked last × Ends last
 
--- the search was given up: each step of its log has a literal, and the formula with it is stuck
+-- Holds if the search was given up: each step of its log has a literal, and the formula with it is
+-- stuck.
 pub record IsGivenUp (s : SystemTree) (g : GoalTree) (a : Asked) : Type 0 where
   pub unfinished : conflicts_of a.log ≡ length a.log
   pub stuck : IsStuck (query_formula s g a.query) a.log
 
--- the bytes are the spent text for n of queries of which the last was given up; the steps of their logs that have a
--- literal are n
+-- Holds if the bytes are the spent text for `n` of queries whose last was given up. Their logs have
+-- `n` steps with a literal.
 pub record IsSpentText (s : SystemTree) (g : GoalTree) (depth n : ℕ) (bytes : Bytes) : Type 0 where
   pub asked : List Asked
   pub breach : Option ℕ
-  pub given_up : EndsWith s g depth breach (IsGivenUp s g) asked
+  pub given_up : EndsWithQuery s g depth breach (IsGivenUp s g) asked
   pub counted : all_conflicts asked ≡ n
   pub text : bytes ≡ spent_text n asked

@@ -1,38 +1,38 @@
 ghost use Rattle.std.specs.Prelude.{IfOk, IsTrue};
 ghost use Rattle.ilk_ir.specs.System.{system_tree, system_valid};
-ghost use Rattle.ilk_solver.specs.Answered.{IsLog};
+ghost use Rattle.ilk_solver.specs.Answered.{IsSearchLog};
 ghost use Rattle.ilk_unroll.specs.Goal.{goal_tree, goal_valid, wanted_valid};
 ghost use Rattle.ilk_unroll.specs.Query.{query_formula};
 ghost use Rattle.ilk_induct.specs.Due.{IsResponse};
 
-use crate::pick::{decision, is_restart_due};
+use crate::pick::{is_restart_due, pick_decision};
 use ilk_ir::System;
 use ilk_log::{Log, refutations_refute};
 use ilk_solver::{Answer, Outcome, Picker, Restart, Solver};
 use ilk_unroll::{Goal, Trace, Wanted, query, read_back};
 use std::alloc::{AllocError, Global};
 
-/// What comes of a query.
+/// The answer to a query.
 #[derive(Drop)]
 pub enum Response {
     /// A run that it asks for.
     Run(Trace),
-    /// There is none.
+    /// There is no such run.
     Refuted,
-    /// The search for one was given up.
+    /// The search was given up.
     GivenUp,
 }
 
-/// What came of a query, and the log of its search.
+/// The answer to a query, and the log of its search.
 #[derive(Drop)]
 pub struct Searched {
-    /// What came of it.
+    /// The answer.
     pub response: Response,
     /// The steps of the search.
     pub log: Log,
 }
 
-/// Asks one query, by a search that takes at most `budget` conflicts.
+/// Asks one query, by a search of at most `budget` conflicts.
 pub fn ask(
     alloc: Global,
     system: &System,
@@ -44,16 +44,17 @@ pub fn ask(
     requires goal { IsTrue (goal_valid system.now.ranges (goal_tree goal.now)) }
     requires wanted { IsTrue (wanted_valid q) }
     ensures log { IfOk result
-        (λ r. IsLog (query_formula (system_tree system.now) (goal_tree goal.now) q) budget r.log) }
+        (λ r. IsSearchLog (query_formula (system_tree system.now) (goal_tree goal.now) q) budget
+        r.log) }
     ensures response { IfOk result
         (λ r. IsResponse (system_tree system.now) (goal_tree goal.now) q budget r.response r.log) }
 {
     let cnf = query(alloc, system, goal, q)?;
     refutations_refute();
-    let picker = Picker::new(Box::new(alloc, decision)?);
+    let picker = Picker::new(Box::new(alloc, pick_decision)?);
     let restart = Restart::new(Box::new(alloc, is_restart_due)?);
     let solver = Solver::new(alloc, &cnf, picker, restart)?;
-    // the solver has the clauses in a form of its own, and a formula may be large
+    // The solver has its own copy of the clauses, and a formula may be large.
     drop(cnf);
     let Outcome { answer, log } = solver.solve(budget)?;
     match answer {

@@ -1,5 +1,5 @@
 ghost use Rattle.std.specs.Prelude.{◌≡◌};
-ghost use Rattle.ilk_induct.specs.Due.{due_query, after_response, after_breach, after_none, after_run};
+ghost use Rattle.ilk_induct.specs.Due.{due_query, after_response, after_breach, after_no_run, after_run};
 
 use crate::ask::Response;
 use crate::verdict::Verdict;
@@ -8,14 +8,14 @@ use ilk_unroll::{Trace, Wanted};
 /// The query that is due.
 #[derive(Drop)]
 pub enum Due {
-    /// This one, while no breach was found.
+    /// This query; no breach was found yet.
     Unbroken(Wanted),
-    /// After the run broke a family, the hazard query for runs of so many steps.
+    /// The hazard query for runs of this many steps, after this run broke a family.
     Broken(u32, Trace),
 }
 
 impl Due {
-    /// The query.
+    /// Returns the query.
     pub fn query(&self) -> Wanted
         ensures { result ≡ due_query self.now }
     {
@@ -26,7 +26,7 @@ impl Due {
     }
 }
 
-/// What follows once a query was answered.
+/// The continuation after an answer.
 #[derive(Drop)]
 pub enum Next {
     /// Another query.
@@ -35,7 +35,7 @@ pub enum Next {
     End(Verdict),
 }
 
-// What follows a breach by this run, after the hazard query for n steps.
+// Returns the continuation after a breach by this run and the hazard query for `n` steps.
 fn next_after_breach(depth: u32, n: u32, breach: Trace) -> Next
     ensures { result ≡ after_breach depth n breach }
 {
@@ -46,7 +46,7 @@ fn next_after_breach(depth: u32, n: u32, breach: Trace) -> Next
     }
 }
 
-// What follows where the query has this run.
+// Returns the continuation if the query has this run.
 fn next_after_run(depth: u32, due: Due, trace: Trace) -> Next
     ensures { result ≡ after_run depth due trace }
 {
@@ -64,9 +64,9 @@ fn next_after_run(depth: u32, due: Due, trace: Trace) -> Next
     }
 }
 
-// What follows where the query has no run.
+// Returns the continuation if the query has no run.
 fn next_after_none(depth: u32, due: Due) -> Next
-    ensures { result ≡ after_none depth due }
+    ensures { result ≡ after_no_run depth due }
 {
     match due {
         Due::Unbroken(Wanted::Hazard(n)) => Next::Ask(Due::Unbroken(Wanted::Breach(n))),
@@ -77,8 +77,8 @@ fn next_after_none(depth: u32, due: Due) -> Next
     }
 }
 
-/// What follows a query, by what came of it.
-pub fn what_follows(depth: u32, due: Due, response: Response) -> Next
+/// Returns the continuation after a query, by its answer.
+pub fn after_response(depth: u32, due: Due, response: Response) -> Next
     ensures { result ≡ after_response depth due response }
 {
     match response {

@@ -6,34 +6,34 @@ ghost use Rattle.ilk_lines.specs.Lines.{Bytes};
 ghost use Rattle.ilk_unroll.specs.Goal.{GoalTree, wanted_valid};
 ghost use Rattle.ilk_certificate.specs.declared.asked.Asked.{Asked};
 ghost use Rattle.ilk_certificate.specs.Certificate.{IsCertificate};
-ghost use Rattle.ilk_certificate.specs.CertificateText.{all_conflicts, all_hints_from_one, safe_text, spent_text};
+ghost use Rattle.ilk_certificate.specs.CertificateText.{all_conflicts, have_no_hint_zero, safe_text, spent_text};
 ghost use Rattle.ilk_certificate.specs.Kept.{without_early_steps};
 ghost use Rattle.ilk_induct.specs.declared.verdict.Verdict.{Verdict};
 ghost use Rattle.ilk_induct.specs.declared.verdict.Verdict.TheVariants.{Safe, Spent};
-ghost use Rattle.ilk_induct.specs.Asked.{IsAskedFor};
+ghost use Rattle.ilk_induct.specs.Asked.{AreQueriesOfVerdict};
 ghost use Rattle.ilk_induct.specs.Spent.{IsSpentText};
 
-/// What is written of what was asked for a safe verdict is a certificate of that, and of what was asked
-/// for a spent one a spent text. The call does nothing, and tells a proof.
-pub fn texts_are_certificates()
+/// The text written for the queries of a safe verdict is a certificate of it, and that of a spent
+/// verdict is a spent text. Proof only; no run-time effect.
+pub fn written_texts_are_valid()
     ensures safe { (s : SystemTree) (g : GoalTree) (depth conflicts k : ℕ) (asked : List Asked) →
-        depth ≤ 16 → 0 < k → IsAskedFor s g depth conflicts (Safe k) asked →
+        depth ≤ 16 → 0 < k → AreQueriesOfVerdict s g depth conflicts (Safe k) asked →
         IsCertificate s g k (safe_text k (without_early_steps asked)) }
     ensures spent { (s : SystemTree) (g : GoalTree) (depth conflicts : ℕ) (asked : List Asked) →
-        IsAskedFor s g depth conflicts Spent asked →
+        AreQueriesOfVerdict s g depth conflicts Spent asked →
         IsSpentText s g depth conflicts (spent_text (all_conflicts asked) asked) }
 {}
 
-/// What was asked for a verdict has no step with a hint 0. The call does nothing, and tells a proof.
+/// No query asked for a verdict has a step with a hint 0. Proof only; no run-time effect.
 #[tactic(auto, using(crate::proofs::Certificates::hints_count))]
 pub fn hints_are_from_one()
     ensures { (s : SystemTree) (g : GoalTree) (depth conflicts : ℕ) (verdict : Verdict)
         (asked : List Asked) →
-        IsAskedFor s g depth conflicts verdict asked → IsTrue (all_hints_from_one asked) }
+        AreQueriesOfVerdict s g depth conflicts verdict asked → IsTrue (have_no_hint_zero asked) }
 {}
 
-/// Each query of a spent text is one that may be asked: of at most 16 steps, and of at least one where
-/// it is a step query. The call does nothing, and tells a proof.
+/// Each query of a spent text is valid: it has at most 16 steps, and a step query has at least one.
+/// Proof only; no run-time effect.
 pub fn spent_queries_are_valid()
     ensures { (s : SystemTree) (g : GoalTree) (depth n : ℕ) (bytes : Bytes) → depth ≤ 16 →
         (text : IsSpentText s g depth n bytes) →

@@ -5,11 +5,11 @@ ghost use Rattle.ilk_solver.specs.View.{is_unset};
 use ilk_cnf::Lit;
 use ilk_solver::View;
 
-/// The negative literal of the unset variable of the greatest weight, the least one at a tie: what a
-/// search decides next. Where every variable is set, that of variable 1. A weight counts the learned
-/// clauses that have the variable, after the counts of literals by which Chaff decides (M. W. Moskewicz,
-/// C. F. Madigan, Y. Zhao, L. Zhang and S. Malik, 2001); nothing takes a weight down.
-pub fn decision(view: &View) -> Lit
+/// Returns the next decision of a search: the negative literal of the heaviest unset variable, the
+/// least one at a tie, or of variable 1 if all are set. A weight counts the learned clauses that
+/// have the variable, similar to the literal counts of Chaff (M. W. Moskewicz, C. F. Madigan, Y.
+/// Zhao, L. Zhang and S. Malik, 2001); it never decreases.
+pub fn pick_decision(view: &View) -> Lit
     ensures unset { (v : ℕ) → IsTrue (is_unset view.now v) → IsTrue (is_unset view.now result.var) }
     ensures heaviest { (v : ℕ) → IsTrue (is_unset view.now v) → IsHeaviest view.now result.var }
     ensures none_unset { ((v : ℕ) → is_unset view.now v ≡ false) → result.var ≡ 1 }
@@ -22,8 +22,8 @@ pub fn decision(view: &View) -> Lit
     }
 }
 
-/// Whether a search goes back to its start after so many conflicts: at each multiple of 128. The number
-/// stays the same throughout, and there is no chance in it.
+/// Returns whether a search restarts after `conflicts` conflicts: at each multiple of 128. The
+/// interval is constant, and nothing is random.
 pub fn is_restart_due(conflicts: u64) -> bool
     ensures { result ≡ (conflicts % 128 == 0) }
 {

@@ -2,28 +2,29 @@ use ilk_base::Row;
 use ilk_certificate::Asked;
 use ilk_unroll::Trace;
 
-/// What is answered of a system and a goal.
+/// The verdict on a system and a goal.
 #[derive(Drop)]
 pub enum Verdict {
-    /// No run of any length reaches a hazard or breaks a family. From `k` steps on the invariant
-    /// carries itself.
+    /// No run of any length reaches a hazard or breaks a family. The invariant is inductive from
+    /// `k` steps on.
     Safe { k: u32 },
-    /// A run from the start to a hazard, as short as there is one.
+    /// A shortest run from the start to a hazard.
     Unsafe(Trace),
-    /// No run within the depth reaches a hazard, and this run from the start breaks a family, as
-    /// short as there is one.
+    /// No run within the depth reaches a hazard, and this run from the start breaks a family. It is
+    /// a shortest one.
     Breach(Trace),
-    /// None of these within the depth. The run of as many steps as the depth begins anywhere, meets
-    /// the invariant before its last step, and doesn't after it.
+    /// No run within the depth reaches a hazard or breaks a family, and no step query was refuted.
+    /// The run of `depth` steps begins anywhere, meets the invariant before its last step, and
+    /// doesn't after it.
     NotInductive(Trace),
-    /// The searches took as many conflicts as they might, and another one would be due.
+    /// The searches used up all conflicts, and another one would be due.
     Spent,
 }
 
-/// A verdict, and what was asked for it.
+/// A verdict, and the queries asked for it.
 #[derive(Drop)]
 pub struct Found {
-    /// What is answered.
+    /// The verdict.
     pub verdict: Verdict,
     /// The queries in the order in which they were asked.
     pub asked: Row<Asked>,

@@ -1,20 +1,19 @@
--- A literal that is true exactly where an integer is at most some value.
+-- A literal that is true if and only if an integer is at most some value.
 use Rattle.std.proofs.Common.{◌≡◌, ◌==◌, ℕ, ◌+◌, ◌-◌, ◌/◌, ◌%◌, ◌^◌, ◌<◌, ◌≤◌, zero, suc, Bool, true, false, not, ◌||◌, List, [], ◌∷◌, ◌++◌, length, cond, refl, inl, inr, sym, ap, ◌∙◌, subst, arith, eqb, leb, ltb}
 use Rattle.std.specs.List.{list_any}
 use Rattle.std.proofs.lemmas.List.{append-nil}
 use Rattle.std.proofs.lemmas.Bool.{eqb-true, eq-eqb, ne_eqb, cases_eq, cases_lt, cases_order, lt-leb, le-leb, lt-ltb, le-ltb}
 use Rattle.std.proofs.Math.Nat.{pow-succ'}
-use Rattle.ilk_cnf.specs.Literal.{Literal, plus, minus}
-use Rattle.ilk_cnf.specs.Formula.{clause_in}
+use Rattle.ilk_cnf.specs.Literal.{Literal, positive_lit, negative_lit}
+use Rattle.ilk_cnf.specs.Formula.{is_clause_over}
 use Rattle.ilk_cnf.specs.Truth.{value, is_true}
-use Rattle.ilk_cnf.specs.Extends.{Extends, Only}
-use Rattle.ilk_cnf.specs.Part.{nothing_at, any_of_part}
+use Rattle.ilk_cnf.specs.Extends.{Extends, IsExactly}
+use Rattle.ilk_cnf.specs.Part.{empty_part, or_gate_part}
 use Rattle.ilk_cnf.proofs.Parts.{value-new}
 use Rattle.ilk_cnf.proofs.Extending.{any_of-law, no_more_if, only_from_if}
 use Rattle.ilk_ints.specs.Bits.{bit_count, bits_of, bits_at}
-use Rattle.ilk_ints.specs.AtMost.{highest_bit_says, at_most_part, at_most_lit, at_most_bits}
+use Rattle.ilk_ints.specs.AtMost.{highest_bit_decides, at_most_part, at_most_lit, at_most_bits}
 
--- an integer with more than one value has a bit
 pub bits_some : (range b : ℕ) → 1 < range → range ≤ 2 ^ b → 0 < b
 bits_some range zero more h = absurd (omega arith)
 bits_some range (suc b) more h = omega arith
@@ -25,7 +24,7 @@ first_item p q ps qs h = cc
 other_items : (p q : Bool) (ps qs : List Bool) → p ∷ ps ≡ q ∷ qs → ps ≡ qs
 other_items p q ps qs h = cc
 
--- the highest bit is set exactly from half of all patterns on
+-- The highest bit is set if and only if the number is at least half the number of patterns.
 highest_bit : (m v : ℕ) (a : List Bool) (first : ℕ) → v < 2 ^ suc m → bits_at a first (suc m) ≡ bits_of (suc m) v → value a (first + m) ≡ leb (2 ^ m) v
 highest_bit zero v a first less h =
     let one : value a first ≡ (v % 2 == 1) = first_item (value a first) (v % 2 == 1) [] [] h in
@@ -43,7 +42,6 @@ highest_bit (suc m) v a first less h =
       | inr high ↦ le-leb (2 ^ m) (v / 2) (omega (arith, pow-succ' 2 m)) ∙ sym (le-leb (2 ^ suc m) v high)
     ])
 
--- so where k + 1 is that half, it is false exactly up to k
 highest_bit-says : (b v k : ℕ) (a : List Bool) (first : ℕ) → 0 < b → v < 2 ^ b → k + 1 ≡ 2 ^ (b - 1) → bits_at a first b ≡ bits_of b v → not (value a (first + (b - 1))) ≡ leb v k
 highest_bit-says zero v k a first some less half h = absurd (omega arith)
 highest_bit-says (suc m) v k a first some less half h =
@@ -66,28 +64,28 @@ below_or_equal v k =
     ]
 
 pub at_most-law : (a : List Bool) (range k v n : ℕ) (below equal : Literal) → length a ≡ n →
-    clause_in n (below ∷ equal ∷ []) ≡ true → is_true a below ≡ ltb v k → is_true a equal ≡ eqb v k →
+    is_clause_over n (below ∷ equal ∷ []) ≡ true → is_true a below ≡ ltb v k → is_true a equal ≡ eqb v k →
     Extends a (at_most_part range k below equal n).vars (at_most_part range k below equal n).clauses
-    (Only (at_most_bits range k v))
-at_most-law a range k v n below equal size inside low same = by_case (highest_bit_says range k)
+    (IsExactly (at_most_bits range k v))
+at_most-law a range k v n below equal size inside low same = by_case (highest_bit_decides range k)
   where
     some : list_any (is_true a) (below ∷ equal ∷ []) ≡ leb v k
     some = rw (low, same) (below_or_equal v k)
 
-    by_case : (h : Bool) → Extends a (cond h (nothing_at n) (any_of_part (below ∷ equal ∷ []) n)).vars (cond h (nothing_at n) (any_of_part (below ∷ equal ∷ []) n)).clauses (Only (cond h [] (leb v k ∷ [])))
+    by_case : (h : Bool) → Extends a (cond h (empty_part n) (or_gate_part (below ∷ equal ∷ []) n)).vars (cond h (empty_part n) (or_gate_part (below ∷ equal ∷ []) n)).clauses (IsExactly (cond h [] (leb v k ∷ [])))
     by_case true = only_from_if a n [] [] (no_more_if a n [] true size refl)
-    by_case false = subst (λ (e : Bool). Extends a (n + 1) (any_of_part (below ∷ equal ∷ []) n).clauses (Only (e ∷ []))) some (any_of-law a n (below ∷ equal ∷ []) size inside)
+    by_case false = subst (λ (e : Bool). Extends a (n + 1) (or_gate_part (below ∷ equal ∷ []) n).clauses (IsExactly (e ∷ []))) some (any_of-law a n (below ∷ equal ∷ []) size inside)
 
 pub at_most-exact : (a : List Bool) (first range k v n : ℕ) → length a ≡ n → 0 < bit_count range →
     range ≤ 2 ^ bit_count range → v < range →
     bits_at a first (bit_count range) ≡ bits_of (bit_count range) v →
     is_true (a ++ at_most_bits range k v) (at_most_lit first range k n) ≡ leb v k
-at_most-exact a first range k v n size some enough less is = by_case (highest_bit_says range k) refl
+at_most-exact a first range k v n size some enough less is = by_case (highest_bit_decides range k) refl
   where
     b : ℕ
     b = bit_count range
 
-    by_case : (h : Bool) → highest_bit_says range k ≡ h → is_true (a ++ cond h [] (leb v k ∷ [])) (cond h (minus (first + (b - 1))) (plus (n + 1))) ≡ leb v k
+    by_case : (h : Bool) → highest_bit_decides range k ≡ h → is_true (a ++ cond h [] (leb v k ∷ [])) (cond h (negative_lit (first + (b - 1))) (positive_lit (n + 1))) ≡ leb v k
     by_case true h =
         ap (λ (u : List Bool). not (value u (first + (b - 1)))) (append-nil a) ∙ highest_bit-says b v k a first some (omega (arith, less, enough)) (eqb-true (k + 1) (2 ^ (b - 1)) h) is
     by_case false h = value-new a [] (leb v k) (n + 1) (ap (λ (u : ℕ). u + 1) size)

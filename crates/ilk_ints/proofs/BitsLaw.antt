@@ -1,31 +1,27 @@
--- Numbers and their bits, and what literals say of them.
+-- Numbers and their bits, and the meaning of their literals.
 use Rattle.std.proofs.Common.{◌≡◌, ◌==◌, ℕ, ◌+◌, ◌-◌, ◌*◌, ◌/◌, ◌%◌, ◌^◌, ◌<◌, ◌≤◌, zero, suc, Bool, true, false, not, ◌&&◌, List, [], ◌∷◌, ◌++◌, length, cond, refl, inl, inr, sym, ap, ◌∙◌, subst, arith, eqb, leb, append_assoc}
 use Rattle.std.specs.List.{list_all}
 use Rattle.std.proofs.lemmas.Bool.{and_parts, and_from, eq-eqb, ne_eqb, cases_eq, false≢true, lt-leb, le-leb, lt-ltb}
 use Rattle.std.proofs.Math.Nat.{pow-succ'}
 use Rattle.ilk_base.proofs.Ranges.{find-least}
 use Rattle.ilk_cnf.specs.Literal.{Literal}
-use Rattle.ilk_cnf.specs.Formula.{clause_in}
+use Rattle.ilk_cnf.specs.Formula.{is_clause_over}
 use Rattle.ilk_cnf.specs.Truth.{value, is_true}
-use Rattle.ilk_cnf.specs.Extends.{Extends, Only}
+use Rattle.ilk_cnf.specs.Extends.{Extends, IsExactly}
 use Rattle.ilk_cnf.proofs.Extending.{all_of-law}
 use Rattle.ilk_ints.specs.Bits.{bit_count, bits_of, bits_at, bit_lits, same_bits}
-use Rattle.ilk_ints.specs.Number.{value_lits, is_part, bits_have_value}
-
--- how many bits
+use Rattle.ilk_ints.specs.Number.{value_lits, value_lit_part, bits_have_value}
 
 pub bit_count-first : (range k : ℕ) → k < 8 → ((b : ℕ) → b < k → 2 ^ b < range) → range ≤ 2 ^ k → k ≡ bit_count range
 bit_count-first range k few below enough =
     let found = find-least (λ b. leb range (2 ^ b)) 0 8 k (omega arith) (omega arith) (le-leb range (2 ^ k) enough) (λ b _ less. lt-leb range (2 ^ b) (below b less)) in
     rw found refl
 
--- numbers and bits
-
 pub length-bits : (b v : ℕ) → length (bits_of b v) ≡ b
 length-bits zero v = refl
 length-bits (suc b) v = ap suc (length-bits b (v / 2))
 
--- the number of some bits
+-- The number with these bits.
 abbrev pub number_of : List Bool → ℕ
 number_of [] = 0
 number_of (q ∷ qs) = cond q 1 0 + 2 * number_of qs
@@ -44,7 +40,6 @@ number-less [] = omega arith
 number-less (true ∷ qs) = let h = number-less qs in omega (arith, pow-succ' 2 (length qs))
 number-less (false ∷ qs) = let h = number-less qs in omega (arith, pow-succ' 2 (length qs))
 
--- the bits of twice a number and one bit
 pub bits-twice : (b v : ℕ) (q : Bool) → bits_of (suc b) (2 * v + cond q 1 0) ≡ q ∷ bits_of b v
 bits-twice b v true =
     let half : (2 * v + 1) / 2 ≡ v = omega arith in
@@ -84,7 +79,6 @@ same_bits-self [] = refl
 same_bits-self (true ∷ ws) = same_bits-self ws
 same_bits-self (false ∷ ws) = same_bits-self ws
 
--- of numbers below 2 ^ b, one's bits are the other's exactly where they are equal
 pub bits-test : (b v e : ℕ) → v < 2 ^ b → e < 2 ^ b → same_bits (bits_of b v) (bits_of b e) ≡ eqb v e
 bits-test b v e hv he =
     elim (cases_eq v e) [
@@ -96,9 +90,8 @@ bits-test b v e hv he =
     by_case false h other = refl
     by_case true h other = absurd (other (sym (number-bits b v hv) ∙ ap number_of (same_bits-is (bits_of b v) (bits_of b e) h) ∙ number-bits b e he))
 
--- literals
+-- Literals
 
--- one literal more, of the lowest bit of what is left
 pub lits_step : (first count i rest : ℕ) (ls whole : List Literal) (l : Literal) → i < count →
     l ≡ record { var = first + i; positive = (rest % 2 == 1) } →
     ls ++ bit_lits (first + i) (bits_of (count - i) rest) ≡ whole →
@@ -112,7 +105,6 @@ lits_step first count i rest ls whole l less is h =
     ∙ ap (λ (k : ℕ). ls ++ bit_lits (first + i) (bits_of k rest)) (sym more)
     ∙ h
 
--- the literals of some bits are true exactly where the variables have the bits
 pub lits-say : (a : List Bool) (qs : List Bool) (first : ℕ) → list_all (is_true a) (bit_lits first qs) ≡ same_bits (bits_at a first (length qs)) qs
 lits-say a [] first = refl
 lits-say a (q ∷ qs) first = ap (λ (r : Bool). cond q (value a first) (not (value a first)) && r) (lits-say a qs (first + 1))
@@ -122,28 +114,25 @@ value_lits-say a first range v =
     let b = bit_count range in
     lits-say a (bits_of b v) first ∙ ap (λ (k : ℕ). same_bits (bits_at a first k) (bits_of b v)) (length-bits b v)
 
-pub bit_lits-in : (n : ℕ) (qs : List Bool) (first : ℕ) → 0 < first → first + length qs ≤ n + 1 → clause_in n (bit_lits first qs) ≡ true
+pub bit_lits-in : (n : ℕ) (qs : List Bool) (first : ℕ) → 0 < first → first + length qs ≤ n + 1 → is_clause_over n (bit_lits first qs) ≡ true
 bit_lits-in n [] first low high = refl
 bit_lits-in n (q ∷ qs) first low high =
     and_from _ _ (and_from _ _ (lt-ltb 0 first low) (le-leb first n (omega arith))) (bit_lits-in n qs (first + 1) (omega arith) (omega arith))
 
-pub value_lits-in : (n first range v : ℕ) → 0 < first → first + bit_count range ≤ n + 1 → clause_in n (value_lits first range v) ≡ true
+pub value_lits-in : (n first range v : ℕ) → 0 < first → first + bit_count range ≤ n + 1 → is_clause_over n (value_lits first range v) ≡ true
 value_lits-in n first range v low high =
     let b = bit_count range in
     bit_lits-in n (bits_of b v) first low (subst (λ (k : ℕ). first + k ≤ n + 1) (sym (length-bits b v)) high)
 
--- is
-
-pub is-law : (a : List Bool) (first range v n : ℕ) → length a ≡ n → 0 < first → first + bit_count range ≤ n + 1 → Extends a (n + 1) (is_part first range v n).clauses (Only (bits_have_value a first range v ∷ []))
+pub is-law : (a : List Bool) (first range v n : ℕ) → length a ≡ n → 0 < first → first + bit_count range ≤ n + 1 → Extends a (n + 1) (value_lit_part first range v n).clauses (IsExactly (bits_have_value a first range v ∷ []))
 is-law a first range v n size low high =
-    subst (λ (e : Bool). Extends a (n + 1) (is_part first range v n).clauses (Only (e ∷ []))) (value_lits-say a first range v) (all_of-law a n (value_lits first range v) size (value_lits-in n first range v low high))
+    subst (λ (e : Bool). Extends a (n + 1) (value_lit_part first range v n).clauses (IsExactly (e ∷ []))) (value_lits-say a first range v) (all_of-law a n (value_lits first range v) size (value_lits-in n first range v low high))
 
 pub has_value-exact : (a : List Bool) (first range v w : ℕ) → range ≤ 2 ^ bit_count range → v < range → w < range → bits_at a first (bit_count range) ≡ bits_of (bit_count range) w → bits_have_value a first range v ≡ eqb w v
 has_value-exact a first range v w enough hv hw is =
     let b = bit_count range in
     ap (λ (u : List Bool). same_bits u (bits_of b v)) is ∙ bits-test b w v (omega arith) (omega arith)
 
--- an integer of range 2 is its one bit
 pub bit_is-exact : (a : List Bool) (first v : ℕ) → v < 2 → is_true a (record { var = first; positive = (v == 1) }) ≡ bits_have_value a first 2 v
 bit_is-exact a first v less =
     elim (cases_eq v 1) [

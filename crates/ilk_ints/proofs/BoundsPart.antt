@@ -1,29 +1,27 @@
--- The bounds of a range, of any length, and the literals that say them.
+-- The bounds of a range and their literals.
 use Rattle.std.proofs.Common.{◌≡◌, ℕ, ◌+◌, ◌-◌, ◌^◌, ◌<◌, ◌≤◌, zero, suc, Bool, true, List, [], ◌∷◌, ◌++◌, length, take, drop, get_or, map, refl, inl, inr, sym, ap, ◌∙◌, subst, arith, eqb, ltb}
 use Rattle.std.proofs.lemmas.List.{length-take-le}
 use Rattle.std.proofs.lemmas.Bool.{and_parts, and_from, cases_lt, lt-ltb, le-ltb, eq-eqb, ne_eqb}
 use Rattle.ilk_cnf.specs.Literal.{Literal}
-use Rattle.ilk_cnf.specs.Formula.{lit_in, clause_in}
+use Rattle.ilk_cnf.specs.Formula.{is_lit_over, is_clause_over}
 use Rattle.ilk_cnf.specs.Truth.{is_true}
-use Rattle.ilk_cnf.specs.Extends.{Extends, Only}
+use Rattle.ilk_cnf.specs.Extends.{Extends, IsExactly}
 use Rattle.ilk_cnf.proofs.Extending.{no_more_if, only_from_if}
 use Rattle.ilk_ints.specs.Bits.{bit_count, bits_of, bits_at}
-use Rattle.ilk_ints.specs.Named.{value_bits, bound_count, bounds_from, bounds_part, bound_bits, bounds_bits}
+use Rattle.ilk_ints.specs.Named.{value_bits, bound_count, bounds_from, bounds_part, bound_bits, bound_vars_bits}
 use Rattle.ilk_ints.proofs.AtMostLaw.{bits_some}
 use Rattle.ilk_ints.proofs.BoundsLaw.{bounds-law, bounds-say}
-
--- the bounds of a range
 
 pub few_bounds : (range : ℕ) → bound_count range ≤ range - 3
 few_bounds range = omega arith
 
-clause_in-take : (n k : ℕ) (ls : List Literal) → clause_in n ls ≡ true → clause_in n (take k ls) ≡ true
-clause_in-take n zero ls h = refl
-clause_in-take n (suc k) [] h = refl
-clause_in-take n (suc k) (l ∷ ls) h = let parts = and_parts _ _ h in and_from _ _ parts.0 (clause_in-take n k ls parts.1)
+is_clause_over-take : (n k : ℕ) (ls : List Literal) → is_clause_over n ls ≡ true → is_clause_over n (take k ls) ≡ true
+is_clause_over-take n zero ls h = refl
+is_clause_over-take n (suc k) [] h = refl
+is_clause_over-take n (suc k) (l ∷ ls) h = let parts = and_parts _ _ h in and_from _ _ parts.0 (is_clause_over-take n k ls parts.1)
 
-pub some-inside : (n k : ℕ) (e : Literal) (es : List Literal) → clause_in n (e ∷ es) ≡ true → clause_in n (e ∷ take k es) ≡ true
-some-inside n k e es h = let parts = and_parts _ _ h in and_from _ _ parts.0 (clause_in-take n k es parts.1)
+pub some-inside : (n k : ℕ) (e : Literal) (es : List Literal) → is_clause_over n (e ∷ es) ≡ true → is_clause_over n (e ∷ take k es) ≡ true
+some-inside n k e es h = let parts = and_parts _ _ h in and_from _ _ parts.0 (is_clause_over-take n k es parts.1)
 
 take-says : (k : ℕ) (a : List Bool) (w v r : ℕ) (es : List Literal) → map (is_true a) es ≡ value_bits w v r → map (is_true a) (take k es) ≡ value_bits w v (length (take k es))
 take-says zero a w v r es h = refl
@@ -43,14 +41,14 @@ take-says (suc k) a w v (suc r) (e ∷ es) h =
     join : {p q : Bool} {ps qs : List Bool} → p ≡ q → ps ≡ qs → p ∷ ps ≡ q ∷ qs
     join h k = cc
 
--- what both laws of the bounds need of the literals of the values
+-- The common conditions of both theorems on the literals of the values.
 record Ready (a : List Bool) (first range w n : ℕ) (e : Literal) (es : List Literal) : Type 0 where
   pub count : length (take (bound_count range) es) ≡ bound_count range
-  pub inside : clause_in n (e ∷ take (bound_count range) es) ≡ true
+  pub inside : is_clause_over n (e ∷ take (bound_count range) es) ≡ true
   pub under : is_true a e ≡ ltb w 1
   pub same : map (is_true a) (take (bound_count range) es) ≡ value_bits w 1 (length (take (bound_count range) es))
 
-ready : (a : List Bool) (first range w n : ℕ) (e : Literal) (es : List Literal) → length (e ∷ es) ≡ range → clause_in n (e ∷ es) ≡ true → map (is_true a) (e ∷ es) ≡ value_bits w 0 range → Ready a first range w n e es
+ready : (a : List Bool) (first range w n : ℕ) (e : Literal) (es : List Literal) → length (e ∷ es) ≡ range → is_clause_over n (e ∷ es) ≡ true → map (is_true a) (e ∷ es) ≡ value_bits w 0 range → Ready a first range w n e es
 ready a first range w n e es all inside says =
     let whole : is_true a e ∷ map (is_true a) es ≡ eqb w 0 ∷ value_bits w 1 (length es) = says ∙ ap (value_bits w 0) (sym all) in
     record {
@@ -71,10 +69,10 @@ ready a first range w n e es all inside says =
 
 pub bounds_part-law : (values : List Literal) (a : List Bool) (first range w n : ℕ) → length a ≡ n →
     0 < first → first + bit_count range ≤ n + 1 → range ≤ 2 ^ bit_count range → length values ≡ range →
-    clause_in n values ≡ true → w < range → bits_at a first (bit_count range) ≡ bits_of (bit_count range) w →
+    is_clause_over n values ≡ true → w < range → bits_at a first (bit_count range) ≡ bits_of (bit_count range) w →
     map (is_true a) values ≡ value_bits w 0 range →
     Extends a (bounds_part first range values n).part.vars (bounds_part first range values n).part.clauses
-    (Only (bounds_bits range w 1 (bound_count range)))
+    (IsExactly (bound_vars_bits range w 1 (bound_count range)))
 bounds_part-law [] a first range w n size low high enough all inside less is says = absurd (omega arith)
 bounds_part-law (e ∷ es) a first range w n size low high enough all inside less is says =
     elim (cases_lt 1 range) [
@@ -82,20 +80,21 @@ bounds_part-law (e ∷ es) a first range w n size low high enough all inside les
           (let r = ready a first range w n e es all inside says in
           subst
           (λ (j : ℕ). Extends a (bounds_part first range (e ∷ es) n).part.vars
-          (bounds_part first range (e ∷ es) n).part.clauses (Only (bounds_bits range w 1 j))) r.count
+          (bounds_part first range (e ∷ es) n).part.clauses (IsExactly (bound_vars_bits range w 1 j))) r.count
           (bounds-law (take (bound_count range) es) a first range 1 w n e size low
           (bits_some range (bit_count range) more enough) high enough less is r.inside r.under
           r.same))
       | inr one ↦
           (let none : 0 ≡ bound_count range = omega (arith, few_bounds range) in
-          subst (λ (j : ℕ). Extends a (bounds_from first range e 1 (take j es) n).part.vars (bounds_from first range e 1 (take j es) n).part.clauses (Only (bounds_bits range w 1 j))) none (only_from_if a n [] [] (no_more_if a n [] true size refl)))
+          subst (λ (j : ℕ). Extends a (bounds_from first range e 1 (take j es) n).part.vars (bounds_from first range e 1 (take j es) n).part.clauses (IsExactly (bound_vars_bits range w 1 j))) none
+          (only_from_if a n [] [] (no_more_if a n [] true size refl)))
     ]
 
 pub bounds_part-say : (values : List Literal) (a c : List Bool) (first range w n : ℕ) → length a ≡ n →
     0 < first → first + bit_count range ≤ n + 1 → range ≤ 2 ^ bit_count range → length values ≡ range →
-    clause_in n values ≡ true → w < range → bits_at a first (bit_count range) ≡ bits_of (bit_count range) w →
+    is_clause_over n values ≡ true → w < range → bits_at a first (bit_count range) ≡ bits_of (bit_count range) w →
     map (is_true a) values ≡ value_bits w 0 range →
-    map (is_true (a ++ (bounds_bits range w 1 (bound_count range) ++ c)))
+    map (is_true (a ++ (bound_vars_bits range w 1 (bound_count range) ++ c)))
     (bounds_part first range values n).lits
     ≡ bound_bits w 1 (bound_count range)
 bounds_part-say [] a c first range w n size low high enough all inside less is says = absurd (omega arith)
@@ -105,7 +104,7 @@ bounds_part-say (e ∷ es) a c first range w n size low high enough all inside l
           (let r = ready a first range w n e es all inside says in
           subst
           (λ (j : ℕ).
-          map (is_true (a ++ (bounds_bits range w 1 j ++ c)))
+          map (is_true (a ++ (bound_vars_bits range w 1 j ++ c)))
           (bounds_part first range (e ∷ es) n).lits
           ≡ bound_bits w 1 j) r.count
           (bounds-say (take (bound_count range) es) a c first range 1 w n e size low
@@ -113,12 +112,11 @@ bounds_part-say (e ∷ es) a c first range w n size low high enough all inside l
           r.same))
       | inr one ↦
           (let none : 0 ≡ bound_count range = omega (arith, few_bounds range) in
-          subst (λ (j : ℕ). map (is_true (a ++ (bounds_bits range w 1 j ++ c))) (bounds_from first range e 1 (take j es) n).lits ≡ bound_bits w 1 j) none refl)
+          subst (λ (j : ℕ). map (is_true (a ++ (bound_vars_bits range w 1 j ++ c))) (bounds_from first range e 1 (take j es) n).lits ≡ bound_bits w 1 j) none refl)
     ]
 
--- the same, where the first literal and the others are told by index
-pub split-inside : (n k m : ℕ) (values : List Literal) (e : Literal) → 1 ≤ length values → e ≡ get_or values 0 e → clause_in n values ≡ true → clause_in n (e ∷ take k (take m (drop 1 values))) ≡ true
+pub split-inside : (n k m : ℕ) (values : List Literal) (e : Literal) → 1 ≤ length values → e ≡ get_or values 0 e → is_clause_over n values ≡ true → is_clause_over n (e ∷ take k (take m (drop 1 values))) ≡ true
 split-inside n k m [] e some is h = absurd (omega arith)
 split-inside n k m (x ∷ xs) e some is h =
     let parts = and_parts _ _ h in
-    and_from _ _ (ap (lit_in n) is ∙ parts.0) (clause_in-take n k (take m xs) (clause_in-take n m xs parts.1))
+    and_from _ _ (ap (is_lit_over n) is ∙ parts.0) (is_clause_over-take n k (take m xs) (is_clause_over-take n m xs parts.1))

@@ -1,20 +1,20 @@
--- Exactly one of some literals: the law, and how many clauses there are.
+-- Exactly one of some literals: the theorem, and the number of clauses.
 use Rattle.std.proofs.Common.{◌≡◌, ℕ, zero, suc, ◌+◌, ◌*◌, ◌<◌, ◌≤◌, Bool, true, false, not, ◌&&◌, ◌||◌, List, [], ◌∷◌, ◌++◌, length, map, drop, get_or, refl, sym, ap, ◌∙◌, subst, arith, length-append}
 use Rattle.std.proofs.Math.Bool.{beq}
 use Rattle.std.proofs.lemmas.List.{map-append, length-map}
 use Rattle.std.proofs.lemmas.List.Folds.{list_all-append}
 use Rattle.std.proofs.lemmas.Bool.{and_parts, and_from, cond_both, leb-true}
 use Rattle.ilk_base.proofs.Lists.{drop_at}
-use Rattle.ilk_cnf.specs.Literal.{Literal, opposite, plus}
-use Rattle.ilk_cnf.specs.Formula.{Formula, as_clause, distinct, is_tautology, lit_in, clause_in, clauses_in}
+use Rattle.ilk_cnf.specs.Literal.{Literal, negated_lit, positive_lit}
+use Rattle.ilk_cnf.specs.Formula.{Formula, as_clause, distinct, is_tautology, is_lit_over, is_clause_over, are_clauses_over}
 use Rattle.ilk_cnf.specs.Part.{Part, and_then, with_part, as_clauses}
 use Rattle.ilk_cnf.specs.Truth.{value, is_true}
-use Rattle.ilk_cnf.specs.Extends.{Extends, OnlyIf}
-use Rattle.ilk_cnf.proofs.Literals.{lit_in-more, clause_in-more, clauses_in-more}
+use Rattle.ilk_cnf.specs.Extends.{Extends, IsExactlyIf}
+use Rattle.ilk_cnf.proofs.Literals.{is_lit_over-more, is_clause_over-more, are_clauses_over-more}
 use Rattle.ilk_cnf.proofs.Parts.{value-new, is_true-left}
-use Rattle.ilk_cnf.proofs.Gates.{is_true-opposite, new-in, with_part-and_then}
+use Rattle.ilk_cnf.proofs.Gates.{is_true-negated_lit, new-in, with_part-and_then}
 use Rattle.ilk_cnf.proofs.Extending.{one_more_if, no_more_if, if_then_if}
-use Rattle.ilk_ints.specs.OneOf.{either_of, either_part, joined, one_of_part, none_true, one_true, joined_bits, one_of_bits}
+use Rattle.ilk_ints.specs.OneOf.{disjoint_or_clauses, disjoint_or_part, join_pairs, one_of_part, none_true, exactly_one_true, joined_bits, one_of_bits}
 
 either_says : (w s l : Bool) → ((not l || (w || false)) && ((not s || (w || false)) && ((not w || (s || (l || false))) && ((not s || (not l || false)) && true)))) ≡ (beq w (s || l) && not (s && l))
 either_says true true true = refl
@@ -26,27 +26,27 @@ either_says false true false = refl
 either_says false false true = refl
 either_says false false false = refl
 
-either_of-law : (a : List Bool) (s l : Literal) (p q : Bool) (v : ℕ) → length a + 1 ≡ v → s.var ≤ length a → l.var ≤ length a → is_true a s ≡ p → is_true a l ≡ q → Extends a v (either_of s l (plus v)) (OnlyIf (not (p && q)) ((p || q) ∷ []))
-either_of-law a s l p q v size si li sp lq =
-    one_more_if a v (either_of s l (plus v)) (not (p && q)) (p || q) size (λ w.
+disjoint_or_clauses-law : (a : List Bool) (s l : Literal) (p q : Bool) (v : ℕ) → length a + 1 ≡ v → s.var ≤ length a → l.var ≤ length a → is_true a s ≡ p → is_true a l ≡ q
+    → Extends a v (disjoint_or_clauses s l (positive_lit v)) (IsExactlyIf (not (p && q)) ((p || q) ∷ []))
+disjoint_or_clauses-law a s l p q v size si li sp lq =
+    one_more_if a v (disjoint_or_clauses s l (positive_lit v)) (not (p && q)) (p || q) size (λ w.
     let new : value (a ++ w ∷ []) v ≡ w = value-new a [] w v size in
     let one : is_true (a ++ w ∷ []) s ≡ p = is_true-left a (w ∷ []) s si ∙ sp in
     let two : is_true (a ++ w ∷ []) l ≡ q = is_true-left a (w ∷ []) l li ∙ lq in
-    let three : is_true (a ++ w ∷ []) (opposite s) ≡ not p = is_true-opposite (a ++ w ∷ []) s ∙ ap not one in
-    let four : is_true (a ++ w ∷ []) (opposite l) ≡ not q = is_true-opposite (a ++ w ∷ []) l ∙ ap not two in
+    let three : is_true (a ++ w ∷ []) (negated_lit s) ≡ not p = is_true-negated_lit (a ++ w ∷ []) s ∙ ap not one in
+    let four : is_true (a ++ w ∷ []) (negated_lit l) ≡ not q = is_true-negated_lit (a ++ w ∷ []) l ∙ ap not two in
     rw (four, three, one, two, new) (either_says w p q))
 
-pub either_of-in : (n : ℕ) (s l v : Literal) → clause_in n (s ∷ l ∷ v ∷ []) ≡ true → clauses_in n (either_of s l v) ≡ true
-either_of-in n s l v h =
+pub disjoint_or_clauses-in : (n : ℕ) (s l v : Literal) → is_clause_over n (s ∷ l ∷ v ∷ []) ≡ true → are_clauses_over n (disjoint_or_clauses s l v) ≡ true
+disjoint_or_clauses-in n s l v h =
     let one = and_parts _ _ h in
     let two = and_parts _ _ one.1 in
     let three = and_parts _ _ two.1 in
-    let si : lit_in n s ≡ true = one.0 in
-    let li : lit_in n l ≡ true = two.0 in
-    let vi : lit_in n v ≡ true = three.0 in
+    let si : is_lit_over n s ≡ true = one.0 in
+    let li : is_lit_over n l ≡ true = two.0 in
+    let vi : is_lit_over n v ≡ true = three.0 in
     rw (si, li, vi) refl
 
--- whether one entry is true doesn't ask where it stands
 none_true-last : (qs : List Bool) (q : Bool) → none_true (qs ++ q ∷ []) ≡ none_true (q ∷ qs)
 none_true-last [] q = refl
 none_true-last (true ∷ qs) true = refl
@@ -54,25 +54,25 @@ none_true-last (true ∷ qs) false = refl
 none_true-last (false ∷ qs) true = none_true-last qs true
 none_true-last (false ∷ qs) false = none_true-last qs false
 
-one_true-last : (qs : List Bool) (q : Bool) → one_true (qs ++ q ∷ []) ≡ one_true (q ∷ qs)
-one_true-last [] true = refl
-one_true-last [] false = refl
-one_true-last (true ∷ qs) true = none_true-last qs true
-one_true-last (true ∷ qs) false = none_true-last qs false
-one_true-last (false ∷ qs) true = one_true-last qs true
-one_true-last (false ∷ qs) false = one_true-last qs false
+exactly_one_true-last : (qs : List Bool) (q : Bool) → exactly_one_true (qs ++ q ∷ []) ≡ exactly_one_true (q ∷ qs)
+exactly_one_true-last [] true = refl
+exactly_one_true-last [] false = refl
+exactly_one_true-last (true ∷ qs) true = none_true-last qs true
+exactly_one_true-last (true ∷ qs) false = none_true-last qs false
+exactly_one_true-last (false ∷ qs) true = exactly_one_true-last qs true
+exactly_one_true-last (false ∷ qs) false = exactly_one_true-last qs false
 
-one_true-first : (p q : Bool) (qs : List Bool) → (not (p && q) && one_true ((p || q) ∷ qs)) ≡ one_true (p ∷ q ∷ qs)
-one_true-first true true qs = refl
-one_true-first true false qs = refl
-one_true-first false true qs = refl
-one_true-first false false qs = refl
+exactly_one_true-first : (p q : Bool) (qs : List Bool) → (not (p && q) && exactly_one_true ((p || q) ∷ qs)) ≡ exactly_one_true (p ∷ q ∷ qs)
+exactly_one_true-first true true qs = refl
+exactly_one_true-first true false qs = refl
+exactly_one_true-first false true qs = refl
+exactly_one_true-first false false qs = refl
 
--- exactly one of some entries is true where not both of the first two are, and exactly one is with these joined
-pub one_true-joined : (p q : Bool) (qs : List Bool) → (not (p && q) && one_true (qs ++ (p || q) ∷ [])) ≡ one_true (p ∷ q ∷ qs)
-one_true-joined p q qs = ap (λ (o : Bool). not (p && q) && o) (one_true-last qs (p || q)) ∙ one_true-first p q qs
+-- Joining the first two entries preserves "exactly one", if not both are true.
+pub exactly_one_true-join_pairs : (p q : Bool) (qs : List Bool) → (not (p && q) && exactly_one_true (qs ++ (p || q) ∷ [])) ≡ exactly_one_true (p ∷ q ∷ qs)
+exactly_one_true-join_pairs p q qs = ap (λ (o : Bool). not (p && q) && o) (exactly_one_true-last qs (p || q)) ∙ exactly_one_true-first p q qs
 
-pub map-left : (a b : List Bool) (ls : List Literal) → clause_in (length a) ls ≡ true → map (is_true (a ++ b)) ls ≡ map (is_true a) ls
+pub map-left : (a b : List Bool) (ls : List Literal) → is_clause_over (length a) ls ≡ true → map (is_true (a ++ b)) ls ≡ map (is_true a) ls
 map-left a b [] h = refl
 map-left a b (l ∷ ls) h =
     let parts = and_parts _ _ h in
@@ -83,57 +83,55 @@ map-left a b (l ∷ ls) h =
 more : (n : ℕ) → n ≤ n + 1
 more n = omega arith
 
--- the literals after a join
-pub next-in : (s l : Literal) (ls : List Literal) (n : ℕ) → clause_in n (s ∷ l ∷ ls) ≡ true → clause_in (n + 1) (ls ++ plus (n + 1) ∷ []) ≡ true
+pub next-in : (s l : Literal) (ls : List Literal) (n : ℕ) → is_clause_over n (s ∷ l ∷ ls) ≡ true → is_clause_over (n + 1) (ls ++ positive_lit (n + 1) ∷ []) ≡ true
 next-in s l ls n h =
     let one = and_parts _ _ h in
     let two = and_parts _ _ one.1 in
-    let old : clause_in (n + 1) ls ≡ true = clause_in-more n (n + 1) ls (more n) two.1 in
-    list_all-append (lit_in (n + 1)) ls (plus (n + 1) ∷ []) ∙ and_from _ _ old (and_from _ _ (new-in n true) refl)
+    let old : is_clause_over (n + 1) ls ≡ true = is_clause_over-more n (n + 1) ls (more n) two.1 in
+    list_all-append (is_lit_over (n + 1)) ls (positive_lit (n + 1) ∷ []) ∙ and_from _ _ old (and_from _ _ (new-in n true) refl)
 
-pub next-true : (ls : List Literal) (a : List Bool) (w : Bool) (n : ℕ) → length a ≡ n → clause_in n ls ≡ true → map (is_true (a ++ w ∷ [])) (ls ++ plus (n + 1) ∷ []) ≡ map (is_true a) ls ++ w ∷ []
+pub next-true : (ls : List Literal) (a : List Bool) (w : Bool) (n : ℕ) → length a ≡ n → is_clause_over n ls ≡ true → map (is_true (a ++ w ∷ [])) (ls ++ positive_lit (n + 1) ∷ []) ≡ map (is_true a) ls ++ w ∷ []
 next-true ls a w n size h =
     let new : value (a ++ w ∷ []) (n + 1) ≡ w = value-new a [] w (n + 1) (ap (λ (k : ℕ). k + 1) size) in
     let old : map (is_true (a ++ w ∷ [])) ls ≡ map (is_true a) ls = map-left a (w ∷ []) ls (rw size h) in
-    map-append (is_true (a ++ w ∷ [])) ls (plus (n + 1) ∷ []) ∙ rw (old, new) refl
+    map-append (is_true (a ++ w ∷ [])) ls (positive_lit (n + 1) ∷ []) ∙ rw (old, new) refl
 
-pub either-next-in : (s l : Literal) (ls : List Literal) (n : ℕ) → clause_in n (s ∷ l ∷ ls) ≡ true → clause_in (n + 1) (s ∷ l ∷ plus (n + 1) ∷ []) ≡ true
+pub either-next-in : (s l : Literal) (ls : List Literal) (n : ℕ) → is_clause_over n (s ∷ l ∷ ls) ≡ true → is_clause_over (n + 1) (s ∷ l ∷ positive_lit (n + 1) ∷ []) ≡ true
 either-next-in s l ls n h =
     let one = and_parts _ _ h in
     let two = and_parts _ _ one.1 in
-    and_from _ _ (lit_in-more n (n + 1) s (omega arith) one.0) (and_from _ _ (lit_in-more n (n + 1) l (omega arith) two.0) (and_from _ _ (new-in n true) refl))
+    and_from _ _ (is_lit_over-more n (n + 1) s (omega arith) one.0) (and_from _ _ (is_lit_over-more n (n + 1) l (omega arith) two.0) (and_from _ _ (new-in n true) refl))
 
-joined-low : (k : ℕ) (ls : List Literal) (n : ℕ) → n ≤ (joined k ls n).vars
-joined-low zero ls n = omega arith
-joined-low (suc k) [] n = omega arith
-joined-low (suc k) (l ∷ []) n = omega arith
-joined-low (suc k) (s ∷ l ∷ ls) n = let h = joined-low k (ls ++ plus (n + 1) ∷ []) (n + 1) in omega arith
+join_pairs-low : (k : ℕ) (ls : List Literal) (n : ℕ) → n ≤ (join_pairs k ls n).vars
+join_pairs-low zero ls n = omega arith
+join_pairs-low (suc k) [] n = omega arith
+join_pairs-low (suc k) (l ∷ []) n = omega arith
+join_pairs-low (suc k) (s ∷ l ∷ ls) n = let h = join_pairs-low k (ls ++ positive_lit (n + 1) ∷ []) (n + 1) in omega arith
 
-joined-in : (k : ℕ) (ls : List Literal) (n : ℕ) → clause_in n ls ≡ true → clauses_in (joined k ls n).vars (joined k ls n).clauses ≡ true
-joined-in zero ls n h = and_from _ _ h refl
-joined-in (suc k) [] n h = refl
-joined-in (suc k) (l ∷ []) n h = and_from _ _ h refl
-joined-in (suc k) (s ∷ l ∷ ls) n h =
-    let next = ls ++ plus (n + 1) ∷ [] in
-    let low = joined-low k next (n + 1) in
-    list_all-append (clause_in (joined k next (n + 1)).vars) (either_of s l (plus (n + 1))) (joined k next (n + 1)).clauses
-    ∙ and_from _ _ (clauses_in-more (n + 1) _ (either_of s l (plus (n + 1))) low (either_of-in (n + 1) s l (plus (n + 1)) (either-next-in s l ls n h))) (joined-in k next (n + 1) (next-in s l ls n h))
+join_pairs-in : (k : ℕ) (ls : List Literal) (n : ℕ) → is_clause_over n ls ≡ true → are_clauses_over (join_pairs k ls n).vars (join_pairs k ls n).clauses ≡ true
+join_pairs-in zero ls n h = and_from _ _ h refl
+join_pairs-in (suc k) [] n h = refl
+join_pairs-in (suc k) (l ∷ []) n h = and_from _ _ h refl
+join_pairs-in (suc k) (s ∷ l ∷ ls) n h =
+    let next = ls ++ positive_lit (n + 1) ∷ [] in
+    let low = join_pairs-low k next (n + 1) in
+    list_all-append (is_clause_over (join_pairs k next (n + 1)).vars) (disjoint_or_clauses s l (positive_lit (n + 1))) (join_pairs k next (n + 1)).clauses
+    ∙ and_from _ _ (are_clauses_over-more (n + 1) _ (disjoint_or_clauses s l (positive_lit (n + 1))) low (disjoint_or_clauses-in (n + 1) s l (positive_lit (n + 1)) (either-next-in s l ls n h))) (join_pairs-in k next (n + 1) (next-in s l ls n h))
 
--- exactly one is true, and then the new variables have one value each
-joined-law : (k : ℕ) (ls : List Literal) (a : List Bool) (n : ℕ) → length a ≡ n → length ls ≤ k →
-    clause_in n ls ≡ true →
-    Extends a (joined k ls n).vars (joined k ls n).clauses
-    (OnlyIf (one_true (map (is_true a) ls)) (joined_bits k (map (is_true a) ls)))
-joined-law zero [] a n size few h = no_more_if a n ([] ∷ []) false size refl
-joined-law zero (l ∷ ls) a n size few h = absurd (omega arith)
-joined-law (suc k) [] a n size few h = no_more_if a n ([] ∷ []) false size refl
-joined-law (suc k) (l ∷ []) a n size few h = no_more_if a n ((l ∷ []) ∷ []) (one_true (is_true a l ∷ [])) size (alone (is_true a l))
+join_pairs-law : (k : ℕ) (ls : List Literal) (a : List Bool) (n : ℕ) → length a ≡ n → length ls ≤ k →
+    is_clause_over n ls ≡ true →
+    Extends a (join_pairs k ls n).vars (join_pairs k ls n).clauses
+    (IsExactlyIf (exactly_one_true (map (is_true a) ls)) (joined_bits k (map (is_true a) ls)))
+join_pairs-law zero [] a n size few h = no_more_if a n ([] ∷ []) false size refl
+join_pairs-law zero (l ∷ ls) a n size few h = absurd (omega arith)
+join_pairs-law (suc k) [] a n size few h = no_more_if a n ([] ∷ []) false size refl
+join_pairs-law (suc k) (l ∷ []) a n size few h = no_more_if a n ((l ∷ []) ∷ []) (exactly_one_true (is_true a l ∷ [])) size (alone (is_true a l))
   where
-    alone : (p : Bool) → ((p || false) && true) ≡ one_true (p ∷ [])
+    alone : (p : Bool) → ((p || false) && true) ≡ exactly_one_true (p ∷ [])
     alone true = refl
     alone false = refl
-joined-law (suc k) (s ∷ l ∷ ls) a n size few h =
-    let v = plus (n + 1) in
+join_pairs-law (suc k) (s ∷ l ∷ ls) a n size few h =
+    let v = positive_lit (n + 1) in
     let next = ls ++ v ∷ [] in
     let fewer : length next ≤ k = omega (arith, length-append ls (v ∷ [])) in
     let one = and_parts _ _ h in
@@ -146,57 +144,55 @@ joined-law (suc k) (s ∷ l ∷ ls) a n size few h =
     let longer : length a + 1 ≡ n + 1 = ap (λ (k : ℕ). k + 1) size in
     let fits : length a ≤ n + 1 = rw size (more n) in
     let here : length (a ++ (p || q) ∷ []) ≡ n + 1 = length-append a ((p || q) ∷ []) ∙ longer in
-    let then : Extends (a ++ (p || q) ∷ []) (joined k next (n + 1)).vars (joined k next (n + 1)).clauses (OnlyIf (one_true (qs ++ (p || q) ∷ [])) (joined_bits k (qs ++ (p || q) ∷ []))) =
+    let then : Extends (a ++ (p || q) ∷ []) (join_pairs k next (n + 1)).vars (join_pairs k next (n + 1)).clauses (IsExactlyIf (exactly_one_true (qs ++ (p || q) ∷ [])) (joined_bits k (qs ++ (p || q) ∷ []))) =
     subst
-    (λ (xs : List Bool). Extends (a ++ (p || q) ∷ []) (joined k next (n + 1)).vars
-    (joined k next (n + 1)).clauses (OnlyIf (one_true xs) (joined_bits k xs)))
+    (λ (xs : List Bool). Extends (a ++ (p || q) ∷ []) (join_pairs k next (n + 1)).vars
+    (join_pairs k next (n + 1)).clauses (IsExactlyIf (exactly_one_true xs) (joined_bits k xs)))
     (next-true ls a (p || q) n size two.1)
-    (joined-law k next (a ++ (p || q) ∷ []) (n + 1) here fewer (next-in s l ls n h)) in
+    (join_pairs-law k next (a ++ (p || q) ∷ []) (n + 1) here fewer (next-in s l ls n h)) in
     let both = if_then_if a ((p || q) ∷ []) (joined_bits k (qs ++ (p || q) ∷ [])) (not (p && q))
-    (one_true (qs ++ (p || q) ∷ [])) (n + 1) (joined k next (n + 1)).vars (either_of s l v)
-    (joined k next (n + 1)).clauses fits (joined-low k next (n + 1))
-    (either_of-in (n + 1) s l v (either-next-in s l ls n h))
-    (either_of-law a s l p q (n + 1) longer (rw size si) (rw size li) refl refl) (λ _. then) in
-    subst (λ (o : Bool). Extends a (joined k next (n + 1)).vars (either_of s l v ++ (joined k next (n + 1)).clauses) (OnlyIf o (joined_bits (suc k) (p ∷ q ∷ qs)))) (one_true-joined p q qs) both
+    (exactly_one_true (qs ++ (p || q) ∷ [])) (n + 1) (join_pairs k next (n + 1)).vars (disjoint_or_clauses s l v)
+    (join_pairs k next (n + 1)).clauses fits (join_pairs-low k next (n + 1))
+    (disjoint_or_clauses-in (n + 1) s l v (either-next-in s l ls n h))
+    (disjoint_or_clauses-law a s l p q (n + 1) longer (rw size si) (rw size li) refl refl) (λ _. then) in
+    subst (λ (o : Bool). Extends a (join_pairs k next (n + 1)).vars (disjoint_or_clauses s l v ++ (join_pairs k next (n + 1)).clauses) (IsExactlyIf o (joined_bits (suc k) (p ∷ q ∷ qs)))) (exactly_one_true-join_pairs p q qs) both
 
--- how many variables and lists of literals there are
-joined-vars : (k : ℕ) (ls : List Literal) (n : ℕ) → (joined k ls n).vars ≤ n + k
-joined-vars zero ls n = omega arith
-joined-vars (suc k) [] n = omega arith
-joined-vars (suc k) (l ∷ []) n = omega arith
-joined-vars (suc k) (s ∷ l ∷ ls) n = let h = joined-vars k (ls ++ plus (n + 1) ∷ []) (n + 1) in omega arith
+join_pairs-vars : (k : ℕ) (ls : List Literal) (n : ℕ) → (join_pairs k ls n).vars ≤ n + k
+join_pairs-vars zero ls n = omega arith
+join_pairs-vars (suc k) [] n = omega arith
+join_pairs-vars (suc k) (l ∷ []) n = omega arith
+join_pairs-vars (suc k) (s ∷ l ∷ ls) n = let h = join_pairs-vars k (ls ++ positive_lit (n + 1) ∷ []) (n + 1) in omega arith
 
-joined-few : (k : ℕ) (ls : List Literal) (n : ℕ) → length (joined k ls n).clauses ≤ 4 * k + 1
-joined-few zero ls n = omega arith
-joined-few (suc k) [] n = omega arith
-joined-few (suc k) (l ∷ []) n = omega arith
-joined-few (suc k) (s ∷ l ∷ ls) n =
-    let next = ls ++ plus (n + 1) ∷ [] in
-    let h = joined-few k next (n + 1) in
-    omega (arith, length-append (either_of s l (plus (n + 1))) (joined k next (n + 1)).clauses, h)
+join_pairs-few : (k : ℕ) (ls : List Literal) (n : ℕ) → length (join_pairs k ls n).clauses ≤ 4 * k + 1
+join_pairs-few zero ls n = omega arith
+join_pairs-few (suc k) [] n = omega arith
+join_pairs-few (suc k) (l ∷ []) n = omega arith
+join_pairs-few (suc k) (s ∷ l ∷ ls) n =
+    let next = ls ++ positive_lit (n + 1) ∷ [] in
+    let h = join_pairs-few k next (n + 1) in
+    omega (arith, length-append (disjoint_or_clauses s l (positive_lit (n + 1))) (join_pairs k next (n + 1)).clauses, h)
 
--- the same of the whole part
 pub one_of-low : (ls : List Literal) (n : ℕ) → n ≤ (one_of_part ls n).vars
-one_of-low ls n = joined-low (length ls) ls n
+one_of-low ls n = join_pairs-low (length ls) ls n
 
-pub part-in : (ls : List Literal) (n : ℕ) → clause_in n ls ≡ true → clauses_in (one_of_part ls n).vars (one_of_part ls n).clauses ≡ true
-part-in ls n h = joined-in (length ls) ls n h
+pub part-in : (ls : List Literal) (n : ℕ) → is_clause_over n ls ≡ true → are_clauses_over (one_of_part ls n).vars (one_of_part ls n).clauses ≡ true
+part-in ls n h = join_pairs-in (length ls) ls n h
 
 same_length : (ls : List Literal) (qs : List Bool) → length qs ≡ length ls → joined_bits (length ls) qs ≡ one_of_bits qs
 same_length ls qs h = ap (λ (k : ℕ). joined_bits k qs) (sym h)
 
-pub one_of-law : (ls : List Literal) (a : List Bool) (n : ℕ) → length a ≡ n → clause_in n ls ≡ true → Extends a (one_of_part ls n).vars (one_of_part ls n).clauses (OnlyIf (one_true (map (is_true a) ls)) (one_of_bits (map (is_true a) ls)))
+pub one_of-law : (ls : List Literal) (a : List Bool) (n : ℕ) → length a ≡ n → is_clause_over n ls ≡ true
+    → Extends a (one_of_part ls n).vars (one_of_part ls n).clauses (IsExactlyIf (exactly_one_true (map (is_true a) ls)) (one_of_bits (map (is_true a) ls)))
 one_of-law ls a n size h =
     let qs = map (is_true a) ls in
-    subst (λ (b : List Bool). Extends a (one_of_part ls n).vars (one_of_part ls n).clauses (OnlyIf (one_true qs) b)) (same_length ls qs (length-map ls (is_true a))) (joined-law (length ls) ls a n size (omega arith) h)
+    subst (λ (b : List Bool). Extends a (one_of_part ls n).vars (one_of_part ls n).clauses (IsExactlyIf (exactly_one_true qs) b)) (same_length ls qs (length-map ls (is_true a))) (join_pairs-law (length ls) ls a n size (omega arith) h)
 
 pub one_of-vars : (ls : List Literal) (n : ℕ) → (one_of_part ls n).vars ≤ n + length ls
-one_of-vars ls n = joined-vars (length ls) ls n
+one_of-vars ls n = join_pairs-vars (length ls) ls n
 
 pub one_of-few : (ls : List Literal) (n : ℕ) → length (one_of_part ls n).clauses ≤ 4 * length ls + 1
-one_of-few ls n = joined-few (length ls) ls n
+one_of-few ls n = join_pairs-few (length ls) ls n
 
--- how many clauses a part adds
 as_clause-few : (ls : List Literal) → length (as_clause ls) ≤ 1
 as_clause-few ls = cond_both (is_tautology ls) [] (distinct ls ∷ []) (λ cs. length cs ≤ 1) (λ _. omega arith) (λ _. omega arith)
 
@@ -209,37 +205,35 @@ clauses-few f ls =
     let part = one_of_part ls f.vars in
     omega (arith, length-append f.clauses (as_clauses part.clauses), as_clauses-few part.clauses, one_of-few ls f.vars)
 
--- the queue
+-- The queue
 
--- its first two literals
 pub queue-front : (queue : List Literal) (i : ℕ) (s l : Literal) → i + 1 < length queue → s ≡ get_or queue i s → l ≡ get_or queue (i + 1) l → drop i queue ≡ s ∷ l ∷ drop (i + 2) queue
 queue-front queue i s l within one two =
     let next : i + 1 + 1 ≡ i + 2 = omega arith in
     drop_at queue i s (omega arith) one ∙ ap (λ (ls : List Literal). s ∷ ls) (drop_at queue (i + 1) l within two ∙ ap (λ (k : ℕ). l ∷ drop k queue) next)
 
-pub first-two : (n : ℕ) (s l : Literal) (ls : List Literal) → clause_in n (s ∷ l ∷ ls) ≡ true → clause_in n (s ∷ l ∷ []) ≡ true
+pub first-two : (n : ℕ) (s l : Literal) (ls : List Literal) → is_clause_over n (s ∷ l ∷ ls) ≡ true → is_clause_over n (s ∷ l ∷ []) ≡ true
 first-two n s l ls h =
     let one = and_parts _ _ h in
     and_from _ _ one.0 (and_from _ _ (and_parts _ _ one.1).0 refl)
 
--- a join, and then the same of the queue that it leaves
-one_of-join : (s l : Literal) (ls : List Literal) (n : ℕ) → and_then (either_part s l n) (one_of_part (ls ++ plus (n + 1) ∷ [])) ≡ one_of_part (s ∷ l ∷ ls) n
+one_of-join : (s l : Literal) (ls : List Literal) (n : ℕ) → and_then (disjoint_or_part s l n) (one_of_part (ls ++ positive_lit (n + 1) ∷ [])) ≡ one_of_part (s ∷ l ∷ ls) n
 one_of-join s l ls n =
-    let next = ls ++ plus (n + 1) ∷ [] in
-    let long : length next ≡ suc (length ls) = omega (arith, length-append ls (plus (n + 1) ∷ [])) in
-    ap (λ (k : ℕ). and_then (either_part s l n) (joined k next)) long
+    let next = ls ++ positive_lit (n + 1) ∷ [] in
+    let long : length next ≡ suc (length ls) = omega (arith, length-append ls (positive_lit (n + 1) ∷ [])) in
+    ap (λ (k : ℕ). and_then (disjoint_or_part s l n) (join_pairs k next)) long
 
 pub join-step : (f g : Formula) (s l : Literal) (ls : List Literal) →
-    g ≡ with_part f (either_part s l f.vars) → clause_in f.vars (s ∷ l ∷ ls) ≡ true →
-    (clause_in g.vars (ls ++ plus (f.vars + 1) ∷ []) ≡ true) ×
-    (with_part g (one_of_part (ls ++ plus (f.vars + 1) ∷ []) g.vars)
+    g ≡ with_part f (disjoint_or_part s l f.vars) → is_clause_over f.vars (s ∷ l ∷ ls) ≡ true →
+    (is_clause_over g.vars (ls ++ positive_lit (f.vars + 1) ∷ []) ≡ true) ×
+    (with_part g (one_of_part (ls ++ positive_lit (f.vars + 1) ∷ []) g.vars)
     ≡ with_part f (one_of_part (s ∷ l ∷ ls) f.vars))
 join-step f g s l ls made inside =
     let n = f.vars in
-    let next = ls ++ plus (n + 1) ∷ [] in
+    let next = ls ++ positive_lit (n + 1) ∷ [] in
     let longer : g.vars ≡ n + 1 = ap (λ (k : Formula). k.vars) made in (
-      ap (λ (k : ℕ). clause_in k next) longer ∙ next-in s l ls n inside,
+      ap (λ (k : ℕ). is_clause_over k next) longer ∙ next-in s l ls n inside,
       ap (λ (k : Formula). with_part k (one_of_part next k.vars)) made
-          ∙ with_part-and_then f (either_part s l n) (one_of_part next)
+          ∙ with_part-and_then f (disjoint_or_part s l n) (one_of_part next)
           ∙ ap (λ (p : Part). with_part f p) (one_of-join s l ls n),
     )

@@ -1,21 +1,19 @@
--- Where the parts of values and bounds end, and what they speak of.
+-- The ends of the parts for values and bounds, and the range of their variables.
 use Rattle.std.proofs.Common.{◌≡◌, ◌==◌, ℕ, ◌+◌, ◌^◌, ◌<◌, ◌≤◌, zero, suc, Bool, true, false, List, [], ◌∷◌, Option, Some, None, unwrap_or, length, take, cond, refl, inl, inr, sym, ap, ◌∙◌, subst, arith, leb}
 use Rattle.std.specs.Prelude.{if◌then◌else◌}
 use Rattle.std.specs.List.{find, range_with_len}
 use Rattle.std.proofs.lemmas.List.{length-take}
 use Rattle.std.proofs.lemmas.Bool.{and_from, eqb-true, lt-ltb, le-leb, leb-true, cases_lt}
-use Rattle.ilk_cnf.specs.Literal.{Literal, plus}
-use Rattle.ilk_cnf.specs.Formula.{lit_in, clause_in, clauses_in}
-use Rattle.ilk_cnf.specs.Part.{Part, nothing_at, any_of_part}
+use Rattle.ilk_cnf.specs.Literal.{Literal, positive_lit}
+use Rattle.ilk_cnf.specs.Formula.{is_lit_over, is_clause_over, are_clauses_over}
+use Rattle.ilk_cnf.specs.Part.{Part, empty_part, or_gate_part}
 use Rattle.ilk_ints.specs.Bits.{bit_count}
-use Rattle.ilk_ints.specs.Named.{Named, values_from, values_part, values_vars, bound_count, bounds_from, bounds_part, bounds_vars, named_vars}
-use Rattle.ilk_ints.specs.AtMost.{highest_bit_says, at_most_part, at_most_lit}
+use Rattle.ilk_ints.specs.Named.{PartWithLits, values_from, values_part, values_vars, bound_count, bounds_from, bounds_part, bound_var_count, lit_var_count}
+use Rattle.ilk_ints.specs.AtMost.{highest_bit_decides, at_most_part, at_most_lit}
 use Rattle.ilk_ints.proofs.AtMostLaw.{bits_some}
 use Rattle.ilk_ints.proofs.ValuesLaw.{values-low, values-in, values-lits_in}
 use Rattle.ilk_ints.proofs.BoundsLaw.{bounds-low, bounds-in}
 use Rattle.ilk_ints.proofs.BoundsPart.{few_bounds, some-inside}
-
--- a range up to 256 has enough bits
 
 find-passes : (p : ℕ → Bool) (xs : List ℕ) (k : ℕ) → find p xs ≡ Some k → p k ≡ true
 find-passes p [] k h = cc
@@ -32,29 +30,29 @@ bit_count-enough range high = by_case (find (λ b. leb range (2 ^ b)) (range_wit
     by_case None h = high
     by_case (Some b) h = leb-true range (2 ^ b) (find-passes (λ b. leb range (2 ^ b)) (range_with_len 0 8) b h)
 
--- the literals of values
+-- Values
 
-abbrev two : ℕ → ℕ → Named
+abbrev two : ℕ → ℕ → PartWithLits
 two first n =
     record {
-      part = nothing_at n;
+      part = empty_part n;
       lits = (record { var = first; positive = (0 == 1) }) ∷ (record { var = first; positive = (1 == 1) }) ∷ [];
     }
 
-pub values_part-in : (first range n : ℕ) → 0 < first → first + bit_count range ≤ n + 1 → clauses_in (values_part first range n).part.vars (values_part first range n).part.clauses ≡ true
+pub values_part-in : (first range n : ℕ) → 0 < first → first + bit_count range ≤ n + 1 → are_clauses_over (values_part first range n).part.vars (values_part first range n).part.clauses ≡ true
 values_part-in first range n low high = by_case (range == 2)
   where
-    by_case : (h : Bool) → clauses_in (cond h (two first n) (values_from first range 0 range n)).part.vars (cond h (two first n) (values_from first range 0 range n)).part.clauses ≡ true
+    by_case : (h : Bool) → are_clauses_over (cond h (two first n) (values_from first range 0 range n)).part.vars (cond h (two first n) (values_from first range 0 range n)).part.clauses ≡ true
     by_case true = refl
     by_case false = values-in range first range 0 n low high
 
-pub values_part-lits_in : (first range n : ℕ) → 0 < first → first + bit_count range ≤ n + 1 → clause_in (values_part first range n).part.vars (values_part first range n).lits ≡ true
+pub values_part-lits_in : (first range n : ℕ) → 0 < first → first + bit_count range ≤ n + 1 → is_clause_over (values_part first range n).part.vars (values_part first range n).lits ≡ true
 values_part-lits_in first range n low high = by_case (range == 2) refl
   where
-    by_case : (h : Bool) → (range == 2) ≡ h → clause_in (cond h (two first n) (values_from first range 0 range n)).part.vars (cond h (two first n) (values_from first range 0 range n)).lits ≡ true
+    by_case : (h : Bool) → (range == 2) ≡ h → is_clause_over (cond h (two first n) (values_from first range 0 range n)).part.vars (cond h (two first n) (values_from first range 0 range n)).lits ≡ true
     by_case true h =
         let one : bit_count range ≡ 1 = ap bit_count (eqb-true range 2 h) in
-        let var_in : lit_in n (plus first) ≡ true = and_from _ _ (lt-ltb 0 first low) (le-leb first n (omega (arith, high, one))) in
+        let var_in : is_lit_over n (positive_lit first) ≡ true = and_from _ _ (lt-ltb 0 first low) (le-leb first n (omega (arith, high, one))) in
         and_from _ _ var_in (and_from _ _ var_in refl)
     by_case false h = values-lits_in range first range 0 n (values_from first range 0 range n).part.vars (omega (arith, values-low range first range 0 n))
 
@@ -69,15 +67,15 @@ length-values_part first range n = by_case (range == 2) refl
     by_case true h = sym (eqb-true range 2 h)
     by_case false h = length-values_from range first range 0 n
 
--- the literals of bounds
+-- Bounds
 
 pub bounds_part-low : (values : List Literal) (first range n : ℕ) → n ≤ (bounds_part first range values n).part.vars
 bounds_part-low [] first range n = omega arith
 bounds_part-low (e ∷ es) first range n = bounds-low (take (bound_count range) es) first range 1 n e
 
 pub bounds_part-in : (values : List Literal) (first range n : ℕ) → 0 < first →
-    first + bit_count range ≤ n + 1 → range ≤ 2 ^ bit_count range → clause_in n values ≡ true →
-    clauses_in (bounds_part first range values n).part.vars (bounds_part first range values n).part.clauses
+    first + bit_count range ≤ n + 1 → range ≤ 2 ^ bit_count range → is_clause_over n values ≡ true →
+    are_clauses_over (bounds_part first range values n).part.vars (bounds_part first range values n).part.clauses
     ≡ true
 bounds_part-in [] first range n low high enough h = refl
 bounds_part-in (e ∷ es) first range n low high enough h =
@@ -85,17 +83,14 @@ bounds_part-in (e ∷ es) first range n low high enough h =
       | inl more ↦ bounds-in (take (bound_count range) es) first range 1 n e low (bits_some range (bit_count range) more enough) high (some-inside n (bound_count range) e es h)
       | inr one ↦
           (let none : 0 ≡ bound_count range = omega arith in
-          subst (λ (j : ℕ). clauses_in (bounds_from first range e 1 (take j es) n).part.vars (bounds_from first range e 1 (take j es) n).part.clauses ≡ true) none refl)
+          subst (λ (j : ℕ). are_clauses_over (bounds_from first range e 1 (take j es) n).part.vars (bounds_from first range e 1 (take j es) n).part.clauses ≡ true) none refl)
     ]
 
--- a variable that is there
 pub at_most-there : (first range k n m : ℕ) (below e : Literal) (es rest : List Literal) → es ≡ e ∷ rest → (bounds_from first range below k es n).part.vars ≤ m → (at_most_part range k below e n).vars ≤ m
 at_most-there first range k n m below e es rest split high =
     let whole : (bounds_from first range below k (e ∷ rest) n).part.vars ≤ m = subst (λ (ls : List Literal). (bounds_from first range below k ls n).part.vars ≤ m) split high in
     let low = bounds-low rest first range (k + 1) (at_most_part range k below e n).vars (at_most_lit first range k n) in
     omega arith
-
--- how many variables they take
 
 pub values_part-end : (first range n : ℕ) → (values_part first range n).part.vars ≡ n + values_vars range
 values_part-end first range n = by_case (range == 2)
@@ -104,14 +99,14 @@ values_part-end first range n = by_case (range == 2)
     by_case true = omega arith
     by_case false = values-low range first range 0 n
 
-at_most-end : (range k n : ℕ) (below equal : Literal) → (at_most_part range k below equal n).vars ≡ n + (if highest_bit_says range k then 0 else 1)
-at_most-end range k n below equal = by_case (highest_bit_says range k)
+at_most-end : (range k n : ℕ) (below equal : Literal) → (at_most_part range k below equal n).vars ≡ n + (if highest_bit_decides range k then 0 else 1)
+at_most-end range k n below equal = by_case (highest_bit_decides range k)
   where
-    by_case : (b : Bool) → (cond {A = Part} b (nothing_at n) (any_of_part (below ∷ equal ∷ []) n)).vars ≡ n + cond b 0 1
+    by_case : (b : Bool) → (cond {A = Part} b (empty_part n) (or_gate_part (below ∷ equal ∷ []) n)).vars ≡ n + cond b 0 1
     by_case true = omega arith
     by_case false = refl
 
-bounds_from-end : (es : List Literal) (first range k n : ℕ) (below : Literal) → (bounds_from first range below k es n).part.vars ≡ n + bounds_vars range k (length es)
+bounds_from-end : (es : List Literal) (first range k n : ℕ) (below : Literal) → (bounds_from first range below k es n).part.vars ≡ n + bound_var_count range k (length es)
 bounds_from-end [] first range k n below = omega arith
 bounds_from-end (e ∷ es) first range k n below =
     let m = (at_most_part range k below e n).vars in
@@ -119,22 +114,21 @@ bounds_from-end (e ∷ es) first range k n below =
     let rest = bounds_from-end es first range (k + 1) m (at_most_lit first range k n) in
     omega arith
 
-pub bounds_part-end : (values : List Literal) (first range n : ℕ) → length values ≡ range → (bounds_part first range values n).part.vars ≡ n + bounds_vars range 1 (bound_count range)
+pub bounds_part-end : (values : List Literal) (first range n : ℕ) → length values ≡ range → (bounds_part first range values n).part.vars ≡ n + bound_var_count range 1 (bound_count range)
 bounds_part-end [] first range n all =
     let none : bound_count range ≡ 0 = omega (arith, few_bounds range, all) in
-    let no_vars : bounds_vars range 1 (bound_count range) ≡ 0 = ap (bounds_vars range 1) none in
+    let no_vars : bound_var_count range 1 (bound_count range) ≡ 0 = ap (bound_var_count range 1) none in
     omega (arith, no_vars)
 bounds_part-end (e ∷ es) first range n all =
     let few : length (take (bound_count range) es) ≡ bound_count range = omega (arith, length-take (bound_count range) es, few_bounds range, all) in
-    bounds_from-end (take (bound_count range) es) first range 1 n e ∙ ap (λ (j : ℕ). n + bounds_vars range 1 j) few
+    bounds_from-end (take (bound_count range) es) first range 1 n e ∙ ap (λ (j : ℕ). n + bound_var_count range 1 j) few
 
-pub named-end : (first range n : ℕ) → (bounds_part first range (values_part first range n).lits (values_part first range n).part.vars).part.vars ≡ n + named_vars range
+pub named-end : (first range n : ℕ) → (bounds_part first range (values_part first range n).lits (values_part first range n).part.vars).part.vars ≡ n + lit_var_count range
 named-end first range n =
     let one = values_part-end first range n in
     let two = bounds_part-end (values_part first range n).lits first range (values_part first range n).part.vars (length-values_part first range n) in
     omega arith
 
--- one bound more
-pub bounds_vars-one : (range k j m : ℕ) (says : Bool) → highest_bit_says range k ≡ says → suc j ≡ m → bounds_vars range k m ≡ cond says 0 1 + bounds_vars range (k + 1) j
-bounds_vars-one range k j m says is more =
-    ap (bounds_vars range k) (sym more) ∙ ap (λ (b : Bool). cond b 0 1 + bounds_vars range (k + 1) j) is
+pub bound_var_count-one : (range k j m : ℕ) (says : Bool) → highest_bit_decides range k ≡ says → suc j ≡ m → bound_var_count range k m ≡ cond says 0 1 + bound_var_count range (k + 1) j
+bound_var_count-one range k j m says is more =
+    ap (bound_var_count range k) (sym more) ∙ ap (λ (b : Bool). cond b 0 1 + bound_var_count range (k + 1) j) is

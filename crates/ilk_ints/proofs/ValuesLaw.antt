@@ -2,23 +2,22 @@
 use Rattle.std.proofs.Common.{◌≡◌, ◌==◌, ℕ, ◌+◌, ◌-◌, ◌^◌, ◌<◌, ◌≤◌, zero, suc, Bool, true, false, List, [], ◌∷◌, ◌++◌, length, map, cond, refl, sym, ap, ◌∙◌, subst, arith, eqb, length-append, append_assoc}
 use Rattle.std.proofs.lemmas.List.Folds.{list_all-append}
 use Rattle.std.proofs.lemmas.Bool.{and_from, eqb-true}
-use Rattle.ilk_cnf.specs.Literal.{Literal, plus}
-use Rattle.ilk_cnf.specs.Formula.{Formula, clause_in, clauses_in}
+use Rattle.ilk_cnf.specs.Literal.{Literal, positive_lit}
+use Rattle.ilk_cnf.specs.Formula.{Formula, is_clause_over, are_clauses_over}
 use Rattle.ilk_cnf.specs.Truth.{value, is_true}
-use Rattle.ilk_cnf.specs.Extends.{Extends, Only}
-use Rattle.ilk_cnf.specs.Part.{nothing_at, with_part}
-use Rattle.ilk_cnf.proofs.Literals.{lit_in-more, clauses_in-more}
+use Rattle.ilk_cnf.specs.Extends.{Extends, IsExactly}
+use Rattle.ilk_cnf.specs.Part.{empty_part, with_part}
+use Rattle.ilk_cnf.proofs.Literals.{is_lit_over-more, are_clauses_over-more}
 use Rattle.ilk_cnf.proofs.Parts.{value-new, value-left, one_by_one}
 use Rattle.ilk_cnf.proofs.Gates.{new-in, all_of-in, with_part-and_then}
 use Rattle.ilk_cnf.proofs.Extending.{no_more_if, only_from_if}
 use Rattle.ilk_ints.specs.Bits.{bit_count, bits_of, bits_at}
-use Rattle.ilk_ints.specs.Number.{is_part, bits_have_value, value_lits}
+use Rattle.ilk_ints.specs.Number.{value_lit_part, bits_have_value, value_lits}
 use Rattle.ilk_ints.proofs.BitsLaw.{is-law, has_value-exact, value_lits-in, bit_is-exact}
-use Rattle.ilk_ints.specs.Named.{values_from, values_part, value_bits, values_bits}
+use Rattle.ilk_ints.specs.Named.{values_from, values_part, value_bits, value_vars_bits}
 
--- one value more
 pub values_step : (f g : Formula) (lits whole : List Literal) (l : Literal) (first range v : ℕ) → v < range →
-    l ≡ plus (f.vars + 1) → g ≡ with_part f (is_part first range v f.vars) →
+    l ≡ positive_lit (f.vars + 1) → g ≡ with_part f (value_lit_part first range v f.vars) →
     lits ++ (values_from first range v (range - v) f.vars).lits ≡ whole →
     ((lits ++ l ∷ []) ++ (values_from first range (v + 1) (range - (v + 1)) g.vars).lits ≡ whole) ×
     (with_part g (values_from first range (v + 1) (range - (v + 1)) g.vars).part
@@ -29,34 +28,33 @@ values_step f g lits whole l first range v less is made h =
     let more : suc j ≡ range - v = omega arith in (
       append_assoc lits (l ∷ []) (values_from first range (v + 1) j g.vars).lits
           ∙ ap (λ (m : Literal). lits ++ m ∷ (values_from first range (v + 1) j g.vars).lits) is
-          ∙ ap (λ (k : Formula). lits ++ plus (n + 1) ∷ (values_from first range (v + 1) j k.vars).lits) made
+          ∙ ap (λ (k : Formula). lits ++ positive_lit (n + 1) ∷ (values_from first range (v + 1) j k.vars).lits) made
           ∙ ap (λ (k : ℕ). lits ++ (values_from first range v k n).lits) more
           ∙ h,
       ap (λ (k : Formula). with_part k (values_from first range (v + 1) j k.vars).part) made
-          ∙ with_part-and_then f (is_part first range v n) (λ m. (values_from first range (v + 1) j m).part)
+          ∙ with_part-and_then f (value_lit_part first range v n) (λ m. (values_from first range (v + 1) j m).part)
           ∙ ap (λ (k : ℕ). with_part f (values_from first range v k n).part) more,
     )
-
--- where the parts end, and what they speak of
 
 pub values-low : (j first range v n : ℕ) → (values_from first range v j n).part.vars ≡ n + j
 values-low zero first range v n = omega arith
 values-low (suc j) first range v n = let h = values-low j first range (v + 1) (n + 1) in omega arith
 
-pub values-in : (j first range v n : ℕ) → 0 < first → first + bit_count range ≤ n + 1 → clauses_in (values_from first range v j n).part.vars (values_from first range v j n).part.clauses ≡ true
+pub values-in : (j first range v n : ℕ) → 0 < first → first + bit_count range ≤ n + 1 → are_clauses_over (values_from first range v j n).part.vars (values_from first range v j n).part.clauses ≡ true
 values-in zero first range v n low high = refl
 values-in (suc j) first range v n low high =
     let rest = values_from first range (v + 1) j (n + 1) in
     let end : n + 1 ≤ rest.part.vars = omega (arith, values-low j first range (v + 1) (n + 1)) in
-    list_all-append (clause_in rest.part.vars) (is_part first range v n).clauses rest.part.clauses
-    ∙ and_from _ _ (clauses_in-more (n + 1) rest.part.vars (is_part first range v n).clauses end (all_of-in n (value_lits first range v) (value_lits-in n first range v low high))) (values-in j first range (v + 1) (n + 1) low (omega arith))
+    list_all-append (is_clause_over rest.part.vars) (value_lit_part first range v n).clauses rest.part.clauses
+    ∙ and_from _ _ (are_clauses_over-more (n + 1) rest.part.vars (value_lit_part first range v n).clauses end (all_of-in n (value_lits first range v) (value_lits-in n first range v low high)))
+    (values-in j first range (v + 1) (n + 1) low (omega arith))
 
-pub values-lits_in : (j first range v n m : ℕ) → n + j ≤ m → clause_in m (values_from first range v j n).lits ≡ true
+pub values-lits_in : (j first range v n m : ℕ) → n + j ≤ m → is_clause_over m (values_from first range v j n).lits ≡ true
 values-lits_in zero first range v n m high = refl
 values-lits_in (suc j) first range v n m high =
-    and_from _ _ (lit_in-more (n + 1) m (plus (n + 1)) (omega arith) (new-in n true)) (values-lits_in j first range (v + 1) (n + 1) m (omega arith))
+    and_from _ _ (is_lit_over-more (n + 1) m (positive_lit (n + 1)) (omega arith) (new-in n true)) (values-lits_in j first range (v + 1) (n + 1) m (omega arith))
 
--- what stood before keeps its bits
+-- An extension doesn't change the earlier bits.
 pub bits_at-left : (b : ℕ) (a c : List Bool) (first : ℕ) → first + b ≤ length a + 1 → bits_at (a ++ c) first b ≡ bits_at a first b
 bits_at-left zero a c first h = refl
 bits_at-left (suc b) a c first h =
@@ -68,26 +66,27 @@ pub length-value_bits : (w v j : ℕ) → length (value_bits w v j) ≡ j
 length-value_bits w v zero = refl
 length-value_bits w v (suc j) = ap suc (length-value_bits w (v + 1) j)
 
--- the integer is w: each new variable says whether it is the value
+-- If the integer is w, each new variable says whether w is its value.
 pub values-law : (j : ℕ) (a : List Bool) (first range v w n : ℕ) → length a ≡ n → 0 < first →
     first + bit_count range ≤ n + 1 → range ≤ 2 ^ bit_count range → w < range → v + j ≤ range →
     bits_at a first (bit_count range) ≡ bits_of (bit_count range) w →
     Extends a (values_from first range v j n).part.vars (values_from first range v j n).part.clauses
-    (Only (value_bits w v j))
+    (IsExactly (value_bits w v j))
 values-law zero a first range v w n size low high enough less upto is = only_from_if a n [] [] (no_more_if a n [] true size refl)
 values-law (suc j) a first range v w n size low high enough less upto is =
     let rest = values_from first range (v + 1) j (n + 1) in
     let q = bits_have_value a first range v in
     let here : q ≡ eqb w v = has_value-exact a first range v w enough (omega arith) less is in
-    let one : Extends a (n + 1) (is_part first range v n).clauses (Only (eqb w v ∷ [])) = subst (λ (e : Bool). Extends a (n + 1) (is_part first range v n).clauses (Only (e ∷ []))) here (is-law a first range v n size low high) in
+    let one : Extends a (n + 1) (value_lit_part first range v n).clauses (IsExactly (eqb w v ∷ [])) =
+    subst (λ (e : Bool). Extends a (n + 1) (value_lit_part first range v n).clauses (IsExactly (e ∷ []))) here (is-law a first range v n size low high) in
     let long : length (a ++ eqb w v ∷ []) ≡ n + 1 = length-append a (eqb w v ∷ []) ∙ ap (λ (k : ℕ). k + 1) size in
     let kept : bits_at (a ++ eqb w v ∷ []) first (bit_count range) ≡ bits_of (bit_count range) w = bits_at-left (bit_count range) a (eqb w v ∷ []) first (rw size high) ∙ is in
     let next = values-law j (a ++ eqb w v ∷ []) first range (v + 1) w (n + 1) long low (omega arith) enough less (omega arith) kept in
     let fits : length a ≤ n + 1 = omega (arith, size) in
     let end : n + 1 ≤ rest.part.vars = omega (arith, values-low j first range (v + 1) (n + 1)) in
-    one_by_one a (eqb w v ∷ []) (value_bits w (v + 1) j) (n + 1) rest.part.vars (is_part first range v n).clauses rest.part.clauses fits end (all_of-in n (value_lits first range v) (value_lits-in n first range v low high)) one next
+    one_by_one a (eqb w v ∷ []) (value_bits w (v + 1) j) (n + 1) rest.part.vars (value_lit_part first range v n).clauses rest.part.clauses fits end (all_of-in n (value_lits first range v) (value_lits-in n first range v low high)) one next
 
--- and the literals say so, whatever follows
+-- The literals keep their meaning under any extension c.
 pub values-say : (j : ℕ) (a c : List Bool) (first range v w n : ℕ) → length a ≡ n → map (is_true (a ++ (value_bits w v j ++ c))) (values_from first range v j n).lits ≡ value_bits w v j
 values-say zero a c first range v w n size = refl
 values-say (suc j) a c first range v w n size =
@@ -105,12 +104,10 @@ values-say (suc j) a c first range v w n size =
     (append_assoc a (q ∷ []) (value_bits w (v + 1) j ++ c)) rest in
     rw (here, moved) refl
 
--- the same of all values of a range
-
 pub values_part-low : (first range n : ℕ) → n ≤ (values_part first range n).part.vars
 values_part-low first range n = by_case (range == 2)
   where
-    by_case : (h : Bool) → n ≤ (cond h (record { part = nothing_at n; lits = (record { var = first; positive = (0 == 1) }) ∷ (record { var = first; positive = (1 == 1) }) ∷ [] }) (values_from first range 0 range n)).part.vars
+    by_case : (h : Bool) → n ≤ (cond h (record { part = empty_part n; lits = (record { var = first; positive = (0 == 1) }) ∷ (record { var = first; positive = (1 == 1) }) ∷ [] }) (values_from first range 0 range n)).part.vars
     by_case true = omega arith
     by_case false = omega (arith, values-low range first range 0 n)
 
@@ -118,40 +115,40 @@ pub values_part-law : (a : List Bool) (first range w n : ℕ) → length a ≡ n
     first + bit_count range ≤ n + 1 → range ≤ 2 ^ bit_count range → w < range →
     bits_at a first (bit_count range) ≡ bits_of (bit_count range) w →
     Extends a (values_part first range n).part.vars (values_part first range n).part.clauses
-    (Only (values_bits range w))
+    (IsExactly (value_vars_bits range w))
 values_part-law a first range w n size low high enough less is = by_case (range == 2)
   where
     by_case : (h : Bool) →
         Extends a
         (cond h
         (record {
-          part = nothing_at n;
+          part = empty_part n;
           lits = (record { var = first; positive = (0 == 1) })
               ∷ (record { var = first; positive = (1 == 1) }) ∷ [];
         })
         (values_from first range 0 range n)).part.vars
         (cond h
         (record {
-          part = nothing_at n;
+          part = empty_part n;
           lits = (record { var = first; positive = (0 == 1) })
               ∷ (record { var = first; positive = (1 == 1) }) ∷ [];
         })
         (values_from first range 0 range n)).part.clauses
-        (Only (cond h [] (value_bits w 0 range)))
+        (IsExactly (cond h [] (value_bits w 0 range)))
     by_case true = only_from_if a n [] [] (no_more_if a n [] true size refl)
     by_case false = values-law range a first range 0 w n size low high enough less (omega arith) is
 
 pub values_part-say : (a c : List Bool) (first range w n : ℕ) → length a ≡ n →
     first + bit_count range ≤ n + 1 → range ≤ 2 ^ bit_count range → w < range →
     bits_at a first (bit_count range) ≡ bits_of (bit_count range) w →
-    map (is_true (a ++ (values_bits range w ++ c))) (values_part first range n).lits ≡ value_bits w 0 range
+    map (is_true (a ++ (value_vars_bits range w ++ c))) (values_part first range n).lits ≡ value_bits w 0 range
 values_part-say a c first range w n size high enough less is = by_case (range == 2) refl
   where
     by_case : (h : Bool) → (range == 2) ≡ h →
         map (is_true (a ++ (cond h [] (value_bits w 0 range) ++ c)))
         (cond h
         (record {
-          part = nothing_at n;
+          part = empty_part n;
           lits = (record { var = first; positive = (0 == 1) })
               ∷ (record { var = first; positive = (1 == 1) }) ∷ [];
         })

@@ -1,30 +1,30 @@
--- A number below a range as bits, the lowest first.
+-- A number below a range as bits, lowest first.
 use Rattle.std.specs.Prelude.{ℕ, zero, suc, ◌+◌, ◌/◌, ◌%◌, ◌^◌, ◌==◌, nat_le, Bool, true, false, List, [], ◌∷◌, map, unwrap_or, ◌&&◌, not, if◌then◌else◌}
 use Rattle.std.specs.List.{find, range_with_len}
 use Rattle.ilk_cnf.specs.Literal.{Literal}
 use Rattle.ilk_cnf.specs.Truth.{value}
 
--- the least b with 2 ^ b at least the range, which is at most 256
+-- The least b with 2 ^ b at least the range, for ranges up to 256.
 abbrev pub bit_count : ℕ → ℕ
 bit_count range = unwrap_or (find (λ b. nat_le range (2 ^ b)) (range_with_len 0 8)) 8
 
--- the b lowest bits of a number
+-- The b lowest bits of a number.
 abbrev pub bits_of : ℕ → ℕ → List Bool
 bits_of zero v = []
 bits_of (suc b) v = (v % 2 == 1) ∷ bits_of b (v / 2)
 
--- the bits that b variables from the first on have
+-- The bits of b variables from `first` on.
 abbrev pub bits_at : List Bool → ℕ → ℕ → List Bool
 bits_at a first b = map (value a) (range_with_len first b)
 
--- whether two lists of bits are one
+-- Returns whether two lists of bits are equal.
 abbrev pub same_bits : List Bool → List Bool → Bool
 same_bits [] [] = true
 same_bits [] (q ∷ qs) = false
 same_bits (p ∷ ps) [] = false
 same_bits (p ∷ ps) (q ∷ qs) = (if q then p else not p) && same_bits ps qs
 
--- the literals of the variables from the first on that are all true where these have the bits
+-- The literals that are all true if and only if the variables from `first` on have these bits.
 abbrev pub bit_lits : ℕ → List Bool → List Literal
 bit_lits first [] = []
 bit_lits first (q ∷ qs) = (record { var = first; positive = q }) ∷ bit_lits (first + 1) qs

@@ -1,25 +1,25 @@
 ghost use Rattle.std.specs.Prelude.{◌≡◌, ◌==◌, ℕ, ◌+◌, ◌-◌, ◌*◌, ◌<◌, ◌≤◌, ◌^◌, ◌∷◌, [], List, Bool, length, map, OnOk, IfOk, IsTrue};
-ghost use Rattle.ilk_cnf.specs.Extends.{PartExtends, Only};
-ghost use Rattle.ilk_cnf.specs.Formula.{grown, with_vars, as_clause, clause_in};
-ghost use Rattle.ilk_cnf.specs.Literal.{opposite, plus};
-ghost use Rattle.ilk_cnf.specs.Part.{with_part, as_clauses, equals_all};
+ghost use Rattle.ilk_cnf.specs.Extends.{PartExtends, IsExactly};
+ghost use Rattle.ilk_cnf.specs.Formula.{with_clauses, with_vars, as_clause, is_clause_over};
+ghost use Rattle.ilk_cnf.specs.Literal.{negated_lit, positive_lit};
+ghost use Rattle.ilk_cnf.specs.Part.{with_part, as_clauses, and_gate_clauses};
 ghost use Rattle.ilk_cnf.specs.Truth.{is_true, satisfies};
 ghost use Rattle.ilk_ints.specs.Bits.{bit_count, bits_of, bits_at, bit_lits};
-ghost use Rattle.ilk_ints.specs.Number.{IsValue, ruled_out, number_part, is_part, value_lits, bits_have_value};
+ghost use Rattle.ilk_ints.specs.Number.{IsValue, non_value_clauses, number_part, value_lit_part, value_lits, bits_have_value};
 
-use ilk_cnf::{Assignment, Cnf, Lit, Lits, add_gate, opposites};
+use ilk_cnf::{Assignment, Cnf, Lit, Lits, define_and_gate, negated_lits};
 use std::alloc::{AllocError, Global};
 
-/// An integer from 0 to `range` - 1 in a formula: its bits are the variables from `first` on, the
-/// lowest first, as many as its greatest value needs.
+/// An integer from 0 to `range` - 1 in a formula. Its bits are the variables from `first` on,
+/// lowest bit first, as many as its greatest value needs.
 #[derive(Clone, Copy)]
 pub struct Bounded {
     pub first: u64,
     pub range: u8,
 }
 
-/// How many bits the values below `range` need.
-pub fn bits(range: u8) -> u64
+/// Returns the number of bits that the values below `range` need.
+pub fn bit_count(range: u8) -> u64
     ensures count { result ≡ bit_count range }
     ensures enough { range ≤ 2 ^ result }
     ensures few { result ≤ 8 }
@@ -31,7 +31,8 @@ pub fn bits(range: u8) -> u64
     count
 }
 
-// The literals that are all true where `count` variables from `first` on have the bits of `value`.
+// Returns the literals that are all true if and only if the `count` variables from `first` on have
+// the bits of `value`.
 fn lits_of(alloc: Global, first: u64, count: u64, value: u64) -> Result<Lits, AllocError>
     requires from_1 { 0 < first }
     requires numbered { first + count ≤ 2 ^ 62 + 1 }
@@ -46,8 +47,8 @@ fn lits_of(alloc: Global, first: u64, count: u64, value: u64) -> Result<Lits, Al
     Ok(lits)
 }
 
-// Adds so many variables.
-pub fn take(cnf: &mut Cnf, count: u64) -> Result<(), AllocError>
+/// Adds `count` variables to `cnf`.
+pub fn add_vars(cnf: &mut Cnf, count: u64) -> Result<(), AllocError>
     ensures { OnOk result (cnf.new ≡ with_vars cnf.old (cnf.old.vars + count)) }
 {
     for _ in 0..count {
@@ -56,7 +57,7 @@ pub fn take(cnf: &mut Cnf, count: u64) -> Result<(), AllocError>
     Ok(())
 }
 
-// Demands that the bits aren't those of `value`.
+// Adds the clause that rules out the bits of `value`.
 fn rule_out_value(
     alloc: Global,
     cnf: &mut Cnf,
@@ -68,17 +69,17 @@ fn rule_out_value(
     requires within { first + count ≤ cnf.old.vars + 1 }
     ensures { OnOk result
         (cnf.new
-        ≡ grown cnf.old cnf.old.vars
-        (as_clause (map opposite (bit_lits first (bits_of count value))))) }
+        ≡ with_clauses cnf.old cnf.old.vars
+        (as_clause (map negated_lit (bit_lits first (bits_of count value))))) }
 {
     let _ = cnf.vars();
     let lits = lits_of(alloc, first, count, value)?;
-    let others = opposites(alloc, lits.as_slice())?;
-    cnf.add_lits(others.as_slice())?;
+    let others = negated_lits(alloc, lits.as_slice())?;
+    cnf.add_clause_of(others.as_slice())?;
     Ok(())
 }
 
-// Demands that the bits are those of no number from `range` on.
+// Adds the clauses that rule out the bits of all numbers from `range` on.
 fn rule_out(
     alloc: Global,
     cnf: &mut Cnf,
@@ -91,7 +92,7 @@ fn rule_out(
     requires from_1 { 0 < first }
     requires within { first + count ≤ cnf.old.vars + 1 }
     ensures { OnOk result
-        (cnf.new ≡ grown cnf.old cnf.old.vars (as_clauses (ruled_out first range))) }
+        (cnf.new ≡ with_clauses cnf.old cnf.old.vars (as_clauses (non_value_clauses first range))) }
 {
     for value in u64::from(range)..1 << count {
         rule_out_value(alloc, cnf, first, count, value)?;
@@ -99,32 +100,33 @@ fn rule_out(
     Ok(())
 }
 
-/// Adds the variables of an integer from 0 to `range` - 1, and no clause. Where memory runs out the
-/// formula may have grown, and its owner drops it.
-pub fn take_number(cnf: &mut Cnf, range: u8) -> Result<Bounded, AllocError>
+/// Adds the variables of an integer from 0 to `range` - 1, and no clause. If memory runs out, the
+/// formula may have grown; its owner drops it.
+pub fn reserve_number(cnf: &mut Cnf, range: u8) -> Result<Bounded, AllocError>
     ensures number { IfOk result (λ n. n ≡ record { first = cnf.old.vars + 1; range = range }) }
     ensures taken { OnOk result (cnf.new ≡ with_vars cnf.old (cnf.old.vars + bit_count range)) }
 {
     let first = cnf.vars() + 1;
-    take(cnf, bits(range))?;
+    add_vars(cnf, bit_count(range))?;
     Ok(Bounded { first, range })
 }
 
-/// Adds the clauses of an integer whose variables are there. Where memory runs out the formula may
-/// have grown, and its owner drops it.
-pub fn add_number(alloc: Global, cnf: &mut Cnf, n: Bounded) -> Result<(), AllocError>
+/// Adds the clauses of an integer whose variables exist. If memory runs out, the formula may have
+/// grown; its owner drops it.
+pub fn add_number_clauses(alloc: Global, cnf: &mut Cnf, n: Bounded) -> Result<(), AllocError>
     requires from_1 { 0 < n.first }
     requires within { n.first + bit_count n.range ≤ cnf.old.vars + 1 }
     ensures { OnOk result
-        (cnf.new ≡ grown cnf.old cnf.old.vars (as_clauses (ruled_out n.first n.range))) }
+        (cnf.new ≡ with_clauses cnf.old cnf.old.vars
+        (as_clauses (non_value_clauses n.first n.range))) }
 {
-    rule_out(alloc, cnf, n.first, bits(n.range), n.range)?;
+    rule_out(alloc, cnf, n.first, bit_count(n.range), n.range)?;
     Ok(())
 }
 
-/// Adds the variables and the clauses of an integer from 0 to `range` - 1. What stood before
-/// extends over the new variables in exactly one way for each of these values. Where memory runs
-/// out the formula may have grown, and its owner drops it.
+/// Adds the variables and clauses of an integer from 0 to `range` - 1. An earlier assignment
+/// extends over the new variables in exactly one way per value. If memory runs out, the formula may
+/// have grown; its owner drops it.
 pub fn number(alloc: Global, cnf: &mut Cnf, range: u8) -> Result<Bounded, AllocError>
     requires { 0 < range }
     ensures number { IfOk result (λ n. n ≡ record { first = cnf.old.vars + 1; range = range }) }
@@ -133,24 +135,24 @@ pub fn number(alloc: Global, cnf: &mut Cnf, range: u8) -> Result<Bounded, AllocE
         ((a : List Bool) → length a ≡ cnf.old.vars →
         PartExtends a (number_part range cnf.old.vars) (IsValue range)) }
 {
-    let _ = bits(range);
-    let n = take_number(cnf, range)?;
-    add_number(alloc, cnf, n)?;
+    let _ = bit_count(range);
+    let n = reserve_number(cnf, range)?;
+    add_number_clauses(alloc, cnf, n)?;
     Ok(n)
 }
 
-/// Adds the variable of a literal, and no clause, and answers the literal, which is positive.
-pub fn take_is(cnf: &mut Cnf) -> Result<Lit, AllocError>
-    ensures lit { IfOk result (λ l. l ≡ plus (cnf.old.vars + 1)) }
+/// Adds a variable and no clause, and returns its positive literal.
+pub fn reserve_lit(cnf: &mut Cnf) -> Result<Lit, AllocError>
+    ensures lit { IfOk result (λ l. l ≡ positive_lit (cnf.old.vars + 1)) }
     ensures taken { OnOk result (cnf.new ≡ with_vars cnf.old (cnf.old.vars + 1)) }
 {
     let lit = Lit::new(cnf.fresh()?, true);
     Ok(lit)
 }
 
-/// Adds the clauses that make a literal whose variable is there true exactly where the integer has
-/// the value. Where memory runs out the formula may have grown, and its owner drops it.
-pub fn add_is(
+/// Adds the clauses that make `lit`, whose variable exists, true if and only if the integer is
+/// `value`. If memory runs out, the formula may have grown; its owner drops it.
+pub fn add_is_clauses(
     alloc: Global,
     cnf: &mut Cnf,
     n: Bounded,
@@ -159,47 +161,47 @@ pub fn add_is(
 ) -> Result<(), AllocError>
     requires from_1 { 0 < n.first }
     requires within { n.first + bit_count n.range ≤ cnf.old.vars + 1 }
-    requires lit { IsTrue (clause_in cnf.old.vars (lit ∷ [])) }
+    requires lit { IsTrue (is_clause_over cnf.old.vars (lit ∷ [])) }
     ensures { OnOk result
         (cnf.new
-        ≡ grown cnf.old cnf.old.vars
-        (as_clauses (equals_all lit (value_lits n.first n.range value)))) }
+        ≡ with_clauses cnf.old cnf.old.vars
+        (as_clauses (and_gate_clauses lit (value_lits n.first n.range value)))) }
 {
     let _ = cnf.vars();
-    let lits = lits_of(alloc, n.first, bits(n.range), u64::from(value))?;
-    add_gate(alloc, cnf, lit, lits.as_slice())?;
+    let lits = lits_of(alloc, n.first, bit_count(n.range), u64::from(value))?;
+    define_and_gate(alloc, cnf, lit, lits.as_slice())?;
     Ok(())
 }
 
-/// Adds a variable that is true exactly where the integer has the value, and answers its positive
-/// literal. Where memory runs out the formula may have grown, and its owner drops it.
+/// Adds a variable that is true if and only if the integer is `value`, and returns its positive
+/// literal. If memory runs out, the formula may have grown; its owner drops it.
 pub fn is(alloc: Global, cnf: &mut Cnf, n: Bounded, value: u8) -> Result<Lit, AllocError>
     requires below { value < n.range }
     requires from_1 { 0 < n.first }
     requires within { n.first + bit_count n.range ≤ cnf.old.vars + 1 }
-    ensures lit { IfOk result (λ l. l ≡ plus (cnf.old.vars + 1)) }
+    ensures lit { IfOk result (λ l. l ≡ positive_lit (cnf.old.vars + 1)) }
     ensures made { OnOk result
-        (cnf.new ≡ with_part cnf.old (is_part n.first n.range value cnf.old.vars)) }
+        (cnf.new ≡ with_part cnf.old (value_lit_part n.first n.range value cnf.old.vars)) }
     ensures law { OnOk result
         ((a : List Bool) → length a ≡ cnf.old.vars →
-        PartExtends a (is_part n.first n.range value cnf.old.vars)
-        (Only (bits_have_value a n.first n.range value ∷ []))) }
+        PartExtends a (value_lit_part n.first n.range value cnf.old.vars)
+        (IsExactly (bits_have_value a n.first n.range value ∷ []))) }
 
-    // The bits are those of the value exactly where the integer is the value.
+    // The bits are those of the value if and only if the integer is the value.
     ensures exact { OnOk result
         ((a : List Bool) (v : ℕ) → v < n.range →
         bits_at a n.first (bit_count n.range) ≡ bits_of (bit_count n.range) v →
         bits_have_value a n.first n.range value ≡ (v == value)) }
 {
-    let _ = bits(n.range);
-    let lit = take_is(cnf)?;
-    add_is(alloc, cnf, n, value, lit)?;
+    let _ = bit_count(n.range);
+    let lit = reserve_lit(cnf)?;
+    add_is_clauses(alloc, cnf, n, value, lit)?;
     Ok(lit)
 }
 
-/// The literal that is true exactly where an integer of range 2 has the value: its one bit says so,
-/// and nothing is added.
-pub fn bit_is(n: Bounded, value: u8) -> Lit
+/// Returns the literal that is true if and only if an integer of range 2 is `value`. This is a
+/// literal of its only bit, so nothing is added.
+pub fn bit_lit(n: Bounded, value: u8) -> Lit
     requires range { n.range ≡ 2 }
     requires value { value < 2 }
     requires from_1 { 0 < n.first }
@@ -210,15 +212,15 @@ pub fn bit_is(n: Bounded, value: u8) -> Lit
     Lit::new(n.first, value == 1)
 }
 
-/// The value that the integer has in the assignment.
+/// Returns the value of the integer in the assignment.
 pub fn value_of(n: Bounded, a: &Assignment) -> u8
     requires from_1 { 0 < n.first }
     requires reached { n.first + bit_count n.range ≤ length a.now + 1 }
-    requires satisfied { IsTrue (satisfies a.now (as_clauses (ruled_out n.first n.range))) }
+    requires satisfied { IsTrue (satisfies a.now (as_clauses (non_value_clauses n.first n.range))) }
     ensures bits { bits_at a.now n.first (bit_count n.range) ≡ bits_of (bit_count n.range) result }
     ensures below { result < n.range }
 {
-    let count = bits(n.range);
+    let count = bit_count(n.range);
     let _ = a.len();
     let mut value = 0u64;
     for k in 0..count {

@@ -1,25 +1,25 @@
-//! Bounded integers as bits in formulas, and the demand that exactly one of some literals is true.
+//! Bounded integers as bits in formulas, and the constraint that exactly one of some literals is
+//! true.
 //!
-//! An integer from 0 to its range less 1 has as many variables as its greatest value needs bits,
-//! and clauses that rule out each pattern of bits that is no value. Contracts speak of a value by
-//! its bits (`specs/Bits`), and no caller needs more: a formula is asked for a value by `is`, which
-//! gives a literal, and an assignment by `value_of`.
+//! An integer from 0 to `range` - 1 has as many variables as its greatest value needs bits. Clauses
+//! rule out the bit patterns that are not values. Contracts describe a value by its bits
+//! (`specs/Bits`), and no caller needs more. In a formula, `is` gives a literal for a value; from
+//! an assignment, `value_of` reads the value.
 //!
-//! First `number` adds an integer, then `is` a literal for a value that is spoken of, and `at_most`
-//! one for a bound, made of two literals that are there; `bit_is` needs nothing for a range of 2.
-//! `values` and `bounds` do this for all values of an integer, and for the bounds that are worth a
-//! literal: with the bits these stay within two variables a value.
+//! `number` adds an integer, `is` a literal for one value, and `add_bound_lit` a literal for a
+//! bound, built from two existing literals. For a range of 2, `bit_lit` adds nothing.
+//! `add_value_lits` and `add_bound_lits` add literals for all values and for the useful bounds.
+//! With the bits, these need at most two variables per value.
 //!
-//! `one_of` takes any literals. It joins them in pairs, as a balanced tree does, so that what one of
-//! them says of another passes over few variables: a search that has many of them, as the rules of a
-//! step, derives its clauses in few steps.
+//! `one_of` takes any literals and joins them in pairs, as in a balanced tree. So propagation from
+//! one literal to another passes few variables, and a search over many literals, such as the rules
+//! of a step, learns short derivations.
 //!
-//! What each of them adds is a part of a formula (`specs/Number`, `specs/AtMost`, `specs/Named`,
-//! `specs/OneOf`), a function of the number of variables before and of the call's arguments alone,
-//! and its law says in which ways an assignment of what stood before extends over the new
-//! variables: in one for each value after `number`, in exactly one after the calls that give
-//! literals, and after `one_of` in exactly one where one literal of its list is true and no other,
-//! and in none elsewhere.
+//! Each call adds a part (`specs/Number`, `specs/AtMost`, `specs/PartWithLits`, `specs/OneOf`),
+//! which depends only on the earlier number of variables and the call's arguments. Its theorem says
+//! in how many ways an earlier assignment extends over the new variables. For `number` it is one
+//! way per value, and for the calls that give literals one way. For `one_of` it is one way if
+//! exactly one literal of its list is true, and otherwise none.
 #![tactic(auto)]
 
 mod bounded;
@@ -28,8 +28,9 @@ mod selection;
 mod table;
 
 pub use bounded::{
-    Bounded, add_is, add_number, bit_is, bits, is, number, take_is, take_number, value_of,
+    Bounded, add_is_clauses, add_number_clauses, bit_count, bit_lit, is, number, reserve_lit,
+    reserve_number, value_of,
 };
-pub use limit::at_most;
+pub use limit::add_bound_lit;
 pub use selection::one_of;
-pub use table::{bounds, take_named, values};
+pub use table::{add_bound_lits, add_value_lits, reserve_value_lits};

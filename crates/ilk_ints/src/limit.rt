@@ -1,32 +1,32 @@
 ghost use Rattle.std.specs.Prelude.{◌≡◌, ◌==◌, ℕ, ◌+◌, ◌-◌, ◌<◌, ◌≤◌, ◌^◌, ◌∷◌, ◌++◌, [], List, Bool, length, nat_le, nat_lt, OnOk, IfOk, IsTrue};
-ghost use Rattle.ilk_cnf.specs.Extends.{PartExtends, Only};
-ghost use Rattle.ilk_cnf.specs.Formula.{clause_in, with_vars};
+ghost use Rattle.ilk_cnf.specs.Extends.{PartExtends, IsExactly};
+ghost use Rattle.ilk_cnf.specs.Formula.{is_clause_over, with_vars};
 ghost use Rattle.ilk_cnf.specs.Part.{with_part};
 ghost use Rattle.ilk_cnf.specs.Truth.{is_true};
-ghost use Rattle.ilk_ints.specs.AtMost.{at_most_part, at_most_lit, at_most_bits, highest_bit_says};
+ghost use Rattle.ilk_ints.specs.AtMost.{at_most_part, at_most_lit, at_most_bits, highest_bit_decides};
 ghost use Rattle.ilk_ints.specs.Bits.{bit_count, bits_of, bits_at};
 
-use crate::bounded::{Bounded, bits};
-use ilk_cnf::{Cnf, Lit, add_gate};
+use crate::bounded::{Bounded, bit_count};
+use ilk_cnf::{Cnf, Lit, define_and_gate};
 use std::alloc::{AllocError, Global};
 
-// Whether the highest bit of an integer of `range` is false exactly where the integer is at most
-// `k`.
-pub fn highest_bit_says(range: u8, k: u8) -> bool
+/// Returns whether the highest bit of an integer of `range` is false if and only if the integer is
+/// at most `k`.
+pub fn highest_bit_decides(range: u8, k: u8) -> bool
     requires { 1 < range }
-    ensures says { result ≡ highest_bit_says range k }
+    ensures says { result ≡ highest_bit_decides range k }
     ensures enough { range ≤ 2 ^ bit_count range }
     ensures some { 0 < bit_count range }
 {
-    let count = bits(range);
+    let count = bit_count(range);
     u64::from(k) + 1 == 1u64 << (count - 1)
 }
 
-/// Gives a literal that is true exactly where the integer is at most `k`: that of the next variable
-/// after the `used` ones, which is there, or the highest bit's where this says as much. `below` is
-/// true where the integer is below `k`, and `equal` where it is `k`. Where memory runs out the
-/// formula may have grown, and its owner drops it.
-pub fn at_most(
+/// Returns a literal that is true if and only if the integer is at most `k`. It belongs to the next
+/// variable after the `used` ones, which exists, or to the highest bit if this is equivalent.
+/// `below` is true if the integer is below `k`, and `equal` if it is `k`. If memory runs out, the
+/// formula may have grown; its owner drops it.
+pub fn add_bound_lit(
     alloc: Global,
     cnf: &mut Cnf,
     used: &mut u64,
@@ -39,7 +39,7 @@ pub fn at_most(
     requires value { k < n.range }
     requires from_1 { 0 < n.first }
     requires within { n.first + bit_count n.range ≤ used.old + 1 }
-    requires lits { IsTrue (clause_in used.old (below ∷ equal ∷ [])) }
+    requires lits { IsTrue (is_clause_over used.old (below ∷ equal ∷ [])) }
     requires there { (at_most_part n.range k below equal used.old).vars ≤ cnf.old.vars }
     ensures lit { IfOk result (λ l. l ≡ at_most_lit n.first n.range k used.old) }
     ensures vars { OnOk result (cnf.new.vars ≡ cnf.old.vars) }
@@ -48,13 +48,13 @@ pub fn at_most(
         ≡ with_part (with_vars cnf.old used.old)
         (at_most_part n.range k below equal used.old)) }
 
-    // Where the integer is v and the two literals say what they are to.
+    // If the integer is v, and `below` and `equal` have their meaning.
     ensures law { OnOk result
         ((a : List Bool) (v : ℕ) → length a ≡ used.old → v < n.range →
         bits_at a n.first (bit_count n.range) ≡ bits_of (bit_count n.range) v →
         is_true a below ≡ nat_lt v k → is_true a equal ≡ (v == k) →
         PartExtends a (at_most_part n.range k below equal used.old)
-        (Only (at_most_bits n.range k v))) }
+        (IsExactly (at_most_bits n.range k v))) }
     ensures exact { OnOk result
         ((a : List Bool) (v : ℕ) → length a ≡ used.old → v < n.range →
         bits_at a n.first (bit_count n.range) ≡ bits_of (bit_count n.range) v →
@@ -62,12 +62,12 @@ pub fn at_most(
         ≡ nat_le v k) }
 {
     let _ = cnf.vars();
-    if highest_bit_says(n.range, k) {
-        return Ok(Lit::new(n.first + (bits(n.range) - 1), false));
+    if highest_bit_decides(n.range, k) {
+        return Ok(Lit::new(n.first + (bit_count(n.range) - 1), false));
     }
     *used += 1;
     let lit = Lit::new(*used, true);
-    add_gate(
+    define_and_gate(
         alloc,
         cnf,
         lit.negated(),

@@ -1,20 +1,20 @@
 ghost use Rattle.std.specs.Prelude.{◌≡◌, ◌==◌, ℕ, ◌+◌, ◌-◌, ◌<◌, ◌≤◌, ◌^◌, ◌∷◌, ◌++◌, [], List, Bool, min, length, map, OnOk, IfOk, IsTrue};
-ghost use Rattle.ilk_cnf.specs.Extends.{PartExtends, Only};
-ghost use Rattle.ilk_cnf.specs.Formula.{clause_in, with_vars};
-ghost use Rattle.ilk_cnf.specs.Literal.{plus};
+ghost use Rattle.ilk_cnf.specs.Extends.{PartExtends, IsExactly};
+ghost use Rattle.ilk_cnf.specs.Formula.{is_clause_over, with_vars};
+ghost use Rattle.ilk_cnf.specs.Literal.{positive_lit};
 ghost use Rattle.ilk_cnf.specs.Part.{with_part};
 ghost use Rattle.ilk_cnf.specs.Truth.{is_true};
 ghost use Rattle.ilk_ints.specs.Bits.{bit_count, bits_at, bits_of};
-ghost use Rattle.ilk_ints.specs.Number.{is_part};
-ghost use Rattle.ilk_ints.specs.Named.{values_from, values_part, value_bits, values_bits, values_vars, bounds_vars, named_vars, bound_count, bounds_from, bounds_part, bound_bits, bounds_bits};
+ghost use Rattle.ilk_ints.specs.Number.{value_lit_part};
+ghost use Rattle.ilk_ints.specs.Named.{values_from, values_part, value_bits, value_vars_bits, values_vars, bound_var_count, lit_var_count, bound_count, bounds_from, bounds_part, bound_bits, bound_vars_bits};
 
-use crate::bounded::{Bounded, add_is, bit_is, bits, take};
-use crate::limit::{at_most, highest_bit_says};
+use crate::bounded::{Bounded, add_is_clauses, add_vars, bit_count, bit_lit};
+use crate::limit::{add_bound_lit, highest_bit_decides};
 use ilk_cnf::{Cnf, Lit, Lits};
 use std::alloc::{AllocError, Global};
 
-// Adds the clauses of the next variable after the `used` ones, which is there: it is true exactly
-// where the integer has the value.
+// Adds the clauses that make the next variable after the `used` ones, which exists, true if and
+// only if the integer is `value`.
 fn next_is(
     alloc: Global,
     cnf: &mut Cnf,
@@ -25,16 +25,16 @@ fn next_is(
     requires from_1 { 0 < n.first }
     requires within { n.first + bit_count n.range ≤ used.old + 1 }
     requires there { used.old < cnf.old.vars }
-    ensures lit { IfOk result (λ l. l ≡ plus (used.old + 1)) }
+    ensures lit { IfOk result (λ l. l ≡ positive_lit (used.old + 1)) }
     ensures vars { OnOk result (cnf.new.vars ≡ cnf.old.vars) }
     ensures made { OnOk result
         (with_vars cnf.new used.new
-        ≡ with_part (with_vars cnf.old used.old) (is_part n.first n.range value used.old)) }
+        ≡ with_part (with_vars cnf.old used.old) (value_lit_part n.first n.range value used.old)) }
 {
     let _ = cnf.vars();
     *used += 1;
     let lit = Lit::new(*used, true);
-    add_is(alloc, cnf, n, value, lit)?;
+    add_is_clauses(alloc, cnf, n, value, lit)?;
     Ok(lit)
 }
 
@@ -58,10 +58,15 @@ fn add_values(alloc: Global, cnf: &mut Cnf, used: &mut u64, n: Bounded) -> Resul
     Ok(lits)
 }
 
-/// A literal for each value of the integer, true exactly where the integer has it: those of the
-/// next variables after the `used` ones, which are there. Of two values the one bit's serve, and
-/// nothing is added. Where memory runs out the formula may have grown, and its owner drops it.
-pub fn values(alloc: Global, cnf: &mut Cnf, used: &mut u64, n: Bounded) -> Result<Lits, AllocError>
+/// Returns a literal for each value, true if and only if the integer has it. They belong to the
+/// next variables after the `used` ones, which exist. For a range of 2 they are the literals of the
+/// bit, and nothing is added. If memory runs out, the formula may have grown; its owner drops it.
+pub fn add_value_lits(
+    alloc: Global,
+    cnf: &mut Cnf,
+    used: &mut u64,
+    n: Bounded,
+) -> Result<Lits, AllocError>
     requires from_1 { 0 < n.first }
     requires within { n.first + bit_count n.range ≤ used.old + 1 }
     requires there { used.old + values_vars n.range ≤ cnf.old.vars }
@@ -71,21 +76,21 @@ pub fn values(alloc: Global, cnf: &mut Cnf, used: &mut u64, n: Bounded) -> Resul
         (with_vars cnf.new used.new
         ≡ with_part (with_vars cnf.old used.old) (values_part n.first n.range used.old).part) }
 
-    // Where the integer is w, the new variables have one value each, and the literals say w.
+    // If the integer is w, the new variables have exactly one assignment, and the literals say w.
     ensures law { OnOk result
         ((a : List Bool) (w : ℕ) → length a ≡ used.old → w < n.range →
         bits_at a n.first (bit_count n.range) ≡ bits_of (bit_count n.range) w →
         PartExtends a (values_part n.first n.range used.old).part
-        (Only (values_bits n.range w))) }
+        (IsExactly (value_vars_bits n.range w))) }
     ensures exact { OnOk result
         ((a c : List Bool) (w : ℕ) → length a ≡ used.old → w < n.range →
         bits_at a n.first (bit_count n.range) ≡ bits_of (bit_count n.range) w →
-        map (is_true (a ++ (values_bits n.range w ++ c)))
+        map (is_true (a ++ (value_vars_bits n.range w ++ c)))
         (values_part n.first n.range used.old).lits
         ≡ value_bits w 0 n.range) }
 {
     let _ = cnf.vars();
-    let _ = bits(n.range);
+    let _ = bit_count(n.range);
     let lits = if n.range == 2 {
         two_values(alloc, n)?
     } else {
@@ -94,7 +99,7 @@ pub fn values(alloc: Global, cnf: &mut Cnf, used: &mut u64, n: Bounded) -> Resul
     Ok(lits)
 }
 
-// The literals of an integer of range 2.
+// Returns the literals of an integer of range 2.
 fn two_values(alloc: Global, n: Bounded) -> Result<Lits, AllocError>
     requires range { n.range ≡ 2 }
     requires from_1 { 0 < n.first }
@@ -105,12 +110,12 @@ fn two_values(alloc: Global, n: Bounded) -> Result<Lits, AllocError>
         ∷ (record { var = n.first; positive = (1 == 1) }) ∷ []) }
 {
     let mut lits = Lits::new(alloc);
-    lits.push(bit_is(n, 0))?;
-    lits.push(bit_is(n, 1))?;
+    lits.push(bit_lit(n, 0))?;
+    lits.push(bit_lit(n, 1))?;
     Ok(lits)
 }
 
-// How many bounds an integer has literals for.
+// Returns the number of bounds that get a literal.
 fn bound_count(range: u8) -> u64
     ensures count { result ≡ bound_count range }
     ensures few { result ≤ range - 3 }
@@ -118,18 +123,18 @@ fn bound_count(range: u8) -> u64
     let values = u64::from(range);
     values
         .saturating_sub(3)
-        .min(values.saturating_sub(bits(range)))
+        .min(values.saturating_sub(bit_count(range)))
 }
 
-// How many variables the literals of an integer's bounds take.
+// Returns the number of variables for the literals of the bounds.
 fn bounds_vars(range: u8) -> u64
-    ensures count { result ≡ bounds_vars range 1 (bound_count range) }
+    ensures count { result ≡ bound_var_count range 1 (bound_count range) }
     ensures few { result ≤ 256 }
 {
     let mut count = 0;
     let mut k = 1u8;
     for _ in 0..bound_count(range) {
-        if !highest_bit_says(range, k) {
+        if !highest_bit_decides(range, k) {
             count += 1;
         }
         k += 1;
@@ -137,18 +142,18 @@ fn bounds_vars(range: u8) -> u64
     count
 }
 
-/// Adds the variables of the literals of an integer's values and bounds, and no clause. Where memory
-/// runs out the formula may have grown, and its owner drops it.
-pub fn take_named(cnf: &mut Cnf, range: u8) -> Result<(), AllocError>
-    ensures { OnOk result (cnf.new ≡ with_vars cnf.old (cnf.old.vars + named_vars range)) }
+/// Adds the variables for the literals of an integer's values and bounds, and no clause. If memory
+/// runs out, the formula may have grown; its owner drops it.
+pub fn reserve_value_lits(cnf: &mut Cnf, range: u8) -> Result<(), AllocError>
+    ensures { OnOk result (cnf.new ≡ with_vars cnf.old (cnf.old.vars + lit_var_count range)) }
 {
     let values = if range == 2 { 0 } else { u64::from(range) };
-    take(cnf, values + bounds_vars(range))?;
+    add_vars(cnf, values + bounds_vars(range))?;
     Ok(())
 }
 
-// Adds the clauses of the literals of the bounds from 1 on, one for each literal of the list, which
-// says that the integer is the bound.
+// Adds the clauses for the bounds from 1 on. Each literal of `equals` says that the integer is the
+// bound.
 fn add_bounds(
     alloc: Global,
     cnf: &mut Cnf,
@@ -161,7 +166,7 @@ fn add_bounds(
     requires few { length equals.now < n.range }
     requires from_1 { 0 < n.first }
     requires within { n.first + bit_count n.range ≤ used.old + 1 }
-    requires lits { IsTrue (clause_in used.old (below ∷ equals.now)) }
+    requires lits { IsTrue (is_clause_over used.old (below ∷ equals.now)) }
     requires there { (bounds_from n.first n.range below 1 equals.now used.old).part.vars
         ≤ cnf.old.vars }
     ensures lits { IfOk result
@@ -172,19 +177,19 @@ fn add_bounds(
         ≡ with_part (with_vars cnf.old used.old)
         (bounds_from n.first n.range below 1 equals.now used.old).part) }
 {
-    let _ = bits(n.range);
+    let _ = bit_count(n.range);
     let mut lits = Lits::new(alloc);
     let mut below = below;
     let mut k = 1u8;
     for equal in equals {
-        below = at_most(alloc, cnf, used, n, k, below, *equal)?;
+        below = add_bound_lit(alloc, cnf, used, n, k, below, *equal)?;
         lits.push(below)?;
         k += 1;
     }
     Ok(lits)
 }
 
-// The same as `bounds`.
+// The same as `add_bound_lits`.
 fn bounds_of(
     alloc: Global,
     cnf: &mut Cnf,
@@ -195,7 +200,7 @@ fn bounds_of(
     requires from_1 { 0 < n.first }
     requires within { n.first + bit_count n.range ≤ used.old + 1 }
     requires all { length values.now ≡ n.range }
-    requires lits { IsTrue (clause_in used.old values.now) }
+    requires lits { IsTrue (is_clause_over used.old values.now) }
     requires there { (bounds_part n.first n.range values.now used.old).part.vars ≤ cnf.old.vars }
     ensures lits { IfOk result
         (λ lits. lits ≡ (bounds_part n.first n.range values.now used.old).lits) }
@@ -214,12 +219,12 @@ fn bounds_of(
     }
 }
 
-/// A literal for each k from 1 on, as far as two values of the integer or more lie on each side and
-/// there are no more variables than two a value: true exactly where the integer is at most k. Their
-/// variables are the next after the `used` ones, and are there. `values` are the literals of its
-/// values, as `values` gives them. Where memory runs out the formula may have grown, and its owner
-/// drops it.
-pub fn bounds(
+/// Returns a literal for each bound k, true if and only if the integer is at most k. The bounds run
+/// from 1 on, with at least two values of the integer on each side and at most two variables per
+/// value. Their variables are the next after the `used` ones, and exist. `add_value_lits` are the
+/// literals that `add_value_lits` returns. If memory runs out, the formula may have grown; its
+/// owner drops it.
+pub fn add_bound_lits(
     alloc: Global,
     cnf: &mut Cnf,
     used: &mut u64,
@@ -229,7 +234,7 @@ pub fn bounds(
     requires from_1 { 0 < n.first }
     requires within { n.first + bit_count n.range ≤ used.old + 1 }
     requires all { length values.now ≡ n.range }
-    requires lits { IsTrue (clause_in used.old values.now) }
+    requires lits { IsTrue (is_clause_over used.old values.now) }
     requires there { (bounds_part n.first n.range values.now used.old).part.vars ≤ cnf.old.vars }
     ensures lits { IfOk result
         (λ lits. lits ≡ (bounds_part n.first n.range values.now used.old).lits) }
@@ -239,22 +244,22 @@ pub fn bounds(
         ≡ with_part (with_vars cnf.old used.old)
         (bounds_part n.first n.range values.now used.old).part) }
 
-    // Where the integer is w, and the literals of its values say so.
+    // If the integer is w, and the literals of its values say so.
     ensures law { OnOk result
         ((a : List Bool) (w : ℕ) → length a ≡ used.old → w < n.range →
         bits_at a n.first (bit_count n.range) ≡ bits_of (bit_count n.range) w →
         map (is_true a) values.now ≡ value_bits w 0 n.range →
         PartExtends a (bounds_part n.first n.range values.now used.old).part
-        (Only (bounds_bits n.range w 1 (bound_count n.range)))) }
+        (IsExactly (bound_vars_bits n.range w 1 (bound_count n.range)))) }
     ensures exact { OnOk result
         ((a c : List Bool) (w : ℕ) → length a ≡ used.old → w < n.range →
         bits_at a n.first (bit_count n.range) ≡ bits_of (bit_count n.range) w →
         map (is_true a) values.now ≡ value_bits w 0 n.range →
-        map (is_true (a ++ (bounds_bits n.range w 1 (bound_count n.range) ++ c)))
+        map (is_true (a ++ (bound_vars_bits n.range w 1 (bound_count n.range) ++ c)))
         (bounds_part n.first n.range values.now used.old).lits
         ≡ bound_bits w 1 (bound_count n.range)) }
 {
-    let _ = bits(n.range);
+    let _ = bit_count(n.range);
     let lits = bounds_of(alloc, cnf, used, n, values)?;
     Ok(lits)
 }

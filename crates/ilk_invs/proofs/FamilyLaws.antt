@@ -1,13 +1,14 @@
--- Each family as a condition holds of the image of a state without hazard exactly where the state keeps it.
+-- Each condition holds for the image of a state without hazard if and only if the state keeps its
+-- family.
 use Rattle.std.proofs.Common.{◌≡◌, ℕ, zero, suc, ◌-◌, ◌∙◌, ap, refl, slice_get, unwrap_or}
 use Rattle.ilk_base.specs.Option.{is_some_and}
 use Rattle.ilk_ir.specs.Tree.{Tree, no, tree_holds}
 use Rattle.ilk_plant.specs.Plant.{IsPlant, PlantLists}
-use Rattle.ilk_plant.specs.Sound.{NeverReturns}
+use Rattle.ilk_plant.specs.Sound.{NoWalkReturns}
 use Rattle.ilk_plant.specs.declared.state.State.{State}
 use Rattle.ilk_model.specs.Meets.{families}
 use Rattle.ilk_layout.specs.Image.{image_of}
-use Rattle.ilk_layout.specs.Laws.{IsCalm}
+use Rattle.ilk_layout.specs.Laws.{IsWellFormedAndSafe}
 use Rattle.ilk_invs.specs.FamilyTrees.{family_tree, family_trees}
 use Rattle.ilk_invs.specs.Laws.{HoldsAsKept}
 use Rattle.ilk_invs.proofs.HoldLaws.{v2-law}
@@ -16,8 +17,8 @@ use Rattle.ilk_invs.proofs.PointLaws.{v6-law}
 use Rattle.ilk_invs.proofs.RouteLaws.{v1-law, v4-law, v5-law, v9-law}
 use Rattle.ilk_invs.proofs.TrainLaws.{v7-law, v8-law}
 
-module _ (p : PlantLists) (plant : IsPlant p) (never : NeverReturns p) where
-  at-place : (s : State) → IsCalm p s → (k : ℕ) → tree_holds (image_of p s) (unwrap_or (slice_get (family_trees p) k) no) ≡ is_some_and (slice_get families k) (λ keeps_it. keeps_it p s)
+module _ (p : PlantLists) (plant : IsPlant p) (never : NoWalkReturns p) where
+  at-place : (s : State) → IsWellFormedAndSafe p s → (k : ℕ) → tree_holds (image_of p s) (unwrap_or (slice_get (family_trees p) k) no) ≡ is_some_and (slice_get families k) (λ keeps_it. keeps_it p s)
   at-place s calm zero = v1-law p plant s calm.shape
   at-place s calm (suc zero) = v2-law p plant s calm.shape
   at-place s calm (suc (suc zero)) = v3-law p plant s calm.shape
@@ -32,6 +33,5 @@ module _ (p : PlantLists) (plant : IsPlant p) (never : NeverReturns p) where
   pub family-law : (j : ℕ) → HoldsAsKept p j (family_tree p j)
   family-law j s calm = at-place s calm (j - 1)
 
-  -- the same of a form's tree
   pub family_holds : (j : ℕ) (t : Tree) → t ≡ family_tree p j → HoldsAsKept p j t
   family_holds j t is s calm = ap (tree_holds (image_of p s)) is ∙ family-law j s calm

@@ -1,22 +1,21 @@
--- Lists of forms to which those of the halves of some routes were added.
+-- Lists of forms after those of two halves were added.
 use Rattle.std.proofs.Common.{◌≡◌, ℕ, suc, ◌/◌, ◌<◌, Bool, true, false, List, [], ◌∷◌, ◌++◌, drop, length, nat_le, take, ◌∙◌, ap, append_assoc, arith}
 use Rattle.std.specs.Prelude.{if◌then◌else◌}
 use Rattle.std.proofs.lemmas.Bool.Decides.{nat_tests}
 use Rattle.ilk_ir.specs.Tree.{Tree}
 use Rattle.ilk_plant.specs.Plant.{PlantLists}
-use Rattle.ilk_invs.specs.declared.hold_family.TheConstants.{MAX_IN_ORDER}
+use Rattle.ilk_invs.specs.declared.hold_family.TheConstants.{MAX_ORDERED_HOLDERS}
 use Rattle.ilk_invs.specs.HoldFamilies.{held_by_halves, held_in_order, not_in_both}
 
--- of many routes the conditions that no two hold a section: that of both halves, and those of each
 pub halves_pushed :
     (p : PlantLists) (x n : ℕ) (routes first second : List ℕ) (start one two three : List Tree) →
-    MAX_IN_ORDER < length routes → first ≡ take (length routes / 2) routes →
+    MAX_ORDERED_HOLDERS < length routes → first ≡ take (length routes / 2) routes →
     second ≡ drop (length routes / 2) routes → one ≡ start ++ not_in_both p x first second ∷ [] →
     two ≡ one ++ held_by_halves n p x first → three ≡ two ++ held_by_halves n p x second →
     three ≡ start ++ held_by_halves (suc n) p x routes
-halves_pushed p x n routes first second start one two three many here there a b c = by_size (nat_le (length routes) MAX_IN_ORDER) no
+halves_pushed p x n routes first second start one two three many here there a b c = by_size (nat_le (length routes) MAX_ORDERED_HOLDERS) no
   where
-    no : nat_le (length routes) MAX_IN_ORDER ≡ false
+    no : nat_le (length routes) MAX_ORDERED_HOLDERS ≡ false
     no = grind (arith, nat_tests)
 
     joined : three ≡ start ++ (not_in_both p x first second ∷ (held_by_halves n p x first ++ held_by_halves n p x second))

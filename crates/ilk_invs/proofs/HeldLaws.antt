@@ -1,4 +1,4 @@
--- Which sections a route holds, and how far its path is seen and released, by the image of a state.
+-- The sections that a route holds and its counts, by the image of a state.
 use Rattle.std.proofs.Common.{◌≡◌, ℕ, zero, suc, ◌+◌, ◌-◌, ◌≤◌, ◌==◌, Bool, true, false, ◌&&◌, ◌||◌, Some, List, [], ◌∷◌, drop, inl, inr, length, map, nat_le, nat_lt, not, slice_get, refl, sym, ◌∙◌, ap, arith}
 use Rattle.std.proofs.Math.Bool.{and-true}
 use Rattle.std.specs.Prelude.{if◌then◌else◌}
@@ -11,26 +11,25 @@ use Rattle.ilk_ir.specs.Tree.{tree_holds}
 use Rattle.ilk_plant.specs.Network.{has_section}
 use Rattle.ilk_plant.specs.Plant.{PlantLists}
 use Rattle.ilk_plant.specs.Shape.{HasShape}
-use Rattle.ilk_plant.proofs.Shapes.{fits_path-counts}
+use Rattle.ilk_plant.proofs.Shapes.{counts_fit_path-counts}
 use Rattle.ilk_plant.specs.declared.state.Mode.{Mode}
 use Rattle.ilk_plant.specs.declared.state.Mode.TheVariants.{Allocating, Free, Locked, Marked, Occupied}
 use Rattle.ilk_plant.specs.declared.state.RouteState.{RouteState}
 use Rattle.ilk_plant.specs.declared.state.State.{State}
 use Rattle.ilk_plant.specs.declared.table.Route.{Route}
-use Rattle.ilk_routes.specs.Claims.{sections_beside}
+use Rattle.ilk_routes.specs.Claims.{sections_beside_path}
 use Rattle.ilk_routes.specs.Modes.{same_mode}
-use Rattle.ilk_model.specs.Holding.{holds_section, holds_sections, is_kept_on_path, is_locked_or_occupied}
+use Rattle.ilk_model.specs.Holding.{holds_section, holds_sections, is_unreleased_on_path, is_locked_or_occupied}
 use Rattle.ilk_layout.specs.Image.{image_of}
-use Rattle.ilk_conditions.specs.Conditions.{rel_is, seen_is}
-use Rattle.ilk_conditions.proofs.Values.{mode-holds, rel-holds, seen-holds}
-use Rattle.ilk_invs.specs.Held.{holding_section, is_holding, kept_on_path, locked_or_occupied, rel_below, seen_below}
+use Rattle.ilk_layout.specs.Conditions.{rel_is, seen_is}
+use Rattle.ilk_layout.proofs.ConditionValues.{mode-holds, rel-holds, seen-holds}
+use Rattle.ilk_invs.specs.Held.{holding_section, is_holding, unreleased_on_path, locked_or_occupied, rel_below, seen_below}
 use Rattle.ilk_invs.proofs.PartLaws.{any-if, some_of-holds}
 use Rattle.ilk_invs.proofs.Tests.{counted-below, found-at, list_any-flat_map}
 
 pub below-next : (c i : ℕ) → nat_lt c (i + 1) ≡ nat_le c i
 below-next c i = grind (arith, nat_tests)
 
--- the places from k on, of a list that is numbered from n on
 rest-has : (k n x : ℕ) (path : List ℕ) → list_any (λ place. nat_le k place.0 && (place.1 == x)) (enumerate_from n path) ≡ has_section x (drop (k - n) path)
 rest-has k n x [] = nothing (k - n)
   where
@@ -95,9 +94,9 @@ module _ (p : PlantLists) (s : State) (shape : HasShape p s) where
       neither Locked = refl
       neither Occupied = refl
 
-  pub kept_on_path-holds : (r : ℕ) (route : Route) (now : RouteState) (x : ℕ) → slice_get p.routes r ≡ Some route → slice_get s.routes r ≡ Some now → tree_holds (image_of p s) (kept_on_path r route x) ≡ is_kept_on_path route now x
-  kept_on_path-holds r route now x known at =
-      let few : now.rel ≤ length route.path = (fits_path-counts route now (shape.counts r route now known at)).1 in
+  pub unreleased_on_path-holds : (r : ℕ) (route : Route) (now : RouteState) (x : ℕ) → slice_get p.routes r ≡ Some route → slice_get s.routes r ≡ Some now → tree_holds (image_of p s) (unreleased_on_path r route x) ≡ is_unreleased_on_path route now x
+  unreleased_on_path-holds r route now x known at =
+      let few : now.rel ≤ length route.path = (counts_fit_path-counts route now (shape.counts r route now known at)).1 in
       let counts = range_with_len 0 (length route.path + 1) in
       some_of-holds (image_of p s) (flat_map (λ c. if rest c then rel_is r c ∷ [] else []) counts)
       ∙ list_any-flat_map (tree_holds (image_of p s)) (λ c. if rest c then rel_is r c ∷ [] else []) counts
@@ -111,11 +110,11 @@ module _ (p : PlantLists) (s : State) (shape : HasShape p s) where
       rest c = has_section x (drop c route.path)
 
   pub holding_section-holds : (r : ℕ) (route : Route) (now : RouteState) (x : ℕ) → slice_get p.routes r ≡ Some route → slice_get s.routes r ≡ Some now → tree_holds (image_of p s) (holding_section r route x) ≡ holds_section x route now
-  holding_section-holds r route now x known at = by_test (has_section x (sections_beside route)) refl
+  holding_section-holds r route now x known at = by_test (has_section x (sections_beside_path route)) refl
     where
-      by_test : (b : Bool) → has_section x (sections_beside route) ≡ b → tree_holds (image_of p s) (holding_section r route x) ≡ holds_section x route now
+      by_test : (b : Bool) → has_section x (sections_beside_path route) ≡ b → tree_holds (image_of p s) (holding_section r route x) ≡ holds_section x route now
       by_test true e = rw e (is_holding-holds r now at ∙ sym (and-true (holds_sections now)))
       by_test false e =
           let one = is_holding-holds r now at in
-          let two = kept_on_path-holds r route now x known at in
-          rw e (ap (λ b. b && (tree_holds (image_of p s) (kept_on_path r route x) && true)) one ∙ ap (λ b. holds_sections now && b) (and-true (tree_holds (image_of p s) (kept_on_path r route x)) ∙ two))
+          let two = unreleased_on_path-holds r route now x known at in
+          rw e (ap (λ b. b && (tree_holds (image_of p s) (unreleased_on_path r route x) && true)) one ∙ ap (λ b. holds_sections now && b) (and-true (tree_holds (image_of p s) (unreleased_on_path r route x)) ∙ two))

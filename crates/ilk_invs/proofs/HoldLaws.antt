@@ -1,4 +1,4 @@
--- V2 as a condition holds of the image of a state exactly where the state keeps it.
+-- The condition of V2 holds for a state's image if and only if the state keeps V2.
 use Rattle.std.proofs.Common.{◌≡◌, ℕ, zero, suc, ◌+◌, ◌-◌, ◌/◌, ◌<◌, ◌==◌, Bool, true, false, not, ◌&&◌, ◌||◌, Some, List, [], ◌∷◌, ◌++◌, drop, length, nat_le, slice_get, take, inl, inr, refl, sym, ◌∙◌, ap, arith}
 use Rattle.std.specs.Prelude.{if◌then◌else◌}
 use Rattle.std.specs.List.{enumerate_from, flat_map, list_all, range_with_len}
@@ -6,7 +6,7 @@ use Rattle.std.proofs.lemmas.Bool.{and_from, and_parts, cases_eq, eq-eqb, eqb-tr
 use Rattle.std.proofs.lemmas.List.Folds.{list_all-append, list_all-map}
 use Rattle.std.proofs.lemmas.Option.{same_Some}
 use Rattle.ilk_base.proofs.Truth.{same_truth, if-passes, passes-if}
-use Rattle.ilk_base.specs.Each.{each_below}
+use Rattle.ilk_base.specs.Each.{all_below}
 use Rattle.ilk_base.proofs.Lists.{item_at, take-at, taken-before}
 use Rattle.ilk_base.proofs.ListTests.{list_all-flat_map}
 use Rattle.ilk_base.proofs.Ranges.{below_or_past, range-at, range_within}
@@ -20,12 +20,12 @@ use Rattle.ilk_plant.specs.TableRules.{sections_locked_for}
 use Rattle.ilk_plant.specs.declared.state.RouteState.{RouteState}
 use Rattle.ilk_plant.specs.declared.state.State.{State}
 use Rattle.ilk_plant.specs.declared.table.Route.{Route}
-use Rattle.ilk_routes.specs.Claims.{sections_beside}
+use Rattle.ilk_routes.specs.Claims.{sections_beside_path}
 use Rattle.ilk_model.specs.Families.{keeps_v2}
-use Rattle.ilk_model.specs.Holding.{holds_section, holds_sections, is_kept_on_path, route_holds}
+use Rattle.ilk_model.specs.Holding.{holds_section, holds_sections, is_unreleased_on_path, route_holds}
 use Rattle.ilk_model.proofs.Kept.{kept-on_path}
 use Rattle.ilk_layout.specs.Image.{image_of}
-use Rattle.ilk_invs.specs.declared.hold_family.TheConstants.{MAX_IN_ORDER}
+use Rattle.ilk_invs.specs.declared.hold_family.TheConstants.{MAX_ORDERED_HOLDERS}
 use Rattle.ilk_invs.specs.HoldFamilies.{held_by_halves, held_in_order, held_once, holders, may_hold, none_before, none_holding, not_in_both, v2_tree}
 use Rattle.ilk_invs.proofs.PartLaws.{each_of-holds, state_of_route}
 use Rattle.ilk_invs.proofs.Sections.{sections_of_route}
@@ -33,22 +33,20 @@ use Rattle.ilk_invs.proofs.Tests.{dropped-at}
 use Rattle.ilk_invs.proofs.HoldingLaws.{at-dropped, before-first, dropped-known, filter-place, holder-known, none_before-holds, none_holding-holds, not-both, not-true-false, not-where-never, passing-once, taken-known}
 
 module _ (p : PlantLists) (plant : IsPlant p) (s : State) (shape : HasShape p s) where
-  -- a route that holds a section may hold it
   may-hold : (x r : ℕ) → r < length p.routes → route_holds p s r x ≡ true → may_hold p x r ≡ true
   may-hold x r within h =
       let route = item_at p.routes r within in
       let now = state_of_route p s shape r route.0 route.1 in
       let holds : holds_section x route.0 now.0 ≡ true = (rw (route.1, now.1) at h) in
-      rw route.1 (locked route.0 now.0 (and_parts (holds_sections now.0) (has_section x (sections_beside route.0) || is_kept_on_path route.0 now.0 x) holds).1)
+      rw route.1 (locked route.0 now.0 (and_parts (holds_sections now.0) (has_section x (sections_beside_path route.0) || is_unreleased_on_path route.0 now.0 x) holds).1)
     where
-      locked : (route : Route) (now : RouteState) → (has_section x (sections_beside route) || is_kept_on_path route now x) ≡ true → has_section x (sections_locked_for route) ≡ true
+      locked : (route : Route) (now : RouteState) → (has_section x (sections_beside_path route) || is_unreleased_on_path route now x) ≡ true → has_section x (sections_locked_for route) ≡ true
       locked route now e =
-          sections_of_route x route ∙ elim (or_cases (has_section x (sections_beside route)) (is_kept_on_path route now x) e) [
-            | inl beside ↦ or_right (has_section x route.path) (has_section x (sections_beside route)) beside
-            | inr kept ↦ or_left (has_section x route.path) (has_section x (sections_beside route)) (kept-on_path route now x kept)
+          sections_of_route x route ∙ elim (or_cases (has_section x (sections_beside_path route)) (is_unreleased_on_path route now x) e) [
+            | inl beside ↦ or_right (has_section x route.path) (has_section x (sections_beside_path route)) beside
+            | inr kept ↦ or_left (has_section x route.path) (has_section x (sections_beside_path route)) (kept-on_path route now x kept)
           ]
 
-  -- of two routes in order, the later one's condition speaks of the earlier one
   two-in-order : (x : ℕ) (routes : List ℕ) → ((i q : ℕ) → slice_get routes i ≡ Some q → q < length p.routes) →
       list_all (tree_holds (image_of p s)) (held_in_order p x routes) ≡ true → (i j r q : ℕ) → i < j →
       slice_get routes i ≡ Some r → slice_get routes j ≡ Some q → route_holds p s r x ≡ true →
@@ -66,7 +64,6 @@ module _ (p : PlantLists) (plant : IsPlant p) (s : State) (shape : HasShape p s)
       let first = list_all-slice_get (λ q. not (route_holds p s q x)) (take (1 + j) routes) i r none (take-at routes i (1 + j) r (omega (arith, less)) at) in
       not-true-false (route_holds p s r x) first one
 
-  -- of a route of the first list and one of the second not both hold a section
   one-of-both : (x : ℕ) (these those : List ℕ) →
       ((i q : ℕ) → slice_get these i ≡ Some q → q < length p.routes) →
       ((i q : ℕ) → slice_get those i ≡ Some q → q < length p.routes) →
@@ -83,7 +80,6 @@ module _ (p : PlantLists) (plant : IsPlant p) (s : State) (shape : HasShape p s)
             ]
       ]
 
-  -- no two of some routes hold a section where no two of each part do, nor one of the one part and one of the other
   of-parts : (x n : ℕ) (routes : List ℕ) → ((i q : ℕ) → slice_get routes i ≡ Some q → q < length p.routes) →
       tree_holds (image_of p s) (not_in_both p x (take n routes) (drop n routes)) ≡ true →
       ((i j r q : ℕ) → i < j → slice_get (take n routes) i ≡ Some r → slice_get (take n routes) j ≡ Some q →
@@ -105,14 +101,13 @@ module _ (p : PlantLists) (plant : IsPlant p) (s : State) (shape : HasShape p s)
             ]
       ]
 
-  -- no two routes hold a section of which the condition by halves holds
   no-two : (n x : ℕ) (routes : List ℕ) → ((i q : ℕ) → slice_get routes i ≡ Some q → q < length p.routes) →
       list_all (tree_holds (image_of p s)) (held_by_halves n p x routes) ≡ true → (i j r q : ℕ) → i < j →
       slice_get routes i ≡ Some r → slice_get routes j ≡ Some q → route_holds p s r x ≡ true →
       route_holds p s q x ≡ true → ⊥
   no-two zero x routes known all i j r q less at also one two = two-in-order x routes known all i j r q less at also one two
   no-two (suc n) x routes known all i j r q less at also one two =
-      by_size (nat_le (length routes) MAX_IN_ORDER) all
+      by_size (nat_le (length routes) MAX_ORDERED_HOLDERS) all
       (no-two n x (take (length routes / 2) routes)
       (taken-known p plant s shape routes (length routes / 2) known))
       (no-two n x (drop (length routes / 2) routes)
@@ -151,7 +146,7 @@ module _ (p : PlantLists) (plant : IsPlant p) (s : State) (shape : HasShape p s)
           (held_by_halves n p x (drop (length routes / 2) routes))) ∙ parts.1) in
           of-parts x (length routes / 2) routes known parts.0 (early halves.0) (late halves.1) i j r q less at also one two
 
-  -- where no two of the routes hold a section, its condition holds: in order, of two lists, and by halves
+  -- If no two routes hold a section, its condition holds: in order, for two lists, and by halves.
   in-order : (x : ℕ) (routes : List ℕ) → ((i q : ℕ) → slice_get routes i ≡ Some q → q < length p.routes) →
       ((i j r q : ℕ) → i < j → slice_get routes i ≡ Some r → slice_get routes j ≡ Some q →
       route_holds p s r x ≡ true → route_holds p s q x ≡ true → ⊥) →
@@ -194,7 +189,7 @@ module _ (p : PlantLists) (plant : IsPlant p) (s : State) (shape : HasShape p s)
       list_all (tree_holds (image_of p s)) (held_by_halves n p x routes) ≡ true
   by-halves zero x routes known never = in-order x routes known never
   by-halves (suc n) x routes known never =
-      by_size (nat_le (length routes) MAX_IN_ORDER)
+      by_size (nat_le (length routes) MAX_ORDERED_HOLDERS)
       (by-halves n x (take (length routes / 2) routes) (taken-known p plant s shape routes (length routes / 2) known) (λ i j r q less at also one two.
       never i j r q less (taken-before (length routes / 2) routes i r at).1 (taken-before (length routes / 2) routes j q also).1 one two))
       (by-halves n x (drop (length routes / 2) routes) (dropped-known p plant s shape routes (length routes / 2) known) (λ i j r q less at also one two.
@@ -229,7 +224,7 @@ module _ (p : PlantLists) (plant : IsPlant p) (s : State) (shape : HasShape p s)
           ∙ and_from (list_all (tree_holds (image_of p s)) (held_by_halves n p x (take (length routes / 2) routes))) (list_all (tree_holds (image_of p s)) (held_by_halves n p x (drop (length routes / 2) routes))) here there)
 
   apart_test : ℕ → ℕ → Bool
-  apart_test r q = r == q || each_below (length p.sections) (λ x. not (route_holds p s r x && route_holds p s q x))
+  apart_test r q = r == q || all_below (length p.sections) (λ x. not (route_holds p s r x && route_holds p s q x))
 
   pub v2-law : tree_holds (image_of p s) (v2_tree p) ≡ keeps_v2 p s
   unfolding apart_test
@@ -240,7 +235,7 @@ module _ (p : PlantLists) (plant : IsPlant p) (s : State) (shape : HasShape p s)
     where
       forth : list_all (λ x. list_all (tree_holds (image_of p s)) (held_once p x)) (range_with_len 0 (length p.sections)) ≡ true → keeps_v2 p s ≡ true
       forth h =
-          all-pass (λ r. each_below (length p.routes) (apart_test r)) (range_with_len 0 (length p.routes)) (λ i r first.
+          all-pass (λ r. all_below (length p.routes) (apart_test r)) (range_with_len 0 (length p.routes)) (λ i r first.
           all-pass (apart_test r) (range_with_len 0 (length p.routes)) (λ k q second.
           of_two r q (range_within (length p.routes) i r first).1 (range_within (length p.routes) k q second).1))
         where
@@ -266,9 +261,9 @@ module _ (p : PlantLists) (plant : IsPlant p) (s : State) (shape : HasShape p s)
           of_two : (r q : ℕ) → r < length p.routes → q < length p.routes → apart_test r q ≡ true
           of_two r q one_known two_known =
               elim (cases_eq r q) [
-                | inl same ↦ or_left (r == q) (each_below (length p.sections) (λ x. not (route_holds p s r x && route_holds p s q x))) (eq-eqb r q same)
+                | inl same ↦ or_left (r == q) (all_below (length p.sections) (λ x. not (route_holds p s r x && route_holds p s q x))) (eq-eqb r q same)
                 | inr apart ↦
-                    or_right (r == q) (each_below (length p.sections) (λ x. not (route_holds p s r x && route_holds p s q x)))
+                    or_right (r == q) (all_below (length p.sections) (λ x. not (route_holds p s r x && route_holds p s q x)))
                     (all-pass (λ x. not (route_holds p s r x && route_holds p s q x)) (range_with_len 0 (length p.sections)) (λ i x found.
                     both x r q apart (range_within (length p.sections) i x found).1 one_known two_known (route_holds p s r x) (route_holds p s q x) refl refl))
               ]
@@ -284,9 +279,9 @@ module _ (p : PlantLists) (plant : IsPlant p) (s : State) (shape : HasShape p s)
               let r_known = holder-known p plant s shape x j r at in
               let q_known = holder-known p plant s shape x k q also in
               let apart : r ≡ q → ⊥ = (λ same. let places : j ≡ k = passing-once (may_hold p x) 0 (length p.routes) j k q (at ∙ ap Some same) also in omega (arith, less, places)) in
-              let row = list_all-slice_get (λ r. each_below (length p.routes) (apart_test r)) (range_with_len 0 (length p.routes)) r r h (range-at (length p.routes) r r_known) in
+              let row = list_all-slice_get (λ r. all_below (length p.routes) (apart_test r)) (range_with_len 0 (length p.routes)) r r h (range-at (length p.routes) r r_known) in
               let pair = list_all-slice_get (apart_test r) (range_with_len 0 (length p.routes)) q q row (range-at (length p.routes) q q_known) in
-              elim (or_cases (r == q) (each_below (length p.sections) (λ x. not (route_holds p s r x && route_holds p s q x))) pair) [
+              elim (or_cases (r == q) (all_below (length p.sections) (λ x. not (route_holds p s r x && route_holds p s q x))) pair) [
                 | inl same ↦ apart (eqb-true r q same)
                 | inr each ↦
                     not-true-false (route_holds p s q x)

@@ -1,5 +1,4 @@
--- V3 as a condition holds exactly where the state keeps it; which routes hold a section, as conditions and by
--- their numbers.
+-- The condition of V3 holds if and only if the state keeps V3; the routes that hold a section.
 use Rattle.std.proofs.Common.{◌≡◌, ℕ, zero, suc, ◌+◌, ◌-◌, ◌<◌, ◌≤◌, Bool, true, false, not, ◌&&◌, ◌||◌, cond, Some, List, [], ◌∷◌, ◌++◌, drop, filter, length, map, nat_le, nat_lt, slice_get, take, inl, inr, refl, ◌∙◌, ap, arith}
 use Rattle.std.proofs.Math.Bool.{and-true}
 use Rattle.std.specs.Prelude.{if◌then◌else◌}
@@ -20,21 +19,20 @@ use Rattle.ilk_plant.specs.declared.state.Hold.TheVariants.{Locked as LockedLock
 use Rattle.ilk_plant.specs.declared.state.RouteState.{RouteState}
 use Rattle.ilk_plant.specs.declared.state.State.{State}
 use Rattle.ilk_plant.specs.declared.table.Route.{Route}
-use Rattle.ilk_routes.specs.Claims.{sections_beside}
-use Rattle.ilk_model.specs.Families.{has_its_locks, keeps_v3, lock_on_path}
-use Rattle.ilk_model.specs.Holding.{each_place, holds_sections, route_holds}
+use Rattle.ilk_routes.specs.Claims.{sections_beside_path}
+use Rattle.ilk_model.specs.Families.{has_required_locks, keeps_v3, path_section_lock}
+use Rattle.ilk_model.specs.Holding.{all_path_indices_pass, holds_sections, route_holds}
 use Rattle.ilk_layout.specs.Image.{image_of}
-use Rattle.ilk_conditions.specs.Conditions.{lock_is}
-use Rattle.ilk_conditions.proofs.Values.{lock-holds}
+use Rattle.ilk_layout.specs.Conditions.{lock_is}
+use Rattle.ilk_layout.proofs.ConditionValues.{lock-holds}
 use Rattle.ilk_invs.specs.Held.{holding_section, is_holding, rel_below, seen_below}
-use Rattle.ilk_invs.specs.HoldFamilies.{holders, lock_at_place, locked_for, may_hold, none_before, none_holding, route_holding, v3_tree}
-use Rattle.ilk_invs.specs.Parts.{each_of, of_each_place, of_each_route}
+use Rattle.ilk_invs.specs.HoldFamilies.{holders, lock_at_place, has_locks_for_route, may_hold, none_before, none_holding, route_holding, v3_tree}
+use Rattle.ilk_invs.specs.Parts.{each_of, for_each_path_index, for_each_route}
 use Rattle.ilk_invs.proofs.HeldLaws.{below-next, holding_section-holds, is_holding-holds, rel_below-holds, seen_below-holds}
 use Rattle.ilk_invs.proofs.PartLaws.{each-place, each-route, each_of-holds, state_of_route, where-holds}
 use Rattle.ilk_invs.proofs.Tests.{dropped-at}
 use Rattle.ilk_routes.proofs.Shape.{beside-known}
 
--- numbers of a range that pass a test: each stands once, and each that passes stands there
 passing-above : (test : ℕ → Bool) (a n i x : ℕ) → slice_get (filter test (range_with_len a n)) i ≡ Some x → a ≤ x
 passing-above test a zero i x at = cc
 passing-above test a (suc n) i x at = by_test (test a) i at (λ j here. passing-above test (a + 1) n j x here)
@@ -97,15 +95,13 @@ pub not-where-never : (a : Bool) → (a ≡ true → ⊥) → not a ≡ true
 not-where-never true never = absurd (never refl)
 not-where-never false never = refl
 
--- what stands past an index stands in the rest of a list from there
 pub at-dropped : {X : Type 0} (n : ℕ) (xs : List X) (j : ℕ) (x : X) → n ≤ j → slice_get xs j ≡ Some x → slice_get (drop n xs) (j - n) ≡ Some x
 at-dropped n xs j x past at =
     let sum : n + (j - n) ≡ j = omega (arith, past) in
     get-dropped xs n (j - n) ∙ ap (slice_get xs) sum ∙ at
 
 module _ (p : PlantLists) (plant : IsPlant p) (s : State) (shape : HasShape p s) where
-  -- the lock of a path section
-  lock_place-holds : (r : ℕ) (now : RouteState) (i x : ℕ) → slice_get s.routes r ≡ Some now → x < length p.sections → list_all (tree_holds (image_of p s)) (lock_at_place p r i x) ≡ (not (nat_le now.rel i) || has_lock s x (lock_on_path now i))
+  lock_place-holds : (r : ℕ) (now : RouteState) (i x : ℕ) → slice_get s.routes r ≡ Some now → x < length p.sections → list_all (tree_holds (image_of p s)) (lock_at_place p r i x) ≡ (not (nat_le now.rel i) || has_lock s x (path_section_lock now i))
   lock_place-holds r now i x at within =
       let rel = rel_below-holds p s shape r now (i + 1) at ∙ below-next now.rel i in
       let seen : tree_holds (image_of p s) (seen_below r (i + 1)) ≡ not (nat_lt i now.seen) = seen_below-holds p s shape r now (i + 1) at ∙ below-next now.seen i ∙ turned now.seen i in
@@ -120,7 +116,7 @@ module _ (p : PlantLists) (plant : IsPlant p) (s : State) (shape : HasShape p s)
       turned : (a b : ℕ) → nat_le a b ≡ not (nat_lt b a)
       turned a b = grind (arith, nat_tests)
 
-      chosen : (b : Bool) → nat_lt i now.seen ≡ b → (if b then has_lock s x UsedLock else has_lock s x LockedLock) ≡ has_lock s x (lock_on_path now i)
+      chosen : (b : Bool) → nat_lt i now.seen ≡ b → (if b then has_lock s x UsedLock else has_lock s x LockedLock) ≡ has_lock s x (path_section_lock now i)
       chosen true e = rw e refl
       chosen false e = rw e refl
 
@@ -139,34 +135,34 @@ module _ (p : PlantLists) (plant : IsPlant p) (s : State) (shape : HasShape p s)
           ∙ ap (λ v. ((not a2 || (not (not b) || (l2 || false))) && ((not a2 || (not b || (v || false))) && true))) four
           ∙ cases a2 b l2 u2
 
-  locked_for-holds : (r : ℕ) (route : Route) (now : RouteState) → slice_get p.routes r ≡ Some route →
+  has_locks_for_route-holds : (r : ℕ) (route : Route) (now : RouteState) → slice_get p.routes r ≡ Some route →
       slice_get s.routes r ≡ Some now →
-      list_all (tree_holds (image_of p s)) (locked_for p r route ∷ [])
-      ≡ (if holds_sections now then has_its_locks s route now else true)
-  locked_for-holds r route now known at =
+      list_all (tree_holds (image_of p s)) (has_locks_for_route p r route ∷ [])
+      ≡ (if holds_sections now then has_required_locks s route now else true)
+  has_locks_for_route-holds r route now known at =
       let of = plant.routes_known r route known in
       let places = each-place (image_of p s) route (lock_at_place p r)
-      (λ i x. not (nat_le now.rel i) || has_lock s x (lock_on_path now i))
+      (λ i x. not (nat_le now.rel i) || has_lock s x (path_section_lock now i))
       (λ i x found. lock_place-holds r now i x at
       (all-at (λ x. x < length p.sections) route.path i x of.path found)) in
       let beside =
-      list_all-map (tree_holds (image_of p s)) (λ x. lock_is p x LockedLock) (sections_beside route)
+      list_all-map (tree_holds (image_of p s)) (λ x. lock_is p x LockedLock) (sections_beside_path route)
       ∙ list_all-alike (λ x. tree_holds (image_of p s) (lock_is p x LockedLock))
-      (λ x. has_lock s x LockedLock) (sections_beside route)
+      (λ x. has_lock s x LockedLock) (sections_beside_path route)
       (λ i x found. lock-holds p s shape x LockedLock (beside-known p route of i x found)) in
-      and-true (tree_holds (image_of p s) (locked_for p r route))
-      ∙ where-holds (image_of p s) (is_holding r) (each_of (of_each_place route (lock_at_place p r) ++ map (λ x. lock_is p x LockedLock) (sections_beside route))) (holds_sections now) (has_its_locks s route now) (is_holding-holds p s shape r now at)
-      (each_of-holds (image_of p s) (of_each_place route (lock_at_place p r) ++ map (λ x. lock_is p x LockedLock) (sections_beside route))
-      ∙ list_all-append (tree_holds (image_of p s)) (of_each_place route (lock_at_place p r)) (map (λ x. lock_is p x LockedLock) (sections_beside route))
-      ∙ ap (λ v. v && list_all (tree_holds (image_of p s)) (map (λ x. lock_is p x LockedLock) (sections_beside route))) places
-      ∙ ap (λ v. each_place route (λ i x. not (nat_le now.rel i) || has_lock s x (lock_on_path now i)) && v) beside)
+      and-true (tree_holds (image_of p s) (has_locks_for_route p r route))
+      ∙ where-holds (image_of p s) (is_holding r) (each_of (for_each_path_index route (lock_at_place p r) ++ map (λ x. lock_is p x LockedLock) (sections_beside_path route))) (holds_sections now) (has_required_locks s route now)
+      (is_holding-holds p s shape r now at)
+      (each_of-holds (image_of p s) (for_each_path_index route (lock_at_place p r) ++ map (λ x. lock_is p x LockedLock) (sections_beside_path route))
+      ∙ list_all-append (tree_holds (image_of p s)) (for_each_path_index route (lock_at_place p r)) (map (λ x. lock_is p x LockedLock) (sections_beside_path route))
+      ∙ ap (λ v. v && list_all (tree_holds (image_of p s)) (map (λ x. lock_is p x LockedLock) (sections_beside_path route))) places
+      ∙ ap (λ v. all_path_indices_pass route (λ i x. not (nat_le now.rel i) || has_lock s x (path_section_lock now i)) && v) beside)
 
   pub v3-law : tree_holds (image_of p s) (v3_tree p) ≡ keeps_v3 p s
   v3-law =
-      each_of-holds (image_of p s) (of_each_route p (λ r route. locked_for p r route ∷ []))
-      ∙ each-route p s shape (image_of p s) (λ r route. locked_for p r route ∷ []) (λ route now. if holds_sections now then has_its_locks s route now else true) locked_for-holds
+      each_of-holds (image_of p s) (for_each_route p (λ r route. has_locks_for_route p r route ∷ []))
+      ∙ each-route p s shape (image_of p s) (λ r route. has_locks_for_route p r route ∷ []) (λ route now. if holds_sections now then has_required_locks s route now else true) has_locks_for_route-holds
 
-  -- whether a route holds a section
   route_holding-holds : (x r : ℕ) → r < length p.routes → tree_holds (image_of p s) (each_of (route_holding p x r)) ≡ route_holds p s r x
   route_holding-holds x r within =
       let route = item_at p.routes r within in
@@ -196,7 +192,6 @@ module _ (p : PlantLists) (plant : IsPlant p) (s : State) (shape : HasShape p s)
   pub holder-known : (x i r : ℕ) → slice_get (holders p x) i ≡ Some r → r < length p.routes
   holder-known x i r at = let less = passing_within (may_hold p x) 0 (length p.routes) i r at in omega (arith, less)
 
-  -- parts of a list of routes
   pub taken-known : (routes : List ℕ) (n : ℕ) → ((i q : ℕ) → slice_get routes i ≡ Some q → q < length p.routes) → (i q : ℕ) → slice_get (take n routes) i ≡ Some q → q < length p.routes
   taken-known routes n known i q at = known i q (taken-before n routes i q at).1
 

@@ -1,4 +1,4 @@
--- What the values of an occupancy say of a train in a direction, and of its head.
+-- The meaning of occupancy values for trains in a direction, and for their heads.
 use Rattle.std.proofs.Common.{◌≡◌, ℕ, suc, ◌+◌, ◌==◌, Bool, true, false, not, ◌&&◌, ◌||◌, Some, None, List, [], ◌∷◌, length, slice_get, refl, arith}
 use Rattle.std.specs.List.{last_or}
 use Rattle.ilk_plant.specs.declared.network.Dir.{Dir}
@@ -7,7 +7,7 @@ use Rattle.ilk_layout.specs.Values.{occupancy_value}
 use Rattle.ilk_layout.specs.declared.values.Occupancy.{Occupancy}
 use Rattle.ilk_layout.specs.declared.values.Occupancy.TheVariants.{Vacant, Taken, Crash}
 
--- whether an occupancy is by a train in direction d; whether it has its head there
+-- Returns whether the occupancy is by a train in direction `d`; whether its head is there.
 abbrev pub has_head_in : Dir → Occupancy → Bool
 has_head_in Up (Taken Up tail true) = true
 has_head_in Down (Taken Down tail true) = true
@@ -18,7 +18,6 @@ has_train_in Up (Taken Up tail head) = true
 has_train_in Down (Taken Down tail head) = true
 has_train_in d o = false
 
--- what the values say
 pub head-values : (d : Dir) (o : Occupancy) → ((occupancy_value o == occupancy_value (Taken d false true)) || ((occupancy_value o == occupancy_value (Taken d true true)) || false)) ≡ has_head_in d o
 head-values Up Vacant = refl
 head-values Up Crash = refl
@@ -125,7 +124,6 @@ own-train Down tail head = refl
 pub same-taken : {d e : Dir} {t u h k : Bool} → Taken d t h ≡ Taken e u k → (d ≡ e) × (h ≡ k)
 same-taken e = (cc, cc)
 
--- where one test follows another
 pub then-passes : (a b : Bool) → (not a || b) ≡ true → a ≡ true → b ≡ true
 then-passes true b h e = h
 then-passes false b h e = cc
@@ -134,7 +132,6 @@ pub passes-then : (a b : Bool) → (a ≡ true → b ≡ true) → (not a || b) 
 passes-then true b f = f refl
 passes-then false b f = refl
 
--- the last section of a body stands at its last place
 pub last-place : (body : List ℕ) (x : ℕ) → last_or None body ≡ Some x → (k : ℕ) × (slice_get body k ≡ Some x) × (k + 1 ≡ length body)
 last-place [] x e = cc
 last-place (y ∷ rest) x e = past y rest x e

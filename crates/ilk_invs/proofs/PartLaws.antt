@@ -1,4 +1,4 @@
--- What the parts of families ask of a state, by its image: of each route, of each place, where another holds.
+-- The meaning of the combinators for a state, by its image.
 use Rattle.std.proofs.Common.{◌≡◌, ℕ, ◌<◌, Bool, true, false, not, ◌&&◌, ◌||◌, Some, None, List, [], ◌∷◌, length, map, slice_get, refl, ◌∙◌, ap, arith}
 use Rattle.std.proofs.Math.Bool.{or-false}
 use Rattle.std.specs.Prelude.{if◌then◌else◌}
@@ -17,11 +17,11 @@ use Rattle.ilk_plant.specs.declared.state.RouteState.{RouteState}
 use Rattle.ilk_plant.specs.declared.state.State.{State}
 use Rattle.ilk_plant.specs.declared.table.Route.{Route}
 use Rattle.ilk_model.specs.Hazard.{hazard}
-use Rattle.ilk_model.specs.Holding.{each_place, each_route, is_vacant, route_passes, some_place, some_route}
+use Rattle.ilk_model.specs.Holding.{all_path_indices_pass, all_routes_pass, is_vacant, route_passes, any_path_index_passes, any_route_passes}
 use Rattle.ilk_layout.specs.Image.{image_of}
-use Rattle.ilk_conditions.specs.Conditions.{no_train_at}
-use Rattle.ilk_conditions.proofs.Values.{vacant-holds}
-use Rattle.ilk_invs.specs.Parts.{conditions_for, each_of, of_each_place, of_each_route, some_of, where_holds}
+use Rattle.ilk_layout.specs.Conditions.{no_train_at}
+use Rattle.ilk_layout.proofs.ConditionValues.{vacant-holds}
+use Rattle.ilk_invs.specs.Parts.{conditions_for, each_of, for_each_path_index, for_each_route, some_of, implication}
 use Rattle.ilk_invs.proofs.Tests.{list_any-flat_map}
 
 pub then-this : (a b : Bool) → (not a || (b || false)) ≡ (if a then b else true)
@@ -29,25 +29,22 @@ then-this true true = refl
 then-this true false = refl
 then-this false b = refl
 
--- of a list: each, some, and where another holds
 pub each_of-holds : (values : List ℕ) (ts : List Tree) → tree_holds values (each_of ts) ≡ list_all (tree_holds values) ts
 each_of-holds values ts = all_of-holds values ts
 
 pub some_of-holds : (values : List ℕ) (ts : List Tree) → tree_holds values (some_of ts) ≡ list_any (tree_holds values) ts
 some_of-holds values ts = any_of-holds values ts
 
-pub where-holds : (values : List ℕ) (t u : Tree) (a b : Bool) → tree_holds values t ≡ a → tree_holds values u ≡ b → tree_holds values (where_holds t u) ≡ (if a then b else true)
+pub where-holds : (values : List ℕ) (t u : Tree) (a b : Bool) → tree_holds values t ≡ a → tree_holds values u ≡ b → tree_holds values (implication t u) ≡ (if a then b else true)
 where-holds values t u a b one two = rw (one, two) (then-this a b)
 
--- a condition that is asked or not
 pub any-if : (values : List ℕ) (t : Tree) (b : Bool) → list_any (tree_holds values) (if b then t ∷ [] else []) ≡ (b && tree_holds values t)
 any-if values t true = or-false (tree_holds values t)
 any-if values t false = refl
 
--- of the places of a path
 pub each-place : (values : List ℕ) (route : Route) (f : ℕ → ℕ → List Tree) (test : ℕ → ℕ → Bool) →
     ((i x : ℕ) → slice_get route.path i ≡ Some x → list_all (tree_holds values) (f i x) ≡ test i x) →
-    list_all (tree_holds values) (of_each_place route f) ≡ each_place route test
+    list_all (tree_holds values) (for_each_path_index route f) ≡ all_path_indices_pass route test
 each-place values route f test same =
     list_all-flat_map (tree_holds values) (λ place. f place.0 place.1) (enumerate_from 0 route.path)
     ∙ list_all-alike (λ place. list_all (tree_holds values) (f place.0 place.1)) (λ place. test place.0 place.1) (enumerate_from 0 route.path) (λ i place at.
@@ -57,7 +54,7 @@ each-place values route f test same =
 
 pub some-place : (values : List ℕ) (route : Route) (f : ℕ → ℕ → List Tree) (test : ℕ → ℕ → Bool) →
     ((i x : ℕ) → slice_get route.path i ≡ Some x → list_any (tree_holds values) (f i x) ≡ test i x) →
-    list_any (tree_holds values) (of_each_place route f) ≡ some_place route test
+    list_any (tree_holds values) (for_each_path_index route f) ≡ any_path_index_passes route test
 some-place values route f test same =
     list_any-flat_map (tree_holds values) (λ place. f place.0 place.1) (enumerate_from 0 route.path)
     ∙ list_any-alike (λ place. list_any (tree_holds values) (f place.0 place.1)) (λ place. test place.0 place.1) (enumerate_from 0 route.path) (λ i place at.
@@ -66,7 +63,6 @@ some-place values route f test same =
     same place.0 place.1 (ap (slice_get route.path) number ∙ it.1))
 
 module _ (p : PlantLists) (s : State) (shape : HasShape p s) where
-  -- each route has a state
   pub state_of_route : (r : ℕ) (route : Route) → slice_get p.routes r ≡ Some route → (now : RouteState) × (slice_get s.routes r ≡ Some now)
   state_of_route r route known =
       let within = slice_get_within p.routes r route known in
@@ -76,7 +72,7 @@ module _ (p : PlantLists) (s : State) (shape : HasShape p s) where
   pub each-route : (values : List ℕ) (f : ℕ → Route → List Tree) (test : Route → RouteState → Bool) →
       ((r : ℕ) (route : Route) (now : RouteState) → slice_get p.routes r ≡ Some route →
       slice_get s.routes r ≡ Some now → list_all (tree_holds values) (f r route) ≡ test route now) →
-      list_all (tree_holds values) (of_each_route p f) ≡ each_route p s test
+      list_all (tree_holds values) (for_each_route p f) ≡ all_routes_pass p s test
   each-route values f test same =
       list_all-flat_map (tree_holds values) (λ r. conditions_for (slice_get p.routes r) (f r)) (range_with_len 0 (length p.routes))
       ∙ list_all-alike (λ r. list_all (tree_holds values) (conditions_for (slice_get p.routes r) (f r))) (λ r. route_passes p s r test) (range_with_len 0 (length p.routes)) (λ i r at. of_number r (range_within (length p.routes) i r at).1)
@@ -90,7 +86,7 @@ module _ (p : PlantLists) (s : State) (shape : HasShape p s) where
   pub some-route : (values : List ℕ) (f : ℕ → Route → List Tree) (test : Route → RouteState → Bool) →
       ((r : ℕ) (route : Route) (now : RouteState) → slice_get p.routes r ≡ Some route →
       slice_get s.routes r ≡ Some now → list_any (tree_holds values) (f r route) ≡ test route now) →
-      list_any (tree_holds values) (of_each_route p f) ≡ some_route p s test
+      list_any (tree_holds values) (for_each_route p f) ≡ any_route_passes p s test
   some-route values f test same =
       list_any-flat_map (tree_holds values) (λ r. conditions_for (slice_get p.routes r) (f r)) (range_with_len 0 (length p.routes))
       ∙ list_any-alike (λ r. list_any (tree_holds values) (conditions_for (slice_get p.routes r) (f r))) (λ r. route_passes p s r test) (range_with_len 0 (length p.routes)) (λ i r at. of_number r (range_within (length p.routes) i r at).1)
@@ -101,7 +97,6 @@ module _ (p : PlantLists) (s : State) (shape : HasShape p s) where
           let now = state_of_route r route.0 route.1 in
           rw (route.1, now.1) (same r route.0 now.0 route.1 now.1)
 
-  -- sections that are all vacant
   pub vacant-all : hazard p s ≡ None → (xs : List ℕ) → ((i x : ℕ) → slice_get xs i ≡ Some x → x < length p.sections) → list_all (tree_holds (image_of p s)) (map (no_train_at p) xs) ≡ list_all (is_vacant s) xs
   vacant-all calm xs known =
       list_all-map (tree_holds (image_of p s)) (no_train_at p) xs

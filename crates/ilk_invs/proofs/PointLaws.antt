@@ -1,4 +1,4 @@
--- V6 as a condition holds of the image of a state exactly where the state keeps it.
+-- The condition of V6 holds for a state's image if and only if the state keeps V6.
 use Rattle.std.proofs.Common.{◌≡◌, ℕ, Bool, true, false, not, ◌&&◌, ◌||◌, map, slice_get, Some, refl, sym, ◌∙◌, ap}
 use Rattle.std.specs.Prelude.{if◌then◌else◌}
 use Rattle.std.specs.List.{list_all}
@@ -14,44 +14,44 @@ use Rattle.ilk_plant.specs.declared.state.RouteState.{RouteState}
 use Rattle.ilk_plant.specs.declared.state.State.{State}
 use Rattle.ilk_plant.specs.declared.table.Listed.{Listed}
 use Rattle.ilk_plant.specs.declared.table.Route.{Route}
-use Rattle.ilk_routes.specs.Lies.{lies_as_listed}
+use Rattle.ilk_routes.specs.Lies.{is_detected_as_listed}
 use Rattle.ilk_routes.specs.Modes.{same_mode}
 use Rattle.ilk_model.specs.Commanded.{is_commanded_as_listed}
-use Rattle.ilk_model.specs.Families.{is_commanded_for, keeps_v6, lies_for}
-use Rattle.ilk_model.specs.Holding.{is_kept_on_path, is_locked_or_occupied}
+use Rattle.ilk_model.specs.Families.{is_commanded_for, keeps_v6, is_detected_for}
+use Rattle.ilk_model.specs.Holding.{is_unreleased_on_path, is_locked_or_occupied}
 use Rattle.ilk_model.proofs.Kept.{kept-on_path}
 use Rattle.ilk_layout.specs.Image.{image_of}
-use Rattle.ilk_conditions.specs.Conditions.{commanded_at_listed, lies_at_listed, mode_is}
-use Rattle.ilk_conditions.proofs.Listed.{commanded_at_listed-holds, lies_at_listed-holds}
-use Rattle.ilk_conditions.proofs.Values.{mode-holds}
-use Rattle.ilk_invs.specs.Held.{kept_on_path, locked_or_occupied}
-use Rattle.ilk_invs.specs.Parts.{of_each_route}
-use Rattle.ilk_invs.specs.PointFamily.{points_of_path, set_for, v6_tree}
-use Rattle.ilk_invs.proofs.HeldLaws.{kept_on_path-holds, locked_or_occupied-holds}
+use Rattle.ilk_layout.specs.Conditions.{commanded_at_listed, lies_at_listed, mode_is}
+use Rattle.ilk_layout.proofs.Listed.{commanded_at_listed-holds, lies_at_listed-holds}
+use Rattle.ilk_layout.proofs.ConditionValues.{mode-holds}
+use Rattle.ilk_invs.specs.Held.{unreleased_on_path, locked_or_occupied}
+use Rattle.ilk_invs.specs.Parts.{for_each_route}
+use Rattle.ilk_invs.specs.PointFamily.{points_of_path, point_is_set_for, v6_tree}
+use Rattle.ilk_invs.proofs.HeldLaws.{unreleased_on_path-holds, locked_or_occupied-holds}
 use Rattle.ilk_invs.proofs.PartLaws.{each-route, each_of-holds}
 use Rattle.ilk_invs.proofs.Tests.{list_all-filter}
 
-pub not-kept : (route : Route) (now : RouteState) (x : ℕ) → has_section x route.path ≡ false → is_kept_on_path route now x ≡ false
-not-kept route now x away = false_from_ne_true (is_kept_on_path route now x) (λ h. false≢true (sym away ∙ kept-on_path route now x h))
+pub not-kept : (route : Route) (now : RouteState) (x : ℕ) → has_section x route.path ≡ false → is_unreleased_on_path route now x ≡ false
+not-kept route now x away = false_from_ne_true (is_unreleased_on_path route now x) (λ h. false≢true (sym away ∙ kept-on_path route now x h))
 
 module _ (p : PlantLists) (s : State) (shape : HasShape p s) where
-  set_for-holds : (r : ℕ) (route : Route) (now : RouteState) (listed : Listed) →
+  point_is_set_for-holds : (r : ℕ) (route : Route) (now : RouteState) (listed : Listed) →
       slice_get p.routes r ≡ Some route → slice_get s.routes r ≡ Some now →
-      tree_holds (image_of p s) (set_for p r route listed)
+      tree_holds (image_of p s) (point_is_set_for p r route listed)
       ≡
       ((not (same_mode now.mode Allocating) || is_commanded_as_listed p s listed)
       &&
-      (not (is_locked_or_occupied now && is_kept_on_path route now listed.point)
-      || (is_commanded_as_listed p s listed && lies_as_listed p s listed)))
-  set_for-holds r route now listed known at =
+      (not (is_locked_or_occupied now && is_unreleased_on_path route now listed.point)
+      || (is_commanded_as_listed p s listed && is_detected_as_listed p s listed)))
+  point_is_set_for-holds r route now listed known at =
       let mode = mode-holds p s shape r now Allocating at in
       let either_mode = locked_or_occupied-holds p s shape r now at in
-      let kept = kept_on_path-holds p s shape r route now listed.point known at in
+      let kept = unreleased_on_path-holds p s shape r route now listed.point known at in
       let commanded = commanded_at_listed-holds p s shape listed in
       let lies = lies_at_listed-holds p s shape listed in
       simplified (tree_holds (image_of p s) (mode_is r Allocating))
       (tree_holds (image_of p s) (locked_or_occupied r))
-      (tree_holds (image_of p s) (kept_on_path r route listed.point))
+      (tree_holds (image_of p s) (unreleased_on_path r route listed.point))
       (tree_holds (image_of p s) (commanded_at_listed p listed))
       (tree_holds (image_of p s) (lies_at_listed p listed))
       ∙ ap
@@ -59,7 +59,7 @@ module _ (p : PlantLists) (s : State) (shape : HasShape p s) where
       &&
       (not
       (tree_holds (image_of p s) (locked_or_occupied r)
-      && tree_holds (image_of p s) (kept_on_path r route listed.point))
+      && tree_holds (image_of p s) (unreleased_on_path r route listed.point))
       ||
       (tree_holds (image_of p s) (commanded_at_listed p listed)
       && tree_holds (image_of p s) (lies_at_listed p listed)))) mode
@@ -68,7 +68,7 @@ module _ (p : PlantLists) (s : State) (shape : HasShape p s) where
       (not (same_mode now.mode Allocating)
       || tree_holds (image_of p s) (commanded_at_listed p listed))
       &&
-      (not (b && tree_holds (image_of p s) (kept_on_path r route listed.point))
+      (not (b && tree_holds (image_of p s) (unreleased_on_path r route listed.point))
       ||
       (tree_holds (image_of p s) (commanded_at_listed p listed)
       && tree_holds (image_of p s) (lies_at_listed p listed)))) either_mode
@@ -81,8 +81,8 @@ module _ (p : PlantLists) (s : State) (shape : HasShape p s) where
       ||
       (tree_holds (image_of p s) (commanded_at_listed p listed)
       && tree_holds (image_of p s) (lies_at_listed p listed)))) kept
-      ∙ ap (λ b. (not (same_mode now.mode Allocating) || b) && (not (is_locked_or_occupied now && is_kept_on_path route now listed.point) || (b && tree_holds (image_of p s) (lies_at_listed p listed)))) commanded
-      ∙ ap (λ b. (not (same_mode now.mode Allocating) || is_commanded_as_listed p s listed) && (not (is_locked_or_occupied now && is_kept_on_path route now listed.point) || (is_commanded_as_listed p s listed && b))) lies
+      ∙ ap (λ b. (not (same_mode now.mode Allocating) || b) && (not (is_locked_or_occupied now && is_unreleased_on_path route now listed.point) || (b && tree_holds (image_of p s) (lies_at_listed p listed)))) commanded
+      ∙ ap (λ b. (not (same_mode now.mode Allocating) || is_commanded_as_listed p s listed) && (not (is_locked_or_occupied now && is_unreleased_on_path route now listed.point) || (is_commanded_as_listed p s listed && b))) lies
     where
       simplified : (a m k c l : Bool) → ((not a || (c || false)) && ((not (m && (k && true)) || ((c && (l && true)) || false)) && true)) ≡ ((not a || c) && (not (m && k) || (c && l)))
       simplified true true true true true = refl
@@ -98,11 +98,10 @@ module _ (p : PlantLists) (s : State) (shape : HasShape p s) where
       simplified false true false c l = refl
       simplified false false k c l = refl
 
-  -- a listed point, on the path or not
   point-of : (r : ℕ) (route : Route) (now : RouteState) (listed : Listed) →
       slice_get p.routes r ≡ Some route → slice_get s.routes r ≡ Some now →
-      (not (has_section listed.point route.path) || tree_holds (image_of p s) (set_for p r route listed))
-      ≡ (is_commanded_for p s route now listed && lies_for p s route now listed)
+      (not (has_section listed.point route.path) || tree_holds (image_of p s) (point_is_set_for p r route listed))
+      ≡ (is_commanded_for p s route now listed && is_detected_for p s route now listed)
   point-of r route now listed known at = by_path (has_section listed.point route.path) refl
     where
       on_path : (a m k c l : Bool) → ((not a || c) && (not (m && k) || (c && l))) ≡ ((if a && true then c else true) && (if m && k then c && l else true))
@@ -119,28 +118,30 @@ module _ (p : PlantLists) (s : State) (shape : HasShape p s) where
       off_path false true c l = refl
       off_path false false c l = refl
 
-      by_path : (b : Bool) → has_section listed.point route.path ≡ b → (not (has_section listed.point route.path) || tree_holds (image_of p s) (set_for p r route listed)) ≡ (is_commanded_for p s route now listed && lies_for p s route now listed)
+      by_path : (b : Bool) → has_section listed.point route.path ≡ b → (not (has_section listed.point route.path) || tree_holds (image_of p s) (point_is_set_for p r route listed))
+          ≡ (is_commanded_for p s route now listed && is_detected_for p s route now listed)
       by_path true e =
-          rw e (set_for-holds r route now listed known at ∙ on_path (same_mode now.mode Allocating) (is_locked_or_occupied now) (is_kept_on_path route now listed.point) (is_commanded_as_listed p s listed) (lies_as_listed p s listed))
+          rw e (point_is_set_for-holds r route now listed known at ∙ on_path (same_mode now.mode Allocating) (is_locked_or_occupied now) (is_unreleased_on_path route now listed.point) (is_commanded_as_listed p s listed)
+          (is_detected_as_listed p s listed))
       by_path false e =
           let none = not-kept route now listed.point e in
-          rw (e, none) (off_path (same_mode now.mode Allocating) (is_locked_or_occupied now) (is_commanded_as_listed p s listed) (is_commanded_as_listed p s listed && lies_as_listed p s listed))
+          rw (e, none) (off_path (same_mode now.mode Allocating) (is_locked_or_occupied now) (is_commanded_as_listed p s listed) (is_commanded_as_listed p s listed && is_detected_as_listed p s listed))
 
   v6-of : (r : ℕ) (route : Route) (now : RouteState) → slice_get p.routes r ≡ Some route →
       slice_get s.routes r ≡ Some now →
-      list_all (tree_holds (image_of p s)) (map (set_for p r route) (points_of_path route))
-      ≡ list_all (λ listed. is_commanded_for p s route now listed && lies_for p s route now listed)
+      list_all (tree_holds (image_of p s)) (map (point_is_set_for p r route) (points_of_path route))
+      ≡ list_all (λ listed. is_commanded_for p s route now listed && is_detected_for p s route now listed)
       route.points
   v6-of r route now known at =
-      list_all-map (tree_holds (image_of p s)) (set_for p r route) (points_of_path route)
-      ∙ list_all-filter (λ listed. tree_holds (image_of p s) (set_for p r route listed)) (λ listed. has_section listed.point route.path) route.points
+      list_all-map (tree_holds (image_of p s)) (point_is_set_for p r route) (points_of_path route)
+      ∙ list_all-filter (λ listed. tree_holds (image_of p s) (point_is_set_for p r route listed)) (λ listed. has_section listed.point route.path) route.points
       ∙ list_all-alike
       (λ listed. not (has_section listed.point route.path)
-      || tree_holds (image_of p s) (set_for p r route listed))
-      (λ listed. is_commanded_for p s route now listed && lies_for p s route now listed) route.points
+      || tree_holds (image_of p s) (point_is_set_for p r route listed))
+      (λ listed. is_commanded_for p s route now listed && is_detected_for p s route now listed) route.points
       (λ i listed found. point-of r route now listed known at)
 
   pub v6-law : tree_holds (image_of p s) (v6_tree p) ≡ keeps_v6 p s
   v6-law =
-      each_of-holds (image_of p s) (of_each_route p (λ r route. map (set_for p r route) (points_of_path route)))
-      ∙ each-route p s shape (image_of p s) (λ r route. map (set_for p r route) (points_of_path route)) (λ route now. list_all (λ listed. is_commanded_for p s route now listed && lies_for p s route now listed) route.points) v6-of
+      each_of-holds (image_of p s) (for_each_route p (λ r route. map (point_is_set_for p r route) (points_of_path route)))
+      ∙ each-route p s shape (image_of p s) (λ r route. map (point_is_set_for p r route) (points_of_path route)) (λ route now. list_all (λ listed. is_commanded_for p s route now listed && is_detected_for p s route now listed) route.points) v6-of

@@ -1,4 +1,4 @@
--- Lists of forms to which those of one more number, or of one more route, were added.
+-- Lists of forms after additions.
 use Rattle.std.proofs.Common.{◌≡◌, ℕ, ◌+◌, ◌<◌, All, Bool, cond, Some, List, [], ◌∷◌, ◌++◌, filter, get_or, map, slice_get, refl, sym, ◌∙◌, ap, append_assoc, arith}
 use Rattle.std.specs.List.{flat_map, range_with_len}
 use Rattle.std.proofs.lemmas.List.{map-append}
@@ -12,7 +12,6 @@ use Rattle.ilk_plant.specs.Plant.{PlantLists}
 use Rattle.ilk_plant.specs.declared.table.Route.{Route}
 use Rattle.ilk_invs.specs.Parts.{conditions_for}
 
--- one form for each of the first n numbers, and one more
 pub one_form_more : (f : ℕ → Tree) (n : ℕ) (start : List Tree) (now next : List Form) (form : Form) →
     map tree_of now ≡ start ++ map f (range_with_len 0 n) → next ≡ now ++ form ∷ [] → tree_of form ≡ f n →
     map tree_of next ≡ start ++ map f (range_with_len 0 (n + 1))
@@ -22,7 +21,6 @@ one_form_more f n start now next form sofar grown is =
     ∙ append_assoc start (map f (range_with_len 0 n)) (f n ∷ [])
     ∙ ap (λ ts. start ++ ts) (sym (ap (map f) (range-more n) ∙ map-append f (range_with_len 0 n) (n ∷ [])))
 
--- the forms of the first r routes, and those of one more
 pub route_more :
     (p : PlantLists) (f : ℕ → Route → List Tree) (r : ℕ) (route : Route) (start now next : List Tree) →
     slice_get p.routes r ≡ Some route →
@@ -32,7 +30,6 @@ pub route_more :
 route_more p f r route start now next at sofar grown =
     grows_all (λ q. conditions_for (slice_get p.routes q) (f q)) r start now next sofar (grown ∙ ap (λ ts. now ++ ts) (sym (ap (λ o. conditions_for o (f r)) at)))
 
--- one form for each of the first r routes, and one more
 pub route_form_more :
     (p : PlantLists) (f : ℕ → Route → Tree) (r : ℕ) (route : Route) (start : List Tree) (now next : List Form)
     (form : Form) →
@@ -49,20 +46,17 @@ pub route_form_more :
 route_form_more p f r route start now next form at sofar grown is =
     route_more p (λ q route. f q route ∷ []) r route start (map tree_of now) (map tree_of next) at sofar (ap (map tree_of) grown ∙ map-append tree_of now (form ∷ []) ∙ ap (λ t. map tree_of now ++ t ∷ []) is)
 
--- the numbers below n that pass, and n where it does
 pub passing_more : (test : ℕ → Bool) (n : ℕ) (b : Bool) (now next : List ℕ) → b ≡ test n → now ≡ filter test (range_with_len 0 n) → next ≡ now ++ cond b (n ∷ []) [] → next ≡ filter test (range_with_len 0 (n + 1))
 passing_more test n b now next tested sofar grown =
     grown ∙ ap (λ xs. xs ++ cond b (n ∷ []) []) sofar ∙ ap (λ t. filter test (range_with_len 0 n) ++ cond t (n ∷ []) []) tested
     ∙ sym (ap (filter test) (range-more n) ∙ filter-append test (range_with_len 0 n) (n ∷ []) ∙ ap (λ xs. filter test (range_with_len 0 n) ++ xs) (filter_one test n (test n) refl))
 
--- the numbers below n that pass are below n
 pub all_passing : (test : ℕ → Bool) (n : ℕ) (xs : List ℕ) → xs ≡ filter test (range_with_len 0 n) → All (λ r. r < n) xs
 all_passing test n xs is i d within =
     let at : slice_get (filter test (range_with_len 0 n)) i ≡ Some (get_or xs i d) = ap (λ l. slice_get l i) (sym is) ∙ slice_get-get_or xs i d within in
     let below = passing_within test 0 n i (get_or xs i d) at in
     omega (arith, below)
 
--- three lists of conditions one after another, the last two of one kind
 pub three_pushed : (f : ℕ → Tree) (start one two three first : List Tree) (xs ys : List ℕ) → start ≡ [] → one ≡ start ++ first → two ≡ one ++ map f xs → three ≡ two ++ map f ys → three ≡ first ++ map f (xs ++ ys)
 three_pushed f start one two three first xs ys none a b c =
     c ∙ ap (λ ts. ts ++ map f ys) (b ∙ ap (λ ts. ts ++ map f xs) (a ∙ ap (λ ts. ts ++ first) none))

@@ -1,4 +1,5 @@
--- V1, V4, V5 and V9 as conditions hold of the image of a state exactly where the state keeps them.
+-- The conditions of V1, V4, V5 and V9 hold for a state's image if and only if the state keeps these
+-- families.
 use Rattle.std.proofs.Common.{◌≡◌, ℕ, ◌+◌, ◌<◌, ◌≤◌, ◌==◌, Bool, true, false, not, ◌&&◌, ◌||◌, None, [], ◌∷◌, length, map, nat_le, nat_lt, slice_get, Some, refl, sym, ◌∙◌, ap, arith}
 use Rattle.std.proofs.Math.Bool.{and-true, or-false}
 use Rattle.std.specs.Prelude.{if◌then◌else◌}
@@ -16,24 +17,23 @@ use Rattle.ilk_plant.specs.declared.state.Mode.TheVariants.{Allocating, Locked, 
 use Rattle.ilk_plant.specs.declared.state.RouteState.{RouteState}
 use Rattle.ilk_plant.specs.declared.state.State.{State}
 use Rattle.ilk_plant.specs.declared.table.Route.{Route}
-use Rattle.ilk_plant.proofs.Shapes.{fits_path-counts}
+use Rattle.ilk_plant.proofs.Shapes.{counts_fit_path-counts}
 use Rattle.ilk_routes.specs.Boards.{has_aspect}
 use Rattle.ilk_routes.specs.Modes.{same_mode}
 use Rattle.ilk_model.specs.Families.{keeps_v1, keeps_v4, keeps_v5, keeps_v9}
 use Rattle.ilk_model.specs.Hazard.{hazard}
-use Rattle.ilk_model.specs.Holding.{is_vacant, some_route}
+use Rattle.ilk_model.specs.Holding.{is_vacant, any_route_passes}
 use Rattle.ilk_layout.specs.Image.{image_of}
-use Rattle.ilk_conditions.specs.Conditions.{board_is, mode_is, rel_is, seen_is}
-use Rattle.ilk_conditions.proofs.Values.{board-holds, mode-holds, rel-holds, seen-holds}
+use Rattle.ilk_layout.specs.Conditions.{board_is, mode_is, rel_is, seen_is}
+use Rattle.ilk_layout.proofs.ConditionValues.{board-holds, mode-holds, rel-holds, seen-holds}
 use Rattle.ilk_invs.specs.Held.{rel_below}
-use Rattle.ilk_invs.specs.Parts.{each_of, of_each_route, some_of, where_holds}
-use Rattle.ilk_invs.specs.RouteFamilies.{counts_of, opened_for, path_vacant, v1_tree, v4_tree, v5_tree, v9_tree}
+use Rattle.ilk_invs.specs.Parts.{each_of, for_each_route, some_of, implication}
+use Rattle.ilk_invs.specs.RouteFamilies.{counts_are_consistent, is_open_for_route, path_vacant, v1_tree, v4_tree, v5_tree, v9_tree}
 use Rattle.ilk_invs.proofs.HeldLaws.{rel_below-holds}
 use Rattle.ilk_invs.proofs.PartLaws.{any-if, each-route, each_of-holds, some-route, some_of-holds, vacant-all, where-holds}
 use Rattle.ilk_invs.proofs.Tests.{asked-at}
 
 module _ (p : PlantLists) (plant : IsPlant p) (s : State) (shape : HasShape p s) where
-  -- the condition on one count
   clause-holds : (r : ℕ) (now : RouteState) (k : ℕ) → slice_get s.routes r ≡ Some now →
       tree_holds (image_of p s)
       (some_of (negation (mode_is r Occupied) ∷ negation (seen_is r k) ∷ rel_below r k ∷ []))
@@ -55,7 +55,7 @@ module _ (p : PlantLists) (plant : IsPlant p) (s : State) (shape : HasShape p s)
       (range_with_len 0 (length route.path + 1)))
       ≡ (not (same_mode now.mode Occupied) || nat_lt now.rel now.seen)
   clauses-hold r route now known at =
-      let fits = fits_path-counts route now (shape.counts r route now known at) in
+      let fits = counts_fit_path-counts route now (shape.counts r route now known at) in
       let few = fits.0 in
       let within : now.seen < length route.path + 1 = omega (arith, few) in
       list_all-map (tree_holds (image_of p s)) (λ k. some_of (negation (mode_is r Occupied) ∷ negation (seen_is r k) ∷ rel_below r k ∷ [])) (range_with_len 0 (length route.path + 1))
@@ -72,14 +72,14 @@ module _ (p : PlantLists) (plant : IsPlant p) (s : State) (shape : HasShape p s)
 
   v1-of : (r : ℕ) (route : Route) (now : RouteState) → slice_get p.routes r ≡ Some route →
       slice_get s.routes r ≡ Some now →
-      list_all (tree_holds (image_of p s)) (counts_of r route ∷ [])
+      list_all (tree_holds (image_of p s)) (counts_are_consistent r route ∷ [])
       ≡
       (if same_mode now.mode Occupied
       then nat_lt now.rel now.seen && nat_le now.seen (length route.path)
       else now.seen == 0 && now.rel == 0)
   v1-of r route now known at =
-      let few : nat_le now.seen (length route.path) ≡ true = (fits_within route now (fits_path-counts route now (shape.counts r route now known at)).0) in
-      and-true (tree_holds (image_of p s) (counts_of r route))
+      let few : nat_le now.seen (length route.path) ≡ true = (fits_within route now (counts_fit_path-counts route now (shape.counts r route now known at)).0) in
+      and-true (tree_holds (image_of p s) (counts_are_consistent r route))
       ∙ each_of-holds (image_of p s)
       (some_of (mode_is r Occupied ∷ seen_is r 0 ∷ []) ∷ some_of (mode_is r Occupied ∷ rel_is r 0 ∷ [])
       ∷ map
@@ -118,20 +118,19 @@ module _ (p : PlantLists) (plant : IsPlant p) (s : State) (shape : HasShape p s)
 
   pub v1-law : tree_holds (image_of p s) (v1_tree p) ≡ keeps_v1 p s
   v1-law =
-      each_of-holds (image_of p s) (of_each_route p (λ r route. counts_of r route ∷ []))
-      ∙ each-route p s shape (image_of p s) (λ r route. counts_of r route ∷ []) (λ route now. if same_mode now.mode Occupied then nat_lt now.rel now.seen && nat_le now.seen (length route.path) else now.seen == 0 && now.rel == 0) v1-of
+      each_of-holds (image_of p s) (for_each_route p (λ r route. counts_are_consistent r route ∷ []))
+      ∙ each-route p s shape (image_of p s) (λ r route. counts_are_consistent r route ∷ []) (λ route now. if same_mode now.mode Occupied then nat_lt now.rel now.seen && nat_le now.seen (length route.path) else now.seen == 0 && now.rel == 0) v1-of
 
-  -- the boards of a route
   v9-of : (r : ℕ) (route : Route) (now : RouteState) → slice_get p.routes r ≡ Some route →
       slice_get s.routes r ≡ Some now →
       list_all (tree_holds (image_of p s))
-      (map (λ m. where_holds (mode_is r Locked) (board_is p m Closed)) route.protecting_boards)
+      (map (λ m. implication (mode_is r Locked) (board_is p m Closed)) route.protecting_boards)
       ≡
       (if same_mode now.mode Locked
       then list_all (λ m. has_aspect s m Closed) route.protecting_boards else true)
   v9-of r route now known at =
-      list_all-map (tree_holds (image_of p s)) (λ m. where_holds (mode_is r Locked) (board_is p m Closed)) route.protecting_boards
-      ∙ list_all-alike (λ m. tree_holds (image_of p s) (where_holds (mode_is r Locked) (board_is p m Closed))) (λ m. if same_mode now.mode Locked then has_aspect s m Closed else true) route.protecting_boards (λ i m found.
+      list_all-map (tree_holds (image_of p s)) (λ m. implication (mode_is r Locked) (board_is p m Closed)) route.protecting_boards
+      ∙ list_all-alike (λ m. tree_holds (image_of p s) (implication (mode_is r Locked) (board_is p m Closed))) (λ m. if same_mode now.mode Locked then has_aspect s m Closed else true) route.protecting_boards (λ i m found.
       where-holds (image_of p s) (mode_is r Locked) (board_is p m Closed) (same_mode now.mode Locked)
       (has_aspect s m Closed) (mode-holds p s shape r now Locked at)
       (board-holds p s shape m Closed
@@ -145,13 +144,12 @@ module _ (p : PlantLists) (plant : IsPlant p) (s : State) (shape : HasShape p s)
 
   pub v9-law : tree_holds (image_of p s) (v9_tree p) ≡ keeps_v9 p s
   v9-law =
-      each_of-holds (image_of p s) (of_each_route p (λ r route. map (λ m. where_holds (mode_is r Locked) (board_is p m Closed)) route.protecting_boards))
+      each_of-holds (image_of p s) (for_each_route p (λ r route. map (λ m. implication (mode_is r Locked) (board_is p m Closed)) route.protecting_boards))
       ∙ each-route p s shape (image_of p s)
-      (λ r route. map (λ m. where_holds (mode_is r Locked) (board_is p m Closed)) route.protecting_boards)
+      (λ r route. map (λ m. implication (mode_is r Locked) (board_is p m Closed)) route.protecting_boards)
       (λ route now. if same_mode now.mode Locked
       then list_all (λ m. has_aspect s m Closed) route.protecting_boards else true) v9-of
 
-  -- the path sections of a route
   pub path_vacant-holds : hazard p s ≡ None → (r : ℕ) (route : Route) → slice_get p.routes r ≡ Some route → list_all (tree_holds (image_of p s)) (path_vacant p route) ≡ list_all (is_vacant s) route.path
   path_vacant-holds calm r route known =
       vacant-all p s shape calm route.path (λ i x found. all-at (λ x. x < length p.sections) route.path i x (plant.routes_known r route known).path found)
@@ -159,10 +157,10 @@ module _ (p : PlantLists) (plant : IsPlant p) (s : State) (shape : HasShape p s)
   v4-of : hazard p s ≡ None → (r : ℕ) (route : Route) (now : RouteState) → slice_get p.routes r ≡ Some route →
       slice_get s.routes r ≡ Some now →
       list_all (tree_holds (image_of p s))
-      (where_holds (mode_is r Allocating) (each_of (path_vacant p route)) ∷ [])
+      (implication (mode_is r Allocating) (each_of (path_vacant p route)) ∷ [])
       ≡ (if same_mode now.mode Allocating then list_all (is_vacant s) route.path else true)
   v4-of calm r route now known at =
-      and-true (tree_holds (image_of p s) (where_holds (mode_is r Allocating) (each_of (path_vacant p route))))
+      and-true (tree_holds (image_of p s) (implication (mode_is r Allocating) (each_of (path_vacant p route))))
       ∙ where-holds (image_of p s) (mode_is r Allocating) (each_of (path_vacant p route))
       (same_mode now.mode Allocating) (list_all (is_vacant s) route.path)
       (mode-holds p s shape r now Allocating at)
@@ -170,10 +168,9 @@ module _ (p : PlantLists) (plant : IsPlant p) (s : State) (shape : HasShape p s)
 
   pub v4-law : hazard p s ≡ None → tree_holds (image_of p s) (v4_tree p) ≡ keeps_v4 p s
   v4-law calm =
-      each_of-holds (image_of p s) (of_each_route p (λ r route. where_holds (mode_is r Allocating) (each_of (path_vacant p route)) ∷ []))
-      ∙ each-route p s shape (image_of p s) (λ r route. where_holds (mode_is r Allocating) (each_of (path_vacant p route)) ∷ []) (λ route now. if same_mode now.mode Allocating then list_all (is_vacant s) route.path else true) (v4-of calm)
+      each_of-holds (image_of p s) (for_each_route p (λ r route. implication (mode_is r Allocating) (each_of (path_vacant p route)) ∷ []))
+      ∙ each-route p s shape (image_of p s) (λ r route. implication (mode_is r Allocating) (each_of (path_vacant p route)) ∷ []) (λ route now. if same_mode now.mode Allocating then list_all (is_vacant s) route.path else true) (v4-of calm)
 
-  -- the routes for which a board may be Open
   ready-of : hazard p s ≡ None → (m r : ℕ) (route : Route) (now : RouteState) →
       slice_get p.routes r ≡ Some route → slice_get s.routes r ≡ Some now →
       list_any (tree_holds (image_of p s))
@@ -192,10 +189,10 @@ module _ (p : PlantLists) (plant : IsPlant p) (s : State) (shape : HasShape p s)
       joined false b c = refl
 
   v5-of : hazard p s ≡ None → (m : ℕ) → m < length p.boards →
-      tree_holds (image_of p s) (opened_for p m)
+      tree_holds (image_of p s) (is_open_for_route p m)
       ≡
       (if has_aspect s m Open
-      then some_route p s
+      then any_route_passes p s
       (λ route now. (route.source == m) && same_mode now.mode Locked
       && list_all (is_vacant s) route.path) else true)
   v5-of calm m within =
@@ -204,10 +201,10 @@ module _ (p : PlantLists) (plant : IsPlant p) (s : State) (shape : HasShape p s)
       (λ r route. if route.source == m then each_of (mode_is r Locked ∷ path_vacant p route) ∷ [] else [])
       (λ route now. (route.source == m) && same_mode now.mode Locked && list_all (is_vacant s) route.path)
       (ready-of calm m) in
-      some_of-holds (image_of p s) (negation (board_is p m Open) ∷ of_each_route p (λ r route. if route.source == m then each_of (mode_is r Locked ∷ path_vacant p route) ∷ [] else []))
-      ∙ ap (λ b. not b || list_any (tree_holds (image_of p s)) (of_each_route p (λ r route. if route.source == m then each_of (mode_is r Locked ∷ path_vacant p route) ∷ [] else []))) open_now
+      some_of-holds (image_of p s) (negation (board_is p m Open) ∷ for_each_route p (λ r route. if route.source == m then each_of (mode_is r Locked ∷ path_vacant p route) ∷ [] else []))
+      ∙ ap (λ b. not b || list_any (tree_holds (image_of p s)) (for_each_route p (λ r route. if route.source == m then each_of (mode_is r Locked ∷ path_vacant p route) ∷ [] else []))) open_now
       ∙ ap (λ b. not (has_aspect s m Open) || b) ready
-      ∙ by_aspect (has_aspect s m Open) (some_route p s (λ route now. (route.source == m) && same_mode now.mode Locked && list_all (is_vacant s) route.path))
+      ∙ by_aspect (has_aspect s m Open) (any_route_passes p s (λ route now. (route.source == m) && same_mode now.mode Locked && list_all (is_vacant s) route.path))
     where
       by_aspect : (a b : Bool) → (not a || b) ≡ (if a then b else true)
       by_aspect true b = refl
@@ -215,11 +212,11 @@ module _ (p : PlantLists) (plant : IsPlant p) (s : State) (shape : HasShape p s)
 
   pub v5-law : hazard p s ≡ None → tree_holds (image_of p s) (v5_tree p) ≡ keeps_v5 p s
   v5-law calm =
-      each_of-holds (image_of p s) (map (opened_for p) (range_with_len 0 (length p.boards)))
-      ∙ list_all-map (tree_holds (image_of p s)) (opened_for p) (range_with_len 0 (length p.boards))
-      ∙ list_all-alike (λ m. tree_holds (image_of p s) (opened_for p m))
+      each_of-holds (image_of p s) (map (is_open_for_route p) (range_with_len 0 (length p.boards)))
+      ∙ list_all-map (tree_holds (image_of p s)) (is_open_for_route p) (range_with_len 0 (length p.boards))
+      ∙ list_all-alike (λ m. tree_holds (image_of p s) (is_open_for_route p m))
       (λ m. if has_aspect s m Open
-      then some_route p s
+      then any_route_passes p s
       (λ route now. (route.source == m) && same_mode now.mode Locked
       && list_all (is_vacant s) route.path) else true)
       (range_with_len 0 (length p.boards))

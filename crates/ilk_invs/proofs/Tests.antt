@@ -1,4 +1,4 @@
--- Tests of lists that conditions are made of: of ranges, of places, of lists of lists.
+-- Tests of the lists in conditions: ranges, indexed lists and nested lists.
 use Rattle.std.proofs.Common.{◌≡◌, ℕ, ◌+◌, ◌<◌, ◌==◌, Bool, true, false, not, ◌&&◌, ◌||◌, Some, List, [], ◌∷◌, drop, filter, nat_lt, slice_get, refl, sym, ◌∙◌, ap, arith}
 use Rattle.std.specs.List.{flat_map, list_all, list_any, range_with_len}
 use Rattle.std.proofs.lemmas.Bool.{and_from, and_parts, eq-eqb, eqb-true}
@@ -14,12 +14,10 @@ list_any-flat_map f g [] = refl
 list_any-flat_map f g (x ∷ xs) =
     list_any-append f (g x) (flat_map g xs) ∙ ap (λ b. list_any f (g x) || b) (list_any-flat_map f g xs)
 
--- no item passes where none does
 pub list_any-never : {X : Type 0} (f : X → Bool) (xs : List X) → ((x : X) → f x ≡ false) → list_any f xs ≡ false
 list_any-never f [] never = refl
 list_any-never f (x ∷ xs) never = let here : f x ≡ false = never x in rw here (list_any-never f xs never)
 
--- the items that pass one test pass another
 pub list_all-filter : {X : Type 0} (f g : X → Bool) (xs : List X) → list_all f (filter g xs) ≡ list_all (λ x. not (g x) || f x) xs
 list_all-filter f g [] = refl
 list_all-filter f g (x ∷ xs) = by_test (list_all-filter f g xs) (g x) refl
@@ -28,7 +26,6 @@ list_all-filter f g (x ∷ xs) = by_test (list_all-filter f g xs) (g x) refl
     by_test rest true e = rw e (ap (λ b. f x && b) rest)
     by_test rest false e = rw e rest
 
--- one of the numbers below n is c exactly where c is below n
 pub counted-below : (c n : ℕ) → list_any (λ x. c == x) (range_with_len 0 n) ≡ nat_lt c n
 counted-below c n =
     same_truth (list_any (λ x. c == x) (range_with_len 0 n)) (nat_lt c n) (λ h.
@@ -40,7 +37,6 @@ counted-below c n =
     let less : c < n = grind (arith, nat_tests) in
     list_any-from (λ x. c == x) (range_with_len 0 n) c c (range-at n c less) (eq-eqb c c refl))
 
--- what is asked of each number below n where it is c, is asked of c
 pub asked-at : (test : ℕ → Bool) (c n : ℕ) → c < n → list_all (λ k. not (c == k) || test k) (range_with_len 0 n) ≡ test c
 asked-at test c n within =
     same_truth (list_all (λ k. not (c == k) || test k) (range_with_len 0 n)) (test c) (λ h.
@@ -53,7 +49,6 @@ asked-at test c n within =
     by_same k h true e = rw e (ap test (sym (eqb-true c k e)) ∙ h)
     by_same k h false e = rw e refl
 
--- one of the numbers below n passes and is c exactly where c passes
 pub found-at : (test : ℕ → Bool) (c n : ℕ) → c < n → list_any (λ k. test k && (c == k)) (range_with_len 0 n) ≡ test c
 found-at test c n within =
     same_truth (list_any (λ k. test k && (c == k)) (range_with_len 0 n)) (test c) (λ h.
@@ -62,6 +57,5 @@ found-at test c n within =
     ap test (eqb-true c found.1 passes.1) ∙ passes.0) (λ h.
     list_any-from (λ k. test k && (c == k)) (range_with_len 0 n) c c (range-at n c within) (and_from (test c) (c == c) h (eq-eqb c c refl)))
 
--- what stands in the rest of a list
 pub dropped-at : {X : Type 0} (n : ℕ) (xs : List X) (k : ℕ) (x : X) → slice_get (drop n xs) k ≡ Some x → slice_get xs (n + k) ≡ Some x
 dropped-at n xs k x at = sym (get-dropped xs n k) ∙ at

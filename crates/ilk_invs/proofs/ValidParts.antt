@@ -13,12 +13,12 @@ use Rattle.ilk_plant.specs.Network.{has_section}
 use Rattle.ilk_plant.specs.Plant.{IsPlant, PlantLists}
 use Rattle.ilk_plant.specs.declared.state.Mode.TheVariants.{Allocating, Free, Marked}
 use Rattle.ilk_plant.specs.declared.table.Route.{Route}
-use Rattle.ilk_routes.specs.Claims.{sections_beside}
+use Rattle.ilk_routes.specs.Claims.{sections_beside_path}
 use Rattle.ilk_layout.specs.Variables.{ranges_of_plant}
-use Rattle.ilk_conditions.specs.Conditions.{mode_is, no_train_at, rel_is, seen_is}
-use Rattle.ilk_conditions.proofs.Valid.{mode_is-valid, no_train_at-valid, rel_is-valid, seen_is-valid}
-use Rattle.ilk_invs.specs.Held.{holding_section, is_holding, kept_on_path, locked_or_occupied, rel_below, seen_below}
-use Rattle.ilk_invs.specs.Parts.{conditions_for, each_of, of_each_place, of_each_route, some_of, where_holds}
+use Rattle.ilk_layout.specs.Conditions.{mode_is, no_train_at, rel_is, seen_is}
+use Rattle.ilk_layout.proofs.Valid.{mode_is-valid, no_train_at-valid, rel_is-valid, seen_is-valid}
+use Rattle.ilk_invs.specs.Held.{holding_section, is_holding, unreleased_on_path, locked_or_occupied, rel_below, seen_below}
+use Rattle.ilk_invs.specs.Parts.{conditions_for, each_of, for_each_path_index, for_each_route, some_of, implication}
 use Rattle.ilk_invs.specs.RouteFamilies.{path_vacant}
 
 module _ (p : PlantLists) (plant : IsPlant p) where
@@ -47,8 +47,8 @@ module _ (p : PlantLists) (plant : IsPlant p) where
   if-valid true ts h = h
   if-valid false ts h = refl
 
-  pub where_holds-valid : (t u : Tree) → tree_valid (ranges_of_plant p) t ≡ true → tree_valid (ranges_of_plant p) u ≡ true → tree_valid (ranges_of_plant p) (where_holds t u) ≡ true
-  where_holds-valid t u h k = rw (h, k) refl
+  pub implication-valid : (t u : Tree) → tree_valid (ranges_of_plant p) t ≡ true → tree_valid (ranges_of_plant p) u ≡ true → tree_valid (ranges_of_plant p) (implication t u) ≡ true
+  implication-valid t u h k = rw (h, k) refl
 
   pub map-valid : {X : Type 0} (f : X → Tree) (xs : List X) → ((i : ℕ) (x : X) → slice_get xs i ≡ Some x → tree_valid (ranges_of_plant p) (f x) ≡ true) → list_all (tree_valid (ranges_of_plant p)) (map f xs) ≡ true
   map-valid f xs each =
@@ -62,18 +62,17 @@ module _ (p : PlantLists) (plant : IsPlant p) where
   conditions_for-valid None f each = refl
   conditions_for-valid (Some x) f each = each x refl
 
-  pub routes-valid : (f : ℕ → Route → List Tree) → ((r : ℕ) (route : Route) → slice_get p.routes r ≡ Some route → list_all (tree_valid (ranges_of_plant p)) (f r route) ≡ true) → list_all (tree_valid (ranges_of_plant p)) (of_each_route p f) ≡ true
+  pub routes-valid : (f : ℕ → Route → List Tree) → ((r : ℕ) (route : Route) → slice_get p.routes r ≡ Some route → list_all (tree_valid (ranges_of_plant p)) (f r route) ≡ true) → list_all (tree_valid (ranges_of_plant p)) (for_each_route p f) ≡ true
   routes-valid f each =
       flat_map-valid (λ r. conditions_for (slice_get p.routes r) (f r)) (range_with_len 0 (length p.routes)) (λ i r at. conditions_for-valid (slice_get p.routes r) (f r) (each r))
 
-  pub places-valid : (route : Route) (f : ℕ → ℕ → List Tree) → ((i x : ℕ) → slice_get route.path i ≡ Some x → list_all (tree_valid (ranges_of_plant p)) (f i x) ≡ true) → list_all (tree_valid (ranges_of_plant p)) (of_each_place route f) ≡ true
+  pub places-valid : (route : Route) (f : ℕ → ℕ → List Tree) → ((i x : ℕ) → slice_get route.path i ≡ Some x → list_all (tree_valid (ranges_of_plant p)) (f i x) ≡ true) → list_all (tree_valid (ranges_of_plant p)) (for_each_path_index route f) ≡ true
   places-valid route f each =
       flat_map-valid (λ place. f place.0 place.1) (enumerate_from 0 route.path) (λ i place at.
       let it = enumerated 0 route.path i place at in
       let number : place.0 ≡ i = it.0 ∙ omega arith in
       each place.0 place.1 (ap (slice_get route.path) number ∙ it.1))
 
-  -- the words of routes
   pub seen_below-valid : (r k : ℕ) (route : Route) → slice_get p.routes r ≡ Some route → k ≤ length route.path + 1 → tree_valid (ranges_of_plant p) (seen_below r k) ≡ true
   seen_below-valid r k route known few =
       some_of-valid (map (seen_is r) (range_with_len 0 k)) (map-valid (seen_is r) (range_with_len 0 k) (λ i c at.
@@ -84,8 +83,8 @@ module _ (p : PlantLists) (plant : IsPlant p) where
       some_of-valid (map (rel_is r) (range_with_len 0 k)) (map-valid (rel_is r) (range_with_len 0 k) (λ i c at.
       let below = (range_within k i c at).1 in rel_is-valid p r c route known (omega (arith, below, few))))
 
-  kept_on_path-valid : (r : ℕ) (route : Route) (x : ℕ) → slice_get p.routes r ≡ Some route → tree_valid (ranges_of_plant p) (kept_on_path r route x) ≡ true
-  kept_on_path-valid r route x known =
+  unreleased_on_path-valid : (r : ℕ) (route : Route) (x : ℕ) → slice_get p.routes r ≡ Some route → tree_valid (ranges_of_plant p) (unreleased_on_path r route x) ≡ true
+  unreleased_on_path-valid r route x known =
       some_of-valid
       (flat_map (λ c. if has_section x (drop c route.path) then rel_is r c ∷ [] else [])
       (range_with_len 0 (length route.path + 1))) (flat_map-valid
@@ -105,17 +104,18 @@ module _ (p : PlantLists) (plant : IsPlant p) where
   is_holding-valid r within =
       some_of-valid (mode_is r Free ∷ mode_is r Marked ∷ []) (two-valid (mode_is r Free) (mode_is r Marked) (mode_is-valid p r Free within) (mode_is-valid p r Marked within))
 
-  pub is_kept-valid : (r : ℕ) (route : Route) (x : ℕ) → slice_get p.routes r ≡ Some route → tree_valid (ranges_of_plant p) (each_of (locked_or_occupied r ∷ kept_on_path r route x ∷ [])) ≡ true
+  pub is_kept-valid : (r : ℕ) (route : Route) (x : ℕ) → slice_get p.routes r ≡ Some route → tree_valid (ranges_of_plant p) (each_of (locked_or_occupied r ∷ unreleased_on_path r route x ∷ [])) ≡ true
   is_kept-valid r route x known =
-      each_of-valid (locked_or_occupied r ∷ kept_on_path r route x ∷ []) (two-valid (locked_or_occupied r) (kept_on_path r route x) (locked_or_occupied-valid r (slice_get_within p.routes r route known)) (kept_on_path-valid r route x known))
+      each_of-valid (locked_or_occupied r ∷ unreleased_on_path r route x ∷ []) (two-valid (locked_or_occupied r) (unreleased_on_path r route x) (locked_or_occupied-valid r (slice_get_within p.routes r route known))
+      (unreleased_on_path-valid r route x known))
 
   pub holding_section-valid : (r : ℕ) (route : Route) (x : ℕ) → slice_get p.routes r ≡ Some route → tree_valid (ranges_of_plant p) (holding_section r route x) ≡ true
-  holding_section-valid r route x known = by_test (has_section x (sections_beside route))
+  holding_section-valid r route x known = by_test (has_section x (sections_beside_path route))
     where
-      by_test : (b : Bool) → tree_valid (ranges_of_plant p) (if b then is_holding r else each_of (is_holding r ∷ kept_on_path r route x ∷ [])) ≡ true
+      by_test : (b : Bool) → tree_valid (ranges_of_plant p) (if b then is_holding r else each_of (is_holding r ∷ unreleased_on_path r route x ∷ [])) ≡ true
       by_test true = is_holding-valid r (slice_get_within p.routes r route known)
       by_test false =
-          each_of-valid (is_holding r ∷ kept_on_path r route x ∷ []) (two-valid (is_holding r) (kept_on_path r route x) (is_holding-valid r (slice_get_within p.routes r route known)) (kept_on_path-valid r route x known))
+          each_of-valid (is_holding r ∷ unreleased_on_path r route x ∷ []) (two-valid (is_holding r) (unreleased_on_path r route x) (is_holding-valid r (slice_get_within p.routes r route known)) (unreleased_on_path-valid r route x known))
 
   pub path_known : (r : ℕ) (route : Route) (i x : ℕ) → slice_get p.routes r ≡ Some route → slice_get route.path i ≡ Some x → x < length p.sections
   path_known r route i x known at = all-at (λ x. x < length p.sections) route.path i x (plant.routes_known r route known).path at

@@ -1,4 +1,4 @@
--- V1 to V6 as conditions are valid over the ranges of the plant.
+-- The conditions of V1 to V6 are valid over the ranges of the plant.
 use Rattle.std.proofs.Common.{◌≡◌, ℕ, zero, suc, ◌+◌, ◌-◌, ◌/◌, ◌<◌, ◌≤◌, ◌==◌, Bool, true, false, Some, List, [], ◌∷◌, ◌++◌, drop, length, map, nat_le, slice_get, take, refl, ◌∙◌, arith, if◌then◌else◌}
 use Rattle.std.specs.List.{enumerate_from, flat_map, list_all, range_with_len}
 use Rattle.std.proofs.lemmas.List.Folds.{list_all-map}
@@ -11,26 +11,26 @@ use Rattle.ilk_plant.specs.declared.state.Hold.TheVariants.{Locked as LockedLock
 use Rattle.ilk_plant.specs.declared.state.Mode.TheVariants.{Allocating, Locked, Occupied}
 use Rattle.ilk_plant.specs.declared.table.Listed.{Listed}
 use Rattle.ilk_plant.specs.declared.table.Route.{Route}
-use Rattle.ilk_routes.specs.Claims.{sections_beside}
+use Rattle.ilk_routes.specs.Claims.{sections_beside_path}
 use Rattle.ilk_layout.specs.Variables.{ranges_of_plant}
-use Rattle.ilk_conditions.specs.Conditions.{board_is, commanded_at_listed, lies_at_listed, lock_is, mode_is, rel_is, seen_is}
-use Rattle.ilk_conditions.proofs.Listed.{commanded_at_listed-valid}
-use Rattle.ilk_conditions.proofs.Valid.{board_is-valid, lies_at_listed-valid, lock_is-valid, mode_is-valid, rel_is-valid, seen_is-valid}
-use Rattle.ilk_invs.specs.Held.{holding_section, is_holding, kept_on_path, locked_or_occupied, rel_below, seen_below}
-use Rattle.ilk_invs.specs.declared.hold_family.TheConstants.{MAX_IN_ORDER}
-use Rattle.ilk_invs.specs.HoldFamilies.{held_by_halves, held_in_order, held_once, holders, lock_at_place, locked_for, none_before, none_holding, not_in_both, route_holding, v2_tree, v3_tree}
-use Rattle.ilk_invs.specs.Parts.{each_of, of_each_place, of_each_route, some_of, where_holds}
-use Rattle.ilk_invs.specs.PointFamily.{points_of_path, set_for, v6_tree}
-use Rattle.ilk_invs.specs.RouteFamilies.{counts_of, opened_for, path_vacant, v1_tree, v4_tree, v5_tree}
+use Rattle.ilk_layout.specs.Conditions.{board_is, commanded_at_listed, lies_at_listed, lock_is, mode_is, rel_is, seen_is}
+use Rattle.ilk_layout.proofs.Listed.{commanded_at_listed-valid}
+use Rattle.ilk_layout.proofs.Valid.{board_is-valid, lies_at_listed-valid, lock_is-valid, mode_is-valid, rel_is-valid, seen_is-valid}
+use Rattle.ilk_invs.specs.Held.{holding_section, is_holding, unreleased_on_path, locked_or_occupied, rel_below, seen_below}
+use Rattle.ilk_invs.specs.declared.hold_family.TheConstants.{MAX_ORDERED_HOLDERS}
+use Rattle.ilk_invs.specs.HoldFamilies.{held_by_halves, held_in_order, held_once, holders, lock_at_place, has_locks_for_route, none_before, none_holding, not_in_both, route_holding, v2_tree, v3_tree}
+use Rattle.ilk_invs.specs.Parts.{each_of, for_each_path_index, for_each_route, some_of, implication}
+use Rattle.ilk_invs.specs.PointFamily.{points_of_path, point_is_set_for, v6_tree}
+use Rattle.ilk_invs.specs.RouteFamilies.{counts_are_consistent, is_open_for_route, path_vacant, v1_tree, v4_tree, v5_tree}
 use Rattle.ilk_routes.proofs.Shape.{beside-known}
-use Rattle.ilk_invs.proofs.ValidParts.{conditions_for-valid, each_of-valid, flat_map-valid, holding_section-valid, if-valid, is_holding-valid, is_kept-valid, joined-valid, map-valid, more-valid, one-valid, path_known, path_vacant-valid, places-valid, rel_below-valid, routes-valid, seen_below-valid, some_of-valid, three-valid, two-valid, where_holds-valid}
+use Rattle.ilk_invs.proofs.ValidParts.{conditions_for-valid, each_of-valid, flat_map-valid, holding_section-valid, if-valid, is_holding-valid, is_kept-valid, joined-valid, map-valid, more-valid, one-valid, path_known, path_vacant-valid, places-valid, rel_below-valid, routes-valid, seen_below-valid, some_of-valid, three-valid, two-valid, implication-valid}
 
 module _ (p : PlantLists) (plant : IsPlant p) where
   pub v1-valid : tree_valid (ranges_of_plant p) (v1_tree p) ≡ true
   v1-valid =
-      each_of-valid p plant (of_each_route p (λ r route. counts_of r route ∷ []))
-      (routes-valid p plant (λ r route. counts_of r route ∷ [])
-      (λ r route known. one-valid p plant (counts_of r route)
+      each_of-valid p plant (for_each_route p (λ r route. counts_are_consistent r route ∷ []))
+      (routes-valid p plant (λ r route. counts_are_consistent r route ∷ [])
+      (λ r route known. one-valid p plant (counts_are_consistent r route)
       (of_route r route known (slice_get_within p.routes r route known))))
     where
       of_count : (r : ℕ) (route : Route) (k : ℕ) → slice_get p.routes r ≡ Some route → r < length p.routes →
@@ -43,7 +43,7 @@ module _ (p : PlantLists) (plant : IsPlant p) where
           (mode_is-valid p r Occupied within) (seen_is-valid p r k route known few)
           (rel_below-valid p plant r k route known (omega (arith, few))))
 
-      of_route : (r : ℕ) (route : Route) → slice_get p.routes r ≡ Some route → r < length p.routes → tree_valid (ranges_of_plant p) (counts_of r route) ≡ true
+      of_route : (r : ℕ) (route : Route) → slice_get p.routes r ≡ Some route → r < length p.routes → tree_valid (ranges_of_plant p) (counts_are_consistent r route) ≡ true
       of_route r route known within =
           each_of-valid p plant
           (some_of (mode_is r Occupied ∷ seen_is r 0 ∷ [])
@@ -81,12 +81,12 @@ module _ (p : PlantLists) (plant : IsPlant p) where
       in_order : (x : ℕ) (routes : List ℕ) → list_all (tree_valid (ranges_of_plant p)) (held_in_order p x routes) ≡ true
       in_order x routes =
           map-valid p plant (λ place. none_before p x (take place.0 routes) place.1) (enumerate_from 1 (drop 1 routes)) (λ k place there.
-          where_holds-valid p plant (each_of (route_holding p x place.1)) (none_holding p x (take place.0 routes)) (each_of-valid p plant (route_holding p x place.1) (holding x place.1)) (none x (take place.0 routes)))
+          implication-valid p plant (each_of (route_holding p x place.1)) (none_holding p x (take place.0 routes)) (each_of-valid p plant (route_holding p x place.1) (holding x place.1)) (none x (take place.0 routes)))
 
       by_halves : (n x : ℕ) (routes : List ℕ) → list_all (tree_valid (ranges_of_plant p)) (held_by_halves n p x routes) ≡ true
       by_halves zero x routes = in_order x routes
       by_halves (suc n) x routes =
-          by_size (nat_le (length routes) MAX_IN_ORDER) (by_halves n x (take (length routes / 2) routes)) (by_halves n x (drop (length routes / 2) routes))
+          by_size (nat_le (length routes) MAX_ORDERED_HOLDERS) (by_halves n x (take (length routes / 2) routes)) (by_halves n x (drop (length routes / 2) routes))
         where
           by_size : (few : Bool) →
               list_all (tree_valid (ranges_of_plant p))
@@ -112,19 +112,19 @@ module _ (p : PlantLists) (plant : IsPlant p) where
 
   pub v3-valid : tree_valid (ranges_of_plant p) (v3_tree p) ≡ true
   v3-valid =
-      each_of-valid p plant (of_each_route p (λ r route. locked_for p r route ∷ [])) (routes-valid p plant (λ r route. locked_for p r route ∷ []) (λ r route known.
-      one-valid p plant (locked_for p r route) (where_holds-valid p plant (is_holding r)
+      each_of-valid p plant (for_each_route p (λ r route. has_locks_for_route p r route ∷ [])) (routes-valid p plant (λ r route. has_locks_for_route p r route ∷ []) (λ r route known.
+      one-valid p plant (has_locks_for_route p r route) (implication-valid p plant (is_holding r)
       (each_of
-      (of_each_place route (lock_at_place p r)
-      ++ map (λ x. lock_is p x LockedLock) (sections_beside route)))
+      (for_each_path_index route (lock_at_place p r)
+      ++ map (λ x. lock_is p x LockedLock) (sections_beside_path route)))
       (is_holding-valid p plant r (slice_get_within p.routes r route known))
       (each_of-valid p plant
-      (of_each_place route (lock_at_place p r)
-      ++ map (λ x. lock_is p x LockedLock) (sections_beside route)) (joined-valid p plant
-      (of_each_place route (lock_at_place p r))
-      (map (λ x. lock_is p x LockedLock) (sections_beside route))
+      (for_each_path_index route (lock_at_place p r)
+      ++ map (λ x. lock_is p x LockedLock) (sections_beside_path route)) (joined-valid p plant
+      (for_each_path_index route (lock_at_place p r))
+      (map (λ x. lock_is p x LockedLock) (sections_beside_path route))
       (places-valid p plant route (lock_at_place p r) (λ i x at. of_place r route i x known at (slice_get_within route.path i x at)))
-      (map-valid p plant (λ x. lock_is p x LockedLock) (sections_beside route) (λ i x at. lock_is-valid p x LockedLock (beside-known p route (plant.routes_known r route known) i x at))))))))
+      (map-valid p plant (λ x. lock_is p x LockedLock) (sections_beside_path route) (λ i x at. lock_is-valid p x LockedLock (beside-known p route (plant.routes_known r route known) i x at))))))))
     where
       of_place : (r : ℕ) (route : Route) (i x : ℕ) → slice_get p.routes r ≡ Some route → slice_get route.path i ≡ Some x → i < length route.path → list_all (tree_valid (ranges_of_plant p)) (lock_at_place p r i x) ≡ true
       of_place r route i x known at less =
@@ -145,21 +145,21 @@ module _ (p : PlantLists) (plant : IsPlant p) where
   pub v4-valid : tree_valid (ranges_of_plant p) (v4_tree p) ≡ true
   v4-valid =
       each_of-valid p plant
-      (of_each_route p
-      (λ r route. where_holds (mode_is r Allocating) (each_of (path_vacant p route)) ∷ []))
+      (for_each_route p
+      (λ r route. implication (mode_is r Allocating) (each_of (path_vacant p route)) ∷ []))
       (routes-valid p plant
-      (λ r route. where_holds (mode_is r Allocating) (each_of (path_vacant p route)) ∷ []) (λ r route
+      (λ r route. implication (mode_is r Allocating) (each_of (path_vacant p route)) ∷ []) (λ r route
       known.
-      one-valid p plant (where_holds (mode_is r Allocating) (each_of (path_vacant p route)))
-      (where_holds-valid p plant (mode_is r Allocating) (each_of (path_vacant p route))
+      one-valid p plant (implication (mode_is r Allocating) (each_of (path_vacant p route)))
+      (implication-valid p plant (mode_is r Allocating) (each_of (path_vacant p route))
       (mode_is-valid p r Allocating (slice_get_within p.routes r route known))
       (each_of-valid p plant (path_vacant p route) (path_vacant-valid p plant r route known)))))
 
   pub v5-valid : tree_valid (ranges_of_plant p) (v5_tree p) ≡ true
   v5-valid =
-      each_of-valid p plant (map (opened_for p) (range_with_len 0 (length p.boards))) (map-valid p plant (opened_for p) (range_with_len 0 (length p.boards)) (λ i m at.
-      some_of-valid p plant (negation (board_is p m Open) ∷ of_each_route p (λ r route. if route.source == m then each_of (mode_is r Locked ∷ path_vacant p route) ∷ [] else []))
-      (more-valid p plant (negation (board_is p m Open)) (of_each_route p (λ r route. if route.source == m then each_of (mode_is r Locked ∷ path_vacant p route) ∷ [] else [])) (board_is-valid p m Open (range_within (length p.boards) i m at).1)
+      each_of-valid p plant (map (is_open_for_route p) (range_with_len 0 (length p.boards))) (map-valid p plant (is_open_for_route p) (range_with_len 0 (length p.boards)) (λ i m at.
+      some_of-valid p plant (negation (board_is p m Open) ∷ for_each_route p (λ r route. if route.source == m then each_of (mode_is r Locked ∷ path_vacant p route) ∷ [] else []))
+      (more-valid p plant (negation (board_is p m Open)) (for_each_route p (λ r route. if route.source == m then each_of (mode_is r Locked ∷ path_vacant p route) ∷ [] else [])) (board_is-valid p m Open (range_within (length p.boards) i m at).1)
       (routes-valid p plant (λ r route. if route.source == m then each_of (mode_is r Locked ∷ path_vacant p route) ∷ [] else []) (λ r route known.
       if-valid p plant (route.source == m) (each_of (mode_is r Locked ∷ path_vacant p route) ∷ [])
       (one-valid p plant (each_of (mode_is r Locked ∷ path_vacant p route))
@@ -170,19 +170,19 @@ module _ (p : PlantLists) (plant : IsPlant p) where
 
   pub v6-valid : tree_valid (ranges_of_plant p) (v6_tree p) ≡ true
   v6-valid =
-      each_of-valid p plant (of_each_route p (λ r route. map (set_for p r route) (points_of_path route))) (routes-valid p plant (λ r route. map (set_for p r route) (points_of_path route)) (λ r route known.
-      map-valid p plant (set_for p r route) (points_of_path route) (λ i listed at. of_point r route listed known)))
+      each_of-valid p plant (for_each_route p (λ r route. map (point_is_set_for p r route) (points_of_path route))) (routes-valid p plant (λ r route. map (point_is_set_for p r route) (points_of_path route)) (λ r route known.
+      map-valid p plant (point_is_set_for p r route) (points_of_path route) (λ i listed at. of_point r route listed known)))
     where
-      of_point : (r : ℕ) (route : Route) (listed : Listed) → slice_get p.routes r ≡ Some route → tree_valid (ranges_of_plant p) (set_for p r route listed) ≡ true
+      of_point : (r : ℕ) (route : Route) (listed : Listed) → slice_get p.routes r ≡ Some route → tree_valid (ranges_of_plant p) (point_is_set_for p r route listed) ≡ true
       of_point r route listed known =
           let commanded = commanded_at_listed-valid p listed in
           let set = each_of-valid p plant (commanded_at_listed p listed ∷ lies_at_listed p listed ∷ []) (two-valid p plant (commanded_at_listed p listed) (lies_at_listed p listed) commanded (lies_at_listed-valid p listed)) in
           each_of-valid p plant
-          (where_holds (mode_is r Allocating) (commanded_at_listed p listed)
-          ∷ where_holds (each_of (locked_or_occupied r ∷ kept_on_path r route listed.point ∷ []))
+          (implication (mode_is r Allocating) (commanded_at_listed p listed)
+          ∷ implication (each_of (locked_or_occupied r ∷ unreleased_on_path r route listed.point ∷ []))
           (each_of (commanded_at_listed p listed ∷ lies_at_listed p listed ∷ [])) ∷ [])
-          (two-valid p plant (where_holds (mode_is r Allocating) (commanded_at_listed p listed))
-          (where_holds (each_of (locked_or_occupied r ∷ kept_on_path r route listed.point ∷ []))
+          (two-valid p plant (implication (mode_is r Allocating) (commanded_at_listed p listed))
+          (implication (each_of (locked_or_occupied r ∷ unreleased_on_path r route listed.point ∷ []))
           (each_of (commanded_at_listed p listed ∷ lies_at_listed p listed ∷ [])))
-          (where_holds-valid p plant (mode_is r Allocating) (commanded_at_listed p listed) (mode_is-valid p r Allocating (slice_get_within p.routes r route known)) commanded)
-          (where_holds-valid p plant (each_of (locked_or_occupied r ∷ kept_on_path r route listed.point ∷ [])) (each_of (commanded_at_listed p listed ∷ lies_at_listed p listed ∷ [])) (is_kept-valid p plant r route listed.point known) set))
+          (implication-valid p plant (mode_is r Allocating) (commanded_at_listed p listed) (mode_is-valid p r Allocating (slice_get_within p.routes r route known)) commanded)
+          (implication-valid p plant (each_of (locked_or_occupied r ∷ unreleased_on_path r route listed.point ∷ [])) (each_of (commanded_at_listed p listed ∷ lies_at_listed p listed ∷ [])) (is_kept-valid p plant r route listed.point known) set))

@@ -1,4 +1,4 @@
--- Each family as a condition is valid over the ranges of the plant.
+-- The conditions of all families are valid over the ranges of the plant.
 use Rattle.std.proofs.Common.{◌≡◌, ℕ, ◌+◌, ◌-◌, ◌<◌, ◌==◌, true, false, ◌&&◌, Option, Some, None, List, [], ◌∷◌, ◌++◌, drop, length, map, nat_lt, slice_get, unwrap_or, refl, ◌∙◌, ap, arith, if◌then◌else◌}
 use Rattle.std.specs.List.{flat_map, list_all, range_with_len}
 use Rattle.std.proofs.lemmas.Option.{slice_get_within}
@@ -13,25 +13,24 @@ use Rattle.ilk_plant.specs.declared.network.Dir.TheVariants.{Up, Down}
 use Rattle.ilk_plant.specs.declared.state.Aspect.TheVariants.{Closed}
 use Rattle.ilk_plant.specs.declared.state.Mode.TheVariants.{Locked, Occupied}
 use Rattle.ilk_plant.specs.declared.table.Route.{Route}
-use Rattle.ilk_model.specs.Holding.{is_plain, runs_in}
+use Rattle.ilk_model.specs.Holding.{is_plain_for_direction, route_runs_in}
 use Rattle.ilk_layout.specs.Variables.{ranges_of_plant}
 use Rattle.ilk_layout.specs.declared.values.Occupancy.{Occupancy}
 use Rattle.ilk_layout.specs.declared.values.Occupancy.TheVariants.{Vacant, Taken, Crash}
-use Rattle.ilk_conditions.specs.Conditions.{board_is, mode_is, no_train_at, occupancy_is, train_at}
-use Rattle.ilk_conditions.proofs.Valid.{board_is-valid, mode_is-valid, no_train_at-valid, occupancy_is-valid}
+use Rattle.ilk_layout.specs.Conditions.{board_is, mode_is, no_train_at, occupancy_is, train_at}
+use Rattle.ilk_layout.proofs.Valid.{board_is-valid, mode_is-valid, no_train_at-valid, occupancy_is-valid}
 use Rattle.ilk_invs.specs.FamilyTrees.{family_tree, family_trees}
-use Rattle.ilk_invs.specs.Held.{kept_on_path, locked_or_occupied, seen_below}
+use Rattle.ilk_invs.specs.Held.{unreleased_on_path, locked_or_occupied, seen_below}
 use Rattle.ilk_invs.specs.HoldFamilies.{v2_tree, v3_tree}
-use Rattle.ilk_invs.specs.Parts.{each_of, of_each_place, of_each_route, some_of, where_holds}
+use Rattle.ilk_invs.specs.Parts.{each_of, for_each_path_index, for_each_route, some_of, implication}
 use Rattle.ilk_invs.specs.PointFamily.{v6_tree}
 use Rattle.ilk_invs.specs.RouteFamilies.{v1_tree, v4_tree, v5_tree, v9_tree}
-use Rattle.ilk_invs.specs.TrainFamilies.{body_at, head_at, keeps_at, kept_at, leads_at, leads_from, led_at, none_seen_past, v7_tree, v8_tree, vacant_or_up}
+use Rattle.ilk_invs.specs.TrainFamilies.{body_at, head_at, route_keeps_at, section_is_kept_at, route_leads_at, route_leads_from, head_is_led_at, none_seen_past, v7_tree, v8_tree, vacant_or_up}
 use Rattle.ilk_invs.proofs.Tests.{dropped-at}
-use Rattle.ilk_invs.proofs.ValidParts.{each_of-valid, flat_map-valid, if-valid, is_kept-valid, joined-valid, map-valid, more-valid, one-valid, path_known, places-valid, routes-valid, seen_below-valid, some_of-valid, two-valid, where_holds-valid}
+use Rattle.ilk_invs.proofs.ValidParts.{each_of-valid, flat_map-valid, if-valid, is_kept-valid, joined-valid, map-valid, more-valid, one-valid, path_known, places-valid, routes-valid, seen_below-valid, some_of-valid, two-valid, implication-valid}
 use Rattle.ilk_invs.proofs.ValidRouteTrees.{v1-valid, v2-valid, v3-valid, v4-valid, v5-valid, v6-valid}
 
 module _ (p : PlantLists) (plant : IsPlant p) where
-  -- the occupancies by a train
   head_at-valid : (d : Dir) (x : ℕ) → x < length p.sections → tree_valid (ranges_of_plant p) (head_at p d x) ≡ true
   head_at-valid d x within = rw (occupancy_is-valid p x (Taken d false true) within, occupancy_is-valid p x (Taken d true true) within) refl
 
@@ -54,8 +53,8 @@ module _ (p : PlantLists) (plant : IsPlant p) where
   none_seen_past-valid r route i known less =
       if-valid p plant (nat_lt (i + 1) (length route.path)) (seen_below r (i + 2) ∷ []) (one-valid p plant (seen_below r (i + 2)) (seen_below-valid p plant r (i + 2) route known (omega (arith, less))))
 
-  leads_from-valid : (r : ℕ) (route : Route) (i x : ℕ) → slice_get p.routes r ≡ Some route → slice_get route.path i ≡ Some x → tree_valid (ranges_of_plant p) (leads_from p r route i) ≡ true
-  leads_from-valid r route i x known at =
+  route_leads_from-valid : (r : ℕ) (route : Route) (i x : ℕ) → slice_get p.routes r ≡ Some route → slice_get route.path i ≡ Some x → tree_valid (ranges_of_plant p) (route_leads_from p r route i) ≡ true
+  route_leads_from-valid r route i x known at =
       let within = slice_get_within p.routes r route known in
       let less = slice_get_within route.path i x at in
       let closed = each_of-valid p plant (mode_is r Locked ∷ board_is p route.source Closed ∷ [])
@@ -80,34 +79,34 @@ module _ (p : PlantLists) (plant : IsPlant p) where
 
   v7-valid : tree_valid (ranges_of_plant p) (v7_tree p) ≡ true
   v7-valid =
-      instances-valid (led_at p) (λ d x within.
-      if-valid p plant (is_plain p d x) (some_of (negation (head_at p d x) ∷ of_each_route p (leads_at p d x)) ∷ []) (one-valid p plant (some_of (negation (head_at p d x) ∷ of_each_route p (leads_at p d x)))
-      (some_of-valid p plant (negation (head_at p d x) ∷ of_each_route p (leads_at p d x)) (more-valid p plant (negation (head_at p d x)) (of_each_route p (leads_at p d x)) (head_at-valid d x within)
-      (routes-valid p plant (leads_at p d x) (λ r route known.
-      if-valid p plant (runs_in p d route) (of_each_place route (λ i y. if y == x then leads_from p r route i ∷ [] else [])) (places-valid p plant route (λ i y. if y == x then leads_from p r route i ∷ [] else []) (λ i y at.
-      if-valid p plant (y == x) (leads_from p r route i ∷ []) (one-valid p plant (leads_from p r route i) (leads_from-valid r route i y known at))))))))))
+      instances-valid (head_is_led_at p) (λ d x within.
+      if-valid p plant (is_plain_for_direction p d x) (some_of (negation (head_at p d x) ∷ for_each_route p (route_leads_at p d x)) ∷ []) (one-valid p plant (some_of (negation (head_at p d x) ∷ for_each_route p (route_leads_at p d x)))
+      (some_of-valid p plant (negation (head_at p d x) ∷ for_each_route p (route_leads_at p d x)) (more-valid p plant (negation (head_at p d x)) (for_each_route p (route_leads_at p d x)) (head_at-valid d x within)
+      (routes-valid p plant (route_leads_at p d x) (λ r route known.
+      if-valid p plant (route_runs_in p d route) (for_each_path_index route (λ i y. if y == x then route_leads_from p r route i ∷ [] else [])) (places-valid p plant route (λ i y. if y == x then route_leads_from p r route i ∷ [] else []) (λ i y at.
+      if-valid p plant (y == x) (route_leads_from p r route i ∷ []) (one-valid p plant (route_leads_from p r route i) (route_leads_from-valid r route i y known at))))))))))
 
   v8-valid : tree_valid (ranges_of_plant p) (v8_tree p) ≡ true
   v8-valid =
-      instances-valid (kept_at p) (λ d x within.
-      if-valid p plant (is_plain p d x) (some_of (negation (body_at p d x) ∷ of_each_route p (keeps_at p d x)) ∷ []) (one-valid p plant (some_of (negation (body_at p d x) ∷ of_each_route p (keeps_at p d x)))
-      (some_of-valid p plant (negation (body_at p d x) ∷ of_each_route p (keeps_at p d x)) (more-valid p plant (negation (body_at p d x)) (of_each_route p (keeps_at p d x)) (body_at-valid d x within)
-      (routes-valid p plant (keeps_at p d x) (λ r route known.
-      if-valid p plant (runs_in p d route && has_section x route.path)
-      (each_of (locked_or_occupied r ∷ kept_on_path r route x ∷ []) ∷ [])
-      (one-valid p plant (each_of (locked_or_occupied r ∷ kept_on_path r route x ∷ []))
+      instances-valid (section_is_kept_at p) (λ d x within.
+      if-valid p plant (is_plain_for_direction p d x) (some_of (negation (body_at p d x) ∷ for_each_route p (route_keeps_at p d x)) ∷ []) (one-valid p plant (some_of (negation (body_at p d x) ∷ for_each_route p (route_keeps_at p d x)))
+      (some_of-valid p plant (negation (body_at p d x) ∷ for_each_route p (route_keeps_at p d x)) (more-valid p plant (negation (body_at p d x)) (for_each_route p (route_keeps_at p d x)) (body_at-valid d x within)
+      (routes-valid p plant (route_keeps_at p d x) (λ r route known.
+      if-valid p plant (route_runs_in p d route && has_section x route.path)
+      (each_of (locked_or_occupied r ∷ unreleased_on_path r route x ∷ []) ∷ [])
+      (one-valid p plant (each_of (locked_or_occupied r ∷ unreleased_on_path r route x ∷ []))
       (is_kept-valid p plant r route x known))))))))
 
   v9-valid : tree_valid (ranges_of_plant p) (v9_tree p) ≡ true
   v9-valid =
       each_of-valid p plant
-      (of_each_route p
-      (λ r route. map (λ m. where_holds (mode_is r Locked) (board_is p m Closed))
+      (for_each_route p
+      (λ r route. map (λ m. implication (mode_is r Locked) (board_is p m Closed))
       route.protecting_boards)) (routes-valid p plant
-      (λ r route. map (λ m. where_holds (mode_is r Locked) (board_is p m Closed)) route.protecting_boards)
+      (λ r route. map (λ m. implication (mode_is r Locked) (board_is p m Closed)) route.protecting_boards)
       (λ r route known.
-      map-valid p plant (λ m. where_holds (mode_is r Locked) (board_is p m Closed)) route.protecting_boards (λ i m at.
-      where_holds-valid p plant (mode_is r Locked) (board_is p m Closed)
+      map-valid p plant (λ m. implication (mode_is r Locked) (board_is p m Closed)) route.protecting_boards (λ i m at.
+      implication-valid p plant (mode_is r Locked) (board_is p m Closed)
       (mode_is-valid p r Locked (slice_get_within p.routes r route known))
       (board_is-valid p m Closed
       (all-at (λ m. m < length p.boards) route.protecting_boards i m
@@ -139,6 +138,5 @@ module _ (p : PlantLists) (plant : IsPlant p) where
       by_option None e = refl
       by_option (Some t) e = list_all-slice_get (tree_valid (ranges_of_plant p)) (family_trees p) (j - 1) t families-valid e
 
-  -- the same of a form's tree
   pub form-valid : (j : ℕ) (t : Tree) → t ≡ family_tree p j → tree_valid (ranges_of_plant p) t ≡ true
   form-valid j t is = ap (tree_valid (ranges_of_plant p)) is ∙ family-valid j

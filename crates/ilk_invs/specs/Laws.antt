@@ -1,12 +1,13 @@
--- The laws of the families as conditions.
+-- Theorems about the families as conditions.
 use Rattle.std.specs.Prelude.{◌≡◌, ℕ}
 use Rattle.ilk_ir.specs.Tree.{Tree, tree_holds}
 use Rattle.ilk_plant.specs.Plant.{PlantLists}
 use Rattle.ilk_plant.specs.declared.state.State.{State}
 use Rattle.ilk_model.specs.Meets.{keeps}
 use Rattle.ilk_layout.specs.Image.{image_of}
-use Rattle.ilk_layout.specs.Laws.{IsCalm}
+use Rattle.ilk_layout.specs.Laws.{IsWellFormedAndSafe}
 
--- of the image of each state with shape and without hazard, the condition holds exactly where the state keeps family VJ
+-- For the image of each well-formed state without hazard, the condition holds if and only if the
+-- state keeps family V`j`.
 abbrev pub HoldsAsKept : PlantLists → ℕ → Tree → Type 0
-HoldsAsKept p j t = (s : State) → IsCalm p s → tree_holds (image_of p s) t ≡ keeps p s j
+HoldsAsKept p j t = (s : State) → IsWellFormedAndSafe p s → tree_holds (image_of p s) t ≡ keeps p s j

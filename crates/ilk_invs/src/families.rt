@@ -15,7 +15,6 @@ use ilk_ir::{Form, Forms};
 use ilk_plant::{Plant, Row};
 use std::alloc::{AllocError, Global};
 
-// The form of family V`j`, `j` from 1 to 9.
 fn form_of(alloc: Global, plant: &Plant, j: u8) -> Result<Form, AllocError>
     requires first { 1 ≤ j }
     requires last { j ≤ 9 }
@@ -34,24 +33,26 @@ fn form_of(alloc: Global, plant: &Plant, j: u8) -> Result<Form, AllocError>
     }
 }
 
-/// Family V`j` of the invariant as a form, `j` from 1 to 9. The only refusal is want of memory.
+/// Returns family V`j` of the invariant as a form, for `j` from 1 to 9. Fails only if memory runs
+/// out.
 pub fn family_form(alloc: Global, plant: &Plant, j: u8) -> Result<Form, AllocError>
     requires first { 1 ≤ j }
     requires last { j ≤ 9 }
     ensures tree { IfOk result (λ form. tree_of form ≡ definitions.family_tree plant.now j) }
 
-    // It holds of the image of a state with shape and without hazard exactly where the state keeps VJ.
+    // For the image of a well-formed state without hazard, it holds if and only if the state keeps
+    // V`j`.
     ensures kept { IfOk result (λ form. HoldsAsKept plant.now j (tree_of form)) }
     ensures valid { IfOk result
         (λ form. tree_valid (ranges_of_plant plant.now) (tree_of form) ≡ true) }
 {
     plant.is_sound();
-    plant.is_of_drafts();
+    plant.is_from_drafts();
     let form = form_of(alloc, plant, j)?;
     Ok(form)
 }
 
-/// All nine families as forms, in order. The only refusal is want of memory.
+/// Returns all nine families as forms, in order. Fails only if memory runs out.
 pub fn family_forms(alloc: Global, plant: &Plant) -> Result<Forms, AllocError>
     ensures { IfOk result (λ forms. map tree_of forms ≡ definitions.family_trees plant.now) }
 {

@@ -3,17 +3,17 @@ ghost use Rattle.std.specs.List.{list_any};
 ghost use Rattle.ilk_ir.specs.Form.{tree_of};
 ghost use Rattle.ilk_plant.specs.Network.{has_section};
 ghost use Rattle.ilk_plant.specs.Plant.{IsRouteOf};
-ghost use Rattle.ilk_routes.specs.Claims.{sections_beside};
-ghost use Rattle.ilk_conditions.specs.Conditions as conditions;
+ghost use Rattle.ilk_routes.specs.Claims.{sections_beside_path};
+ghost use Rattle.ilk_layout.specs.Conditions as conditions;
 ghost use Rattle.ilk_invs.specs.Held as definitions;
 
 use ilk_base::has_number;
-use ilk_conditions::{mode_is, negated, rel_is, seen_is};
 use ilk_ir::Form;
+use ilk_layout::{mode_is, negated, rel_is, seen_is};
 use ilk_plant::{Listed, Mode, Plant, Route, Row, has_section};
 use std::alloc::{AllocError, Global};
 
-/// Of route `r` fewer than `k` path sections are seen.
+/// Returns the condition that fewer than `k` path sections of route `r` are seen.
 pub fn seen_below(alloc: Global, plant: &Plant, r: u32, k: u8) -> Result<Form, AllocError>
     requires { r < length plant.now.routes }
     ensures { IfOk result (λ form. tree_of form ≡ definitions.seen_below r k) }
@@ -25,7 +25,7 @@ pub fn seen_below(alloc: Global, plant: &Plant, r: u32, k: u8) -> Result<Form, A
     Ok(Form::Or(forms))
 }
 
-/// Of route `r` fewer than `k` path sections are released.
+/// Returns the condition that fewer than `k` path sections of route `r` are released.
 pub fn rel_below(alloc: Global, plant: &Plant, r: u32, k: u8) -> Result<Form, AllocError>
     requires { r < length plant.now.routes }
     ensures { IfOk result (λ form. tree_of form ≡ definitions.rel_below r k) }
@@ -37,7 +37,7 @@ pub fn rel_below(alloc: Global, plant: &Plant, r: u32, k: u8) -> Result<Form, Al
     Ok(Form::Or(forms))
 }
 
-/// Route `r` is none of Free, Marked and Allocating, so Locked or Occupied.
+/// Returns the condition that route `r` is not Free, Marked or Allocating, so Locked or Occupied.
 pub fn locked_or_occupied(alloc: Global, plant: &Plant, r: u32) -> Result<Form, AllocError>
     requires { r < length plant.now.routes }
     ensures { IfOk result (λ form. tree_of form ≡ definitions.locked_or_occupied r) }
@@ -49,7 +49,7 @@ pub fn locked_or_occupied(alloc: Global, plant: &Plant, r: u32) -> Result<Form, 
     negated(alloc, Form::Or(forms))
 }
 
-/// Route `r` is neither Free nor Marked, so that it holds sections.
+/// Returns the condition that route `r` is neither Free nor Marked, so it holds sections.
 pub fn is_holding(alloc: Global, plant: &Plant, r: u32) -> Result<Form, AllocError>
     requires { r < length plant.now.routes }
     ensures { IfOk result (λ form. tree_of form ≡ definitions.is_holding r) }
@@ -60,7 +60,7 @@ pub fn is_holding(alloc: Global, plant: &Plant, r: u32) -> Result<Form, AllocErr
     negated(alloc, Form::Or(forms))
 }
 
-// Adds that route `r` has released so many sections, if it keeps the section then.
+// Adds the condition that route `r` has released `count` sections, if `is_kept`.
 fn push_if_kept(
     forms: &mut Vec<Form>,
     plant: &Plant,
@@ -80,8 +80,8 @@ fn push_if_kept(
     Ok(())
 }
 
-/// Section `x` is at a place of the path of route `r` that isn't released.
-pub fn kept_on_path(
+/// Returns the condition that section `x` is on the part of route `r`'s path that is not released.
+pub fn unreleased_on_path(
     alloc: Global,
     plant: &Plant,
     r: u32,
@@ -90,7 +90,7 @@ pub fn kept_on_path(
 ) -> Result<Form, AllocError>
     requires known { r < length plant.now.routes }
     requires route { IsRouteOf plant.now route.now }
-    ensures { IfOk result (λ form. tree_of form ≡ definitions.kept_on_path r route.now x) }
+    ensures { IfOk result (λ form. tree_of form ≡ definitions.unreleased_on_path r route.now x) }
 {
     let path = route.path.as_slice();
     let mut forms = Vec::new(alloc);
@@ -106,22 +106,21 @@ pub fn kept_on_path(
     Ok(Form::Or(forms))
 }
 
-// Whether some of these points is on section `x`.
 fn has_point(points: &Row<Listed>, x: u32) -> bool
     ensures { result ≡ list_any (λ listed. listed.point == x) points.now }
 {
     points.as_slice().iter().any(|listed| listed.point == x)
 }
 
-/// Whether section `x` is in the overlap of a route, or is one of its protecting points.
+/// Returns whether section `x` is in the route's overlap or has one of its protecting points.
 #[tactic(auto, using(crate::proofs::Sections::beside_route))]
-pub fn is_beside(route: &Route, x: u32) -> bool
-    ensures { result ≡ has_section x (sections_beside route.now) }
+pub fn is_beside_path(route: &Route, x: u32) -> bool
+    ensures { result ≡ has_section x (sections_beside_path route.now) }
 {
     has_section(&route.overlap, x) || has_point(&route.protecting_points, x)
 }
 
-/// Route `r` holds section `x`.
+/// Returns the condition that route `r` holds section `x`.
 pub fn holding_section(
     alloc: Global,
     plant: &Plant,
@@ -134,11 +133,11 @@ pub fn holding_section(
     ensures { IfOk result (λ form. tree_of form ≡ definitions.holding_section r route.now x) }
 {
     let holding = is_holding(alloc, plant, r)?;
-    if is_beside(route, x) {
+    if is_beside_path(route, x) {
         return Ok(holding);
     }
     let mut forms = Vec::new(alloc);
     forms.push(holding)?;
-    forms.push(kept_on_path(alloc, plant, r, route, x)?)?;
+    forms.push(unreleased_on_path(alloc, plant, r, route, x)?)?;
     Ok(Form::And(forms))
 }

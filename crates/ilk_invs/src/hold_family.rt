@@ -4,28 +4,27 @@ ghost use Rattle.ilk_ir.specs.Tree.{negation};
 ghost use Rattle.ilk_invs.specs.Held as held;
 ghost use Rattle.ilk_invs.specs.HoldFamilies as definitions;
 
-use crate::held::{holding_section, is_beside};
-use crate::parts::where_holds;
-use ilk_conditions::negated;
+use crate::held::{holding_section, is_beside_path};
+use crate::parts::implication;
 use ilk_ir::Form;
+use ilk_layout::negated;
 use ilk_plant::{Plant, has_section};
 use std::alloc::{AllocError, Global};
 
-/// Up to so many routes that may hold a section are asked one after another whether another holds it;
-/// more are halved.
-pub const MAX_IN_ORDER: usize = 16;
+/// The maximum number of possible holders of a section that are compared in order; larger lists are
+/// halved.
+pub const MAX_ORDERED_HOLDERS: usize = 16;
 
-// Whether route `r` has section `x` in its path, its overlap or its protecting points.
+// Returns whether section `x` is in the path, overlap or protecting points of route `r`.
 #[tactic(auto, using(crate::proofs::Sections::sections_of_route))]
 fn may_hold(plant: &Plant, x: u32, r: u32) -> bool
     requires { r < length plant.now.routes }
     ensures { result ≡ definitions.may_hold plant.now x r }
 {
     let route = plant.route(r);
-    has_section(&route.path, x) || is_beside(route, x)
+    has_section(&route.path, x) || is_beside_path(route, x)
 }
 
-// Adds `r` to the routes, if that is asked.
 fn push_if(routes: &mut Vec<u32>, r: u32, is_asked: bool) -> Result<(), AllocError>
     ensures { OnOk result
         (routes.new.items ≡ routes.old.items ++ (if is_asked then r ∷ [] else [])) }
@@ -36,7 +35,7 @@ fn push_if(routes: &mut Vec<u32>, r: u32, is_asked: bool) -> Result<(), AllocErr
     Ok(())
 }
 
-// The routes that may hold section `x`, in order.
+// Returns the routes that may hold section `x`, in order.
 #[tactic(auto, using(crate::proofs::Pushed::all_passing))]
 fn holders(alloc: Global, plant: &Plant, x: u32) -> Result<Vec<u32>, AllocError>
     ensures holders { IfOk result (λ routes. routes.items ≡ definitions.holders plant.now x) }
@@ -49,7 +48,6 @@ fn holders(alloc: Global, plant: &Plant, x: u32) -> Result<Vec<u32>, AllocError>
     Ok(routes)
 }
 
-// Route `r` holds section `x`.
 fn route_holding(alloc: Global, plant: &Plant, x: u32, r: u32) -> Result<Form, AllocError>
     requires { r < length plant.now.routes }
     ensures { IfOk result (λ form. definitions.route_holding plant.now x r ≡ tree_of form ∷ []) }
@@ -57,7 +55,6 @@ fn route_holding(alloc: Global, plant: &Plant, x: u32, r: u32) -> Result<Form, A
     holding_section(alloc, plant, r, plant.route(r), x)
 }
 
-// Adds of each of the routes that it doesn't hold section `x`.
 fn push_not_holding(
     alloc: Global,
     forms: &mut Vec<Form>,
@@ -78,7 +75,7 @@ fn push_not_holding(
     Ok(())
 }
 
-// None of these routes holds section `x`.
+// Returns the condition that none of these routes holds section `x`.
 fn none_holding(alloc: Global, plant: &Plant, x: u32, routes: &[u32]) -> Result<Form, AllocError>
     requires { All (λ r. r < length plant.now.routes) routes.now }
     ensures { IfOk result (λ form. tree_of form ≡ definitions.none_holding plant.now x routes.now) }
@@ -88,7 +85,7 @@ fn none_holding(alloc: Global, plant: &Plant, x: u32, routes: &[u32]) -> Result<
     Ok(Form::And(forms))
 }
 
-// Where route `r` holds section `x`, none of those before does.
+// Returns the condition: if route `r` holds section `x`, none of those before does.
 fn none_before(
     alloc: Global,
     plant: &Plant,
@@ -104,11 +101,10 @@ fn none_before(
     let mut held = Vec::new(alloc);
     held.push(route_holding(alloc, plant, x, r)?)?;
     let none = none_holding(alloc, plant, x, before)?;
-    where_holds(alloc, Form::And(held), none)
+    implication(alloc, Form::And(held), none)
 }
 
-// Adds of each of these routes but the first that where it holds section `x`, none of those before
-// does.
+// Adds, for each of these routes except the first, the condition of `none_before`.
 fn push_held_in_order(
     alloc: Global,
     forms: &mut Vec<Form>,
@@ -127,7 +123,7 @@ fn push_held_in_order(
     Ok(())
 }
 
-// Not one of these routes and one of those both hold section `x`.
+// Returns the condition that `x` is not held both by one of `these` and by one of `those`.
 fn not_in_both(
     alloc: Global,
     plant: &Plant,
@@ -146,7 +142,7 @@ fn not_in_both(
     Ok(Form::Or(forms))
 }
 
-// Adds that no two of these routes hold section `x`; where they are many they are halved, up to `n`
+// Adds the condition that no two of these routes hold section `x`. Long lists are halved, up to `n`
 // times.
 fn push_held_by_halves(
     alloc: Global,
@@ -161,7 +157,7 @@ fn push_held_by_halves(
         (map tree_of forms.new.items
         ≡ map tree_of forms.old.items ++ definitions.held_by_halves n plant.now x routes.now) }
 {
-    if n == 0 || routes.len() <= MAX_IN_ORDER {
+    if n == 0 || routes.len() <= MAX_ORDERED_HOLDERS {
         return push_held_in_order(alloc, forms, plant, x, routes);
     }
     let (first, second) = routes.split_at(routes.len() / 2);
@@ -171,7 +167,6 @@ fn push_held_by_halves(
     Ok(())
 }
 
-// Adds V2 of section `x`.
 fn push_held_once(
     alloc: Global,
     forms: &mut Vec<Form>,
@@ -187,7 +182,7 @@ fn push_held_once(
     push_held_by_halves(alloc, forms, plant, x, routes, routes.len())
 }
 
-/// V2 as a form.
+/// Returns family V2 as a form: no two routes hold one section.
 pub fn v2_form(alloc: Global, plant: &Plant) -> Result<Form, AllocError>
     ensures { IfOk result (λ form. tree_of form ≡ definitions.v2_tree plant.now) }
 {

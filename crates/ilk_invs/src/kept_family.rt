@@ -6,13 +6,14 @@ ghost use Rattle.ilk_invs.specs.Parts as parts;
 ghost use Rattle.ilk_invs.specs.TrainFamilies as definitions;
 
 use crate::point_family::is_kept;
-use crate::train_families::{body_at, is_plain, runs_in};
-use ilk_conditions::negated;
+use crate::train_families::{body_at, is_plain_for_direction, route_runs_in};
 use ilk_ir::Form;
+use ilk_layout::negated;
 use ilk_plant::{Dir, Plant, has_section};
 use std::alloc::{AllocError, Global};
 
-// Adds that route `r` keeps section `x`, if it runs in direction `d` and has `x` in its path.
+// Adds the condition that route `r` keeps section `x`, if it runs in direction `d` and has `x` in
+// its path.
 fn push_keeps_at(
     alloc: Global,
     forms: &mut Vec<Form>,
@@ -26,23 +27,24 @@ fn push_keeps_at(
         (map tree_of forms.new.items
         ≡ map tree_of forms.old.items
         ++ parts.conditions_for (slice_get plant.now.routes r)
-        (definitions.keeps_at plant.now d x r)) }
+        (definitions.route_keeps_at plant.now d x r)) }
 {
     let route = plant.route(r);
-    if runs_in(plant, d, route) && has_section(&route.path, x) {
+    if route_runs_in(plant, d, route) && has_section(&route.path, x) {
         forms.push(is_kept(alloc, plant, r, route, x)?)?;
     }
     Ok(())
 }
 
-// No train in direction `d` has section `x` in its body, or some route keeps it.
+// Returns the condition: if a train in direction `d` has section `x` in its body, some route keeps
+// `x`.
 fn is_kept_by_some(alloc: Global, plant: &Plant, d: Dir, x: u32) -> Result<Form, AllocError>
     requires { x < length plant.now.sections }
     ensures { IfOk result
         (λ form. tree_of form
         ≡ parts.some_of
         (negation (definitions.body_at plant.now d x)
-        ∷ parts.of_each_route plant.now (definitions.keeps_at plant.now d x))) }
+        ∷ parts.for_each_route plant.now (definitions.route_keeps_at plant.now d x))) }
 {
     let body = body_at(alloc, plant, d, x)?;
     let mut forms = Vec::new(alloc);
@@ -53,7 +55,6 @@ fn is_kept_by_some(alloc: Global, plant: &Plant, d: Dir, x: u32) -> Result<Form,
     Ok(Form::Or(forms))
 }
 
-// Adds V8 of section `x` and direction `d`.
 fn push_kept_at(
     alloc: Global,
     forms: &mut Vec<Form>,
@@ -64,27 +65,28 @@ fn push_kept_at(
     requires { x < length plant.now.sections }
     ensures { OnOk result
         (map tree_of forms.new.items
-        ≡ map tree_of forms.old.items ++ definitions.kept_at plant.now d x) }
+        ≡ map tree_of forms.old.items ++ definitions.section_is_kept_at plant.now d x) }
 {
-    if is_plain(plant, d, x) {
+    if is_plain_for_direction(plant, d, x) {
         forms.push(is_kept_by_some(alloc, plant, d, x)?)?;
     }
     Ok(())
 }
 
-// Adds V8 of section `x`.
 fn push_kept(alloc: Global, forms: &mut Vec<Form>, plant: &Plant, x: u32) -> Result<(), AllocError>
     requires { x < length plant.now.sections }
     ensures { OnOk result
         (map tree_of forms.new.items
         ≡ map tree_of forms.old.items
-        ++ (definitions.kept_at plant.now Up x ++ definitions.kept_at plant.now Down x)) }
+        ++ (definitions.section_is_kept_at plant.now Up x
+        ++ definitions.section_is_kept_at plant.now Down x)) }
 {
     push_kept_at(alloc, forms, plant, Dir::Up, x)?;
     push_kept_at(alloc, forms, plant, Dir::Down, x)
 }
 
-/// V8 as a form.
+/// Returns family V8 as a form: a Locked or Occupied route keeps each plain section of a train's
+/// body.
 pub fn v8_form(alloc: Global, plant: &Plant) -> Result<Form, AllocError>
     ensures { IfOk result (λ form. tree_of form ≡ definitions.v8_tree plant.now) }
 {

@@ -1,4 +1,4 @@
-//! The laws of the families as conditions. Each function here does nothing, and tells a proof.
+//! Theorems about the families as conditions.
 
 ghost use Rattle.std.specs.Prelude.{◌≡◌, ℕ, true};
 ghost use Rattle.ilk_ir.specs.Tree.{tree_valid};
@@ -8,16 +8,16 @@ ghost use Rattle.ilk_invs.specs.Laws.{HoldsAsKept};
 
 use ilk_plant::Plant;
 
-/// Of the image of each state with shape and without hazard, each family's condition holds exactly
-/// where the state keeps the family.
+/// For the image of each well-formed state without hazard, each family's condition holds if and
+/// only if the state keeps the family. Proof only; no run-time effect.
 pub fn families_hold(plant: &Plant)
     ensures { (j : ℕ) → HoldsAsKept plant.now j (family_tree plant.now j) }
 {
     plant.is_sound();
-    plant.is_of_drafts();
+    plant.is_from_drafts();
 }
 
-/// Each family's condition is valid over the ranges of the plant.
+/// Each family's condition is valid over the ranges of the plant. Proof only; no run-time effect.
 pub fn families_valid(plant: &Plant)
     ensures { (j : ℕ) → tree_valid (ranges_of_plant plant.now) (family_tree plant.now j) ≡ true }
 {

@@ -1,14 +1,13 @@
 //! The nine families of the invariant, V1 to V9, as forms over the values of a plant's variables.
 //!
-//! A family is a test of a state (`ilk_model`); its form asks the same of the state's image
-//! (`ilk_layout`). `specs/` has for each family a tree, beside the words that it is made of:
-//! `RouteFamilies` V1, V4, V5 and V9, `HoldFamilies` V2 and V3, `PointFamily` V6, `TrainFamilies` V7
-//! and V8; `FamilyTrees` has the nine in order. A tree is a conjunction of instances: one for a route,
-//! for a route and one of its boards or points, for a section and one of its holders or two halves
-//! of them, or for a section and a direction. A search over formulas asks which instance is violated
-//! first.
+//! The form of a family (`ilk_model`) tests a state's image (`ilk_layout`). `specs/` defines the
+//! trees: `RouteFamilies` V1, V4, V5 and V9, `HoldFamilies` V2 and V3, `PointFamily` V6,
+//! `TrainFamilies` V7 and V8. `FamilyTrees` lists the nine in order. A tree is a conjunction of
+//! instances. Each instance is for a route, a board, a route and one of its boards or points, or a
+//! section and a direction. In V2 it is for a section and one of its holders or two halves of them.
+//! A search over formulas first asks which instance is violated.
 //!
-//! `family_form` makes the form of one family, `family_forms` all nine.
+//! `family_form` builds the form of one family, `family_forms` all nine.
 #![tactic(auto)]
 
 mod families;

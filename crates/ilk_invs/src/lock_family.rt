@@ -4,21 +4,21 @@ ghost use Rattle.ilk_ir.specs.Tree.{negation};
 ghost use Rattle.ilk_plant.specs.Plant.{IsRouteOf};
 ghost use Rattle.ilk_plant.specs.declared.limits.TheConstants.{MAX_PATH};
 ghost use Rattle.ilk_plant.specs.declared.state.Hold.TheVariants.{Locked as LockedLock, Used as UsedLock};
-ghost use Rattle.ilk_routes.specs.Claims.{sections_beside};
-ghost use Rattle.ilk_conditions.specs.Conditions as conditions;
+ghost use Rattle.ilk_routes.specs.Claims.{sections_beside_path};
+ghost use Rattle.ilk_layout.specs.Conditions as conditions;
 ghost use Rattle.ilk_invs.specs.Held as held;
 ghost use Rattle.ilk_invs.specs.Parts as parts;
 ghost use Rattle.ilk_invs.specs.HoldFamilies as definitions;
 
 use crate::held::{is_holding, rel_below, seen_below};
-use crate::parts::where_holds;
-use ilk_conditions::{lock_is, negated};
+use crate::parts::implication;
 use ilk_ir::Form;
+use ilk_layout::{lock_is, negated};
 use ilk_plant::{Hold, Listed, Plant, Route};
 use std::alloc::{AllocError, Global};
 
-// Route `r` doesn't keep the section `x` at place `i` of its path, or at most `i` of it aren't seen,
-// or `x` has lock Locked.
+// Returns the condition: if route `r` keeps the section `x` at index `i` of its path, and at most
+// `i` are seen, `x` has lock Locked.
 fn locked_ahead(alloc: Global, plant: &Plant, r: u32, i: u8, x: u32) -> Result<Form, AllocError>
     requires known { r < length plant.now.routes }
     requires section { x < length plant.now.sections }
@@ -36,8 +36,8 @@ fn locked_ahead(alloc: Global, plant: &Plant, r: u32, i: u8, x: u32) -> Result<F
     Ok(Form::Or(forms))
 }
 
-// Route `r` doesn't keep the section `x` at place `i` of its path, or at most `i` of it are seen, or
-// `x` has lock Used.
+// Returns the condition: if route `r` keeps the section `x` at index `i` of its path, and more than
+// `i` are seen, `x` has lock Used.
 fn used_behind(alloc: Global, plant: &Plant, r: u32, i: u8, x: u32) -> Result<Form, AllocError>
     requires known { r < length plant.now.routes }
     requires section { x < length plant.now.sections }
@@ -55,7 +55,7 @@ fn used_behind(alloc: Global, plant: &Plant, r: u32, i: u8, x: u32) -> Result<Fo
     Ok(Form::Or(forms))
 }
 
-// Adds of each place of a path that its section has its lock where route `r` keeps it.
+// Adds the conditions on the locks of the path sections that route `r` keeps.
 fn push_locks_on_path(
     alloc: Global,
     forms: &mut Vec<Form>,
@@ -68,7 +68,7 @@ fn push_locks_on_path(
     ensures { OnOk result
         (map tree_of forms.new.items
         ≡ map tree_of forms.old.items
-        ++ parts.of_each_place route.now (definitions.lock_at_place plant.now r)) }
+        ++ parts.for_each_path_index route.now (definitions.lock_at_place plant.now r)) }
 {
     let path = route.path.as_slice();
     for i in 0..path.len() {
@@ -78,7 +78,6 @@ fn push_locks_on_path(
     Ok(())
 }
 
-// Adds of each of the sections that it has lock Locked.
 fn push_locked(forms: &mut Vec<Form>, plant: &Plant, sections: &[u32]) -> Result<(), AllocError>
     requires { All (λ x. x < length plant.now.sections) sections.now }
     ensures { OnOk result
@@ -92,7 +91,6 @@ fn push_locked(forms: &mut Vec<Form>, plant: &Plant, sections: &[u32]) -> Result
     Ok(())
 }
 
-// Adds of each of the points that its section has lock Locked.
 fn push_points_locked(
     forms: &mut Vec<Form>,
     plant: &Plant,
@@ -111,15 +109,15 @@ fn push_points_locked(
     Ok(())
 }
 
-// Of the sections of route `r` that they have their locks.
+// Returns the conditions on the locks of route `r`'s sections.
 fn locks_for(alloc: Global, plant: &Plant, r: u32, route: &Route) -> Result<Vec<Form>, AllocError>
     requires known { r < length plant.now.routes }
     requires route { IsRouteOf plant.now route.now }
     ensures { IfOk result
         (λ forms. map tree_of forms.items
-        ≡ parts.of_each_place route.now (definitions.lock_at_place plant.now r)
+        ≡ parts.for_each_path_index route.now (definitions.lock_at_place plant.now r)
         ++ map (λ x. conditions.lock_is plant.now x LockedLock)
-        (sections_beside route.now)) }
+        (sections_beside_path route.now)) }
 {
     let mut forms = Vec::new(alloc);
     push_locks_on_path(alloc, &mut forms, plant, r, route)?;
@@ -128,17 +126,18 @@ fn locks_for(alloc: Global, plant: &Plant, r: u32, route: &Route) -> Result<Vec<
     Ok(forms)
 }
 
-// V3 of route `r`.
 fn locked_for(alloc: Global, plant: &Plant, r: u32, route: &Route) -> Result<Form, AllocError>
     requires known { r < length plant.now.routes }
     requires route { IsRouteOf plant.now route.now }
-    ensures { IfOk result (λ form. tree_of form ≡ definitions.locked_for plant.now r route.now) }
+    ensures { IfOk result (λ form. tree_of form
+        ≡ definitions.has_locks_for_route plant.now r route.now) }
 {
     let forms = locks_for(alloc, plant, r, route)?;
-    where_holds(alloc, is_holding(alloc, plant, r)?, Form::And(forms))
+    implication(alloc, is_holding(alloc, plant, r)?, Form::And(forms))
 }
 
-/// V3 as a form.
+/// Returns family V3 as a form: a path section that was passed is Used, and every other held
+/// section is Locked.
 pub fn v3_form(alloc: Global, plant: &Plant) -> Result<Form, AllocError>
     ensures { IfOk result (λ form. tree_of form ≡ definitions.v3_tree plant.now) }
 {

@@ -2,19 +2,19 @@ ghost use Rattle.std.specs.Prelude.{◌≡◌, ◌<◌, ◌++◌, ◌∷◌, [],
 ghost use Rattle.ilk_ir.specs.Form.{tree_of};
 ghost use Rattle.ilk_plant.specs.Network.{has_section};
 ghost use Rattle.ilk_plant.specs.Plant.{IsRouteOf};
-ghost use Rattle.ilk_conditions.specs.Conditions as conditions;
+ghost use Rattle.ilk_layout.specs.Conditions as conditions;
 ghost use Rattle.ilk_invs.specs.Held as held;
 ghost use Rattle.ilk_invs.specs.Parts as parts;
 ghost use Rattle.ilk_invs.specs.PointFamily as definitions;
 
-use crate::held::{kept_on_path, locked_or_occupied};
-use crate::parts::where_holds;
-use ilk_conditions::{commanded_at_listed, lies_at_listed, mode_is};
+use crate::held::{locked_or_occupied, unreleased_on_path};
+use crate::parts::implication;
 use ilk_ir::Form;
+use ilk_layout::{commanded_at_listed, lies_at_listed, mode_is};
 use ilk_plant::{Listed, Mode, Plant, Route, has_section};
 use std::alloc::{AllocError, Global};
 
-/// Route `r` is Locked or Occupied, and keeps section `x` on its path.
+/// Returns the condition that route `r` is Locked or Occupied and keeps section `x` on its path.
 pub fn is_kept(
     alloc: Global,
     plant: &Plant,
@@ -26,15 +26,15 @@ pub fn is_kept(
     requires route { IsRouteOf plant.now route.now }
     ensures { IfOk result
         (λ form. tree_of form
-        ≡ parts.each_of (held.locked_or_occupied r ∷ held.kept_on_path r route.now x ∷ [])) }
+        ≡ parts.each_of (held.locked_or_occupied r ∷ held.unreleased_on_path r route.now x ∷ [])) }
 {
     let mut forms = Vec::new(alloc);
     forms.push(locked_or_occupied(alloc, plant, r)?)?;
-    forms.push(kept_on_path(alloc, plant, r, route, x)?)?;
+    forms.push(unreleased_on_path(alloc, plant, r, route, x)?)?;
     Ok(Form::And(forms))
 }
 
-// A listed point is commanded to its position, and lies there.
+// Returns the condition that a listed point is commanded to its position and detected there.
 fn is_set(alloc: Global, plant: &Plant, listed: &Listed) -> Result<Form, AllocError>
     ensures { IfOk result
         (λ form. tree_of form
@@ -48,7 +48,6 @@ fn is_set(alloc: Global, plant: &Plant, listed: &Listed) -> Result<Form, AllocEr
     Ok(Form::And(forms))
 }
 
-// V6 of route `r` and a listed point of its path.
 fn set_for(
     alloc: Global,
     plant: &Plant,
@@ -59,17 +58,16 @@ fn set_for(
     requires known { r < length plant.now.routes }
     requires route { IsRouteOf plant.now route.now }
     ensures { IfOk result
-        (λ form. tree_of form ≡ definitions.set_for plant.now r route.now listed.now) }
+        (λ form. tree_of form ≡ definitions.point_is_set_for plant.now r route.now listed.now) }
 {
     let allocating = mode_is(plant, r, Mode::Allocating);
     let kept = is_kept(alloc, plant, r, route, listed.point)?;
     let mut forms = Vec::new(alloc);
-    forms.push(where_holds(alloc, allocating, commanded_at_listed(plant, listed))?)?;
-    forms.push(where_holds(alloc, kept, is_set(alloc, plant, listed)?)?)?;
+    forms.push(implication(alloc, allocating, commanded_at_listed(plant, listed))?)?;
+    forms.push(implication(alloc, kept, is_set(alloc, plant, listed)?)?)?;
     Ok(Form::And(forms))
 }
 
-// Adds V6 of route `r` and a listed point, if the point is on its path.
 fn push_set_for(
     alloc: Global,
     forms: &mut Vec<Form>,
@@ -85,7 +83,7 @@ fn push_set_for(
         ≡ map tree_of forms.old.items
         ++
         (if has_section listed.now.point route.now.path
-        then definitions.set_for plant.now r route.now listed.now ∷ [] else [])) }
+        then definitions.point_is_set_for plant.now r route.now listed.now ∷ [] else [])) }
 {
     if has_section(&route.path, listed.point) {
         forms.push(set_for(alloc, plant, r, route, listed)?)?;
@@ -93,7 +91,6 @@ fn push_set_for(
     Ok(())
 }
 
-// Adds V6 of route `r`.
 fn push_points_set(
     alloc: Global,
     forms: &mut Vec<Form>,
@@ -106,7 +103,7 @@ fn push_points_set(
     ensures { OnOk result
         (map tree_of forms.new.items
         ≡ map tree_of forms.old.items
-        ++ map (definitions.set_for plant.now r route.now)
+        ++ map (definitions.point_is_set_for plant.now r route.now)
         (definitions.points_of_path route.now)) }
 {
     for listed in route.points.as_slice() {
@@ -115,7 +112,8 @@ fn push_points_set(
     Ok(())
 }
 
-/// V6 as a form.
+/// Returns family V6 as a form: the listed points of a set route's path are commanded and in
+/// position.
 pub fn v6_form(alloc: Global, plant: &Plant) -> Result<Form, AllocError>
     ensures { IfOk result (λ form. tree_of form ≡ definitions.v6_tree plant.now) }
 {

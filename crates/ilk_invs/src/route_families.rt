@@ -5,19 +5,20 @@ ghost use Rattle.ilk_ir.specs.Tree.{negation};
 ghost use Rattle.ilk_plant.specs.Plant.{IsRouteOf};
 ghost use Rattle.ilk_plant.specs.declared.state.Aspect.TheVariants.{Closed};
 ghost use Rattle.ilk_plant.specs.declared.state.Mode.TheVariants.{Allocating, Locked, Occupied};
-ghost use Rattle.ilk_conditions.specs.Conditions as conditions;
+ghost use Rattle.ilk_layout.specs.Conditions as conditions;
 ghost use Rattle.ilk_invs.specs.Held as held;
 ghost use Rattle.ilk_invs.specs.Parts as parts;
 ghost use Rattle.ilk_invs.specs.RouteFamilies as definitions;
 
 use crate::held::rel_below;
-use crate::parts::where_holds;
-use ilk_conditions::{board_is, mode_is, negated, no_train_at, rel_is, seen_is};
+use crate::parts::implication;
 use ilk_ir::Form;
+use ilk_layout::{board_is, mode_is, negated, no_train_at, rel_is, seen_is};
 use ilk_plant::{Aspect, Mode, Plant, Route};
 use std::alloc::{AllocError, Global};
 
-// Route `r` isn't Occupied, or `k` of its path sections aren't seen, or fewer than `k` are released.
+// Returns the condition: if route `r` is Occupied with `k` path sections seen, fewer than `k` are
+// released.
 fn fewer_released(alloc: Global, plant: &Plant, r: u32, k: u8) -> Result<Form, AllocError>
     requires { r < length plant.now.routes }
     ensures { IfOk result
@@ -33,7 +34,7 @@ fn fewer_released(alloc: Global, plant: &Plant, r: u32, k: u8) -> Result<Form, A
     Ok(Form::Or(forms))
 }
 
-// Adds of each count below `n` that fewer are released than that, where that many are seen.
+// Adds this condition for each count below `n`.
 fn push_fewer_released(
     alloc: Global,
     forms: &mut Vec<Form>,
@@ -57,7 +58,6 @@ fn push_fewer_released(
     Ok(())
 }
 
-// Route `r` is Occupied, or the other holds.
 fn occupied_or(alloc: Global, plant: &Plant, r: u32, other: Form) -> Result<Form, AllocError>
     requires { r < length plant.now.routes }
     ensures { IfOk result
@@ -70,11 +70,10 @@ fn occupied_or(alloc: Global, plant: &Plant, r: u32, other: Form) -> Result<Form
     Ok(Form::Or(forms))
 }
 
-// V1 of route `r`.
 fn counts_of(alloc: Global, plant: &Plant, r: u32, route: &Route) -> Result<Form, AllocError>
     requires known { r < length plant.now.routes }
     requires route { IsRouteOf plant.now route.now }
-    ensures { IfOk result (λ form. tree_of form ≡ definitions.counts_of r route.now) }
+    ensures { IfOk result (λ form. tree_of form ≡ definitions.counts_are_consistent r route.now) }
 {
     let mut forms = Vec::new(alloc);
     forms.push(occupied_or(alloc, plant, r, seen_is(plant, r, 0))?)?;
@@ -83,7 +82,8 @@ fn counts_of(alloc: Global, plant: &Plant, r: u32, route: &Route) -> Result<Form
     Ok(Form::And(forms))
 }
 
-/// V1 as a form.
+/// Returns family V1 as a form: a route that is not Occupied has both counts 0, and an Occupied one
+/// released fewer sections than it has seen, which are at most those of its path.
 pub fn v1_form(alloc: Global, plant: &Plant) -> Result<Form, AllocError>
     ensures { IfOk result (λ form. tree_of form ≡ definitions.v1_tree plant.now) }
 {
@@ -94,7 +94,7 @@ pub fn v1_form(alloc: Global, plant: &Plant) -> Result<Form, AllocError>
     Ok(Form::And(forms))
 }
 
-/// Adds of each of the sections that it is vacant.
+/// Adds the condition that each of the sections is vacant.
 pub fn push_vacant(forms: &mut Vec<Form>, plant: &Plant, sections: &[u32]) -> Result<(), AllocError>
     requires { All (λ x. x < length plant.now.sections) sections.now }
     ensures { OnOk result
@@ -107,7 +107,6 @@ pub fn push_vacant(forms: &mut Vec<Form>, plant: &Plant, sections: &[u32]) -> Re
     Ok(())
 }
 
-// V4 of route `r`.
 fn vacant_while_allocating(
     alloc: Global,
     plant: &Plant,
@@ -118,15 +117,15 @@ fn vacant_while_allocating(
     requires route { IsRouteOf plant.now route.now }
     ensures { IfOk result
         (λ form. tree_of form
-        ≡ parts.where_holds (conditions.mode_is r Allocating)
+        ≡ parts.implication (conditions.mode_is r Allocating)
         (parts.each_of (definitions.path_vacant plant.now route.now))) }
 {
     let mut forms = Vec::new(alloc);
     push_vacant(&mut forms, plant, route.path.as_slice())?;
-    where_holds(alloc, mode_is(plant, r, Mode::Allocating), Form::And(forms))
+    implication(alloc, mode_is(plant, r, Mode::Allocating), Form::And(forms))
 }
 
-/// V4 as a form.
+/// Returns family V4 as a form: every path section of an Allocating route is vacant.
 pub fn v4_form(alloc: Global, plant: &Plant) -> Result<Form, AllocError>
     ensures { IfOk result (λ form. tree_of form ≡ definitions.v4_tree plant.now) }
 {
@@ -137,7 +136,7 @@ pub fn v4_form(alloc: Global, plant: &Plant) -> Result<Form, AllocError>
     Ok(Form::And(forms))
 }
 
-// Route `r` is Locked, and each of its path sections is vacant.
+// Returns the condition that route `r` is Locked and its path is vacant.
 fn is_ready(alloc: Global, plant: &Plant, r: u32, route: &Route) -> Result<Form, AllocError>
     requires known { r < length plant.now.routes }
     requires route { IsRouteOf plant.now route.now }
@@ -152,7 +151,7 @@ fn is_ready(alloc: Global, plant: &Plant, r: u32, route: &Route) -> Result<Form,
     Ok(Form::And(forms))
 }
 
-// Adds, if board `m` is the source of route `r`, that the route is Locked and its path vacant.
+// Adds this condition if board `m` is the source of route `r`.
 fn push_ready_from(
     alloc: Global,
     forms: &mut Vec<Form>,
@@ -177,10 +176,9 @@ fn push_ready_from(
     Ok(())
 }
 
-// V5 of board `m`.
 fn opened_for(alloc: Global, plant: &Plant, m: u32) -> Result<Form, AllocError>
     requires { m < length plant.now.boards }
-    ensures { IfOk result (λ form. tree_of form ≡ definitions.opened_for plant.now m) }
+    ensures { IfOk result (λ form. tree_of form ≡ definitions.is_open_for_route plant.now m) }
 {
     let mut forms = Vec::new(alloc);
     forms.push(negated(alloc, board_is(plant, m, Aspect::Open))?)?;
@@ -190,7 +188,7 @@ fn opened_for(alloc: Global, plant: &Plant, m: u32) -> Result<Form, AllocError>
     Ok(Form::Or(forms))
 }
 
-/// V5 as a form.
+/// Returns family V5 as a form: each Open board is the source of a Locked route with a vacant path.
 pub fn v5_form(alloc: Global, plant: &Plant) -> Result<Form, AllocError>
     ensures { IfOk result (λ form. tree_of form ≡ definitions.v5_tree plant.now) }
 {
@@ -201,7 +199,6 @@ pub fn v5_form(alloc: Global, plant: &Plant) -> Result<Form, AllocError>
     Ok(Form::And(forms))
 }
 
-// Adds of each of the boards that it is Closed where route `r` is Locked.
 fn push_closed_while_locked(
     alloc: Global,
     forms: &mut Vec<Form>,
@@ -215,17 +212,17 @@ fn push_closed_while_locked(
         (map tree_of forms.new.items
         ≡ map tree_of forms.old.items
         ++ map
-        (λ m. parts.where_holds (conditions.mode_is r Locked)
+        (λ m. parts.implication (conditions.mode_is r Locked)
         (conditions.board_is plant.now m Closed)) boards.now) }
 {
     for m in boards {
         let locked = mode_is(plant, r, Mode::Locked);
-        forms.push(where_holds(alloc, locked, board_is(plant, *m, Aspect::Closed))?)?;
+        forms.push(implication(alloc, locked, board_is(plant, *m, Aspect::Closed))?)?;
     }
     Ok(())
 }
 
-/// V9 as a form.
+/// Returns family V9 as a form: each protecting board of a Locked route is Closed.
 pub fn v9_form(alloc: Global, plant: &Plant) -> Result<Form, AllocError>
     ensures { IfOk result (λ form. tree_of form ≡ definitions.v9_tree plant.now) }
 {

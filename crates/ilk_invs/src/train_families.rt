@@ -6,36 +6,35 @@ ghost use Rattle.ilk_plant.specs.declared.network.Dir.TheVariants.{Up, Down};
 ghost use Rattle.ilk_plant.specs.declared.state.Aspect.TheVariants.{Closed};
 ghost use Rattle.ilk_plant.specs.declared.state.Mode.TheVariants.{Locked, Occupied};
 ghost use Rattle.ilk_layout.specs.declared.values.Occupancy.TheVariants.{Taken};
-ghost use Rattle.ilk_model.specs.Holding.{is_plain, runs_in};
-ghost use Rattle.ilk_conditions.specs.Conditions as conditions;
+ghost use Rattle.ilk_model.specs.Holding.{is_plain_for_direction, route_runs_in};
+ghost use Rattle.ilk_layout.specs.Conditions as conditions;
 ghost use Rattle.ilk_invs.specs.Parts as parts;
 ghost use Rattle.ilk_invs.specs.TrainFamilies as definitions;
 
 use crate::held::seen_below;
 use crate::route_families::push_vacant;
-use ilk_conditions::{board_is, mode_is, negated, no_train_at, occupancy_is, train_at};
 use ilk_ir::Form;
-use ilk_layout::Occupancy;
+use ilk_layout::{Occupancy, board_is, mode_is, negated, no_train_at, occupancy_is, train_at};
 use ilk_plant::{Aspect, Dir, Mode, Plant, Route};
 use std::alloc::{AllocError, Global};
 
-// Whether section `x` is plain for a train in direction `d`.
-pub fn is_plain(plant: &Plant, d: Dir, x: u32) -> bool
+/// Returns whether section `x` is plain for direction `d`: it has no board and at least one
+/// neighbour there.
+pub fn is_plain_for_direction(plant: &Plant, d: Dir, x: u32) -> bool
     requires { x < length plant.now.sections }
-    ensures { result ≡ is_plain plant.now d x }
+    ensures { result ≡ is_plain_for_direction plant.now d x }
 {
     plant.board_of(x, d).is_none() && plant.neighbour(x, d, 0).is_some()
 }
 
-// Whether a route runs in direction `d`.
-pub fn runs_in(plant: &Plant, d: Dir, route: &Route) -> bool
+/// Returns whether `route` runs in direction `d`.
+pub fn route_runs_in(plant: &Plant, d: Dir, route: &Route) -> bool
     requires { IsRouteOf plant.now route.now }
-    ensures { result ≡ runs_in plant.now d route.now }
+    ensures { result ≡ route_runs_in plant.now d route.now }
 {
     plant.board(route.source).dir == d
 }
 
-// Section `x` is taken by a train in direction `d`, with its tail and its head there or not.
 fn taken_is(plant: &Plant, x: u32, d: Dir, tail: bool, head: bool) -> Form
     requires { x < length plant.now.sections }
     ensures { tree_of result ≡ conditions.occupancy_is plant.now x (Taken d tail head) }
@@ -44,7 +43,6 @@ fn taken_is(plant: &Plant, x: u32, d: Dir, tail: bool, head: bool) -> Form
     occupancy_is(plant, x, taken)
 }
 
-// A train in direction `d` has its head at section `x`.
 fn head_at(alloc: Global, plant: &Plant, d: Dir, x: u32) -> Result<Form, AllocError>
     requires { x < length plant.now.sections }
     ensures { IfOk result (λ form. tree_of form ≡ definitions.head_at plant.now d x) }
@@ -55,7 +53,7 @@ fn head_at(alloc: Global, plant: &Plant, d: Dir, x: u32) -> Result<Form, AllocEr
     Ok(Form::Or(forms))
 }
 
-// Section `x` is vacant, or has a train up.
+// Returns the condition that section `x` is vacant or has an up train.
 fn vacant_or_up(alloc: Global, plant: &Plant, x: u32) -> Result<Form, AllocError>
     requires { x < length plant.now.sections }
     ensures { IfOk result (λ form. tree_of form ≡ definitions.vacant_or_up plant.now x) }
@@ -69,7 +67,7 @@ fn vacant_or_up(alloc: Global, plant: &Plant, x: u32) -> Result<Form, AllocError
     Ok(Form::Or(forms))
 }
 
-// A train in direction `d` has section `x` in its body.
+/// Returns the condition that a train in direction `d` has section `x` in its body.
 pub fn body_at(alloc: Global, plant: &Plant, d: Dir, x: u32) -> Result<Form, AllocError>
     requires { x < length plant.now.sections }
     ensures { IfOk result (λ form. tree_of form ≡ definitions.body_at plant.now d x) }
@@ -89,7 +87,7 @@ pub fn body_at(alloc: Global, plant: &Plant, d: Dir, x: u32) -> Result<Form, All
     Ok(Form::And(forms))
 }
 
-// Route `r` is Occupied, or Locked with its source Closed.
+// Returns the condition that route `r` is Occupied, or Locked with its source Closed.
 fn may_lead(alloc: Global, plant: &Plant, r: u32, route: &Route) -> Result<Form, AllocError>
     requires known { r < length plant.now.routes }
     requires route { IsRouteOf plant.now route.now }
@@ -110,7 +108,7 @@ fn may_lead(alloc: Global, plant: &Plant, r: u32, route: &Route) -> Result<Form,
     Ok(Form::Or(forms))
 }
 
-// Adds that of route `r` no path section past place `i` is seen, if there is any.
+// Adds the condition that no path section of route `r` after index `i` is seen, if there is one.
 fn push_none_seen_past(
     alloc: Global,
     forms: &mut Vec<Form>,
@@ -132,7 +130,7 @@ fn push_none_seen_past(
     Ok(())
 }
 
-// Route `r` leads a train with its head at place `i` of its path.
+// Returns the condition that route `r` leads a train with its head at index `i` of its path.
 fn leads_from(
     alloc: Global,
     plant: &Plant,
@@ -143,7 +141,8 @@ fn leads_from(
     requires known { r < length plant.now.routes }
     requires route { IsRouteOf plant.now route.now }
     requires place { i < length route.now.path }
-    ensures { IfOk result (λ form. tree_of form ≡ definitions.leads_from plant.now r route.now i) }
+    ensures { IfOk result (λ form. tree_of form
+        ≡ definitions.route_leads_from plant.now r route.now i) }
 {
     let mut forms = Vec::new(alloc);
     forms.push(may_lead(alloc, plant, r, route)?)?;
@@ -152,7 +151,6 @@ fn leads_from(
     Ok(Form::And(forms))
 }
 
-// Adds that route `r` leads a train with its head at place `i` of its path, if that is asked.
 fn push_leads_if(
     alloc: Global,
     forms: &mut Vec<Form>,
@@ -168,7 +166,7 @@ fn push_leads_if(
     ensures { OnOk result
         (map tree_of forms.new.items
         ≡ map tree_of forms.old.items
-        ++ (if is_asked then definitions.leads_from plant.now r route.now i ∷ [] else [])) }
+        ++ (if is_asked then definitions.route_leads_from plant.now r route.now i ∷ [] else [])) }
 {
     if is_asked {
         forms.push(leads_from(alloc, plant, r, route, i)?)?;
@@ -176,8 +174,7 @@ fn push_leads_if(
     Ok(())
 }
 
-// Adds of each place of the path of route `r` that has section `x` that the route leads a train with
-// its head there.
+// Adds this condition for each index at which route `r` has section `x`.
 fn push_leads_on_path(
     alloc: Global,
     forms: &mut Vec<Form>,
@@ -191,8 +188,8 @@ fn push_leads_on_path(
     ensures { OnOk result
         (map tree_of forms.new.items
         ≡ map tree_of forms.old.items
-        ++ parts.of_each_place route.now
-        (λ i y. if y == x then definitions.leads_from plant.now r route.now i ∷ []
+        ++ parts.for_each_path_index route.now
+        (λ i y. if y == x then definitions.route_leads_from plant.now r route.now i ∷ []
         else [])) }
 {
     let path = route.path.as_slice();
@@ -202,7 +199,6 @@ fn push_leads_on_path(
     Ok(())
 }
 
-// Adds that route `r` leads a train with its head at section `x`, if it runs in direction `d`.
 fn push_leads_at(
     alloc: Global,
     forms: &mut Vec<Form>,
@@ -216,23 +212,24 @@ fn push_leads_at(
         (map tree_of forms.new.items
         ≡ map tree_of forms.old.items
         ++ parts.conditions_for (slice_get plant.now.routes r)
-        (definitions.leads_at plant.now d x r)) }
+        (definitions.route_leads_at plant.now d x r)) }
 {
     let route = plant.route(r);
-    if runs_in(plant, d, route) {
+    if route_runs_in(plant, d, route) {
         push_leads_on_path(alloc, forms, plant, x, r, route)?;
     }
     Ok(())
 }
 
-// No train in direction `d` has its head at section `x`, or some route leads it.
+// Returns the condition: if a train in direction `d` has its head at section `x`, some route leads
+// it.
 fn is_led(alloc: Global, plant: &Plant, d: Dir, x: u32) -> Result<Form, AllocError>
     requires { x < length plant.now.sections }
     ensures { IfOk result
         (λ form. tree_of form
         ≡ parts.some_of
         (negation (definitions.head_at plant.now d x)
-        ∷ parts.of_each_route plant.now (definitions.leads_at plant.now d x))) }
+        ∷ parts.for_each_route plant.now (definitions.route_leads_at plant.now d x))) }
 {
     let head = head_at(alloc, plant, d, x)?;
     let mut forms = Vec::new(alloc);
@@ -243,7 +240,6 @@ fn is_led(alloc: Global, plant: &Plant, d: Dir, x: u32) -> Result<Form, AllocErr
     Ok(Form::Or(forms))
 }
 
-// Adds V7 of section `x` and direction `d`.
 fn push_led_at(
     alloc: Global,
     forms: &mut Vec<Form>,
@@ -254,27 +250,28 @@ fn push_led_at(
     requires { x < length plant.now.sections }
     ensures { OnOk result
         (map tree_of forms.new.items
-        ≡ map tree_of forms.old.items ++ definitions.led_at plant.now d x) }
+        ≡ map tree_of forms.old.items ++ definitions.head_is_led_at plant.now d x) }
 {
-    if is_plain(plant, d, x) {
+    if is_plain_for_direction(plant, d, x) {
         forms.push(is_led(alloc, plant, d, x)?)?;
     }
     Ok(())
 }
 
-// Adds V7 of section `x`.
 fn push_led(alloc: Global, forms: &mut Vec<Form>, plant: &Plant, x: u32) -> Result<(), AllocError>
     requires { x < length plant.now.sections }
     ensures { OnOk result
         (map tree_of forms.new.items
         ≡ map tree_of forms.old.items
-        ++ (definitions.led_at plant.now Up x ++ definitions.led_at plant.now Down x)) }
+        ++ (definitions.head_is_led_at plant.now Up x
+        ++ definitions.head_is_led_at plant.now Down x)) }
 {
     push_led_at(alloc, forms, plant, Dir::Up, x)?;
     push_led_at(alloc, forms, plant, Dir::Down, x)
 }
 
-/// V7 as a form.
+/// Returns family V7 as a form: a train's head at a plain section is on the path of a route that is
+/// set for it, with nothing ahead.
 pub fn v7_form(alloc: Global, plant: &Plant) -> Result<Form, AllocError>
     ensures { IfOk result (λ form. tree_of form ≡ definitions.v7_tree plant.now) }
 {

@@ -1,32 +1,28 @@
--- What calls of a sink added that follow one another.
+-- The bytes that consecutive calls add to a sink.
 use Rattle.std.proofs.Common.{◌≡◌, ℕ, Option, Some, None, List, [], ◌++◌, length, take, drop, refl, sym, ap, ◌∙◌, append_assoc, append-nil, length-append, ◌-◌, subst, arith}
 use Rattle.std.proofs.Math.Seq.{take-append_seam}
 use Rattle.std.proofs.lemmas.List.{take-append-drop, take_rest}
 use Rattle.std.specs.Option.{option_map}
 use Rattle.ilk_io.specs.Sink.{Adds, AddsPrefix}
 
--- nothing added
 pub Adds-none : (a b : Option (List ℕ)) → b ≡ a → Adds a b []
 Adds-none None b e = e
 Adds-none (Some x) b e = e ∙ ap Some (sym (append-nil x))
 
--- first these bytes, then those
 pub Adds-then : (a b c : Option (List ℕ)) (xs ys : List ℕ) → Adds a b xs → Adds b c ys → Adds a c (xs ++ ys)
 Adds-then None b c xs ys p q = q ∙ ap (option_map (λ all. all ++ ys)) p
 Adds-then (Some x) b c xs ys p q =
     q ∙ ap (option_map (λ all. all ++ ys)) p ∙ ap Some (append_assoc x xs ys)
 
--- the text is what was written of it so far and the rest
+-- Holds if the text is the bytes written so far and the rest.
 pub record Written (old new : Option (List ℕ)) (text rest : List ℕ) : Type 0 where
   pub done : List ℕ
   pub split : text ≡ done ++ rest
   pub adds : Adds old new done
 
--- nothing is written yet
 pub Written-none : (old : Option (List ℕ)) (text : List ℕ) → Written old old text text
 Written-none old text = record { done = []; split = refl; adds = Adds-none old old refl }
 
--- the first n bytes of the rest were written too
 pub Written-more : (old new after : Option (List ℕ)) (text rest : List ℕ) (n : ℕ) → Written old new text rest → Adds new after (take n rest) → Written old after text (take (length rest - n) (drop n rest))
 Written-more old new after text rest n w more = record {
   done = w.done ++ take n rest;
@@ -37,12 +33,10 @@ Written-more old new after text rest n w more = record {
   adds = Adds-then old new after w.done (take n rest) w.adds more;
 }
 
--- of an empty text nothing is left
 pub Written-empty : (old new : Option (List ℕ)) (text rest : List ℕ) → Written old new text rest → text ≡ [] → length rest ≡ 0
 Written-empty old new text rest w e =
     omega (arith, ap length (sym w.split ∙ e), length-append w.done rest)
 
--- what was written is a prefix of the text
 pub Written-prefix : (old new : Option (List ℕ)) (text rest : List ℕ) → Written old new text rest → AddsPrefix old new text
 Written-prefix old new text rest w =
     let whole : take (length w.done) text ≡ w.done = ap (take (length w.done)) w.split ∙ take-append_seam w.done rest in

@@ -1,12 +1,13 @@
--- Why a source wasn't read to its end.
+-- The reason why a source wasn't read to its end.
 use Rattle.std.specs.Prelude.{ℕ, Option, List, ⊤}
-use Rattle.ilk_io.specs.Faults.{RoseByOne}
+use Rattle.ilk_io.specs.Faults.{CountedOneFault}
 use Rattle.ilk_io.specs.Source.{IsLonger}
 use Rattle.ilk_io.specs.declared.reading.ReadError.{ReadError}
 use Rattle.ilk_io.specs.declared.reading.ReadError.TheVariants.{Failed, TooLong, OutOfMemory}
 
--- the cause of each refusal, by the limit, what was left before, and the count of faults before and after
+-- Holds if the error has its cause, by the limit, the remaining bytes before, and the fault counts
+-- before and after.
 abbrev pub HasCause : ReadError → ℕ → Option (List ℕ) → ℕ → ℕ → Type 0
-HasCause Failed limit left old new = RoseByOne old new
+HasCause Failed limit left old new = CountedOneFault old new
 HasCause TooLong limit left old new = IsLonger left limit
 HasCause OutOfMemory limit left old new = ⊤

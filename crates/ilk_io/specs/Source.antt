@@ -1,23 +1,23 @@
--- What is left of a source, where it tells that, and what a call takes of it.
+-- The remaining bytes of a source, if contracts see them, and the effect of a call.
 use Rattle.std.specs.Prelude.{◌≡◌, ℕ, ◌<◌, ◌≤◌, Option, IfSome, List, [], ◌++◌, length}
 use Rattle.std.specs.Option.{option_map}
 
--- a call took these bytes from the front of what was left
+-- Holds if a call took these bytes from the front of the remaining ones.
 abbrev pub Takes : Option (List ℕ) → Option (List ℕ) → List ℕ → Type 0
 Takes old new bytes = old ≡ option_map (λ rest. bytes ++ rest) new
 
--- a call took some bytes, at most n, from the front of what was left
+-- Holds if a call took at most `n` bytes from the front of the remaining ones.
 abbrev pub TakesAtMost : ℕ → Option (List ℕ) → Option (List ℕ) → Type 0
 TakesAtMost n old new = (bytes : List ℕ) × (length bytes ≤ n) × Takes old new bytes
 
--- nothing is left
+-- Holds if nothing is left.
 abbrev pub IsAtEnd : Option (List ℕ) → Type 0
 IsAtEnd left = IfSome left (λ rest. rest ≡ [])
 
--- these bytes are all that is left
-abbrev pub IsWhole : Option (List ℕ) → List ℕ → Type 0
-IsWhole left bytes = IfSome left (λ rest. bytes ≡ rest)
+-- Holds if these bytes are all that is left.
+abbrev pub IsAllLeft : Option (List ℕ) → List ℕ → Type 0
+IsAllLeft left bytes = IfSome left (λ rest. bytes ≡ rest)
 
--- more than n bytes are left
+-- Holds if more than `n` bytes are left.
 abbrev pub IsLonger : Option (List ℕ) → ℕ → Type 0
 IsLonger left n = IfSome left (λ rest. n < length rest)

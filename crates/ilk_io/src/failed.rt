@@ -1,3 +1,3 @@
-/// What a source or a sink answers at a call that failed.
+/// The error of a source or sink call that failed.
 #[derive(Clone, Copy, Debug, PartialEq, Eq)]
 pub struct Failed;

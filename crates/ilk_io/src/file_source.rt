@@ -1,23 +1,23 @@
 ghost use Rattle.std.specs.Prelude.{◌≡◌, ◌≤◌, None, length, IfOk, IfNone, IfSome, IsSome, OnOk, OnErr};
 ghost use Rattle.std.specs.Io.KnownBytes.{ReadConsumes};
-ghost use Rattle.ilk_io.specs.Faults.{RoseByOne};
+ghost use Rattle.ilk_io.specs.Faults.{CountedOneFault};
 
 use crate::plan::one_more;
 use crate::retry::read_once;
 use crate::{Failed, Source};
 use std::fs::{File, Files};
 
-/// A source over a file that is opened through the runtime at the first call. It doesn't tell what is
-/// left.
+/// A source that reads a file, which the first call opens through the runtime. Contracts don't see
+/// the remaining bytes.
 ///
-/// A refused opening is a failure, and the next call tries it again. Once open, the file stays open,
-/// also after a failure, and each read goes on where the one before it ended. A read that was
-/// interrupted is tried again at most 1000 times. Each failure is counted, up to the greatest `u64`.
+/// A refused opening is a failure, and the next call tries again. Once open, the file stays open,
+/// also after a failure, and each read continues after the one before. An interrupted read is
+/// repeated at most 1000 times. Each failure is counted, up to the greatest `u64`.
 ///
-/// If the call that opens the file succeeds, it is one read of some file that was opened: the
-/// clause `first` says so. No clause says that any call succeeds, which file was opened, or what was
-/// read of it and thrown away before. The test `reads_the_named_file` shows this: the file of this
-/// name is read from its front and whole.
+/// If the call that opens the file succeeds, it is one read of some file that was opened: see the
+/// clause `first`. No clause states that any call succeeds, which file was opened, or whether bytes
+/// of it were read and dropped before. The test `reads_the_named_file` shows that the named file is
+/// read whole, from its start.
 #[derive(Drop)]
 pub struct FileSource<'a, R: Files> {
     rt: &'a R,
@@ -27,7 +27,7 @@ pub struct FileSource<'a, R: Files> {
 }
 
 impl<'a, R: Files> FileSource<'a, R> {
-    /// A source over the file of this name, which isn't opened yet.
+    /// Creates a source over the file `name`, which isn't opened yet.
     pub fn new(rt: &'a R, name: String) -> Self
         ensures name { result.name ≡ name }
         ensures closed { result.file ≡ None }
@@ -41,12 +41,12 @@ impl<'a, R: Files> FileSource<'a, R> {
         }
     }
 
-    // Reads once, and first opens the file if it isn't open yet.
+    // Reads once. First opens the file if it isn't open yet.
     fn read_open(&mut self, into: &mut [u8]) -> Result<usize, Failed>
         ensures within { IfOk result (λ n. n ≤ length into.new) }
         ensures faults { self.new.faults ≡ self.old.faults }
         ensures opened { OnOk result (IsSome self.new.file) }
-        // Once the file is open it stays open, and each read gives what the file has left.
+        // Once open, the file stays open, and each read consumes its remaining bytes.
         ensures name { self.new.name ≡ self.old.name }
         ensures stays { IsSome self.old.file → IsSome self.new.file }
         ensures bytes { IfSome self.old.file (λ old. IfSome self.new.file (λ new.
@@ -73,10 +73,10 @@ impl<R: Files> Source for FileSource<'_, R> {
 
     fn read(&mut self, into: &mut [u8]) -> Result<usize, Failed>
         ensures within { IfOk result (λ n. n ≤ length into.new) }
-        ensures failed { OnErr result (RoseByOne self.old.faults self.new.faults) }
+        ensures failed { OnErr result (CountedOneFault self.old.faults self.new.faults) }
         ensures unraised { OnOk result (self.new.faults ≡ self.old.faults) }
         ensures opened { OnOk result (IsSome self.new.file) }
-        // Once the file is open it stays open, and each read gives what the file has left.
+        // Once open, the file stays open, and each read consumes its remaining bytes.
         ensures name { self.new.name ≡ self.old.name }
         ensures stays { IsSome self.old.file → IsSome self.new.file }
         ensures bytes { IfSome self.old.file (λ old. IfSome self.new.file (λ new.

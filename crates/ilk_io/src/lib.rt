@@ -1,10 +1,10 @@
-//! Where bytes come from and where they go: sources and sinks that may fail, fakes of both that
-//! are kept in memory, and the edge to the files and streams of the outside.
+//! Sources and sinks of bytes that may fail, fakes of both in memory, and access to files and
+//! standard streams.
 //!
-//! A fault of the outside is told by a count that rises, so that a caller can prove that it blames
-//! the outside only where the outside failed. What a source has left, and what a sink has taken, is
-//! told by those in memory alone: no clause can say what a file holds. A caller reads a source to
-//! its end by `read_all`, with a limit, and writes a whole text by `write_all`.
+//! Each I/O fault raises a count, so a caller can prove that it reports a fault only if the outside
+//! failed. Only sources and sinks in memory expose their remaining or written bytes to contracts:
+//! no clause can state the contents of a file. `read_all` reads a source to its end, up to a limit,
+//! and `write_all` writes a whole text.
 #![tactic(auto)]
 
 mod failed;

@@ -1,5 +1,5 @@
 ghost use Rattle.std.specs.Prelude.{◌≡◌, ◌<◌, ◌≤◌, [], Some, length, take, IfOk, OnOk, OnErr};
-ghost use Rattle.ilk_io.specs.Faults.{RoseByOne};
+ghost use Rattle.ilk_io.specs.Faults.{CountedOneFault};
 ghost use Rattle.ilk_io.specs.Sink.{Adds};
 ghost use Rattle.std.specs.Result.{result_ok};
 ghost use Rattle.ilk_io.specs.Memory.{write_count, after_write};
@@ -9,8 +9,7 @@ use crate::{Failed, Sink};
 use std::alloc::{AllocError, Global};
 use std::marker::Model;
 
-/// A sink that keeps the bytes that it takes, has room for so many and no more, and fails at chosen
-/// calls. It tells what was written.
+/// A sink in memory with limited room that fails at chosen calls. Contracts see the bytes written.
 #[derive(Drop)]
 pub struct MemSink {
     bytes: Vec<u8>,
@@ -31,9 +30,9 @@ impl Model for MemSink {
 }
 
 impl MemSink {
-    /// An empty sink with room for `room` bytes, or `AllocError` where there is no memory for them.
-    /// Those calls of `write` fail whose numbers, from 1, stand in `fails`, and those that find no
-    /// room for a piece that isn't empty.
+    /// Creates an empty sink with room for `room` bytes. Returns `AllocError` if memory runs out. A
+    /// call of `write` fails if its number, from 1, is in `fails`, or if no room is left for a
+    /// non-empty piece.
     pub fn new(alloc: Global, room: u64, fails: Vec<u64>) -> Result<MemSink, AllocError>
         ensures { IfOk result
             (λ s. s
@@ -51,7 +50,7 @@ impl MemSink {
         })
     }
 
-    /// The bytes that were taken so far, in order.
+    /// Returns the bytes taken so far, in order.
     pub fn bytes(&self) -> &[u8]
         ensures { result.now ≡ self.now.taken }
     {
@@ -70,7 +69,7 @@ impl Sink for MemSink {
         ensures taken { IfOk result
             (λ n. Adds (Some self.old.taken) (Some self.new.taken) (take n piece.now)) }
         ensures kept { OnErr result (self.new.taken ≡ self.old.taken) }
-        ensures failed { OnErr result (RoseByOne self.old.plan.faults self.new.plan.faults) }
+        ensures failed { OnErr result (CountedOneFault self.old.plan.faults self.new.plan.faults) }
         ensures unraised { OnOk result (self.new.plan.faults ≡ self.old.plan.faults) }
         ensures count { result_ok result ≡ write_count self.old piece.now }
         ensures after { self.new ≡ after_write self.old piece.now }

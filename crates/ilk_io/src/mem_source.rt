@@ -1,5 +1,5 @@
 ghost use Rattle.std.specs.Prelude.{◌≡◌, ◌<◌, ◌≤◌, Some, length, take, IfOk, OnOk, OnErr};
-ghost use Rattle.ilk_io.specs.Faults.{RoseByOne};
+ghost use Rattle.ilk_io.specs.Faults.{CountedOneFault};
 ghost use Rattle.ilk_io.specs.Source.{Takes, IsAtEnd};
 ghost use Rattle.std.specs.Result.{result_ok};
 ghost use Rattle.ilk_io.specs.Memory.{read_count, after_read};
@@ -9,7 +9,8 @@ use crate::unread::Unread;
 use crate::{Failed, Source};
 use std::marker::Model;
 
-/// A source that gives bytes of memory, and fails at chosen calls. It tells what is left.
+/// A source that reads bytes in memory and fails at chosen calls. Contracts see the remaining
+/// bytes.
 #[derive(Drop)]
 pub struct MemSource {
     unread: Unread,
@@ -25,8 +26,8 @@ impl Model for MemSource {
 }
 
 impl MemSource {
-    /// A source that gives these bytes. Those calls of `read` fail whose numbers, from 1, stand in
-    /// `fails`, and no other.
+    /// Creates a source of `bytes`. A call of `read` fails if and only if its number, from 1, is in
+    /// `fails`.
     pub fn new(bytes: Vec<u8>, fails: Vec<u64>) -> MemSource
         ensures { result
             ≡ record {
@@ -53,7 +54,7 @@ impl Source for MemSource {
         ensures end { IfOk result
             (λ n. n ≡ 0 → 0 < length into.new → IsAtEnd (Some self.new.rest)) }
         ensures kept { OnErr result (self.new.rest ≡ self.old.rest) }
-        ensures failed { OnErr result (RoseByOne self.old.plan.faults self.new.plan.faults) }
+        ensures failed { OnErr result (CountedOneFault self.old.plan.faults self.new.plan.faults) }
         ensures unraised { OnOk result (self.new.plan.faults ≡ self.old.plan.faults) }
         ensures count { result_ok result ≡ read_count self.old (length into.old) }
         ensures after { self.new ≡ after_read self.old (length into.old) }

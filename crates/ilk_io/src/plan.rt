@@ -4,7 +4,7 @@ ghost use Rattle.ilk_io.specs.Plan.{fails_next, after_call, after_fault};
 
 use std::marker::Model;
 
-// Which calls of a source or sink in memory fail, and how many calls and faults there were.
+/// The calls of a source or sink in memory that fail, and the numbers of calls and faults so far.
 #[derive(Drop)]
 pub struct FaultPlan {
     fails: Vec<u64>,
@@ -20,7 +20,7 @@ impl Model for FaultPlan {
     ghost view = { λ a. record { fails = a.fails.items; calls = a.calls; faults = a.faults } };
 }
 
-// One more, which stands still at the greatest `u64`.
+/// Returns `n + 1`, or `n` if it is the greatest `u64`.
 pub fn one_more(n: u64) -> u64
     ensures { result ≡ one_more n }
 {
@@ -28,6 +28,8 @@ pub fn one_more(n: u64) -> u64
 }
 
 impl FaultPlan {
+    /// Creates a plan in which the calls with the numbers in `fails` fail. The first call has the
+    /// number 1.
     pub fn new(fails: Vec<u64>) -> FaultPlan
         ensures { result ≡ record { fails = fails.items; calls = 0; faults = 0 } }
     {
@@ -38,7 +40,7 @@ impl FaultPlan {
         }
     }
 
-    // Whether the next call is one of those that are to fail.
+    /// Returns whether the next call is one that fails.
     pub fn fails_next(&self) -> bool
         ensures { result ≡ fails_next self.now }
     {
@@ -46,14 +48,14 @@ impl FaultPlan {
         self.fails.iter().any(|k| *k == number)
     }
 
-    // Counts a call that went well.
+    /// Counts a call that succeeded.
     pub fn count_call(&mut self)
         ensures { self.new ≡ after_call self.old }
     {
         self.calls = one_more(self.calls);
     }
 
-    // Counts a call that failed.
+    /// Counts a call that failed.
     pub fn count_fault(&mut self)
         ensures { self.new ≡ after_fault self.old }
     {

@@ -1,12 +1,12 @@
 ghost use Rattle.std.specs.Prelude.{◌≡◌, ◌≢◌, ◌+◌, ◌^◌, ◌<◌, ◌≤◌, Err, IfOk, IfErr, vec_len};
-ghost use Rattle.ilk_io.specs.Source.{TakesAtMost, IsAtEnd, IsWhole};
+ghost use Rattle.ilk_io.specs.Source.{TakesAtMost, IsAtEnd, IsAllLeft};
 ghost use Rattle.ilk_io.specs.ReadError.{HasCause};
 
 use crate::{Failed, Source};
 use std::alloc::Global;
 use thiserror::Error;
 
-/// Why a source wasn't read to its end.
+/// The reason why a source wasn't read to its end.
 #[derive(Clone, Copy, Debug, PartialEq, Eq, Error)]
 pub enum ReadError {
     /// A call of the source failed.
@@ -15,23 +15,23 @@ pub enum ReadError {
     /// The source has more bytes than the limit.
     #[error("the input is longer than its limit")]
     TooLong = 2,
-    /// There was no memory for the bytes.
+    /// Memory ran out.
     #[error("out of memory")]
     OutOfMemory = 3,
 }
 
-// How many bytes are asked of a source at once.
+// The number of bytes requested from a source at once.
 const PIECE: usize = 4096;
 
-/// Reads the source to its end, and answers all that was left of it, at most `limit` bytes.
+/// Reads the source to its end and returns its remaining bytes, at most `limit`.
 ///
-/// `Failed` comes at the first call of the source that failed, which is not called again: exactly
-/// one fault is counted. `TooLong` comes where more than `limit` bytes are there and no call failed
-/// first. With every answer but `Failed` the count is as it was. At most `limit + 1` bytes are read,
-/// and after a refusal those that were read are gone from the source.
+/// `Failed` is returned at the first failed call of the source, which isn't called again: exactly
+/// one fault is counted. `TooLong` is returned if there are more than `limit` bytes and no call
+/// failed first. With every result except `Failed`, the count is unchanged. At most `limit + 1`
+/// bytes are read, and after an error the bytes read are gone from the source.
 pub fn read_all<S: Source>(alloc: Global, source: &mut S, limit: u64) -> Result<Vec<u8>, ReadError>
     requires { limit < 2 ^ 40 }
-    ensures whole { IfOk result (λ v. IsWhole (S.left source.old) v.items) }
+    ensures whole { IfOk result (λ v. IsAllLeft (S.left source.old) v.items) }
     ensures end { IfOk result (λ _. IsAtEnd (S.left source.new)) }
     ensures within { IfOk result (λ v. vec_len v ≤ limit) }
     ensures cause { IfErr result

@@ -4,10 +4,11 @@ ghost use Rattle.std.specs.Io.KnownBytes.{ReadConsumes, WriteAppends};
 use crate::Failed;
 use std::io::{ErrorKind, Read, Write};
 
-// How often an interrupted call is tried again.
+// The number of times an interrupted call is repeated.
 const RETRIES: u64 = 1000;
 
-// Reads once. A read that was interrupted is tried again.
+/// Reads once, and repeats an interrupted read up to 1000 times. Returns `Failed` if no read
+/// succeeds.
 pub fn read_once<R: Read>(reader: &mut R, into: &mut [u8]) -> Result<usize, Failed>
     ensures within { IfOk result (λ n. n ≤ length into.new) }
     ensures bytes { ReadConsumes (R.remaining reader.old) (R.remaining reader.new) result into.new }
@@ -22,8 +23,8 @@ pub fn read_once<R: Read>(reader: &mut R, into: &mut [u8]) -> Result<usize, Fail
     Err(Failed)
 }
 
-// Writes once. A write that was interrupted is tried again, and one that takes no byte of a piece
-// that isn't empty failed.
+/// Writes once, and repeats an interrupted write up to 1000 times. Returns `Failed` if no write
+/// succeeds, or if one takes no byte of a piece that is not empty.
 pub fn write_once<W: Write>(writer: &mut W, piece: &[u8]) -> Result<usize, Failed>
     ensures within { IfOk result (λ n. n ≤ length piece.now) }
     ensures some { IfOk result (λ n. 0 < length piece.now → 0 < n) }

@@ -5,7 +5,7 @@ use crate::unread::Unread;
 use crate::{Failed, Sink, Source};
 use std::marker::Model;
 
-/// A source that gives bytes of memory and never fails. It tells what is left.
+/// A source that reads bytes in memory and never fails. Contracts see the remaining bytes.
 #[derive(Drop)]
 pub struct SteadySource {
     unread: Unread,
@@ -20,7 +20,7 @@ impl Model for SteadySource {
 }
 
 impl SteadySource {
-    /// A source that gives these bytes.
+    /// Creates a source of `bytes`.
     pub fn new(bytes: Vec<u8>) -> SteadySource
         ensures { result ≡ bytes.items }
     {
@@ -46,8 +46,8 @@ impl Source for SteadySource {
     }
 }
 
-/// A sink that takes every byte, keeps none, and never fails. It doesn't tell what was written, and
-/// counts the bytes.
+/// A sink that takes and counts every byte, keeps none, and never fails. Contracts don't see the
+/// bytes written.
 #[derive(Drop)]
 pub struct SteadySink {
     count: u64,
@@ -62,14 +62,14 @@ impl Model for SteadySink {
 }
 
 impl SteadySink {
-    /// A sink that has taken no byte yet.
+    /// Creates a sink that has taken no byte yet.
     pub fn new() -> SteadySink
         ensures { result ≡ 0 }
     {
         SteadySink { count: 0 }
     }
 
-    /// How many bytes the sink took so far. The count stands still at the greatest `u64`.
+    /// Returns the number of bytes taken so far, saturating at the greatest `u64`.
     pub fn count(&self) -> u64
         ensures { result ≡ self.now }
     {

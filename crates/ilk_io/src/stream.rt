@@ -1,16 +1,17 @@
 ghost use Rattle.std.specs.Prelude.{◌≡◌, ◌<◌, ◌≤◌, None, length, IfOk, OnOk, OnErr};
 ghost use Rattle.std.specs.Io.KnownBytes.{ReadConsumes, WriteAppends};
-ghost use Rattle.ilk_io.specs.Faults.{RoseByOne};
+ghost use Rattle.ilk_io.specs.Faults.{CountedOneFault};
 
 use crate::plan::one_more;
 use crate::retry::{read_once, write_once};
 use crate::{Failed, Sink, Source};
 use std::io::{Read, Write};
 
-/// A source over a reader, such as standard input. It doesn't tell what is left.
+/// A source over a reader, such as standard input. As a `Source`, its remaining bytes are unknown
+/// (`left` is `None`); only the contract of its own `read` says what the reader has left.
 ///
-/// A read that was interrupted is tried again at most 1000 times. Each failure of the reader is
-/// counted, up to the greatest `u64`.
+/// An interrupted read is repeated at most 1000 times. Each failure of the reader is counted, up to
+/// the greatest `u64`.
 #[derive(Drop)]
 pub struct StdSource<R: Read> {
     reader: R,
@@ -18,7 +19,7 @@ pub struct StdSource<R: Read> {
 }
 
 impl<R: Read> StdSource<R> {
-    /// A source over this reader.
+    /// Creates a source over `reader`.
     pub fn new(reader: R) -> Self
         ensures { result ≡ record { reader = reader; faults = 0 } }
     {
@@ -33,7 +34,7 @@ impl<R: Read> Source for StdSource<R> {
 
     fn read(&mut self, into: &mut [u8]) -> Result<usize, Failed>
         ensures within { IfOk result (λ n. n ≤ length into.new) }
-        ensures failed { OnErr result (RoseByOne self.old.faults self.new.faults) }
+        ensures failed { OnErr result (CountedOneFault self.old.faults self.new.faults) }
         ensures unraised { OnOk result (self.new.faults ≡ self.old.faults) }
         ensures bytes { ReadConsumes (R.remaining self.old.reader) (R.remaining self.new.reader)
             result into.new }
@@ -46,10 +47,11 @@ impl<R: Read> Source for StdSource<R> {
     }
 }
 
-/// A sink over a writer, such as standard output. It doesn't tell what was written.
+/// A sink over a writer, such as standard output. As a `Sink`, the bytes written are unknown
+/// (`written` is `None`); only the contract of its own `write` says what the writer took.
 ///
-/// A write that was interrupted is tried again at most 1000 times. Each failure of the writer is
-/// counted, up to the greatest `u64`; that it takes no byte of a piece that isn't empty is one.
+/// An interrupted write is repeated at most 1000 times. Each failure of the writer is counted, up
+/// to the greatest `u64`. It is also a failure if the writer takes no byte of a non-empty piece.
 #[derive(Drop)]
 pub struct StdSink<W: Write> {
     writer: W,
@@ -57,7 +59,7 @@ pub struct StdSink<W: Write> {
 }
 
 impl<W: Write> StdSink<W> {
-    /// A sink over this writer.
+    /// Creates a sink over `writer`.
     pub fn new(writer: W) -> Self
         ensures { result ≡ record { writer = writer; faults = 0 } }
     {
@@ -73,7 +75,7 @@ impl<W: Write> Sink for StdSink<W> {
     fn write(&mut self, piece: &[u8]) -> Result<usize, Failed>
         ensures within { IfOk result (λ n. n ≤ length piece.now) }
         ensures some { IfOk result (λ n. 0 < length piece.now → 0 < n) }
-        ensures failed { OnErr result (RoseByOne self.old.faults self.new.faults) }
+        ensures failed { OnErr result (CountedOneFault self.old.faults self.new.faults) }
         ensures unraised { OnOk result (self.new.faults ≡ self.old.faults) }
         ensures bytes { WriteAppends (W.contents self.old.writer) (W.contents self.new.writer)
             result piece.now }

@@ -1,4 +1,4 @@
-//! What no clause says: that the calls succeed where memory is there and nothing fails.
+//! Tests beyond the clauses: calls succeed if there is memory and nothing fails.
 ghost use Rattle.std.specs.Prelude.{◌^◌, ◌<◌};
 
 use crate::{
@@ -13,7 +13,7 @@ use std::{fs, io};
 
 const BYTES: [u8; 5] = *b"plant";
 
-// The five bytes are read with a limit, from a source whose first call fails or doesn't.
+// Reads the five bytes with a limit, from a source whose first call fails if `first_fails`.
 fn read_memory(
     alloc: Global,
     limit: u64,
@@ -102,7 +102,7 @@ fn each_type_passes_the_bytes_on(rt: HostRuntime) -> Result<(), Fail> {
     Ok(())
 }
 
-// A reader and a writer whose calls are interrupted so many times, and then go well.
+// A reader and writer whose calls are interrupted `times` times and then succeed.
 #[derive(Drop)]
 struct Interrupted {
     times: u64,
@@ -184,7 +184,6 @@ fn write_file<R: Files>(
 fn writes_the_named_file(rt: HostRuntime) -> Result<(), Fail> {
     let alloc = rt.alloc();
     let name = "ilk_io_test_3";
-    // more bytes than are written over them
     make_file(&rt, name, "train and track")?;
     let unwritten = FileSink::new(&rt, String::from_str(alloc, name)?);
     drop(unwritten);

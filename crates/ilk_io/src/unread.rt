@@ -2,7 +2,7 @@ ghost use Rattle.std.specs.Prelude.{◌≡◌, length, take, drop, min};
 
 use std::marker::Model;
 
-// Bytes in memory that are read from the front; seen as the list of those not read yet.
+/// Bytes in memory that are read from the front. Contracts see the unread bytes.
 #[derive(Drop)]
 pub struct Unread {
     bytes: Vec<u8>,
@@ -20,13 +20,14 @@ impl Model for Unread {
 }
 
 impl Unread {
+    /// Takes `bytes`, none of which has been read yet.
     pub fn new(bytes: Vec<u8>) -> Unread
         ensures { result ≡ bytes.items }
     {
         Unread { bytes, position: 0 }
     }
 
-    // Moves as many bytes as there are and the buffer has places for, and says how many.
+    /// Moves as many unread bytes as `into` has room for, and returns their number.
     pub fn read(&mut self, into: &mut [u8]) -> usize
         ensures count { result ≡ min (length into.old) (length self.old) }
         ensures bytes { take result into.new ≡ take result self.old }

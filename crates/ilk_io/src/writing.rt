@@ -1,18 +1,18 @@
 ghost use Rattle.std.specs.Prelude.{◌≡◌, [], ◌≤◌, IsOk, OnOk, OnErr};
-ghost use Rattle.ilk_io.specs.Faults.{RoseByOne};
+ghost use Rattle.ilk_io.specs.Faults.{CountedOneFault};
 ghost use Rattle.ilk_io.specs.Sink.{Adds, AddsPrefix};
 
 use crate::{Failed, Sink};
 
 /// Writes the whole text to the sink.
 ///
-/// `Failed` comes at the first call of the sink that failed, which is not called again: exactly one
-/// fault is counted, and a prefix of the text was written. With `Ok` the count is as it was. An
+/// `Failed` is returned at the first failed call of the sink, which isn't called again: exactly one
+/// fault is counted, and a prefix of the text was written. With `Ok` the count is unchanged. An
 /// empty text makes no call.
 pub fn write_all<K: Sink>(sink: &mut K, text: &[u8]) -> Result<(), Failed>
     ensures whole { OnOk result (Adds (K.written sink.old) (K.written sink.new) text.now) }
     ensures prefix { AddsPrefix (K.written sink.old) (K.written sink.new) text.now }
-    ensures failed { OnErr result (RoseByOne (K.faults sink.old) (K.faults sink.new)) }
+    ensures failed { OnErr result (CountedOneFault (K.faults sink.old) (K.faults sink.new)) }
     ensures unraised { OnOk result (K.faults sink.new ≡ K.faults sink.old) }
     ensures counted { K.faults sink.old ≤ K.faults sink.new }
     ensures untouched { text.now ≡ [] → IsOk result × (sink.new ≡ sink.old) }

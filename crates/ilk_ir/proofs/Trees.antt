@@ -1,4 +1,4 @@
--- Lists of trees: a tree over a list holds, and is valid, as the list's items do and are.
+-- A tree over a list holds (is valid) as its items do (are).
 use Rattle.std.proofs.Common.{◌≡◌, ℕ, Bool, ◌&&◌, ◌||◌, List, [], ◌∷◌, refl, ap}
 use Rattle.std.specs.List.{list_all, list_any}
 use Rattle.ilk_ir.specs.Tree.{Tree, trees, all_of, any_of, tree_holds, each_holds, some_holds, tree_valid, each_valid}
@@ -15,7 +15,6 @@ pub each_valid-trees : (ranges : List ℕ) (ts : List Tree) → each_valid range
 each_valid-trees ranges [] = refl
 each_valid-trees ranges (t ∷ ts) = ap (λ (b : Bool). tree_valid ranges t && b) (each_valid-trees ranges ts)
 
--- the constructors over a list
 pub all_of-holds : (values : List ℕ) (ts : List Tree) → tree_holds values (all_of (trees ts)) ≡ list_all (tree_holds values) ts
 all_of-holds = each_holds-trees
 

@@ -1,10 +1,10 @@
--- The tree that a form stands for.
+-- The tree of a form.
 use Rattle.std.specs.Prelude.{List, map}
 use Rattle.ilk_ir.specs.Tree.{Tree, yes, no, is, all_of, any_of, negation, Trees, trees}
 use Rattle.ilk_ir.specs.declared.form.Form.{Form, fold-Form}
 use Rattle.ilk_ir.specs.declared.form.Form.TheOpen.{Form-F}
 
--- one level, with each form inside already seen as its tree
+-- One level of the conversion; the forms inside are already trees.
 abbrev pub tree_step : Form-F Tree → Tree
 tree_step Form-F.Yes = yes
 tree_step Form-F.No = no

@@ -1,4 +1,5 @@
--- Systems of guarded rules over variables with small ranges: which are valid, and what a rule does.
+-- Systems of guarded rules over variables with small ranges: their validity, and the effect of a
+-- rule.
 use Rattle.std.specs.Prelude.{ℕ, ◌^◌, Bool, true, false, List, [], ◌∷◌, ◌==◌, ◌&&◌, not, nat_lt, length, map, set, Option, slice_get, option_and_then}
 use Rattle.std.specs.List.{list_all, list_any}
 use Rattle.ilk_base.specs.Option.{only_if}
@@ -8,7 +9,7 @@ use Rattle.ilk_ir.specs.declared.system.Setting.{Setting}
 use Rattle.ilk_ir.specs.declared.system.Rule.{Rule}
 use Rattle.ilk_ir.specs.declared.system.System.{System}
 
--- a rule and a system with trees for forms
+-- Rules and systems with trees as guards.
 pub record RuleTree : Type 0 where
   pub guard : Tree
   pub sets : List Setting
@@ -23,37 +24,38 @@ rule_tree r = record { guard = tree_of r.guard; sets = r.sets }
 abbrev pub system_tree : System → SystemTree
 system_tree s = record { ranges = s.ranges; rules = map rule_tree s.rules }
 
--- whether no variable is set twice
-abbrev pub sets_apart : List Setting → Bool
-sets_apart [] = true
-sets_apart (s ∷ ss) = not (list_any (λ other. other.var == s.var) ss) && sets_apart ss
+-- Returns whether no variable is set twice.
+abbrev pub sets_distinct_vars : List Setting → Bool
+sets_distinct_vars [] = true
+sets_distinct_vars (s ∷ ss) = not (list_any (λ other. other.var == s.var) ss) && sets_distinct_vars ss
 
 abbrev pub rule_valid : List ℕ → RuleTree → Bool
 rule_valid ranges r =
-    tree_valid ranges r.guard && list_all (λ s. value_valid ranges s.var s.value) r.sets && sets_apart r.sets
+    tree_valid ranges r.guard && list_all (λ s. value_valid ranges s.var s.value) r.sets && sets_distinct_vars r.sets
 
--- fewer than 2 ^ 32 variables and rules, each range at least 1, each rule valid over the ranges
+-- Returns whether there are fewer than 2 ^ 32 variables and rules, each range is at least 1, and
+-- each rule is valid.
 abbrev pub system_valid : SystemTree → Bool
 system_valid s =
     nat_lt (length s.ranges) (2 ^ 32) && nat_lt (length s.rules) (2 ^ 32) && list_all (λ range. nat_lt 0 range) s.ranges
     && list_all (rule_valid s.ranges) s.rules
 
--- whether there is a value for each range, below it
+-- Returns whether the two lists have the same length and each value is below its range.
 abbrev pub in_ranges : List ℕ → List ℕ → Bool
 in_ranges [] [] = true
 in_ranges [] (range ∷ ranges) = false
 in_ranges (value ∷ values) [] = false
 in_ranges (value ∷ values) (range ∷ ranges) = nat_lt value range && in_ranges values ranges
 
--- the values after the settings, one after another
-abbrev pub set_all : List ℕ → List Setting → List ℕ
-set_all values [] = values
-set_all values (s ∷ ss) = set_all (set values s.var s.value) ss
+-- The values after the settings are written in order.
+abbrev pub after_settings : List ℕ → List Setting → List ℕ
+after_settings values [] = values
+after_settings values (s ∷ ss) = after_settings (set values s.var s.value) ss
 
--- the values after the rule, where its guard holds
-abbrev pub fired : RuleTree → List ℕ → Option (List ℕ)
-fired r values = only_if (tree_holds values r.guard) (set_all values r.sets)
+-- The values after the rule fires, or `None` if its guard doesn't hold.
+abbrev pub after_rule : RuleTree → List ℕ → Option (List ℕ)
+after_rule r values = only_if (tree_holds values r.guard) (after_settings values r.sets)
 
--- the same of the rule with a number
-abbrev pub fired_at : SystemTree → ℕ → List ℕ → Option (List ℕ)
-fired_at s n values = option_and_then (λ r. fired r values) (slice_get s.rules n)
+-- The same for the rule with number n. `None` also if there is no such rule.
+abbrev pub after_rule_number : SystemTree → ℕ → List ℕ → Option (List ℕ)
+after_rule_number s n values = option_and_then (λ r. after_rule r values) (slice_get s.rules n)

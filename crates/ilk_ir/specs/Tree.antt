@@ -1,4 +1,4 @@
--- A form as a tree with plain lists: what contracts see of it, and when it holds.
+-- A form as a tree with plain lists, as contracts see it.
 use Rattle.std.specs.Prelude.{ℕ, Bool, true, false, List, [], ◌∷◌, ◌==◌, ◌&&◌, ◌||◌, not, nat_lt, slice_get}
 use Rattle.ilk_base.specs.Option.{is_some_and}
 
@@ -15,16 +15,16 @@ mutual
     none : Trees
     more : Tree → Trees → Trees
 
--- the trees of a list
 abbrev pub trees : List Tree → Trees
 trees [] = none
 trees (t ∷ ts) = more t (trees ts)
 
--- whether variable v has the value c
+-- Returns whether variable v has the value c.
 abbrev pub has_value : List ℕ → ℕ → ℕ → Bool
 has_value values v c = is_some_and (slice_get values v) (λ x. x == c)
 
--- whether the tree holds of these values: all of none does, any of none doesn't
+-- Returns whether the tree holds for these values. `all_of` an empty list holds; `any_of` an empty
+-- list doesn't.
 abbrev mutual
   pub tree_holds : List ℕ → Tree → Bool
   tree_holds values yes = true
@@ -42,11 +42,11 @@ abbrev mutual
   some_holds values none = false
   some_holds values (more t ts) = tree_holds values t || some_holds values ts
 
--- whether variable v has a range, and the value c is below it
+-- Returns whether variable v has a range and c is below it.
 abbrev pub value_valid : List ℕ → ℕ → ℕ → Bool
 value_valid ranges v c = is_some_and (slice_get ranges v) (λ range. nat_lt c range)
 
--- whether each leaf of the tree names a variable of these ranges and a value of its range
+-- Returns whether each leaf names an existing variable and a value of its range.
 abbrev mutual
   pub tree_valid : List ℕ → Tree → Bool
   tree_valid ranges yes = true

@@ -4,37 +4,37 @@ ghost use Rattle.ilk_ir.specs.Form.{tree_of};
 
 use ilk_base::Row;
 
-/// A condition on the values of variables, which contracts see as a tree.
+/// A condition on the values of variables. Contracts see it as a tree.
 #[derive(Drop)]
 pub enum Form {
-    /// It holds.
+    /// Always holds.
     Yes,
-    /// It doesn't hold.
+    /// Never holds.
     No,
-    /// The variable has the value.
+    /// Holds if the variable has the value.
     Is(u32, u8),
-    /// Each of the forms holds; of none, this holds.
+    /// Holds if each of the forms holds; an empty list holds.
     And(Vec<Form>),
-    /// Some of the forms holds; of none, this doesn't hold.
+    /// Holds if at least one of the forms holds; an empty list doesn't hold.
     Or(Vec<Form>),
-    /// The form doesn't hold.
+    /// Holds if the form doesn't hold.
     Not(Box<Form>),
 }
 
 /// A list of forms.
 pub type Forms = Row<Form>;
 
-/// A list of values, one for each variable.
+/// A list with one value per variable.
 pub type Values = Row<u8>;
 
-/// Whether the form holds of the values. A variable that has no value there has none.
+/// Returns whether `form` holds for `values`. A variable beyond the end of `values` equals no
+/// value.
 pub fn holds(form: &Form, values: &Values) -> bool
     ensures { result ≡ tree_holds values.now (tree_of form.now) }
 {
     holds_of(form, values.as_slice())
 }
 
-// Whether the variable has the value.
 fn has_value(values: &[u8], v: u32, c: u8) -> bool
     ensures { result ≡ has_value values.now v c }
 {

@@ -1,10 +1,10 @@
 ghost use Rattle.std.specs.Prelude.{◌≡◌, ◌<◌, length, is_some, unwrap_or, IsTrue};
-ghost use Rattle.ilk_ir.specs.System.{system_tree, system_valid, in_ranges, fired_at, set_all};
+ghost use Rattle.ilk_ir.specs.System.{system_tree, system_valid, in_ranges, after_rule_number, after_settings};
 
 use crate::form::{Form, Values, holds};
 use ilk_base::Row;
 
-/// A variable, and the value that it gets.
+/// A variable and the value to set it to.
 #[derive(Clone, Copy)]
 pub struct Setting {
     pub var: u32,
@@ -14,7 +14,7 @@ pub struct Setting {
 /// A list of settings.
 pub type Sets = Row<Setting>;
 
-/// What is set where the guard holds.
+/// A guard, and the settings to write if it holds.
 #[derive(Drop)]
 pub struct Rule {
     pub guard: Form,
@@ -24,7 +24,7 @@ pub struct Rule {
 /// A list of rules.
 pub type Rules = Row<Rule>;
 
-/// For each variable, how many values it has: those from 0 on.
+/// The number of values of each variable. The values begin at 0.
 pub type Ranges = Row<u8>;
 
 /// Variables with their ranges, and the rules that change their values.
@@ -34,9 +34,9 @@ pub struct System {
     pub rules: Rules,
 }
 
-// Writes the settings one after another.
+// Writes the settings in order.
 fn write_all(values: &mut Values, sets: &Sets)
-    ensures { values.new ≡ set_all values.old sets.now }
+    ensures { values.new ≡ after_settings values.old sets.now }
 {
     for s in sets.as_slice() {
         if u64::from(s.var) < values.len() {
@@ -45,15 +45,15 @@ fn write_all(values: &mut Values, sets: &Sets)
     }
 }
 
-/// Fires the rule with this number: where its guard holds, writes its settings and answers true.
-/// Elsewhere the values stay.
+/// Fires rule number `rule`. Returns whether its guard holds, and writes its settings if so.
+/// Otherwise `values` is unchanged.
 pub fn fire(system: &System, values: &mut Values, rule: u32) -> bool
     requires { rule < length system.now.rules }
-    ensures fires { result ≡ is_some (fired_at (system_tree system.now) rule values.old) }
+    ensures fires { result ≡ is_some (after_rule_number (system_tree system.now) rule values.old) }
     ensures values { values.new
-        ≡ unwrap_or (fired_at (system_tree system.now) rule values.old) values.old }
+        ≡ unwrap_or (after_rule_number (system_tree system.now) rule values.old) values.old }
 
-    // Of a valid system, values in range stay in range.
+    // In a valid system, values in range stay in range.
     ensures in_ranges { IsTrue (system_valid (system_tree system.now)) →
         IsTrue (in_ranges values.old system.now.ranges) →
         IsTrue (in_ranges values.new system.now.ranges) }

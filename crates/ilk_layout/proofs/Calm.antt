@@ -1,4 +1,5 @@
--- States without hazard: one train a section at most, each section of a body joined to the next.
+-- States without hazard: each section has at most one train, and each section of a body is joined
+-- to the next.
 use Rattle.std.proofs.Common.{◌≡◌, ℕ, zero, suc, ◌+◌, ◌<◌, ◌≤◌, Bool, true, false, not, ◌&&◌, ◌||◌, ◌==◌, count_by, find, take, option_and_then, option_to_list, Option, Some, None, option_map, List, [], ◌∷◌, length, slice_get, ◌⊎◌, inl, inr, refl, sym, ◌∙◌, ap, arith}
 use Rattle.std.specs.List.{list_any, range_with_len}
 use Rattle.std.proofs.lemmas.Bool.{and_parts, eq-eqb, eqb-true, false≢true, ltb-false, or_cases, or_parts, or_right}
@@ -8,12 +9,12 @@ use Rattle.ilk_base.proofs.Lists.{item_at}
 use Rattle.ilk_base.proofs.Options.{bind_some, mapped-None}
 use Rattle.ilk_base.proofs.Ranges.{range-at}
 use Rattle.ilk_base.proofs.Tested.{count-one, count_by-take-lt, find-at, list_all-slice_get, list_any-from, list_any-none, find-none-at}
-use Rattle.ilk_plant.specs.Network.{beside, has_section, is_point}
+use Rattle.ilk_plant.specs.Network.{neighbours_on, has_section, is_point}
 use Rattle.ilk_plant.specs.NetworkRules.{opposite_direction}
 use Rattle.ilk_plant.specs.Plant.{IsPlant, PlantLists, next_to, point_count, point_number}
-use Rattle.ilk_plant.specs.Shape.{HasShape, is_body, leads_on}
-use Rattle.ilk_plant.specs.Sound.{NeverReturns}
-use Rattle.ilk_plant.specs.State.{lie_of}
+use Rattle.ilk_plant.specs.Shape.{HasShape, has_valid_body, is_connected}
+use Rattle.ilk_plant.specs.Sound.{NoWalkReturns}
+use Rattle.ilk_plant.specs.State.{detected_position}
 use Rattle.ilk_plant.specs.declared.network.Dir.{Dir}
 use Rattle.ilk_plant.specs.declared.network.Dir.TheVariants.{Up, Down}
 use Rattle.ilk_plant.specs.declared.network.Section.{Section}
@@ -24,18 +25,17 @@ use Rattle.ilk_plant.specs.declared.state.State.{State}
 use Rattle.ilk_plant.specs.declared.state.Train.{Train}
 use Rattle.ilk_plant.proofs.Sides.{back-opposite}
 use Rattle.ilk_plant.proofs.InLists.{section-from, section-at, only-one}
-use Rattle.ilk_motion.specs.Ahead.{leads_to, leg_at}
+use Rattle.ilk_motion.specs.Ahead.{section_led_to, leg_by_lie}
 use Rattle.ilk_routes.specs.Lies.{is_moving}
-use Rattle.ilk_model.specs.Hazard.{has_pair, hazard, is_hazardous, is_two, is_wrong, strays}
+use Rattle.ilk_model.specs.Hazard.{are_adjacent_in, hazard, is_hazardous, has_two_trains, is_wrong_under_train, is_wrong_under_body}
 use Rattle.ilk_layout.specs.Occupancy.{occupancy_of}
-use Rattle.ilk_layout.specs.Wellformed.{ahead_by, joined_to}
+use Rattle.ilk_layout.specs.Wellformed.{section_ahead, joined_section}
 use Rattle.ilk_layout.specs.declared.values.Occupancy.TheVariants.{Vacant, Taken, Crash}
 use Rattle.ilk_model.proofs.Straying.{pair-has}
 use Rattle.ilk_layout.proofs.Bodies.{first-at, last-at}
 use Rattle.ilk_layout.proofs.Plants.{body-known, body-once, body-parts, joined-from}
 use Rattle.ilk_layout.proofs.Trains.{find-some, has_x}
 
--- no hazard is found exactly where no section is hazardous
 pub none-hazardous : (p : PlantLists) (s : State) → hazard p s ≡ None → find (is_hazardous p s) (range_with_len 0 (length p.sections)) ≡ None
 none-hazardous p s calm = mapped-None _ (find (is_hazardous p s) (range_with_len 0 (length p.sections))) calm
 
@@ -45,29 +45,27 @@ no-hazard p s none = ap (option_map _) none
 pub calm-at : (p : PlantLists) (s : State) (x : ℕ) → hazard p s ≡ None → x < length p.sections → is_hazardous p s x ≡ false
 calm-at p s x calm within = find-none-at (is_hazardous p s) (range_with_len 0 (length p.sections)) x x (none-hazardous p s calm) (range-at (length p.sections) x within)
 
--- two neighbours in a body are a pair, either way round
-pub pair-of : (body : List ℕ) (k x y : ℕ) → slice_get body k ≡ Some x → slice_get body (suc k) ≡ Some y → (has_pair x y body ≡ true) × (has_pair y x body ≡ true)
+pub pair-of : (body : List ℕ) (k x y : ℕ) → slice_get body k ≡ Some x → slice_get body (suc k) ≡ Some y → (are_adjacent_in x y body ≡ true) × (are_adjacent_in y x body ≡ true)
 pair-of [] k x y at next = cc
 pair-of (a ∷ []) zero x y at next = cc
 pair-of (a ∷ []) (suc k) x y at next = cc
 pair-of (a ∷ b ∷ rest) zero x y at next =
     let ax : (a == x) ≡ true = eq-eqb a x (same_Some a x at) in
     let by : (b == y) ≡ true = eq-eqb b y (same_Some b y next) in
-    (rw (ax, by) refl, rw (ax, by) (or_either (a == y && b == x) (has_pair y x (b ∷ rest))))
+    (rw (ax, by) refl, rw (ax, by) (or_either (a == y && b == x) (are_adjacent_in y x (b ∷ rest))))
   where
     or_either : (u v : Bool) → ((u || true) || v) ≡ true
     or_either true v = refl
     or_either false v = refl
 pair-of (a ∷ b ∷ rest) (suc k) x y at next =
     let later = pair-of (b ∷ rest) k x y at next in
-    (or_right ((a == x && b == y) || (a == y && b == x)) (has_pair x y (b ∷ rest)) later.0, or_right ((a == y && b == x) || (a == x && b == y)) (has_pair y x (b ∷ rest)) later.1)
+    (or_right ((a == x && b == y) || (a == y && b == x)) (are_adjacent_in x y (b ∷ rest)) later.0, or_right ((a == y && b == x) || (a == x && b == y)) (are_adjacent_in y x (b ∷ rest)) later.1)
 
--- and a pair is two neighbours
-pub pair-places : (body : List ℕ) (x y : ℕ) → has_pair x y body ≡ true → (k : ℕ) × (((slice_get body k ≡ Some x) × (slice_get body (suc k) ≡ Some y)) ⊎ ((slice_get body k ≡ Some y) × (slice_get body (suc k) ≡ Some x)))
+pub pair-places : (body : List ℕ) (x y : ℕ) → are_adjacent_in x y body ≡ true → (k : ℕ) × (((slice_get body k ≡ Some x) × (slice_get body (suc k) ≡ Some y)) ⊎ ((slice_get body k ≡ Some y) × (slice_get body (suc k) ≡ Some x)))
 pair-places [] x y h = cc
 pair-places (a ∷ []) x y h = cc
 pair-places (a ∷ b ∷ rest) x y h =
-    elim (or_cases ((a == x && b == y) || (a == y && b == x)) (has_pair x y (b ∷ rest)) h) [
+    elim (or_cases ((a == x && b == y) || (a == y && b == x)) (are_adjacent_in x y (b ∷ rest)) h) [
       | inl here ↦
           elim (or_cases (a == x && b == y) (a == y && b == x) here) [
             | inl e ↦ (let parts = and_parts (a == x) (b == y) e in (zero, inl (ap Some (eqb-true a x parts.0), ap Some (eqb-true b y parts.1))))
@@ -78,39 +76,37 @@ pair-places (a ∷ b ∷ rest) x y h =
           (suc rest_places.0, rest_places.1))
     ]
 
--- each section of a walk is next to the one before
-pub next-beside : (p : PlantLists) (d : Dir) (a : ℕ) (rest : List ℕ) (k x y : ℕ) → leads_on p d a rest ≡ true → slice_get (a ∷ rest) k ≡ Some x → slice_get (a ∷ rest) (suc k) ≡ Some y → has_section y (next_to p x d) ≡ true
-next-beside p d a [] k x y on at next = cc
-next-beside p d a (b ∷ rest) zero x y on at next =
-    let parts = and_parts (has_section b (next_to p a d)) (leads_on p d b rest) on in
+pub next-neighbours_on : (p : PlantLists) (d : Dir) (a : ℕ) (rest : List ℕ) (k x y : ℕ) → is_connected p d a rest ≡ true → slice_get (a ∷ rest) k ≡ Some x → slice_get (a ∷ rest) (suc k) ≡ Some y → has_section y (next_to p x d) ≡ true
+next-neighbours_on p d a [] k x y on at next = cc
+next-neighbours_on p d a (b ∷ rest) zero x y on at next =
+    let parts = and_parts (has_section b (next_to p a d)) (is_connected p d b rest) on in
     ap (λ v. has_section v (next_to p x d)) (sym (same_Some b y next)) ∙ ap (λ v. has_section b (next_to p v d)) (sym (same_Some a x at)) ∙ parts.0
-next-beside p d a (b ∷ rest) (suc k) x y on at next = next-beside p d b rest k x y (and_parts (has_section b (next_to p a d)) (leads_on p d b rest) on).1 at next
+next-neighbours_on p d a (b ∷ rest) (suc k) x y on at next = next-neighbours_on p d b rest k x y (and_parts (has_section b (next_to p a d)) (is_connected p d b rest) on).1 at next
 
-pub body-beside : (p : PlantLists) (train : Train) (k x y : ℕ) → is_body p train ≡ true → slice_get train.body k ≡ Some x → slice_get train.body (suc k) ≡ Some y → has_section y (next_to p x train.dir) ≡ true
-body-beside p train k x y h at next = beside_in train.dir train.body h at next
+pub body-neighbours_on : (p : PlantLists) (train : Train) (k x y : ℕ) → has_valid_body p train ≡ true → slice_get train.body k ≡ Some x → slice_get train.body (suc k) ≡ Some y → has_section y (next_to p x train.dir) ≡ true
+body-neighbours_on p train k x y h at next = beside_in train.dir train.body h at next
   where
-    beside_in : (d : Dir) (body : List ℕ) → is_body p (record { dir = d; body = body }) ≡ true → slice_get body k ≡ Some x → slice_get body (suc k) ≡ Some y → has_section y (next_to p x d) ≡ true
+    beside_in : (d : Dir) (body : List ℕ) → has_valid_body p (record { dir = d; body = body }) ≡ true → slice_get body k ≡ Some x → slice_get body (suc k) ≡ Some y → has_section y (next_to p x d) ≡ true
     beside_in d [] h at next = cc
-    beside_in d (a ∷ rest) h at next = next-beside p d a rest k x y (body-parts p d a rest h).1 at next
+    beside_in d (a ∷ rest) h at next = next-neighbours_on p d a rest k x y (body-parts p d a rest h).1 at next
 
-module _ (p : PlantLists) (plant : IsPlant p) (never : NeverReturns p) (s : State) (shape : HasShape p s) (calm : hazard p s ≡ None) where
-  pub body-of : (i : ℕ) (t : Train) → slice_get s.trains i ≡ Some t → is_body p t ≡ true
-  body-of i t at = list_all-slice_get (is_body p) s.trains i t shape.bodies at
+module _ (p : PlantLists) (plant : IsPlant p) (never : NoWalkReturns p) (s : State) (shape : HasShape p s) (calm : hazard p s ≡ None) where
+  pub body-of : (i : ℕ) (t : Train) → slice_get s.trains i ≡ Some t → has_valid_body p t ≡ true
+  body-of i t at = list_all-slice_get (has_valid_body p) s.trains i t shape.bodies at
 
   not_two : (x : ℕ) → x < length p.sections → count_by (has_x x) s.trains ≤ 1
-  not_two x within = ltb-false 1 (count_by (has_x x) s.trains) (or_parts (is_two s x) (is_wrong p s x) (calm-at p s x calm within)).0
+  not_two x within = ltb-false 1 (count_by (has_x x) s.trains) (or_parts (has_two_trains s x) (is_wrong_under_train p s x) (calm-at p s x calm within)).0
 
-  not_wrong : (x : ℕ) → x < length p.sections → is_wrong p s x ≡ false
-  not_wrong x within = (or_parts (is_two s x) (is_wrong p s x) (calm-at p s x calm within)).1
+  not_wrong : (x : ℕ) → x < length p.sections → is_wrong_under_train p s x ≡ false
+  not_wrong x within = (or_parts (has_two_trains s x) (is_wrong_under_train p s x) (calm-at p s x calm within)).1
 
-  -- a section is in the body of one train alone
+  -- A section is in the body of only one train.
   pub alone : (i j x : ℕ) (t u : Train) → slice_get s.trains i ≡ Some t → slice_get s.trains j ≡ Some u → has_section x t.body ≡ true → has_section x u.body ≡ true → i ≡ j
   alone i j x t u at also h g =
       let place = section-at x t.body h in
       let within = body-known p t place.0 x plant (body-of i t at) place.1 in
       count-one (has_x x) s.trains (not_two x within) i j t u at also h g
 
-  -- the occupancy of each section of a body
   pub occupancy-in : (i k x : ℕ) (t : Train) → slice_get s.trains i ≡ Some t → slice_get t.body k ≡ Some x → occupancy_of p s x ≡ Taken t.dir (k == 0) (k + 1 == length t.body)
   occupancy-in i k x t at place =
       let has : has_section x t.body ≡ true = section-from t.body k x place in
@@ -126,7 +122,6 @@ module _ (p : PlantLists) (plant : IsPlant p) (never : NeverReturns p) (s : Stat
       let last = last-at t.body k x once place in
       rw (safe, it, first, last) refl
 
-  -- a section that is taken is in the body of a train
   pub taken-in : (x : ℕ) (d : Dir) (tail head : Bool) → occupancy_of p s x ≡ Taken d tail head → (i : ℕ) × (t : Train) × (k : ℕ) × (slice_get s.trains i ≡ Some t) × (slice_get t.body k ≡ Some x)
   taken-in x d tail head e = by_hazard (is_hazardous p s x) refl
     where
@@ -141,8 +136,7 @@ module _ (p : PlantLists) (plant : IsPlant p) (never : NeverReturns p) (s : Stat
       by_hazard true h = (let bad : Crash ≡ Taken d tail head = rw h at e in cc)
       by_hazard false h = by_found (find (has_x x) s.trains) refl h
 
-  -- where a point lies
-  pub lie-known : (x stem plus minus : ℕ) (faces : Dir) → slice_get p.sections x ≡ Some (Point stem plus minus faces) → (l : Lie) × (lie_of p s x ≡ Some l)
+  pub lie-known : (x stem plus minus : ℕ) (faces : Dir) → slice_get p.sections x ≡ Some (Point stem plus minus faces) → (l : Lie) × (detected_position p s x ≡ Some l)
   lie-known x stem plus minus faces at =
       let n = count_by is_point (take x p.sections) in
       let less : n < point_count p = count_by-take-lt is_point p.sections x (Point stem plus minus faces) at refl in
@@ -150,38 +144,37 @@ module _ (p : PlantLists) (plant : IsPlant p) (never : NeverReturns p) (s : Stat
       let point = item_at s.points n (omega arith) in
       (point.0.at, rw (at, point.1) refl)
 
-  -- no body is wrong on a point
-  not_strays : (i : ℕ) (t : Train) (x stem plus minus : ℕ) (faces : Dir) → slice_get s.trains i ≡ Some t → slice_get p.sections x ≡ Some (Point stem plus minus faces) → strays x plus minus (lie_of p s x) t.body ≡ false
+  not_strays : (i : ℕ) (t : Train) (x stem plus minus : ℕ) (faces : Dir) → slice_get s.trains i ≡ Some t → slice_get p.sections x ≡ Some (Point stem plus minus faces) → is_wrong_under_body x plus minus (detected_position p s x) t.body ≡ false
   not_strays i t x stem plus minus faces at section =
       let right = not_wrong x (slice_get_within p.sections x (Point stem plus minus faces) section) in
-      let none : list_any (λ (train : Train). strays x plus minus (lie_of p s x) train.body) s.trains ≡ false = rw section at right in
-      list_any-none (λ (train : Train). strays x plus minus (lie_of p s x) train.body) s.trains i t none at
+      let none : list_any (λ (train : Train). is_wrong_under_body x plus minus (detected_position p s x) train.body) s.trains ≡ false = rw section at right in
+      list_any-none (λ (train : Train). is_wrong_under_body x plus minus (detected_position p s x) train.body) s.trains i t none at
 
-  -- of two neighbours in a body, each is the section to which the other leads
-  pub led-on : (i : ℕ) (t : Train) (x y : ℕ) (d : Dir) → slice_get s.trains i ≡ Some t → x < length p.sections → has_section y (next_to p x d) ≡ true → has_pair x y t.body ≡ true → ahead_by p (lie_of p s) x d ≡ Some y
+  -- Each of two neighbours in a body leads to the other.
+  pub led-on : (i : ℕ) (t : Train) (x y : ℕ) (d : Dir) → slice_get s.trains i ≡ Some t → x < length p.sections → has_section y (next_to p x d) ≡ true → are_adjacent_in x y t.body ≡ true → section_ahead p (detected_position p s) x d ≡ Some y
   led-on i t x y d at within beside_it pair = by_section (slice_get p.sections x) refl d beside_it
     where
       of_option : (o : Option ℕ) → has_section y (option_to_list o) ≡ true → o ≡ Some y
       of_option None h = cc
       of_option (Some z) h = ap Some (only-one y z h)
 
-      leg : (plus minus : ℕ) (l : Lie) → strays x plus minus (Some l) t.body ≡ false → has_section y (plus ∷ minus ∷ []) ≡ true → leg_at plus minus l ≡ Some y
+      leg : (plus minus : ℕ) (l : Lie) → is_wrong_under_body x plus minus (Some l) t.body ≡ false → has_section y (plus ∷ minus ∷ []) ≡ true → leg_by_lie plus minus l ≡ Some y
       leg plus minus Moving none h = absurd (false≢true (sym none ∙ pair-has x y t.body pair))
       leg plus minus Plus none h =
           elim (or_cases (plus == y) (has_section y (minus ∷ [])) h) [
             | inl e ↦ ap Some (eqb-true plus y e)
-            | inr e ↦ absurd (false≢true (sym none ∙ ap (λ v. has_pair x v t.body) (only-one y minus e) ∙ pair))
+            | inr e ↦ absurd (false≢true (sym none ∙ ap (λ v. are_adjacent_in x v t.body) (only-one y minus e) ∙ pair))
           ]
       leg plus minus Minus none h =
           elim (or_cases (plus == y) (has_section y (minus ∷ [])) h) [
-            | inl e ↦ absurd (false≢true (sym none ∙ ap (λ v. has_pair x v t.body) (eqb-true plus y e) ∙ pair))
+            | inl e ↦ absurd (false≢true (sym none ∙ ap (λ v. are_adjacent_in x v t.body) (eqb-true plus y e) ∙ pair))
             | inr e ↦ ap Some (only-one y minus e)
           ]
 
       facing : (stem plus minus : ℕ) (faces d : Dir) (lie : Option Lie) →
-          slice_get p.sections x ≡ Some (Point stem plus minus faces) → lie_of p s x ≡ lie →
-          has_section y (beside (Point stem plus minus faces) d) ≡ true →
-          leads_to (Point stem plus minus faces) d lie ≡ Some y
+          slice_get p.sections x ≡ Some (Point stem plus minus faces) → detected_position p s x ≡ lie →
+          has_section y (neighbours_on (Point stem plus minus faces) d) ≡ true →
+          section_led_to (Point stem plus minus faces) d lie ≡ Some y
       facing stem plus minus Up Up lie e f h =
           let known = lie-known x stem plus minus Up e in
           let none = not_strays i t x stem plus minus Up at e in
@@ -193,35 +186,33 @@ module _ (p : PlantLists) (plant : IsPlant p) (never : NeverReturns p) (s : Stat
       facing stem plus minus Up Down lie e f h = ap Some (only-one y stem h)
       facing stem plus minus Down Up lie e f h = ap Some (only-one y stem h)
 
-      by_section : (o : Option Section) → slice_get p.sections x ≡ o → (d : Dir) → has_section y (next_to p x d) ≡ true → ahead_by p (lie_of p s) x d ≡ Some y
+      by_section : (o : Option Section) → slice_get p.sections x ≡ o → (d : Dir) → has_section y (next_to p x d) ≡ true → section_ahead p (detected_position p s) x d ≡ Some y
       by_section None e d h = absurd (let there = item_at p.sections x within in none-some there.0 (sym e ∙ there.1))
       by_section (Some (Linear down up b c)) e Down h = rw e (of_option down (rw e at h))
       by_section (Some (Linear down up b c)) e Up h = rw e (of_option up (rw e at h))
-      by_section (Some (Point stem plus minus faces)) e d h = ap (option_and_then (λ section. leads_to section d (lie_of p s x))) e ∙ (facing stem plus minus faces d (lie_of p s x) e refl (rw e at h))
+      by_section (Some (Point stem plus minus faces)) e d h = ap (option_and_then (λ section. section_led_to section d (detected_position p s x))) e ∙ (facing stem plus minus faces d (detected_position p s x) e refl (rw e at h))
 
-  -- each section of a body is joined to the next
-  pub joined-in : (i k x y : ℕ) (t : Train) → slice_get s.trains i ≡ Some t → slice_get t.body k ≡ Some x → slice_get t.body (suc k) ≡ Some y → joined_to p (lie_of p s) x t.dir ≡ Some y
+  pub joined-in : (i k x y : ℕ) (t : Train) → slice_get s.trains i ≡ Some t → slice_get t.body k ≡ Some x → slice_get t.body (suc k) ≡ Some y → joined_section p (detected_position p s) x t.dir ≡ Some y
   joined-in i k x y t at here next =
       let body = body-of i t at in
-      let beside_it = body-beside p t k x y body here next in
+      let beside_it = body-neighbours_on p t k x y body here next in
       let pairs = pair-of t.body k x y here next in
-      joined-from p (lie_of p s) x y t.dir
+      joined-from p (detected_position p s) x y t.dir
       (led-on i t x y t.dir at (body-known p t k x plant body here) beside_it pairs.0)
       (led-on i t y x (opposite_direction t.dir) at (body-known p t (suc k) y plant body next)
       (back-opposite p plant x y t.dir beside_it) pairs.1)
 
-  -- no point under a train moves
-  pub not_moving : (i k x : ℕ) (t : Train) → slice_get s.trains i ≡ Some t → slice_get t.body k ≡ Some x → not (is_some_and (lie_of p s x) is_moving) ≡ true
-  not_moving i k x t at here = by_lie (lie_of p s x) refl
+  pub not_moving : (i k x : ℕ) (t : Train) → slice_get s.trains i ≡ Some t → slice_get t.body k ≡ Some x → not (is_some_and (detected_position p s x) is_moving) ≡ true
+  not_moving i k x t at here = by_lie (detected_position p s x) refl
     where
-      by_section : (section : Section) → slice_get p.sections x ≡ Some section → is_point section ≡ true → lie_of p s x ≡ Some Moving → ⊥
+      by_section : (section : Section) → slice_get p.sections x ≡ Some section → is_point section ≡ true → detected_position p s x ≡ Some Moving → ⊥
       by_section (Linear down up b c) e is f = false≢true is
       by_section (Point stem plus minus faces) e is f =
           let none = not_strays i t x stem plus minus faces at e in
           let moves : has_section x t.body ≡ false = rw f at none in
           false≢true (sym moves ∙ section-from t.body k x here)
 
-      by_lie : (o : Option Lie) → lie_of p s x ≡ o → not (is_some_and o is_moving) ≡ true
+      by_lie : (o : Option Lie) → detected_position p s x ≡ o → not (is_some_and o is_moving) ≡ true
       by_lie None f = refl
       by_lie (Some Plus) f = refl
       by_lie (Some Minus) f = refl

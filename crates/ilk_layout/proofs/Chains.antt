@@ -1,31 +1,30 @@
--- Numbers that lead from one to the next: chains from a first to a last, for any step forth and the step back.
+-- Chains of numbers from a first to a last, for any forward step with its backward step.
 use Rattle.std.proofs.Common.{◌≡◌, ℕ, zero, suc, ◌+◌, ◌<◌, Option, Some, None, List, [], ◌∷◌, length, slice_get, ◌⊎◌, inl, inr, refl, sym, ◌∙◌, ap, subst, arith}
 use Rattle.std.proofs.lemmas.Option.{none-some, same_Some}
-use Rattle.ilk_layout.specs.Decoded.{chase, with_rest}
+use Rattle.ilk_layout.specs.Decoded.{follow_steps, follow_first}
 
--- x leads to the first of the rest, each to the next, and the last to none
+-- `x` leads to the first of the rest, each number to the next, and the last to none.
 abbrev pub IsChain : (ℕ → Option ℕ) → ℕ → List ℕ → Type 0
 IsChain f x [] = f x ≡ None
 IsChain f x (y ∷ rest) = (f x ≡ Some y) × IsChain f y rest
 
--- the same, where the last may lead on
+-- The same, but the last may lead on.
 abbrev pub IsWalk : (ℕ → Option ℕ) → ℕ → List ℕ → Type 0
 IsWalk f x [] = Unit {0}
 IsWalk f x (y ∷ rest) = (f x ≡ Some y) × IsWalk f y rest
 
-chase-ends : (f : ℕ → Option ℕ) (k x : ℕ) → IsChain f x (chase k f x) ⊎ ((walk : List ℕ) × IsWalk f x walk × (length walk ≡ k))
-chase-ends f zero x = inr ([], tt, refl)
-chase-ends f (suc k) x = by_next (chase-ends f k) (f x) refl
+follow_steps-ends : (f : ℕ → Option ℕ) (k x : ℕ) → IsChain f x (follow_steps k f x) ⊎ ((walk : List ℕ) × IsWalk f x walk × (length walk ≡ k))
+follow_steps-ends f zero x = inr ([], tt, refl)
+follow_steps-ends f (suc k) x = by_next (follow_steps-ends f k) (f x) refl
   where
-    by_next : ((y : ℕ) → IsChain f y (chase k f y) ⊎ ((walk : List ℕ) × IsWalk f y walk × (length walk ≡ k))) → (o : Option ℕ) → f x ≡ o → IsChain f x (chase (suc k) f x) ⊎ ((walk : List ℕ) × IsWalk f x walk × (length walk ≡ suc k))
-    by_next ih None e = inl (let P : Option ℕ → Type 0 = λ o. IsChain f x (with_rest (chase k f) o) in subst P (sym e) e)
+    by_next : ((y : ℕ) → IsChain f y (follow_steps k f y) ⊎ ((walk : List ℕ) × IsWalk f y walk × (length walk ≡ k))) → (o : Option ℕ) → f x ≡ o → IsChain f x (follow_steps (suc k) f x) ⊎ ((walk : List ℕ) × IsWalk f x walk × (length walk ≡ suc k))
+    by_next ih None e = inl (let P : Option ℕ → Type 0 = λ o. IsChain f x (follow_first (follow_steps k f) o) in subst P (sym e) e)
     by_next ih (Some y) e =
         elim (ih y) [
-          | inl chain ↦ inl (let P : Option ℕ → Type 0 = λ o. IsChain f x (with_rest (chase k f) o) in subst P (sym e) (e, chain))
+          | inl chain ↦ inl (let P : Option ℕ → Type 0 = λ o. IsChain f x (follow_first (follow_steps k f) o) in subst P (sym e) (e, chain))
           | inr more ↦ inr (y ∷ more.0, (e, more.1), ap suc more.2)
         ]
 
--- a chain from x is the only one
 pub chain-same : (f : ℕ → Option ℕ) (x : ℕ) (r s : List ℕ) → IsChain f x r → IsChain f x s → r ≡ s
 chain-same f x [] [] c d = refl
 chain-same f x [] (y ∷ s) c d = absurd (none-some y (sym c ∙ d.0))
@@ -40,27 +39,24 @@ pub chain-walk : (f : ℕ → Option ℕ) (x : ℕ) (rest : List ℕ) → IsChai
 chain-walk f x [] c = tt
 chain-walk f x (y ∷ rest) c = (c.0, chain-walk f y rest c.1)
 
--- what stands before a number of a chain leads to it
 pub chain-before : (f : ℕ → Option ℕ) (a : ℕ) (rest : List ℕ) (i x : ℕ) → IsChain f a rest → slice_get (a ∷ rest) (suc i) ≡ Some x → (w : ℕ) × (slice_get (a ∷ rest) i ≡ Some w) × (f w ≡ Some x)
 chain-before f a [] i x c at = cc
 chain-before f a (y ∷ rest) zero x c at = (a, refl, c.0 ∙ at)
 chain-before f a (y ∷ rest) (suc i) x c at = chain-before f y rest i x c.1 at
 
--- and what a number of a chain leads to stands after it
 pub chain-after : (f : ℕ → Option ℕ) (a : ℕ) (rest : List ℕ) (i x y : ℕ) → IsChain f a rest → slice_get (a ∷ rest) i ≡ Some x → f x ≡ Some y → slice_get (a ∷ rest) (suc i) ≡ Some y
 chain-after f a [] zero x y c at e = let same : a ≡ x = same_Some a x at in absurd (none-some y (sym c ∙ ap f same ∙ e))
 chain-after f a [] (suc i) x y c at e = cc
 chain-after f a (z ∷ rest) zero x y c at e = let same : a ≡ x = same_Some a x at in sym c.0 ∙ ap f same ∙ e
 chain-after f a (z ∷ rest) (suc i) x y c at e = chain-after f z rest i x y c.1 at e
 
--- the last of a chain leads to none
 pub chain-last : (f : ℕ → Option ℕ) (a : ℕ) (rest : List ℕ) (i x : ℕ) → IsChain f a rest → slice_get (a ∷ rest) i ≡ Some x → i + 1 ≡ length (a ∷ rest) → f x ≡ None
 chain-last f a [] zero x c at e = let same : a ≡ x = same_Some a x at in ap f (sym same) ∙ c
 chain-last f a [] (suc i) x c at e = cc
 chain-last f a (z ∷ rest) zero x c at e = absurd (omega arith)
 chain-last f a (z ∷ rest) (suc i) x c at e = chain-last f z rest i x c.1 at (omega arith)
 
--- a step forth and the step back, over numbers On, with no walk of n steps or more
+-- A forward and a backward step over the numbers `On`, with no walk of `n` or more steps.
 pub record GoesBack (n : ℕ) (On : ℕ → Type 0) (f b : ℕ → Option ℕ) : Type 0 where
   pub back : (x y : ℕ) → On x → f x ≡ Some y → b y ≡ Some x
   pub forth : (x y : ℕ) → On x → b x ≡ Some y → f y ≡ Some x
@@ -70,10 +66,9 @@ pub record GoesBack (n : ℕ) (On : ℕ → Type 0) (f b : ℕ → Option ℕ) :
   pub short_back : (x : ℕ) (walk : List ℕ) → On x → IsWalk b x walk → length walk < n
 
 module _ (n : ℕ) (On : ℕ → Type 0) (f b : ℕ → Option ℕ) (g : GoesBack n On f b) where
-  -- what is chased is the whole chain
-  pub chased : (x : ℕ) → On x → IsChain f x (chase n f x)
+  pub chased : (x : ℕ) → On x → IsChain f x (follow_steps n f x)
   chased x on =
-      elim (chase-ends f n x) [
+      elim (follow_steps-ends f n x) [
         | inl chain ↦ chain
         | inr more ↦ (let short = g.short_forth x more.0 on more.1 in let long = more.2 in absurd (omega arith))
       ]
@@ -83,7 +78,7 @@ module _ (n : ℕ) (On : ℕ → Type 0) (f b : ℕ → Option ℕ) (g : GoesBac
   chain-on a [] (suc i) x on c at = cc
   chain-on a (y ∷ rest) (suc i) x on c at = chain-on y rest i x (g.on_forth a y on c.0) c.1 at
 
-  -- a number is of the chain of one first alone
+  -- A number is in the chain of only one first number.
   pub one_first : (a c : ℕ) (r s : List ℕ) → On a → On c → IsChain f a r → IsChain f c s → b a ≡ None → b c ≡ None → (i j x : ℕ) → slice_get (a ∷ r) i ≡ Some x → slice_get (c ∷ s) j ≡ Some x → a ≡ c
   one_first a c r s ona onc ca cc_ fa fc zero zero x at also = same_Some a c (at ∙ sym also)
   one_first a c r s ona onc ca cc_ fa fc zero (suc j) x at also =
@@ -102,25 +97,25 @@ module _ (n : ℕ) (On : ℕ → Type 0) (f b : ℕ → Option ℕ) (g : GoesBac
       let same : v.0 ≡ w.0 = same_Some v.0 w.0 (sym led_too ∙ led) in
       one_first a c r s ona onc ca cc_ fa fc i j w.0 w.1 (v.1 ∙ ap Some same)
 
-  -- x is of the chain of a first, or there is a walk back of so many steps
-  searched : (k x : ℕ) → On x → ((a : ℕ) × (i : ℕ) × On a × (b a ≡ None) × (slice_get (a ∷ chase n f a) i ≡ Some x)) ⊎ ((walk : List ℕ) × IsWalk b x walk × (length walk ≡ k))
+  -- `x` is in the chain of a first number, or there is a walk of `k` steps back.
+  searched : (k x : ℕ) → On x → ((a : ℕ) × (i : ℕ) × On a × (b a ≡ None) × (slice_get (a ∷ follow_steps n f a) i ≡ Some x)) ⊎ ((walk : List ℕ) × IsWalk b x walk × (length walk ≡ k))
   searched zero x on = inr ([], tt, refl)
   searched (suc k) x on = by_before (searched k) (b x) refl
     where
       by_before :
           ((y : ℕ) → On y →
-          ((a : ℕ) × (i : ℕ) × On a × (b a ≡ None) × (slice_get (a ∷ chase n f a) i ≡ Some y))
+          ((a : ℕ) × (i : ℕ) × On a × (b a ≡ None) × (slice_get (a ∷ follow_steps n f a) i ≡ Some y))
           ⊎ ((walk : List ℕ) × IsWalk b y walk × (length walk ≡ k))) → (o : Option ℕ) → b x ≡ o →
-          ((a : ℕ) × (i : ℕ) × On a × (b a ≡ None) × (slice_get (a ∷ chase n f a) i ≡ Some x))
+          ((a : ℕ) × (i : ℕ) × On a × (b a ≡ None) × (slice_get (a ∷ follow_steps n f a) i ≡ Some x))
           ⊎ ((walk : List ℕ) × IsWalk b x walk × (length walk ≡ suc k))
       by_before ih None e = inl (x, zero, on, e, refl)
       by_before ih (Some y) e =
           elim (ih y (g.on_back x y on e)) [
-            | inl found ↦ inl (found.0, suc found.1, found.2, found.3, chain-after f found.0 (chase n f found.0) found.1 y x (chased found.0 found.2) found.4 (g.forth x y on e))
+            | inl found ↦ inl (found.0, suc found.1, found.2, found.3, chain-after f found.0 (follow_steps n f found.0) found.1 y x (chased found.0 found.2) found.4 (g.forth x y on e))
             | inr more ↦ inr (y ∷ more.0, (e, more.1), ap suc more.2)
           ]
 
-  pub first_of : (x : ℕ) → On x → (a : ℕ) × (i : ℕ) × On a × (b a ≡ None) × (slice_get (a ∷ chase n f a) i ≡ Some x)
+  pub first_of : (x : ℕ) → On x → (a : ℕ) × (i : ℕ) × On a × (b a ≡ None) × (slice_get (a ∷ follow_steps n f a) i ≡ Some x)
   first_of x on =
       elim (searched n x on) [
         | inl found ↦ found

@@ -1,5 +1,5 @@
--- One change of a state is one write to its image; where occupancies change too, a write for each section whose
--- occupancy changes.
+-- Each change of a state is one write to its image, plus one for each section whose occupancy
+-- changes.
 use Rattle.std.proofs.Common.{◌≡◌, ℕ, ◌<◌, true, false, ◌==◌, ◌||◌, ◌≤◌, cond, count_by, find, nat_lt, option_map, Option, Some, None, List, length, map, set, slice_get, inl, inr, refl, sym, ◌∙◌, ap, subst, arith}
 use Rattle.std.specs.List.{list_any, range_with_len}
 use Rattle.std.proofs.lemmas.Bool.{cases_eq, eq-eqb, ne_eqb}
@@ -9,13 +9,13 @@ use Rattle.ilk_base.proofs.Lists.{same_by_slice_get, slice_get-set_other, slice_
 use Rattle.ilk_base.proofs.Ranges.{below_or_past, range-at}
 use Rattle.ilk_plant.specs.Plant.{PlantLists}
 use Rattle.ilk_plant.specs.Shape.{HasShape}
-use Rattle.ilk_plant.specs.State.{lie_of}
+use Rattle.ilk_plant.specs.State.{detected_position}
 use Rattle.ilk_plant.specs.declared.network.Section.{Section}
 use Rattle.ilk_plant.specs.declared.network.Section.TheVariants.{Linear, Point}
 use Rattle.ilk_plant.specs.declared.state.Aspect.{Aspect}
 use Rattle.ilk_plant.specs.declared.state.State.{State}
 use Rattle.ilk_plant.specs.declared.state.Train.{Train}
-use Rattle.ilk_model.specs.Hazard.{is_wrong, strays}
+use Rattle.ilk_model.specs.Hazard.{is_wrong_under_train, is_wrong_under_body}
 use Rattle.ilk_layout.specs.Image.{image_of, occupancy_values}
 use Rattle.ilk_layout.specs.Occupancy.{occupancy_of, taken_by_any}
 use Rattle.ilk_layout.specs.Values.{aspect_value, occupancy_value}
@@ -24,20 +24,20 @@ use Rattle.ilk_layout.proofs.Trains.{has_x, with_trains}
 use Rattle.ilk_layout.specs.declared.values.Occupancy.TheVariants.{Crash}
 use Rattle.ilk_layout.proofs.Writes.{board-written, image_with, occupancy-written}
 
--- an occupancy hangs on the trains and on where the point of its section lies
-pub occupancy-kept : (p : PlantLists) (s t : State) (x : ℕ) → t.trains ≡ s.trains → lie_of p t x ≡ lie_of p s x → occupancy_of p t x ≡ occupancy_of p s x
+-- An occupancy depends only on the trains and on the position of its point.
+pub occupancy-kept : (p : PlantLists) (s t : State) (x : ℕ) → t.trains ≡ s.trains → detected_position p t x ≡ detected_position p s x → occupancy_of p t x ≡ occupancy_of p s x
 occupancy-kept p s t x trains lies i =
     cond (nat_lt 1 (count_by (has_x x) (trains i)) || wrong-same i) Crash (taken_by_any x (find (has_x x) (trains i)))
   where
-    wrong-same : is_wrong p t x ≡ is_wrong p s x
+    wrong-same : is_wrong_under_train p t x ≡ is_wrong_under_train p s x
     wrong-same = by_section (slice_get p.sections x) refl
       where
-        by_section : (o : Option Section) → slice_get p.sections x ≡ o → is_wrong p t x ≡ is_wrong p s x
+        by_section : (o : Option Section) → slice_get p.sections x ≡ o → is_wrong_under_train p t x ≡ is_wrong_under_train p s x
         by_section None e = rw e refl
         by_section (Some (Linear down up b c)) e = rw e refl
-        by_section (Some (Point stem plus minus faces)) e = rw e (λ i. list_any (λ (train : Train). strays x plus minus (lies i) train.body) (trains i))
+        by_section (Some (Point stem plus minus faces)) e = rw e (λ i. list_any (λ (train : Train). is_wrong_under_body x plus minus (lies i) train.body) (trains i))
 
--- a table in which one number changes, or two
+-- Lists in which one value changes, or two.
 pub table-one : (f g : ℕ → ℕ) (n x : ℕ) → x < n → ((y : ℕ) → y < n → (y ≡ x → ⊥) → g y ≡ f y) → set (map f (range_with_len 0 n)) x (g x) ≡ map g (range_with_len 0 n)
 table-one f g n x within other = same_by_slice_get (set (map f (range_with_len 0 n)) x (g x)) (map g (range_with_len 0 n)) at
   where
@@ -64,7 +64,7 @@ table-one f g n x within other = same_by_slice_get (set (map f (range_with_len 0
               ]
         ]
 
--- as g at x, and as f elsewhere
+-- `g` at `x`, and `f` elsewhere.
 abbrev changed : (ℕ → ℕ) → (ℕ → ℕ) → ℕ → ℕ → ℕ
 changed f g x z = cond (z == x) (g z) (f z)
 
@@ -82,7 +82,6 @@ table-two f g n x y within_x within_y apart other =
           | inr differ ↦ (let no_x : (z == x) ≡ false = ne_eqb z x differ in rw no_x (other z less differ ne))
         ]
 
--- the number of the occupancy of a section
 abbrev pub occupied : PlantLists → State → ℕ → ℕ
 occupied p s x = occupancy_value (occupancy_of p s x)
 
@@ -90,7 +89,7 @@ module _ (p : PlantLists) (s : State) (shape : HasShape p s) where
   pub image-board : (m : ℕ) (aspect : Aspect) → m < length p.boards → set (image_of p s) (board_var p m) (aspect_value aspect) ≡ image_of p (record s { boards = set s.boards m aspect })
   image-board m aspect within = board-written p s (occupancy_values p s) shape m aspect within
 
-  -- trains that move: two writes where the occupancies of two sections change
+  -- Moving trains: two writes if two occupancies change.
   pub image-two : (ts : List Train) (x y : ℕ) → x < length p.sections → y < length p.sections → (x ≡ y → ⊥) → ((z : ℕ) → z < length p.sections → (z ≡ x → ⊥) → (z ≡ y → ⊥) → occupancy_of p (with_trains s ts) z ≡ occupancy_of p s z)
       → set (set (image_of p s) (occupancy_var p x) (occupied p (with_trains s ts) x)) (occupancy_var p y) (occupied p (with_trains s ts) y) ≡ image_of p (with_trains s ts)
   image-two ts x y within_x within_y apart other =

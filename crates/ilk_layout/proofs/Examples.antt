@@ -1,4 +1,4 @@
--- Images of small plants, worked by computing.
+-- Images of small plants, by computation.
 use Rattle.std.proofs.Common.{◌≡◌, ℕ, true, false, Option, Some, List, [], ◌∷◌, option_map, refl}
 use Rattle.ilk_plant.specs.Plant.{PlantLists}
 use Rattle.ilk_plant.specs.Start.{start}
@@ -10,7 +10,6 @@ use Rattle.ilk_layout.specs.Image.{image_of}
 use Rattle.ilk_layout.specs.Variables.{ranges_of_plant}
 use Rattle.ilk_layout.specs.Wellformed.{is_wellformed}
 
--- the image of the state after these events from the start
 abbrev image_after : PlantLists → List Event → Option (List ℕ)
 image_after p events = option_map (image_of p) (run p (start p) events)
 
@@ -29,7 +28,8 @@ both_entered = refl
 first_moved_on : image_after two_sections (Enter 0 ∷ Enter 1 ∷ Head 0 ∷ []) ≡ Some (0 ∷ 0 ∷ 3 ∷ 9 ∷ [])
 first_moved_on = refl
 
--- a train over both sections; a head without a tail behind, two trains in one, and a crash are no images
+-- A train over both sections is an image. A head without more behind, two trains in one section,
+-- and a crash are not.
 over_both : is_wellformed two_sections (0 ∷ 0 ∷ 3 ∷ 2 ∷ []) ≡ true
 over_both = refl
 

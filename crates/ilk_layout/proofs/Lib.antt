@@ -17,3 +17,6 @@ pub mod Read
 pub mod Ranged
 pub mod Unseen
 pub mod Examples
+pub mod Listed
+pub mod Valid
+pub mod ConditionValues

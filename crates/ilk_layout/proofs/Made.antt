@@ -1,4 +1,4 @@
--- A state made of occupancies that fit: it has the shape, no hazard, and these occupancies.
+-- A state built from occupancies that fit is well-formed, has no hazard and has these occupancies.
 use Rattle.std.proofs.Common.{◌≡◌, ℕ, zero, suc, ◌+◌, ◌<◌, Bool, true, false, ◌==◌, count_by, option_and_then, Option, Some, None, List, [], ◌∷◌, length, nat_lt, slice_get, inl, inr, refl, sym, ◌∙◌, ap, subst, arith}
 use Rattle.std.specs.List.{list_any, range_with_len}
 use Rattle.std.proofs.lemmas.Bool.{and_from, eqb-false, eqb-true, false_from_ne_true, false≢true, le-ltb, ne_eqb, or_from}
@@ -11,11 +11,11 @@ use Rattle.ilk_base.proofs.Ranges.{range-at, range_within}
 use Rattle.ilk_base.proofs.Tested.{all-pass, few-from_places, none-pass, find-none-from}
 use Rattle.ilk_plant.specs.Network.{has_section}
 use Rattle.ilk_plant.specs.NetworkRules.{opposite_direction}
-use Rattle.ilk_plant.specs.Once.{none_twice}
+use Rattle.ilk_plant.specs.Once.{numbers_differ}
 use Rattle.ilk_plant.specs.Plant.{IsPlant, PlantLists}
-use Rattle.ilk_plant.specs.Shape.{HasShape, is_body}
-use Rattle.ilk_plant.specs.Sound.{NeverReturns}
-use Rattle.ilk_plant.specs.State.{lie_of}
+use Rattle.ilk_plant.specs.Shape.{HasShape, has_valid_body}
+use Rattle.ilk_plant.specs.Sound.{NoWalkReturns}
+use Rattle.ilk_plant.specs.State.{detected_position}
 use Rattle.ilk_plant.specs.declared.network.Dir.{Dir}
 use Rattle.ilk_plant.specs.declared.network.Dir.TheVariants.{Up, Down}
 use Rattle.ilk_plant.specs.declared.network.Section.{Section}
@@ -24,13 +24,13 @@ use Rattle.ilk_plant.specs.declared.state.Lie.{Lie}
 use Rattle.ilk_plant.specs.declared.state.Lie.TheVariants.{Plus, Minus, Moving}
 use Rattle.ilk_plant.specs.declared.state.State.{State}
 use Rattle.ilk_plant.specs.declared.state.Train.{Train}
-use Rattle.ilk_plant.proofs.Once.{none_twice-places}
+use Rattle.ilk_plant.proofs.Once.{numbers_differ-places}
 use Rattle.ilk_plant.proofs.InLists.{section-at}
-use Rattle.ilk_motion.specs.Ahead.{leads_to}
-use Rattle.ilk_model.specs.Hazard.{has_pair, hazard, is_hazardous, is_two, is_wrong, strays}
-use Rattle.ilk_layout.specs.Decoded.{backward, backward_from, chase, onward, onward_from, train_from, trains_of}
+use Rattle.ilk_motion.specs.Ahead.{section_led_to}
+use Rattle.ilk_model.specs.Hazard.{are_adjacent_in, hazard, is_hazardous, has_two_trains, is_wrong_under_train, is_wrong_under_body}
+use Rattle.ilk_layout.specs.Decoded.{preceding_section, section_behind_in_body, follow_steps, following_section, section_ahead_in_body, train_from_tail, trains_of}
 use Rattle.ilk_layout.specs.Occupancy.{occupancy_of}
-use Rattle.ilk_layout.specs.Wellformed.{ahead_by, has_more_behind, joined_to, section_fits}
+use Rattle.ilk_layout.specs.Wellformed.{section_ahead, has_more_behind, joined_section, section_fits}
 use Rattle.ilk_layout.specs.declared.values.Occupancy.{Occupancy}
 use Rattle.ilk_layout.specs.declared.values.Occupancy.TheVariants.{Vacant, Taken, Crash}
 use Rattle.ilk_layout.proofs.Calm.{no-hazard, occupancy-in, pair-places}
@@ -38,55 +38,57 @@ use Rattle.ilk_layout.proofs.Chains.{IsChain, chain-before, chain-last, chain-wa
 use Rattle.ilk_layout.proofs.Orders.{filter_map-at, filter_map-of}
 use Rattle.ilk_layout.proofs.Plants.{joined-parts}
 use Rattle.ilk_layout.proofs.Told.{train-is, trains-once}
-use Rattle.ilk_layout.proofs.Tracks.{IsTaken, demands, onward-is, same_taken, step-forth, tracks, walk-forth}
+use Rattle.ilk_layout.proofs.Tracks.{IsTaken, demands, following_section-is, same_taken, step-forth, tracks, walk-forth}
 use Rattle.ilk_layout.proofs.Trains.{has_x}
 
--- the three neighbours of a point differ
 pub legs-differ : (p : PlantLists) → IsPlant p → (x stem plus minus : ℕ) (faces : Dir) → slice_get p.sections x ≡ Some (Point stem plus minus faces) → (plus ≡ minus → ⊥) × (stem ≡ minus → ⊥) × (stem ≡ plus → ⊥)
 legs-differ p plant x stem plus minus Up at =
-    let once : none_twice (stem ∷ plus ∷ minus ∷ []) ≡ true = rw at at (plant.neighbours_once x) in
-    let places = none_twice-places (stem ∷ plus ∷ minus ∷ []) once in
+    let once : numbers_differ (stem ∷ plus ∷ minus ∷ []) ≡ true = rw at at (plant.neighbours_once x) in
+    let places = numbers_differ-places (stem ∷ plus ∷ minus ∷ []) once in
     (λ e. absurd (let one = places 1 2 minus (ap Some e) refl in omega arith), λ e. absurd (let one = places 0 2 minus (ap Some e) refl in omega arith), λ e. absurd (let one = places 0 1 plus (ap Some e) refl in omega arith))
 legs-differ p plant x stem plus minus Down at =
-    let once : none_twice (plus ∷ minus ∷ stem ∷ []) ≡ true = rw at at (plant.neighbours_once x) in
-    let places = none_twice-places (plus ∷ minus ∷ stem ∷ []) once in
+    let once : numbers_differ (plus ∷ minus ∷ stem ∷ []) ≡ true = rw at at (plant.neighbours_once x) in
+    let places = numbers_differ-places (plus ∷ minus ∷ stem ∷ []) once in
     (λ e. absurd (let one = places 0 1 minus (ap Some e) refl in omega arith), λ e. absurd (let one = places 2 1 minus (ap Some e) refl in omega arith), λ e. absurd (let one = places 2 0 plus (ap Some e) refl in omega arith))
 
--- a point leads to no leg at which it doesn't lie
+-- A point does not lead to a leg for which it is not set.
 pub other-leg : (p : PlantLists) → IsPlant p →
     (lie : ℕ → Option Lie) (x stem plus minus : ℕ) (faces d : Dir) →
     slice_get p.sections x ≡ Some (Point stem plus minus faces) →
-    ((lie x ≡ Some Plus) → ahead_by p lie x d ≡ Some minus → ⊥) ×
-    ((lie x ≡ Some Minus) → ahead_by p lie x d ≡ Some plus → ⊥)
+    ((lie x ≡ Some Plus) → section_ahead p lie x d ≡ Some minus → ⊥) ×
+    ((lie x ≡ Some Minus) → section_ahead p lie x d ≡ Some plus → ⊥)
 other-leg p plant lie x stem plus minus faces d at =
-    let apart = legs-differ p plant x stem plus minus faces at in
-    (λ l e. plus-only faces d (lie x) l apart (ap (option_and_then (λ section. leads_to section d (lie x))) (sym at) ∙ e), λ l e. minus-only faces d (lie x) l apart (ap (option_and_then (λ section. leads_to section d (lie x))) (sym at) ∙ e))
+    let apart = legs-differ p plant x stem plus minus faces at in (
+      λ l e. plus-only faces d (lie x) l apart (ap (option_and_then (λ section. section_led_to section d (lie x))) (sym at) ∙ e),
+      λ l e. minus-only faces d (lie x) l apart
+          (ap (option_and_then (λ section. section_led_to section d (lie x))) (sym at) ∙ e),
+    )
   where
-    plus-only : (faces d : Dir) (o : Option Lie) → o ≡ Some Plus → (plus ≡ minus → ⊥) × (stem ≡ minus → ⊥) × (stem ≡ plus → ⊥) → leads_to (Point stem plus minus faces) d o ≡ Some minus → ⊥
+    plus-only : (faces d : Dir) (o : Option Lie) → o ≡ Some Plus → (plus ≡ minus → ⊥) × (stem ≡ minus → ⊥) × (stem ≡ plus → ⊥) → section_led_to (Point stem plus minus faces) d o ≡ Some minus → ⊥
     plus-only Up Up o l apart e = let same : Some plus ≡ Some minus = rw l at e in apart.0 (same_Some plus minus same)
     plus-only Down Down o l apart e = let same : Some plus ≡ Some minus = rw l at e in apart.0 (same_Some plus minus same)
     plus-only Up Down o l apart e = apart.1 (same_Some stem minus e)
     plus-only Down Up o l apart e = apart.1 (same_Some stem minus e)
 
-    minus-only : (faces d : Dir) (o : Option Lie) → o ≡ Some Minus → (plus ≡ minus → ⊥) × (stem ≡ minus → ⊥) × (stem ≡ plus → ⊥) → leads_to (Point stem plus minus faces) d o ≡ Some plus → ⊥
+    minus-only : (faces d : Dir) (o : Option Lie) → o ≡ Some Minus → (plus ≡ minus → ⊥) × (stem ≡ minus → ⊥) × (stem ≡ plus → ⊥) → section_led_to (Point stem plus minus faces) d o ≡ Some plus → ⊥
     minus-only Up Up o l apart e = let same : Some minus ≡ Some plus = rw l at e in apart.0 (sym (same_Some minus plus same))
     minus-only Down Down o l apart e = let same : Some minus ≡ Some plus = rw l at e in apart.0 (sym (same_Some minus plus same))
     minus-only Up Down o l apart e = apart.2 (same_Some stem plus e)
     minus-only Down Up o l apart e = apart.2 (same_Some stem plus e)
 
-module _ (p : PlantLists) (plant : IsPlant p) (never : NeverReturns p) (lie : ℕ → Option Lie) (occupancy : ℕ → Option Occupancy) (fits : (x : ℕ) → x < length p.sections → section_fits p lie occupancy x (occupancy x) ≡ true) where
+module _ (p : PlantLists) (plant : IsPlant p) (never : NoWalkReturns p) (lie : ℕ → Option Lie) (occupancy : ℕ → Option Occupancy) (fits : (x : ℕ) → x < length p.sections → section_fits p lie occupancy x (occupancy x) ≡ true) where
   abbrev on : ℕ → Option ℕ
-  on = onward p lie occupancy
+  on = following_section p lie occupancy
 
   abbrev rest-of : ℕ → List ℕ
-  rest-of x = chase (length p.sections) (onward p lie occupancy) x
+  rest-of x = follow_steps (length p.sections) (following_section p lie occupancy) x
 
-  whole : (x : ℕ) (d : Dir) (t h : Bool) → x < length p.sections → occupancy x ≡ Some (Taken d t h) → IsChain (onward p lie occupancy) x (rest-of x)
-  whole x d t h within is = chased (length p.sections) (IsTaken p occupancy) (onward p lie occupancy) _ (tracks p plant never lie occupancy fits) x (record { dir = d; tail = t; head = h; within = within; is = is })
+  whole : (x : ℕ) (d : Dir) (t h : Bool) → x < length p.sections → occupancy x ≡ Some (Taken d t h) → IsChain (following_section p lie occupancy) x (rest-of x)
+  whole x d t h within is = chased (length p.sections) (IsTaken p occupancy) (following_section p lie occupancy) _ (tracks p plant never lie occupancy fits) x (record { dir = d; tail = t; head = h; within = within; is = is })
 
-  -- along a chain the direction stays
+  -- The direction stays the same along a chain.
   along : (a : ℕ) (rest : List ℕ) (d : Dir) (t h : Bool) → a < length p.sections →
-      occupancy a ≡ Some (Taken d t h) → IsChain (onward p lie occupancy) a rest → (k y : ℕ) →
+      occupancy a ≡ Some (Taken d t h) → IsChain (following_section p lie occupancy) a rest → (k y : ℕ) →
       slice_get (a ∷ rest) k ≡ Some y →
       (u : Bool) × (v : Bool) × (y < length p.sections) × (occupancy y ≡ Some (Taken d u v))
   along a rest d t h within is c zero y at =
@@ -98,9 +100,9 @@ module _ (p : PlantLists) (plant : IsPlant p) (never : NeverReturns p) (lie : �
       let same : step.0 ≡ d = (same_taken (sym step.3 ∙ is)).0 in
       along b rest d false step.2 step.5 (step.7 ∙ ap (λ v. Some (Taken v false step.2)) same) c.1 k y at
 
-  -- and the places of a chain from a tail are the tail's and the head's
+  -- In a chain from a tail, only the first section has a tail and only the last has a head.
   at-place : (a : ℕ) (rest : List ℕ) (d : Dir) (h : Bool) → a < length p.sections →
-      occupancy a ≡ Some (Taken d true h) → IsChain (onward p lie occupancy) a rest → (k y : ℕ) →
+      occupancy a ≡ Some (Taken d true h) → IsChain (following_section p lie occupancy) a rest → (k y : ℕ) →
       slice_get (a ∷ rest) k ≡ Some y → occupancy y ≡ Some (Taken d (k == 0) (k + 1 == length (a ∷ rest)))
   at-place a rest d h within is c k y at =
       let there = along a rest d true h within is c k y at in
@@ -109,7 +111,7 @@ module _ (p : PlantLists) (plant : IsPlant p) (never : NeverReturns p) (lie : �
       tail-bit : (k : ℕ) → slice_get (a ∷ rest) k ≡ Some y → (u v : Bool) → occupancy y ≡ Some (Taken d u v) → u ≡ (k == 0)
       tail-bit zero here u v there = (same_taken (sym there ∙ ap occupancy (sym (same_Some a y here)) ∙ is)).1
       tail-bit (suc j) here u v there =
-          let before = chain-before (onward p lie occupancy) a rest j y c here in
+          let before = chain-before (following_section p lie occupancy) a rest j y c here in
           let known = along a rest d true h within is c j before.0 before.1 in
           let step = step-forth p plant never lie occupancy fits before.0 y known.2 before.2 in
           let no_tail : (suc j == 0) ≡ false = ne_eqb (suc j) 0 (λ e. absurd (omega arith)) in
@@ -119,43 +121,42 @@ module _ (p : PlantLists) (plant : IsPlant p) (never : NeverReturns p) (lie : �
       head-bit true u known there true e = refl
       head-bit false u known there false e = refl
       head-bit false u known there true e =
-          let last = chain-last (onward p lie occupancy) a rest k y c at (eqb-true (k + 1) (length (a ∷ rest)) e) in
-          let next = some-and (joined_to p lie y d) (λ z. is_some_and (occupancy z) (has_more_behind d)) (demands p plant never lie occupancy fits y d u false known there).1 in
-          absurd (none-some next.0 (sym last ∙ ap (onward_from p lie y) there ∙ next.1))
+          let last = chain-last (following_section p lie occupancy) a rest k y c at (eqb-true (k + 1) (length (a ∷ rest)) e) in
+          let next = some-and (joined_section p lie y d) (λ z. is_some_and (occupancy z) (has_more_behind d)) (demands p plant never lie occupancy fits y d u false known there).1 in
+          absurd (none-some next.0 (sym last ∙ ap (section_ahead_in_body p lie y) there ∙ next.1))
       head-bit true u known there false e =
           let within_body = slice_get_within (a ∷ rest) k y at in
           let more : suc k < length (a ∷ rest) = (let other = eqb-false (k + 1) (length (a ∷ rest)) e in omega arith) in
           let next : (z : ℕ) × (slice_get (a ∷ rest) (suc k) ≡ Some z) = item_at (a ∷ rest) (suc k) more in
-          let before = chain-before (onward p lie occupancy) a rest k next.0 c next.1 in
+          let before = chain-before (following_section p lie occupancy) a rest k next.0 c next.1 in
           let same : before.0 ≡ y = same_Some before.0 y (sym before.1 ∙ at) in
-          let led : onward p lie occupancy y ≡ Some next.0 = ap (onward p lie occupancy) (sym same) ∙ before.2 in
-          let is_on = onward-is p lie occupancy y next.0 led in
+          let led : following_section p lie occupancy y ≡ Some next.0 = ap (following_section p lie occupancy) (sym same) ∙ before.2 in
+          let is_on = following_section-is p lie occupancy y next.0 led in
           (same_taken (sym there ∙ is_on.2)).2
 
-  module _ (s : State) (lies : (x : ℕ) → lie_of p s x ≡ lie x) (trains : s.trains ≡ trains_of p lie occupancy) (others : HasShape p (record s { trains = [] })) where
+  module _ (s : State) (lies : (x : ℕ) → detected_position p s x ≡ lie x) (trains : s.trains ≡ trains_of p lie occupancy) (others : HasShape p (record s { trains = [] })) where
     made-at : (i : ℕ) (u : Train) → slice_get s.trains i ≡ Some u →
         (a : ℕ) × (d : Dir) × (h : Bool) × (a < length p.sections) × (occupancy a ≡ Some (Taken d true h)) ×
         (record { dir = d; body = a ∷ rest-of a } ≡ u) ×
-        (train_from p lie occupancy a (occupancy a) ≡ Some u)
+        (train_from_tail p lie occupancy a (occupancy a) ≡ Some u)
     made-at i u at =
-        let from = filter_map-at (λ x. train_from p lie occupancy x (occupancy x)) (range_with_len 0 (length p.sections)) i u (ap (λ ts. slice_get ts i) (sym trains) ∙ at) in
+        let from = filter_map-at (λ x. train_from_tail p lie occupancy x (occupancy x)) (range_with_len 0 (length p.sections)) i u (ap (λ ts. slice_get ts i) (sym trains) ∙ at) in
         let place = range_within (length p.sections) from.0 from.1 from.2 in
         let is = train-is p lie occupancy from.1 u from.3 in
         (from.1, is.0, is.1, place.1, is.2, is.3, from.3)
 
-    made-body : (i : ℕ) (u : Train) → slice_get s.trains i ≡ Some u → is_body p u ≡ true
+    made-body : (i : ℕ) (u : Train) → slice_get s.trains i ≡ Some u → has_valid_body p u ≡ true
     made-body i u at =
         let m = made-at i u at in
         let a = m.0 in
         let within = m.3 in
         let known : nat_lt a (length p.sections) ≡ true = grind (arith, nat_tests) in
-        let walk = walk-forth p plant never lie occupancy fits a (rest-of a) m.1 true m.2 m.3 m.4 (chain-walk (onward p lie occupancy) a (rest-of a) (whole a m.1 true m.2 m.3 m.4)) in
-        ap (is_body p) (sym m.5) ∙ and_from _ _ known walk
+        let walk = walk-forth p plant never lie occupancy fits a (rest-of a) m.1 true m.2 m.3 m.4 (chain-walk (following_section p lie occupancy) a (rest-of a) (whole a m.1 true m.2 m.3 m.4)) in
+        ap (has_valid_body p) (sym m.5) ∙ and_from _ _ known walk
 
     pub made-shape : HasShape p s
-    made-shape = record { routes = others.routes; points = others.points; boards = others.boards; locks = others.locks; counts = others.counts; bodies = all-pass (is_body p) s.trains made-body }
+    made-shape = record { routes = others.routes; points = others.points; boards = others.boards; locks = others.locks; counts = others.counts; bodies = all-pass (has_valid_body p) s.trains made-body }
 
-    -- the occupancy of each section of a body
     made-in : (i k y : ℕ) (u : Train) → slice_get s.trains i ≡ Some u → slice_get u.body k ≡ Some y → occupancy y ≡ Some (Taken u.dir (k == 0) (k + 1 == length u.body))
     made-in i k y u at here =
         let m = made-at i u at in
@@ -168,29 +169,29 @@ module _ (p : PlantLists) (plant : IsPlant p) (never : NeverReturns p) (lie : �
         let l = made-at j v also in
         let pu = section-at y u.body hu in
         let pv = section-at y v.body hv in
-        let tail-first : (a : ℕ) (d : Dir) (h : Bool) → occupancy a ≡ Some (Taken d true h) → backward p lie occupancy a ≡ None = λ a d h is. ap (backward_from p lie a) is in
+        let tail-first : (a : ℕ) (d : Dir) (h : Bool) → occupancy a ≡ Some (Taken d true h) → preceding_section p lie occupancy a ≡ None = λ a d h is. ap (section_behind_in_body p lie a) is in
         let taken : (a : ℕ) (d : Dir) (h : Bool) → a < length p.sections → occupancy a ≡ Some (Taken d true h) → IsTaken p occupancy a = λ a d h within is. record { dir = d; tail = true; head = h; within = within; is = is } in
         let same : m.0 ≡ l.0 =
-        one_first (length p.sections) (IsTaken p occupancy) (onward p lie occupancy)
-        (backward p lie occupancy) (tracks p plant never lie occupancy fits) m.0 l.0 (rest-of m.0)
+        one_first (length p.sections) (IsTaken p occupancy) (following_section p lie occupancy)
+        (preceding_section p lie occupancy) (tracks p plant never lie occupancy fits) m.0 l.0 (rest-of m.0)
         (rest-of l.0) (taken m.0 m.1 m.2 m.3 m.4) (taken l.0 l.1 l.2 l.3 l.4)
         (whole m.0 m.1 true m.2 m.3 m.4) (whole l.0 l.1 true l.2 l.3 l.4) (tail-first m.0 m.1 m.2 m.4)
         (tail-first l.0 l.1 l.2 l.4) pu.0 pv.0 y (ap (λ (t : Train). slice_get t.body pu.0) m.5 ∙ pu.1)
         (ap (λ (t : Train). slice_get t.body pv.0) l.5 ∙ pv.1) in
-        let one : v ≡ u = same_Some v u (sym l.6 ∙ ap (λ a. train_from p lie occupancy a (occupancy a)) (sym same) ∙ m.6) in
+        let one : v ≡ u = same_Some v u (sym l.6 ∙ ap (λ a. train_from_tail p lie occupancy a (occupancy a)) (sym same) ∙ m.6) in
         trains-once p lie occupancy i j u (ap (λ ts. slice_get ts i) (sym trains) ∙ at) (ap (λ ts. slice_get ts j) (sym trains) ∙ also ∙ ap Some one)
 
-    -- each section of a body leads to the next
-    made-joined : (i k x y : ℕ) (u : Train) → slice_get s.trains i ≡ Some u → slice_get u.body k ≡ Some x → slice_get u.body (suc k) ≡ Some y → (d : Dir) × (ahead_by p lie x d ≡ Some y) × (ahead_by p lie y (opposite_direction d) ≡ Some x)
+    made-joined : (i k x y : ℕ) (u : Train) → slice_get s.trains i ≡ Some u → slice_get u.body k ≡ Some x → slice_get u.body (suc k) ≡ Some y → (d : Dir) × (section_ahead p lie x d ≡ Some y) × (section_ahead p lie y (opposite_direction d) ≡ Some x)
     made-joined i k x y u at here next =
         let m = made-at i u at in
-        let before = chain-before (onward p lie occupancy) m.0 (rest-of m.0) k y (whole m.0 m.1 true m.2 m.3 m.4) (ap (λ (t : Train). slice_get t.body (suc k)) m.5 ∙ next) in
+        let before = chain-before (following_section p lie occupancy) m.0 (rest-of m.0) k y (whole m.0 m.1 true m.2 m.3 m.4) (ap (λ (t : Train). slice_get t.body (suc k)) m.5 ∙ next) in
         let same : before.0 ≡ x = same_Some before.0 x (sym before.1 ∙ ap (λ (t : Train). slice_get t.body k) m.5 ∙ here) in
-        let led = onward-is p lie occupancy x y (ap (onward p lie occupancy) (sym same) ∙ before.2) in
+        let led = following_section-is p lie occupancy x y (ap (following_section p lie occupancy) (sym same) ∙ before.2) in
         let parts = joined-parts p lie x y led.0 led.3 in
         (led.0, parts.0, parts.1)
 
-    made-right : (i : ℕ) (u : Train) (x stem plus minus : ℕ) (faces : Dir) → slice_get s.trains i ≡ Some u → slice_get p.sections x ≡ Some (Point stem plus minus faces) → (o : Option Lie) → lie x ≡ o → strays x plus minus o u.body ≡ false
+    made-right : (i : ℕ) (u : Train) (x stem plus minus : ℕ) (faces : Dir) → slice_get s.trains i ≡ Some u → slice_get p.sections x ≡ Some (Point stem plus minus faces) → (o : Option Lie) → lie x ≡ o
+        → is_wrong_under_body x plus minus o u.body ≡ false
     made-right i u x stem plus minus faces at section None l = refl
     made-right i u x stem plus minus faces at section (Some Moving) l =
         false_from_ne_true (has_section x u.body) (λ h.
@@ -198,14 +199,14 @@ module _ (p : PlantLists) (plant : IsPlant p) (never : NeverReturns p) (lie : �
         let still = (demands p plant never lie occupancy fits x u.dir (place.0 == 0) (place.0 + 1 == length u.body) (slice_get_within p.sections x (Point stem plus minus faces) section) (made-in i place.0 x u at place.1)).0 in
         false≢true (rw l at still))
     made-right i u x stem plus minus faces at section (Some Plus) l =
-        false_from_ne_true (has_pair x minus u.body) (λ h.
+        false_from_ne_true (are_adjacent_in x minus u.body) (λ h.
         let places = pair-places u.body x minus h in
         elim places.1 [
           | inl e ↦ (let joined = made-joined i places.0 x minus u at e.0 e.1 in (other-leg p plant lie x stem plus minus faces joined.0 section).0 l joined.1)
           | inr e ↦ (let joined = made-joined i places.0 minus x u at e.0 e.1 in (other-leg p plant lie x stem plus minus faces (opposite_direction joined.0) section).0 l joined.2)
         ])
     made-right i u x stem plus minus faces at section (Some Minus) l =
-        false_from_ne_true (has_pair x plus u.body) (λ h.
+        false_from_ne_true (are_adjacent_in x plus u.body) (λ h.
         let places = pair-places u.body x plus h in
         elim places.1 [
           | inl e ↦ (let joined = made-joined i places.0 x plus u at e.0 e.1 in (other-leg p plant lie x stem plus minus faces joined.0 section).1 l joined.1)
@@ -214,16 +215,16 @@ module _ (p : PlantLists) (plant : IsPlant p) (never : NeverReturns p) (lie : �
 
     made-safe : (x : ℕ) → is_hazardous p s x ≡ false
     made-safe x =
-        or_from (is_two s x) (is_wrong p s x) (le-ltb 1 (count_by (has_x x) s.trains) (few-from_places (has_x x) s.trains (λ i j u v at also hu hv. made-alone i j x u v at also hu hv))) (by_section (slice_get p.sections x) refl)
+        or_from (has_two_trains s x) (is_wrong_under_train p s x) (le-ltb 1 (count_by (has_x x) s.trains) (few-from_places (has_x x) s.trains (λ i j u v at also hu hv. made-alone i j x u v at also hu hv))) (by_section (slice_get p.sections x) refl)
       where
-        by_section : (o : Option Section) → slice_get p.sections x ≡ o → is_wrong p s x ≡ false
+        by_section : (o : Option Section) → slice_get p.sections x ≡ o → is_wrong_under_train p s x ≡ false
         by_section None e = rw e refl
         by_section (Some (Linear down up b c)) e = rw e refl
         by_section (Some (Point stem plus minus faces)) e =
-            let right : list_any (λ (train : Train). strays x plus minus (lie_of p s x) train.body) s.trains
+            let right : list_any (λ (train : Train). is_wrong_under_body x plus minus (detected_position p s x) train.body) s.trains
             ≡ false =
-            none-pass (λ (train : Train). strays x plus minus (lie_of p s x) train.body) s.trains
-            (λ i u at. made-right i u x stem plus minus faces at e (lie_of p s x) (sym (lies x))) in
+            none-pass (λ (train : Train). is_wrong_under_body x plus minus (detected_position p s x) train.body) s.trains
+            (λ i u at. made-right i u x stem plus minus faces at e (detected_position p s x) (sym (lies x))) in
             rw e right
 
     pub made-calm : hazard p s ≡ None
@@ -247,22 +248,23 @@ module _ (p : PlantLists) (plant : IsPlant p) (never : NeverReturns p) (lie : �
             let none = find-none-from (has_x x) s.trains (not-had is) in
             rw (safe, none) refl
         by_occupancy (Some (Taken d t head)) is h =
-            let first = first_of (length p.sections) (IsTaken p occupancy) (onward p lie occupancy) (backward p lie occupancy) (tracks p plant never lie occupancy fits) x (record { dir = d; tail = t; head = head; within = within; is = is }) in
+            let first = first_of (length p.sections) (IsTaken p occupancy) (following_section p lie occupancy) (preceding_section p lie occupancy) (tracks p plant never lie occupancy fits) x
+            (record { dir = d; tail = t; head = head; within = within; is = is }) in
             let on_first = first.2 in
             let tail : on_first.tail ≡ true = tail-of on_first.tail first.0 on_first refl first.3 in
-            let begins : train_from p lie occupancy first.0 (occupancy first.0)
+            let begins : train_from_tail p lie occupancy first.0 (occupancy first.0)
             ≡ Some (record { dir = on_first.dir; body = first.0 ∷ rest-of first.0 }) =
-            ap (train_from p lie occupancy first.0)
+            ap (train_from_tail p lie occupancy first.0)
             (on_first.is ∙ ap (λ b. Some (Taken on_first.dir b on_first.head)) tail) in
-            let placed = filter_map-of (λ v. train_from p lie occupancy v (occupancy v)) (range_with_len 0 (length p.sections)) first.0 first.0 _ (range-at (length p.sections) first.0 on_first.within) begins in
+            let placed = filter_map-of (λ v. train_from_tail p lie occupancy v (occupancy v)) (range_with_len 0 (length p.sections)) first.0 first.0 _ (range-at (length p.sections) first.0 on_first.within) begins in
             let at : slice_get s.trains placed.0 ≡ Some (record { dir = on_first.dir; body = first.0 ∷ rest-of first.0 }) = ap (λ ts. slice_get ts placed.0) trains ∙ placed.1 in
             let u : Train = record { dir = on_first.dir; body = first.0 ∷ rest-of first.0 } in
             let there : occupancy x ≡ Some (Taken on_first.dir (first.1 == 0) (first.1 + 1 == length u.body)) = made-in placed.0 first.1 x u at first.4 in
             let own : occupancy_of p s x ≡ Taken on_first.dir (first.1 == 0) (first.1 + 1 == length u.body) = occupancy-in p plant never s made-shape made-calm placed.0 first.1 x u at first.4 in
             sym is ∙ there ∙ ap Some (sym own)
           where
-            tail-of : (b : Bool) → (a : ℕ) → (on_a : IsTaken p occupancy a) → on_a.tail ≡ b → backward p lie occupancy a ≡ None → on_a.tail ≡ true
+            tail-of : (b : Bool) → (a : ℕ) → (on_a : IsTaken p occupancy a) → on_a.tail ≡ b → preceding_section p lie occupancy a ≡ None → on_a.tail ≡ true
             tail-of true a on_a e none = e
             tail-of false a on_a e none =
-                let before = some-and (joined_to p lie a (opposite_direction on_a.dir)) _ (demands p plant never lie occupancy fits a on_a.dir false on_a.head on_a.within (on_a.is ∙ ap (λ b. Some (Taken on_a.dir b on_a.head)) e)).2 in
-                absurd (none-some before.0 (sym none ∙ ap (backward_from p lie a) (on_a.is ∙ ap (λ b. Some (Taken on_a.dir b on_a.head)) e) ∙ before.1))
+                let before = some-and (joined_section p lie a (opposite_direction on_a.dir)) _ (demands p plant never lie occupancy fits a on_a.dir false on_a.head on_a.within (on_a.is ∙ ap (λ b. Some (Taken on_a.dir b on_a.head)) e)).2 in
+                absurd (none-some before.0 (sym none ∙ ap (section_behind_in_body p lie a) (on_a.is ∙ ap (λ b. Some (Taken on_a.dir b on_a.head)) e) ∙ before.1))

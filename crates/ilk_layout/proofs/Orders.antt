@@ -1,11 +1,11 @@
--- Lists with the same items, in which none stands twice, are permutations of each other.
+-- Two lists without duplicates that have the same items are permutations of each other.
 use Rattle.std.proofs.Common.{◌≡◌, ℕ, zero, suc, Option, Some, None, List, [], ◌∷◌, IsPermutation, filter_map, remove, slice_get, refl, sym, ◌∙◌, ap, subst, arith}
 use Rattle.std.specs.List.{cons_option}
 use Rattle.std.proofs.lemmas.List.Sorted.{IsPermutation-cons, IsPermutation-refl, IsPermutation-remove, IsPermutation-sym, IsPermutation-trans}
 use Rattle.std.proofs.lemmas.Option.{get_or_from_slice_get, same_Some, slice_get_within}
 use Rattle.ilk_base.proofs.Once.{EachOnce}
 
--- the place that an item had before the one at j was removed
+-- The index of an item before the one at `j` was removed.
 pub skip : ℕ → ℕ → ℕ
 skip zero m = suc m
 skip (suc j) zero = zero
@@ -43,7 +43,7 @@ kept-at (y ∷ xs) (suc j) (suc k) x at other = let rest = kept-at xs j k x at (
 pub once-removed : {X : Type 0} (xs : List X) (j : ℕ) → EachOnce xs → EachOnce (remove xs j)
 once-removed xs j once m k x at also = skip-once j m k (once (skip j m) (skip j k) x (removed-at xs j m x at) (removed-at xs j k x also))
 
--- each item of the first stands in the second
+-- Each item of the first list is in the second.
 abbrev pub Within : {X : Type 0} → List X → List X → Type 0
 Within {X} xs ys = (i : ℕ) (x : X) → slice_get xs i ≡ Some x → (j : ℕ) × (slice_get ys j ≡ Some x)
 
@@ -68,7 +68,6 @@ permuted {X} (x ∷ xs) ys once once_too in_ys in_xs =
     back j m v at was zero here = absurd (skip-other j m (once_too (skip j m) j x (was ∙ sym here) at))
     back j m v at was (suc k) here = (k, here)
 
--- what stands among the values that a function gives for the items of a list
 pub filter_map-at : {X Y : Type 0} (f : X → Option Y) (xs : List X) (i : ℕ) (y : Y) → slice_get (filter_map f xs) i ≡ Some y → (j : ℕ) × (x : X) × (slice_get xs j ≡ Some x) × (f x ≡ Some y)
 filter_map-at f [] i y at = cc
 filter_map-at {X} {Y} f (z ∷ xs) i y at = by_value (filter_map-at f xs) (f z) refl i at
@@ -91,7 +90,7 @@ filter_map-of {X} {Y} f (z ∷ xs) (suc j) x y at e = by_value (f z) refl (filte
     by_value None g rest = (rest.0, rw g rest.1)
     by_value (Some v) g rest = (suc rest.0, rw g rest.1)
 
--- none of them stands twice, where different items have different values
+-- The results have no duplicates if different items have different values.
 pub filter_map-once : {X Y : Type 0} (f : X → Option Y) (xs : List X) → ((u v : X) (y : Y) → f u ≡ Some y → f v ≡ Some y → u ≡ v) → EachOnce xs → EachOnce (filter_map f xs)
 filter_map-once f [] apart once = λ i j y at also. cc
 filter_map-once {X} {Y} f (z ∷ xs) apart once = by_value (filter_map-once f xs apart rest_once) (f z) refl

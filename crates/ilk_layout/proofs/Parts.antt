@@ -1,8 +1,7 @@
--- Five lists of values, one after another: what stands in each, and a write to each.
+-- Five concatenated lists of values: reads and writes in each.
 use Rattle.std.proofs.Common.{◌≡◌, ℕ, zero, suc, ◌+◌, ◌-◌, ◌<◌, List, [], ◌∷◌, ◌++◌, length, set, slice_get, refl, ◌∙◌, ap, arith}
 use Rattle.std.proofs.lemmas.List.{set-append_left, set-append_right}
 
--- past a first list, and in it
 pub get-past : (xs ys : List ℕ) (n i : ℕ) → length xs ≡ n → slice_get (xs ++ ys) (n + i) ≡ slice_get ys i
 get-past [] ys n i e = ap (slice_get ys) (omega arith)
 get-past (x ∷ xs) ys n i e =
@@ -19,7 +18,6 @@ set-past xs ys n i v e =
     set-append_right xs ys n (n + i) v e (omega arith) ∙ (let k : n + i - n ≡ i = omega arith in rw k refl)
 
 module _ (a b c d e : List ℕ) (na nb nc nd : ℕ) (la : length a ≡ na) (lb : length b ≡ nb) (lc : length c ≡ nc) (ld : length d ≡ nd) where
-  -- the lists one after another
   abbrev pub laid : List ℕ
   laid = a ++ (b ++ (c ++ (d ++ e)))
 

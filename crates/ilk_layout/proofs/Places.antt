@@ -1,4 +1,4 @@
--- The values of routes and points at their places, and after a write there.
+-- The values of routes and points at their indices, and after a write.
 use Rattle.std.proofs.Common.{◌≡◌, ℕ, zero, suc, ◌+◌, ◌*◌, Some, List, [], ◌∷◌, length, set, slice_get, refl, ap, ◌∙◌, arith}
 use Rattle.std.specs.List.{flat_map}
 use Rattle.ilk_plant.specs.declared.network.Position.{Position}
@@ -54,7 +54,7 @@ get-to [] n point at = cc
 get-to (q ∷ qs) zero point at = let same : q ≡ point = cc in rw same refl
 get-to (q ∷ qs) (suc n) point at = ap (slice_get (flat_map point_values (q ∷ qs))) (two_more n 1) ∙ get-to qs n point at
 
--- what follows the values of a first route, or of a first point
+-- The values of a first route, or of a first point, before the rest.
 abbrev after_route : RouteState → List ℕ → List ℕ
 after_route q values = mode_value q.mode ∷ q.seen ∷ q.rel ∷ values
 

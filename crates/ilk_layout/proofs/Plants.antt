@@ -1,5 +1,4 @@
--- What a plant gives a body: its sections are sections of the plant, none stands twice, and the way from one to the
--- next goes both ways.
+-- Bodies in a plant: their sections exist, none is repeated, and each step can be reversed.
 use Rattle.std.proofs.Common.{◌≡◌, ℕ, zero, suc, ◌<◌, ◌≤◌, ◌==◌, eqb, true, false, Option, Some, None, List, [], ◌∷◌, length, nat_lt, slice_get, refl, sym, ◌∙◌, ap, arith}
 use Rattle.std.specs.List.{AllByRecursion, IsDistinct}
 use Rattle.std.proofs.lemmas.Bool.{and_parts, eq-eqb, eqb-true, ne_eqb}
@@ -9,11 +8,11 @@ use Rattle.std.proofs.lemmas.Option.{cond_some, slice_get_within}
 use Rattle.ilk_base.proofs.Once.{EachOnce}
 use Rattle.ilk_base.proofs.Options.{bind_some}
 use Rattle.ilk_base.proofs.Tested.{list_any-at}
-use Rattle.ilk_plant.specs.Network.{beside, has_section}
+use Rattle.ilk_plant.specs.Network.{neighbours_on, has_section}
 use Rattle.ilk_plant.specs.NetworkRules.{opposite_direction}
 use Rattle.ilk_plant.specs.Plant.{IsPlant, PlantLists, next_to}
-use Rattle.ilk_plant.specs.Shape.{is_body, leads_on}
-use Rattle.ilk_plant.specs.Sound.{NeverReturns}
+use Rattle.ilk_plant.specs.Shape.{has_valid_body, is_connected}
+use Rattle.ilk_plant.specs.Sound.{NoWalkReturns}
 use Rattle.ilk_plant.specs.declared.network.Dir.{Dir}
 use Rattle.ilk_plant.specs.declared.network.Dir.TheVariants.{Up, Down}
 use Rattle.ilk_plant.specs.declared.network.Section.{Section}
@@ -21,39 +20,37 @@ use Rattle.ilk_plant.specs.declared.network.Section.TheVariants.{Linear, Point}
 use Rattle.ilk_plant.specs.declared.state.Lie.{Lie}
 use Rattle.ilk_plant.specs.declared.state.Lie.TheVariants.{Plus, Minus, Moving}
 use Rattle.ilk_plant.specs.declared.state.Train.{Train}
-use Rattle.ilk_plant.proofs.Once.{none_twice-places}
-use Rattle.ilk_motion.specs.Ahead.{leads_to}
-use Rattle.ilk_layout.specs.Wellformed.{ahead_by, joined_to}
+use Rattle.ilk_plant.proofs.Once.{numbers_differ-places}
+use Rattle.ilk_motion.specs.Ahead.{section_led_to}
+use Rattle.ilk_layout.specs.Wellformed.{section_ahead, joined_section}
 
--- each section of a walk from a section of the plant is one
-pub walk-known : (p : PlantLists) → IsPlant p → (d : Dir) (x : ℕ) (walk : List ℕ) (i y : ℕ) → x < length p.sections → leads_on p d x walk ≡ true → slice_get (x ∷ walk) i ≡ Some y → y < length p.sections
+pub walk-known : (p : PlantLists) → IsPlant p → (d : Dir) (x : ℕ) (walk : List ℕ) (i y : ℕ) → x < length p.sections → is_connected p d x walk ≡ true → slice_get (x ∷ walk) i ≡ Some y → y < length p.sections
 walk-known p plant d x walk zero y within on at = let same : x ≡ y = cc in omega arith
 walk-known p plant d x [] (suc i) y within on at = cc
 walk-known p plant d x (z ∷ walk) (suc i) y within on at =
-    let parts = and_parts (has_section z (next_to p x d)) (leads_on p d z walk) on in
+    let parts = and_parts (has_section z (next_to p x d)) (is_connected p d z walk) on in
     walk-known p plant d z walk i y (plant.neighbours x z d parts.0) parts.1 at
 
--- a train's body begins at a section of the plant and leads on
-pub body-parts : (p : PlantLists) (d : Dir) (x : ℕ) (rest : List ℕ) → is_body p (record { dir = d; body = x ∷ rest }) ≡ true → (x < length p.sections) × (leads_on p d x rest ≡ true)
+pub body-parts : (p : PlantLists) (d : Dir) (x : ℕ) (rest : List ℕ) → has_valid_body p (record { dir = d; body = x ∷ rest }) ≡ true → (x < length p.sections) × (is_connected p d x rest ≡ true)
 body-parts p d x rest h =
-    let parts = and_parts (nat_lt x (length p.sections)) (leads_on p d x rest) h in
+    let parts = and_parts (nat_lt x (length p.sections)) (is_connected p d x rest) h in
     let within : x < length p.sections = (let test = parts.0 in grind (arith, nat_tests)) in
     (within, parts.1)
 
-pub body-known : (p : PlantLists) (train : Train) (i x : ℕ) → IsPlant p → is_body p train ≡ true → slice_get train.body i ≡ Some x → x < length p.sections
+pub body-known : (p : PlantLists) (train : Train) (i x : ℕ) → IsPlant p → has_valid_body p train ≡ true → slice_get train.body i ≡ Some x → x < length p.sections
 body-known p train i x plant h at = known train.dir train.body h at
   where
-    known : (d : Dir) (body : List ℕ) → is_body p (record { dir = d; body = body }) ≡ true → slice_get body i ≡ Some x → x < length p.sections
+    known : (d : Dir) (body : List ℕ) → has_valid_body p (record { dir = d; body = body }) ≡ true → slice_get body i ≡ Some x → x < length p.sections
     known d [] h at = cc
     known d (y ∷ rest) h at =
         let parts = body-parts p d y rest h in walk-known p plant d y rest i x parts.0 parts.1 at
 
-pub body-once : (p : PlantLists) (train : Train) → NeverReturns p → is_body p train ≡ true → EachOnce train.body
+pub body-once : (p : PlantLists) (train : Train) → NoWalkReturns p → has_valid_body p train ≡ true → EachOnce train.body
 body-once p train never h = once train.dir train.body h
   where
-    once : (d : Dir) (body : List ℕ) → is_body p (record { dir = d; body = body }) ≡ true → EachOnce body
+    once : (d : Dir) (body : List ℕ) → has_valid_body p (record { dir = d; body = body }) ≡ true → EachOnce body
     once d [] h = λ i j v at also. cc
-    once d (y ∷ rest) h = none_twice-places (y ∷ rest) (never d y rest (body-parts p d y rest h).1)
+    once d (y ∷ rest) h = numbers_differ-places (y ∷ rest) (never d y rest (body-parts p d y rest h).1)
 
 distinct : (xs : List ℕ) → EachOnce xs → IsDistinct eqb xs
 unfolding IsDistinct
@@ -65,7 +62,7 @@ distinct (x ∷ xs) once =
     others [] f = tt
     others (y ∷ ys) f = (f zero y refl, others ys (λ j v at. f (suc j) v at))
 
--- different numbers below n are at most n
+-- At most `n` different numbers are below `n`.
 few-below : (xs : List ℕ) (n : ℕ) → EachOnce xs → ((i x : ℕ) → slice_get xs i ≡ Some x → x < n) → length xs ≤ n
 few-below xs n once below =
     length-le_from_distinct_below xs n (distinct xs once)
@@ -75,51 +72,47 @@ few-below xs n once below =
     let same = eqb-true q found.1 found.3 in let less = below found.0 found.1 found.2 in
     omega arith))
 
--- a walk has fewer steps than there are sections
-pub walk-short : (p : PlantLists) → IsPlant p → NeverReturns p → (d : Dir) (x : ℕ) (walk : List ℕ) → x < length p.sections → leads_on p d x walk ≡ true → length walk < length p.sections
+pub walk-short : (p : PlantLists) → IsPlant p → NoWalkReturns p → (d : Dir) (x : ℕ) (walk : List ℕ) → x < length p.sections → is_connected p d x walk ≡ true → length walk < length p.sections
 walk-short p plant never d x walk within on =
-    let few = few-below (x ∷ walk) (length p.sections) (none_twice-places (x ∷ walk) (never d x walk on)) (λ i y at. walk-known p plant d x walk i y within on at) in
+    let few = few-below (x ∷ walk) (length p.sections) (numbers_differ-places (x ∷ walk) (never d x walk on)) (λ i y at. walk-known p plant d x walk i y within on at) in
     omega arith
 
--- what a section leads to lies beside it
-led-beside : (k : Section) (d : Dir) (lie : Option Lie) (y : ℕ) → leads_to k d lie ≡ Some y → has_section y (beside k d) ≡ true
-led-beside (Linear down up b c) Down lie y e = rw e (grind (arith, nat_tests))
-led-beside (Linear down up b c) Up lie y e = rw e (grind (arith, nat_tests))
-led-beside (Point stem plus minus Up) Up (Some Plus) y e = grind (arith, nat_tests)
-led-beside (Point stem plus minus Up) Up (Some Minus) y e = grind (arith, nat_tests)
-led-beside (Point stem plus minus Up) Up (Some Moving) y e = cc
-led-beside (Point stem plus minus Up) Up None y e = cc
-led-beside (Point stem plus minus Up) Down lie y e = grind (arith, nat_tests)
-led-beside (Point stem plus minus Down) Down (Some Plus) y e = grind (arith, nat_tests)
-led-beside (Point stem plus minus Down) Down (Some Minus) y e = grind (arith, nat_tests)
-led-beside (Point stem plus minus Down) Down (Some Moving) y e = cc
-led-beside (Point stem plus minus Down) Down None y e = cc
-led-beside (Point stem plus minus Down) Up lie y e = grind (arith, nat_tests)
+led-neighbours_on : (k : Section) (d : Dir) (lie : Option Lie) (y : ℕ) → section_led_to k d lie ≡ Some y → has_section y (neighbours_on k d) ≡ true
+led-neighbours_on (Linear down up b c) Down lie y e = rw e (grind (arith, nat_tests))
+led-neighbours_on (Linear down up b c) Up lie y e = rw e (grind (arith, nat_tests))
+led-neighbours_on (Point stem plus minus Up) Up (Some Plus) y e = grind (arith, nat_tests)
+led-neighbours_on (Point stem plus minus Up) Up (Some Minus) y e = grind (arith, nat_tests)
+led-neighbours_on (Point stem plus minus Up) Up (Some Moving) y e = cc
+led-neighbours_on (Point stem plus minus Up) Up None y e = cc
+led-neighbours_on (Point stem plus minus Up) Down lie y e = grind (arith, nat_tests)
+led-neighbours_on (Point stem plus minus Down) Down (Some Plus) y e = grind (arith, nat_tests)
+led-neighbours_on (Point stem plus minus Down) Down (Some Minus) y e = grind (arith, nat_tests)
+led-neighbours_on (Point stem plus minus Down) Down (Some Moving) y e = cc
+led-neighbours_on (Point stem plus minus Down) Down None y e = cc
+led-neighbours_on (Point stem plus minus Down) Up lie y e = grind (arith, nat_tests)
 
-pub ahead-beside : (p : PlantLists) (lie : ℕ → Option Lie) (x y : ℕ) (d : Dir) → ahead_by p lie x d ≡ Some y → (x < length p.sections) × (has_section y (next_to p x d) ≡ true)
-ahead-beside p lie x y d e =
-    let found = bind_some (slice_get p.sections x) (λ k. leads_to k d (lie x)) y e in
-    (slice_get_within p.sections x found.0 found.1, rw found.1 (led-beside found.0 d (lie x) y found.2))
+pub ahead-neighbours_on : (p : PlantLists) (lie : ℕ → Option Lie) (x y : ℕ) (d : Dir) → section_ahead p lie x d ≡ Some y → (x < length p.sections) × (has_section y (next_to p x d) ≡ true)
+ahead-neighbours_on p lie x y d e =
+    let found = bind_some (slice_get p.sections x) (λ k. section_led_to k d (lie x)) y e in
+    (slice_get_within p.sections x found.0 found.1, rw found.1 (led-neighbours_on found.0 d (lie x) y found.2))
 
 pub turned-twice : (d : Dir) → opposite_direction (opposite_direction d) ≡ d
 turned-twice Up = refl
 turned-twice Down = refl
 
--- the two halves of the way from one section to the next
-pub joined-parts : (p : PlantLists) (lie : ℕ → Option Lie) (x y : ℕ) (d : Dir) → joined_to p lie x d ≡ Some y → (ahead_by p lie x d ≡ Some y) × (ahead_by p lie y (opposite_direction d) ≡ Some x)
+pub joined-parts : (p : PlantLists) (lie : ℕ → Option Lie) (x y : ℕ) (d : Dir) → joined_section p lie x d ≡ Some y → (section_ahead p lie x d ≡ Some y) × (section_ahead p lie y (opposite_direction d) ≡ Some x)
 joined-parts p lie x y d e =
-    let one = bind_some (ahead_by p lie x d) _ y e in
-    let two = bind_some (ahead_by p lie one.0 (opposite_direction d)) _ y one.2 in
+    let one = bind_some (section_ahead p lie x d) _ y e in
+    let two = bind_some (section_ahead p lie one.0 (opposite_direction d)) _ y one.2 in
     let three = cond_some (two.0 == x) one.0 y two.2 in
     let there : one.0 ≡ y = three.1 in
     let here : two.0 ≡ x = eqb-true two.0 x three.0 in
-    (one.1 ∙ ap Some there, ap (λ v. ahead_by p lie v (opposite_direction d)) (sym there) ∙ two.1 ∙ ap Some here)
+    (one.1 ∙ ap Some there, ap (λ v. section_ahead p lie v (opposite_direction d)) (sym there) ∙ two.1 ∙ ap Some here)
 
-pub joined-from : (p : PlantLists) (lie : ℕ → Option Lie) (x y : ℕ) (d : Dir) → ahead_by p lie x d ≡ Some y → ahead_by p lie y (opposite_direction d) ≡ Some x → joined_to p lie x d ≡ Some y
+pub joined-from : (p : PlantLists) (lie : ℕ → Option Lie) (x y : ℕ) (d : Dir) → section_ahead p lie x d ≡ Some y → section_ahead p lie y (opposite_direction d) ≡ Some x → joined_section p lie x d ≡ Some y
 joined-from p lie x y d there back = let own : (x == x) ≡ true = eq-eqb x x refl in rw (there, back, own) refl
 
--- it goes both ways
-pub joined-back : (p : PlantLists) (lie : ℕ → Option Lie) (x y : ℕ) (d : Dir) → joined_to p lie x d ≡ Some y → joined_to p lie y (opposite_direction d) ≡ Some x
+pub joined-back : (p : PlantLists) (lie : ℕ → Option Lie) (x y : ℕ) (d : Dir) → joined_section p lie x d ≡ Some y → joined_section p lie y (opposite_direction d) ≡ Some x
 joined-back p lie x y d e =
     let parts = joined-parts p lie x y d e in
-    joined-from p lie y x (opposite_direction d) parts.1 (ap (ahead_by p lie x) (turned-twice d) ∙ parts.0)
+    joined-from p lie y x (opposite_direction d) parts.1 (ap (section_ahead p lie x) (turned-twice d) ∙ parts.0)

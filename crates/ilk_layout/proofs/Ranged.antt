@@ -1,4 +1,5 @@
--- Values in range are those of lists: of routes, points, boards and locks; and well-formed values are an image.
+-- Values in range are those of lists of routes, points, boards and locks; well-formed values are an
+-- image.
 use Rattle.std.proofs.Common.{◌≡◌, ◌↔◌, ℕ, zero, suc, ◌+◌, ◌<◌, true, false, ◌&&◌, ◌==◌, Option, Some, None, option_map, List, [], ◌∷◌, ◌++◌, IsTrue, length, map, nat_lt, replicate, slice_get, inl, inr, refl, sym, ◌∙◌, ap, subst, arith}
 use Rattle.std.specs.List.{flat_map, range_with_len}
 use Rattle.std.proofs.lemmas.Bool.{and_from, and_parts, eqb-true, false≢true, lt-ltb}
@@ -11,9 +12,9 @@ use Rattle.ilk_base.proofs.Ranges.{below_or_past, range-at, range_within, below}
 use Rattle.ilk_base.proofs.Tested.{all-pass, find-at, list_all-slice_get}
 use Rattle.ilk_ir.specs.System.{in_ranges}
 use Rattle.ilk_plant.specs.Plant.{IsPlant, PlantLists, point_count}
-use Rattle.ilk_plant.specs.Shape.{HasShape, fits_path}
-use Rattle.ilk_plant.specs.Sound.{NeverReturns}
-use Rattle.ilk_plant.specs.State.{lie_of}
+use Rattle.ilk_plant.specs.Shape.{HasShape, counts_fit_path}
+use Rattle.ilk_plant.specs.Sound.{NoWalkReturns}
+use Rattle.ilk_plant.specs.State.{detected_position}
 use Rattle.ilk_plant.specs.declared.network.Dir.TheVariants.{Up, Down}
 use Rattle.ilk_plant.specs.declared.network.Position.{Position}
 use Rattle.ilk_plant.specs.declared.network.Position.TheVariants.{Plus, Minus}
@@ -29,14 +30,14 @@ use Rattle.ilk_plant.specs.declared.state.PointState.{PointState}
 use Rattle.ilk_plant.specs.declared.state.RouteState.{RouteState}
 use Rattle.ilk_plant.specs.declared.state.State.{State}
 use Rattle.ilk_plant.specs.declared.table.Route.{Route}
-use Rattle.ilk_plant.proofs.Shapes.{fits_path-counts, fits_path-from_counts}
-use Rattle.ilk_layout.specs.Decoded.{trains_by}
+use Rattle.ilk_plant.proofs.Shapes.{counts_fit_path-counts, counts_fit_path-from_counts}
+use Rattle.ilk_layout.specs.Decoded.{trains_from_values}
 use Rattle.ilk_layout.specs.Image.{image_of, occupancy_values, point_values, route_values}
-use Rattle.ilk_layout.specs.Laws.{AreImage, IsCalm}
+use Rattle.ilk_layout.specs.Laws.{AreImage, IsWellFormedAndSafe}
 use Rattle.ilk_layout.specs.Occupancy.{occupancy_of}
-use Rattle.ilk_layout.specs.Values.{all_occupancies, aspect_value, hold_value, lie_value, mode_value, occupancy_of_value, occupancy_value, position_value}
+use Rattle.ilk_layout.specs.Values.{all_occupancies, aspect_value, hold_value, lie_value, mode_value, occupancy_from_value, occupancy_value, position_value}
 use Rattle.ilk_layout.specs.Variables.{occupancy_var, points_ranges, ranges_of_plant, route_ranges}
-use Rattle.ilk_layout.specs.Wellformed.{is_wellformed, lie_by, occupancy_by, section_fits}
+use Rattle.ilk_layout.specs.Wellformed.{is_wellformed, lie_from_values, occupancy_from_values, section_fits}
 use Rattle.ilk_layout.specs.declared.values.Occupancy.{Occupancy}
 use Rattle.ilk_layout.specs.declared.values.Occupancy.TheVariants.{Vacant, Taken, Crash}
 use Rattle.ilk_layout.proofs.Made.{made-calm, made-occupancy, made-shape}
@@ -45,7 +46,6 @@ use Rattle.ilk_layout.proofs.Told.{told-fits}
 use Rattle.ilk_layout.proofs.Writes.{image_with, occupancy-at}
 use Rattle.ilk_ir.proofs.Ranges.{in_ranges-length}
 
--- values in the ranges of two lists are values in each
 split : (values rs qs : List ℕ) → in_ranges values (rs ++ qs) ≡ true → (xs ys : List ℕ) × (values ≡ xs ++ ys) × (in_ranges xs rs ≡ true) × (in_ranges ys qs ≡ true)
 split values [] qs h = ([], values, refl, refl, h)
 split [] (r ∷ rs) qs h = cc
@@ -62,7 +62,7 @@ joined (x ∷ xs) ys (r ∷ rs) qs h k =
     let parts = and_parts (nat_lt x r) (in_ranges xs rs) h in
     and_from (nat_lt x r) (in_ranges (xs ++ ys) (rs ++ qs)) parts.0 (joined xs ys rs qs parts.1 k)
 
--- each number below the range is that of a value
+-- Each number below the range has a value.
 mode-of : (v : ℕ) → v < 5 → (m : Mode) × (mode_value m ≡ v)
 mode-of zero h = (Free, refl)
 mode-of (suc zero) h = (Marked, refl)
@@ -93,9 +93,8 @@ hold-of (suc zero) h = (LockedLock, refl)
 hold-of (suc (suc zero)) h = (UsedLock, refl)
 hold-of (suc (suc (suc v))) h = absurd (omega arith)
 
--- the counts of routes that fit
 abbrev CountsFit : List Route → List RouteState → Type 0
-CountsFit routes rs = (r : ℕ) (route : Route) (now : RouteState) → slice_get routes r ≡ Some route → slice_get rs r ≡ Some now → IsTrue (fits_path route now)
+CountsFit routes rs = (r : ℕ) (route : Route) (now : RouteState) → slice_get routes r ≡ Some route → slice_get rs r ≡ Some now → IsTrue (counts_fit_path route now)
 
 routes-of : (routes : List Route) (xs : List ℕ) → in_ranges xs (flat_map route_ranges routes) ≡ true → (rs : List RouteState) × (flat_map route_values rs ≡ xs) × (length rs ≡ length routes) × CountsFit routes rs
 routes-of [] [] h = ([], refl, refl, λ r route now at. cc)
@@ -114,14 +113,14 @@ routes-of (route ∷ routes) (a ∷ b ∷ c ∷ xs) h =
     let now : RouteState = record { mode = m.0; seen = b; rel = c } in
     let seen = below b (length route.path + 1) two.0 in
     let rel = below c (length route.path + 1) three.0 in
-    let fits : fits_path route now ≡ true = fits_path-from_counts route now (omega arith) (omega arith) in
+    let fits : counts_fit_path route now ≡ true = counts_fit_path-from_counts route now (omega arith) (omega arith) in
     (now ∷ rest.0, (λ i. m.1 i ∷ b ∷ c ∷ rest.1 i), ap suc rest.2, each now fits rest.0 rest.3)
   where
-    each : (now : RouteState) → fits_path route now ≡ true → (rs : List RouteState) → CountsFit routes rs → CountsFit (route ∷ routes) (now ∷ rs)
+    each : (now : RouteState) → counts_fit_path route now ≡ true → (rs : List RouteState) → CountsFit routes rs → CountsFit (route ∷ routes) (now ∷ rs)
     each now fits rs rest zero q v e f =
         let same : route ≡ q = same_Some route q e in
         let same_now : now ≡ v = same_Some now v f in
-        (λ i. fits_path (sym same i) (sym same_now i)) ∙ fits
+        (λ i. counts_fit_path (sym same i) (sym same_now i)) ∙ fits
     each now fits rs rest (suc r) q v e f = rest r q v e f
 
 points-of : (n : ℕ) (xs : List ℕ) → in_ranges xs (points_ranges n) ≡ true → (qs : List PointState) × (flat_map point_values qs ≡ xs) × (length qs ≡ n)
@@ -147,17 +146,15 @@ list-of f c of (suc n) (x ∷ xs) h =
     let first = of x (below x c parts.0) in
     (first.0 ∷ rest.0, (λ i. first.1 i ∷ rest.1 i), ap suc rest.2)
 
-module _ (p : PlantLists) (plant : IsPlant p) (never : NeverReturns p) where
-  -- an image is well-formed
-  pub image-wellformed : (s : State) → IsCalm p s → is_wellformed p (image_of p s) ≡ true
+module _ (p : PlantLists) (plant : IsPlant p) (never : NoWalkReturns p) where
+  pub image-wellformed : (s : State) → IsWellFormedAndSafe p s → is_wellformed p (image_of p s) ≡ true
   image-wellformed s calm =
-      all-pass (λ x. section_fits p (lie_by p (image_of p s)) (occupancy_by p (image_of p s)) x (occupancy_by p (image_of p s) x)) (range_with_len 0 (length p.sections)) (λ i x at. (
+      all-pass (λ x. section_fits p (lie_from_values p (image_of p s)) (occupancy_from_values p (image_of p s)) x (occupancy_from_values p (image_of p s) x)) (range_with_len 0 (length p.sections)) (λ i x at. (
       let place = range_within (length p.sections) i x at in
-      let lies : lie_of p s ≡ lie_by p (image_of p s) = λ j y. sym (lie-read p s (occupancy_values p s) calm.shape y) j in
-      let P : (ℕ → Option Lie) → Type 0 = λ lie. section_fits p lie (occupancy_by p (image_of p s)) x (occupancy_by p (image_of p s) x) ≡ true in
-      subst P lies (told-fits p plant never s calm.shape calm.no_hazard (occupancy_by p (image_of p s)) (occupancy-read p s calm.shape) x place.1)))
+      let lies : detected_position p s ≡ lie_from_values p (image_of p s) = λ j y. sym (lie-read p s (occupancy_values p s) calm.shape y) j in
+      let P : (ℕ → Option Lie) → Type 0 = λ lie. section_fits p lie (occupancy_from_values p (image_of p s)) x (occupancy_from_values p (image_of p s) x) ≡ true in
+      subst P lies (told-fits p plant never s calm.shape calm.no_hazard (occupancy_from_values p (image_of p s)) (occupancy-read p s calm.shape) x place.1)))
 
-  -- well-formed values in range are an image
   pub wellformed-image : (values : List ℕ) → in_ranges values (ranges_of_plant p) ≡ true → is_wellformed p values ≡ true → AreImage p values
   wellformed-image values h fits =
       let one = split values (flat_map route_ranges p.routes) _ h in
@@ -169,28 +166,28 @@ module _ (p : PlantLists) (plant : IsPlant p) (never : NeverReturns p) where
       let bs = list-of aspect_value 2 aspect-of (length p.boards) three.0 three.3 in
       let ls = list-of hold_value 3 hold-of (length p.sections) four.0 four.3 in
       let e = four.1 in
-      let s : State = record { routes = rs.0; points = qs.0; boards = bs.0; locks = ls.0; trains = trains_by p values } in
+      let s : State = record { routes = rs.0; points = qs.0; boards = bs.0; locks = ls.0; trains = trains_from_values p values } in
       let whole : image_with s e ≡ values =
       (λ i. rs.1 i ++ (qs.1 i ++ (bs.1 i ++ (ls.1 i ++ e)))) ∙ sym (one.2 ∙ ap (λ u. one.0 ++ u) (two.2 ∙ ap (λ u. two.0 ++ u) (three.2 ∙ ap (λ u. three.0 ++ u) four.2))) in
       let others : HasShape p (record s { trains = [] }) = record { routes = rs.2; points = qs.2; boards = bs.2; locks = ls.2; counts = rs.3; bodies = refl } in
-      let lies : (x : ℕ) → lie_of p s x ≡ lie_by p values x = λ x. sym (lie-read p (record s { trains = [] }) e others x) ∙ ap (λ v. lie_by p v x) whole in
+      let lies : (x : ℕ) → detected_position p s x ≡ lie_from_values p values x = λ x. sym (lie-read p (record s { trains = [] }) e others x) ∙ ap (λ v. lie_from_values p v x) whole in
       let each : (x : ℕ) → x < length p.sections →
-      section_fits p (lie_by p values) (occupancy_by p values) x (occupancy_by p values x) ≡ true =
+      section_fits p (lie_from_values p values) (occupancy_from_values p values) x (occupancy_from_values p values x) ≡ true =
       λ x within. list_all-slice_get
-      (λ y. section_fits p (lie_by p values) (occupancy_by p values) y (occupancy_by p values y))
+      (λ y. section_fits p (lie_from_values p values) (occupancy_from_values p values) y (occupancy_from_values p values y))
       (range_with_len 0 (length p.sections)) x x fits (range-at (length p.sections) x within) in
-      let shape : HasShape p s = made-shape p plant never (lie_by p values) (occupancy_by p values) each s lies refl others in
-      let no_hazard = made-calm p plant never (lie_by p values) (occupancy_by p values) each s lies refl others in
+      let shape : HasShape p s = made-shape p plant never (lie_from_values p values) (occupancy_from_values p values) each s lies refl others in
+      let no_hazard = made-calm p plant never (lie_from_values p values) (occupancy_from_values p values) each s lies refl others in
       let long : length e ≡ length p.sections = in_ranges-length e (replicate (length p.sections) 10) four.4 ∙ length-replicate (length p.sections) 10 in
       let occupied : occupancy_values p s ≡ e = same_by_slice_get (occupancy_values p s) e (λ x. occupancy-same s e long x (λ within. (
-      ap (λ v. occupancy_by p v x) whole ∙ made-occupancy p plant never (lie_by p values) (occupancy_by p values) each s lies refl others x within)) (occupancy-at p (record s { trains = [] }) e others x)) in
+      ap (λ v. occupancy_from_values p v x) whole ∙ made-occupancy p plant never (lie_from_values p values) (occupancy_from_values p values) each s lies refl others x within)) (occupancy-at p (record s { trains = [] }) e others x)) in
       record { state = s; calm = record { shape = shape; no_hazard = no_hazard }; image = ap (image_with s) occupied ∙ whole }
     where
-      read-back : (v : ℕ) (o : Occupancy) → occupancy_of_value v ≡ Some o → occupancy_value o ≡ v
+      read-back : (v : ℕ) (o : Occupancy) → occupancy_from_value v ≡ Some o → occupancy_value o ≡ v
       read-back v o g = let found = find-at (λ a. occupancy_value a == v) all_occupancies o g in eqb-true (occupancy_value o) v found.2
 
       occupancy-same : (s : State) (e : List ℕ) → length e ≡ length p.sections → (x : ℕ) →
-          (x < length p.sections → occupancy_by p (image_with s e) x ≡ Some (occupancy_of p s x)) →
+          (x < length p.sections → occupancy_from_values p (image_with s e) x ≡ Some (occupancy_of p s x)) →
           slice_get (image_with s e) (occupancy_var p x) ≡ slice_get e x →
           slice_get (occupancy_values p s) x ≡ slice_get e x
       occupancy-same s e long x made at =
@@ -198,7 +195,7 @@ module _ (p : PlantLists) (plant : IsPlant p) (never : NeverReturns p) where
           ∙ elim (below_or_past x (length p.sections)) [
             | inl within ↦
                 (let v : (v : ℕ) × (slice_get e x ≡ Some v) = item_at e x (omega arith) in
-                let o : occupancy_of_value v.0 ≡ Some (occupancy_of p s x) = sym (ap (λ o. o >>= λ value. occupancy_of_value value) (at ∙ v.1)) ∙ made within in
+                let o : occupancy_from_value v.0 ≡ Some (occupancy_of p s x) = sym (ap (λ o. o >>= λ value. occupancy_from_value value) (at ∙ v.1)) ∙ made within in
                 ap (option_map (λ y. occupancy_value (occupancy_of p s y))) (range-at (length p.sections) x within) ∙ ap Some (read-back v.0 (occupancy_of p s x) o) ∙ sym v.1)
             | inr past ↦
                 (let none : slice_get (range_with_len 0 (length p.sections)) x ≡ None = slice_get_past (range_with_len 0 (length p.sections)) x (let n = length-range_with_len 0 (length p.sections) in omega arith) in
@@ -209,13 +206,12 @@ module _ (p : PlantLists) (plant : IsPlant p) (never : NeverReturns p) where
   wellformed-images values h =
       (λ fits. wellformed-image values h fits, λ image. (let P : List ℕ → Type 0 = λ v. is_wellformed p v ≡ true in subst P image.image (image-wellformed image.state image.calm)))
 
--- the image of a state is in range
 route-in_ranges : (routes : List Route) (rs : List RouteState) → length rs ≡ length routes → CountsFit routes rs → in_ranges (flat_map route_values rs) (flat_map route_ranges routes) ≡ true
 route-in_ranges [] [] n fits = refl
 route-in_ranges [] (r ∷ rs) n fits = absurd (omega arith)
 route-in_ranges (route ∷ routes) [] n fits = absurd (omega arith)
 route-in_ranges (route ∷ routes) (now ∷ rs) n fits =
-    let counts = fits_path-counts route now (fits 0 route now refl refl) in
+    let counts = counts_fit_path-counts route now (fits 0 route now refl refl) in
     let seen = counts.0 in
     let rel = counts.1 in
     let rest = route-in_ranges routes rs (omega arith) (λ r q v e f. fits (suc r) q v e f) in

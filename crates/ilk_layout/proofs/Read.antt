@@ -1,4 +1,4 @@
--- What is read back of an image: where points lie, and the occupancies; and that lists with one image are one.
+-- Positions of points and occupancies read back from an image; lists with the same image are equal.
 use Rattle.std.proofs.Common.{◌≡◌, ℕ, ◌*◌, ◌<◌, true, false, Option, Some, None, option_map, List, [], ◌∷◌, ◌++◌, IsPermutation, count_by, length, map, slice_get, take, refl, sym, ◌∙◌, ap, subst, arith}
 use Rattle.std.specs.List.{flat_map, range_with_len}
 use Rattle.std.proofs.lemmas.List.Sorted.{IsPermutation-sym, IsPermutation-trans}
@@ -12,8 +12,8 @@ use Rattle.ilk_base.specs.Option.{◌>>=◌}
 use Rattle.ilk_plant.specs.Network.{is_point}
 use Rattle.ilk_plant.specs.Plant.{IsPlant, PlantLists, point_count, point_number}
 use Rattle.ilk_plant.specs.Shape.{HasShape}
-use Rattle.ilk_plant.specs.Sound.{NeverReturns}
-use Rattle.ilk_plant.specs.State.{lie_of}
+use Rattle.ilk_plant.specs.Sound.{NoWalkReturns}
+use Rattle.ilk_plant.specs.State.{detected_position}
 use Rattle.ilk_plant.specs.declared.network.Dir.TheVariants.{Up, Down}
 use Rattle.ilk_plant.specs.declared.network.Position.{Position}
 use Rattle.ilk_plant.specs.declared.network.Position.TheVariants.{Plus, Minus}
@@ -28,26 +28,25 @@ use Rattle.ilk_plant.specs.declared.state.Mode.TheVariants.{Free, Marked, Alloca
 use Rattle.ilk_plant.specs.declared.state.PointState.{PointState}
 use Rattle.ilk_plant.specs.declared.state.RouteState.{RouteState}
 use Rattle.ilk_plant.specs.declared.state.State.{State}
-use Rattle.ilk_layout.specs.Decoded.{trains_by, trains_of}
+use Rattle.ilk_layout.specs.Decoded.{trains_from_values, trains_of}
 use Rattle.ilk_layout.specs.Image.{image_of, occupancy_values, point_values, route_values}
-use Rattle.ilk_layout.specs.Laws.{ImagesTellStates, IsCalm}
+use Rattle.ilk_layout.specs.Laws.{ImagesDetermineStates, IsWellFormedAndSafe}
 use Rattle.ilk_layout.specs.Occupancy.{occupancy_of}
-use Rattle.ilk_layout.specs.Values.{aspect_value, hold_value, lie_of_value, lie_value, mode_value, occupancy_of_value, occupancy_value, position_value}
-use Rattle.ilk_layout.specs.Variables.{at_var}
-use Rattle.ilk_layout.specs.Wellformed.{lie_by, occupancy_by}
+use Rattle.ilk_layout.specs.Values.{aspect_value, hold_value, lie_from_value, lie_value, mode_value, occupancy_from_value, occupancy_value, position_value}
+use Rattle.ilk_layout.specs.Variables.{detected_var}
+use Rattle.ilk_layout.specs.Wellformed.{lie_from_values, occupancy_from_values}
 use Rattle.ilk_layout.specs.declared.values.Occupancy.{Occupancy}
 use Rattle.ilk_layout.specs.declared.values.Occupancy.TheVariants.{Vacant, Taken, Crash}
 use Rattle.ilk_layout.proofs.Places.{length-points, length-routes}
 use Rattle.ilk_layout.proofs.Told.{trains-told}
 use Rattle.ilk_layout.proofs.Writes.{at-at, image_with, occupancy-at}
 
--- the number of each value is its own
-pub lie-back : (l : Lie) → lie_of_value (lie_value l) ≡ Some l
+pub lie-back : (l : Lie) → lie_from_value (lie_value l) ≡ Some l
 lie-back LiesPlus = refl
 lie-back LiesMinus = refl
 lie-back Moving = refl
 
-pub occupancy-back : (o : Occupancy) → occupancy_of_value (occupancy_value o) ≡ Some o
+pub occupancy-back : (o : Occupancy) → occupancy_from_value (occupancy_value o) ≡ Some o
 occupancy-back Vacant = refl
 occupancy-back (Taken Up false false) = refl
 occupancy-back (Taken Up false true) = refl
@@ -60,7 +59,7 @@ occupancy-back (Taken Down true true) = refl
 occupancy-back Crash = refl
 
 lie-own : (k l : Lie) → lie_value k ≡ lie_value l → k ≡ l
-lie-own k l e = same_Some k l (sym (lie-back k) ∙ ap lie_of_value e ∙ lie-back l)
+lie-own k l e = same_Some k l (sym (lie-back k) ∙ ap lie_from_value e ∙ lie-back l)
 
 mode-own : (m n : Mode) → mode_value m ≡ mode_value n → m ≡ n
 mode-own Free Free e = refl
@@ -112,7 +111,6 @@ hold-own UsedLock FreeLock e = cc
 hold-own UsedLock LockedLock e = cc
 hold-own UsedLock UsedLock e = refl
 
--- lists of one length at the front of equal lists are equal, and so is what follows
 pub front-same : (xs ys us vs : List ℕ) → length xs ≡ length ys → xs ++ us ≡ ys ++ vs → (xs ≡ ys) × (us ≡ vs)
 front-same [] [] us vs n e = (refl, e)
 front-same [] (y ∷ ys) us vs n e = absurd (omega arith)
@@ -160,18 +158,16 @@ map-same f own (x ∷ xs) (y ∷ ys) e =
     let rest = map-same f own xs ys later in
     λ i. first i ∷ rest i
 
--- a number of a point is that of a point of the state
 number-below : (p : PlantLists) (x n : ℕ) → point_number p x ≡ Some n → n < point_count p
 number-below p x n e =
     let section = bind_some (slice_get p.sections x) _ n e in
     let is = cond_some (is_point section.0) (count_by is_point (take x p.sections)) n section.2 in
     subst (λ k. k < point_count p) is.1 (count_by-take-lt is_point p.sections x section.0 section.1 is.0)
 
--- where points lie, by an image
-pub lie-read : (p : PlantLists) (s : State) (e : List ℕ) → HasShape p s → (x : ℕ) → lie_by p (image_with s e) x ≡ lie_of p s x
+pub lie-read : (p : PlantLists) (s : State) (e : List ℕ) → HasShape p s → (x : ℕ) → lie_from_values p (image_with s e) x ≡ detected_position p s x
 lie-read p s e shape x = by_number (point_number p x) refl
   where
-    by_number : (o : Option ℕ) → point_number p x ≡ o → (o >>= λ n. slice_get (image_with s e) (at_var p n) >>= λ value. lie_of_value value) ≡ (o >>= λ n. slice_get s.points n >>= λ point. Some point.at)
+    by_number : (o : Option ℕ) → point_number p x ≡ o → (o >>= λ n. slice_get (image_with s e) (detected_var p n) >>= λ value. lie_from_value value) ≡ (o >>= λ n. slice_get s.points n >>= λ point. Some point.at)
     by_number None is = refl
     by_number (Some n) is =
         let less = number-below p x n is in
@@ -179,24 +175,21 @@ lie-read p s e shape x = by_number (point_number p x) refl
         let point : (q : PointState) × (slice_get s.points n ≡ Some q) = item_at s.points n (omega arith) in
         rw (at-at p s e shape n point.0 point.1, point.1) (lie-back point.0.at)
 
--- and the occupancies
-pub occupancy-read : (p : PlantLists) (s : State) → HasShape p s → (x : ℕ) → x < length p.sections → occupancy_by p (image_of p s) x ≡ Some (occupancy_of p s x)
+pub occupancy-read : (p : PlantLists) (s : State) → HasShape p s → (x : ℕ) → x < length p.sections → occupancy_from_values p (image_of p s) x ≡ Some (occupancy_of p s x)
 occupancy-read p s shape x within =
     let at : slice_get (occupancy_values p s) x ≡ Some (occupancy_value (occupancy_of p s x)) =
     slice_get-map (λ y. occupancy_value (occupancy_of p s y)) (range_with_len 0 (length p.sections)) x
     ∙ ap (option_map (λ y. occupancy_value (occupancy_of p s y))) (range-at (length p.sections) x within)
     in
-    ap (λ o. o >>= λ value. occupancy_of_value value) (occupancy-at p s (occupancy_values p s) shape x ∙ at) ∙ occupancy-back (occupancy_of p s x)
+    ap (λ o. o >>= λ value. occupancy_from_value value) (occupancy-at p s (occupancy_values p s) shape x ∙ at) ∙ occupancy-back (occupancy_of p s x)
 
--- a state's trains are those that its image stands for, in some order
-pub trains-read : (p : PlantLists) → IsPlant p → NeverReturns p → (s : State) → IsCalm p s → IsPermutation s.trains (trains_by p (image_of p s))
+pub trains-read : (p : PlantLists) → IsPlant p → NoWalkReturns p → (s : State) → IsWellFormedAndSafe p s → IsPermutation s.trains (trains_from_values p (image_of p s))
 trains-read p plant never s calm =
-    let lies : lie_of p s ≡ lie_by p (image_of p s) = λ i x. sym (lie-read p s (occupancy_values p s) calm.shape x) i in
-    let P : (ℕ → Option Lie) → Type 0 = λ lie. IsPermutation s.trains (trains_of p lie (occupancy_by p (image_of p s))) in
-    subst P lies (trains-told p plant never s calm.shape calm.no_hazard (occupancy_by p (image_of p s)) (occupancy-read p s calm.shape))
+    let lies : detected_position p s ≡ lie_from_values p (image_of p s) = λ i x. sym (lie-read p s (occupancy_values p s) calm.shape x) i in
+    let P : (ℕ → Option Lie) → Type 0 = λ lie. IsPermutation s.trains (trains_of p lie (occupancy_from_values p (image_of p s))) in
+    subst P lies (trains-told p plant never s calm.shape calm.no_hazard (occupancy_from_values p (image_of p s)) (occupancy-read p s calm.shape))
 
--- the image of a state tells it, but for the order of its trains
-pub images-tell : (p : PlantLists) → IsPlant p → NeverReturns p → ImagesTellStates p
+pub images-tell : (p : PlantLists) → IsPlant p → NoWalkReturns p → ImagesDetermineStates p
 images-tell p plant never s t calm calm_too same =
     let a = front-same (flat_map route_values s.routes) (flat_map route_values t.routes) _ _ (length-routes-of ∙ sym length-routes-too) same in
     let b = front-same (flat_map point_values s.points) (flat_map point_values t.points) _ _ (length-points s.points ∙ ap (λ n. 2 * n) (calm.shape.points ∙ sym calm_too.shape.points) ∙ sym (length-points t.points)) a.1 in
@@ -210,8 +203,8 @@ images-tell p plant never s t calm calm_too same =
       trains =
           (let mine = trains-read p plant never s calm in
           let other = trains-read p plant never t calm_too in
-          let P : List ℕ → Type 0 = λ v. IsPermutation s.trains (trains_by p v) in
-          IsPermutation-trans s.trains (trains_by p (image_of p t)) t.trains (subst P same mine) (IsPermutation-sym t.trains (trains_by p (image_of p t)) other));
+          let P : List ℕ → Type 0 = λ v. IsPermutation s.trains (trains_from_values p v) in
+          IsPermutation-trans s.trains (trains_from_values p (image_of p t)) t.trains (subst P same mine) (IsPermutation-sym t.trains (trains_from_values p (image_of p t)) other));
     }
   where
     length-routes-of : length (flat_map route_values s.routes) ≡ 3 * length p.routes

@@ -1,4 +1,4 @@
--- The occupancies while one train is put on its sections, and then the next.
+-- The occupancies while trains are added, one section at a time.
 use Rattle.std.proofs.Common.{◌≡◌, ℕ, zero, suc, ◌+◌, ◌<◌, ◌≤◌, Bool, true, false, ◌||◌, ◌==◌, Option, Some, None, option_map, List, [], ◌∷◌, ◌++◌, length, map, take, replicate, set, slice_get, get_or, inl, inr, refl, sym, ◌∙◌, ap, subst, arith}
 use Rattle.std.specs.List.{range_with_len}
 use Rattle.std.proofs.lemmas.Bool.{cases_eq, false_from_ne_true, ne_eqb, eq-eqb}
@@ -11,21 +11,20 @@ use Rattle.ilk_base.proofs.Once.{EachOnce}
 use Rattle.ilk_base.proofs.Ranges.{below_or_past, range-at}
 use Rattle.ilk_plant.specs.Network.{has_section}
 use Rattle.ilk_plant.specs.Plant.{IsPlant, PlantLists}
-use Rattle.ilk_plant.specs.Shape.{is_body}
-use Rattle.ilk_plant.specs.Sound.{NeverReturns}
+use Rattle.ilk_plant.specs.Shape.{has_valid_body}
+use Rattle.ilk_plant.specs.Sound.{NoWalkReturns}
 use Rattle.ilk_plant.specs.declared.state.State.{State}
 use Rattle.ilk_plant.specs.declared.state.Train.{Train}
 use Rattle.ilk_plant.proofs.InLists.{section-at}
 use Rattle.ilk_model.proofs.SharedSections.{has_more}
 use Rattle.ilk_layout.specs.Occupancy.{occupancy_of}
-use Rattle.ilk_layout.specs.Standing.{after_taking, with_train_on, AreWithTrainOn}
+use Rattle.ilk_layout.specs.Standing.{after_taking, with_train_on, HasTrainAdded}
 use Rattle.ilk_layout.specs.declared.values.Occupancy.{Occupancy}
 use Rattle.ilk_layout.specs.declared.values.Occupancy.TheVariants.{Vacant}
 use Rattle.ilk_layout.proofs.Bodies.{first-at, last-at}
 use Rattle.ilk_layout.proofs.Plants.{body-known, body-once}
 use Rattle.ilk_layout.proofs.Trains.{occupancy-more, with_trains, wrong-at, wrong-none}
 
--- what stands among the first of a list stands in the list, before them all
 taken-at : (xs : List ℕ) (n j x : ℕ) → slice_get (take n xs) j ≡ Some x → (slice_get xs j ≡ Some x) × (j < n)
 taken-at [] zero j x at = cc
 taken-at [] (suc n) j x at = cc
@@ -41,8 +40,7 @@ not-yet body i x once at =
     let places : there.0 ≡ i = once there.0 i x found.0 at in
     absurd (omega (arith, places, found.1)))
 
--- none gone through yet
-pub begun : (p : PlantLists) (s : State) (train : Train) (before : List Occupancy) → AreWithTrainOn p s train (take 0 train.body) before before
+pub begun : (p : PlantLists) (s : State) (train : Train) (before : List Occupancy) → HasTrainAdded p s train (take 0 train.body) before before
 begun p s train before x = same train.body (slice_get before x)
   where
     same : (body : List ℕ) (o : Option Occupancy) → o ≡ option_map (with_train_on p s train (take 0 body) x) o
@@ -51,17 +49,16 @@ begun p s train before x = same train.body (slice_get before x)
     same [] (Some u) = refl
     same (y ∷ body) (Some u) = refl
 
--- what was gone through counts only as far as it has the section
 gone_same : (p : PlantLists) (s : State) (train : Train) (g h : List ℕ) (y : ℕ) → has_section y g ≡ has_section y h → (o : Option Occupancy) → option_map (with_train_on p s train g y) o ≡ option_map (with_train_on p s train h y) o
 gone_same p s train g h y same None = refl
 gone_same p s train g h y same (Some u) = rw same refl
 
--- one more gone through
+-- One more section is done.
 pub gone_on :
     (p : PlantLists) (s : State) (train : Train) (i x : ℕ) (u : Occupancy) (before now : List Occupancy) →
     EachOnce train.body → slice_get train.body i ≡ Some x → slice_get now x ≡ Some u →
-    AreWithTrainOn p s train (take i train.body) before now →
-    AreWithTrainOn p s train (take (i + 1) train.body) before (set now x (after_taking p s train x i u))
+    HasTrainAdded p s train (take i train.body) before now →
+    HasTrainAdded p s train (take (i + 1) train.body) before (set now x (after_taking p s train x i u))
 gone_on p s train i x u before now once at here with_front y =
     elim (cases_eq x y) [
       | inl same ↦
@@ -96,10 +93,9 @@ gone_on p s train i x u before now once at here with_front y =
         let wrong = wrong-at p s train.body i x once at in
         rw (has, first, last, wrong) (ap (λ v. Some (after_taking p s train x i v)) same)
 
--- the occupancies with one more train
 pub train_added : (p : PlantLists) (s : State) (ts : List Train) (t : Train) (before now : List Occupancy) →
     before ≡ map (occupancy_of p (with_trains s ts)) (range_with_len 0 (length p.sections)) →
-    AreWithTrainOn p s t t.body before now →
+    HasTrainAdded p s t t.body before now →
     now ≡ map (occupancy_of p (with_trains s (ts ++ t ∷ []))) (range_with_len 0 (length p.sections))
 train_added p s ts t before now is added = same_by_slice_get now (map (occupancy_of p (with_trains s (ts ++ t ∷ []))) (range_with_len 0 (length p.sections))) at
   where
@@ -130,37 +126,36 @@ train_added p s ts t before now is added = same_by_slice_get now (map (occupancy
               ∙ ap (option_map (occupancy_of p (with_trains s (ts ++ t ∷ [])))) none))
         ]
 
--- the section at a place of a body
-pub section_at : (p : PlantLists) (train : Train) (i : ℕ) (items : List ℕ) → IsPlant p → is_body p train ≡ true → items ≡ train.body → i < length items → (get_or items i 0 < length p.sections) × (slice_get train.body i ≡ Some (get_or items i 0))
+pub section_at : (p : PlantLists) (train : Train) (i : ℕ) (items : List ℕ) → IsPlant p → has_valid_body p train ≡ true → items ≡ train.body → i < length items
+    → (get_or items i 0 < length p.sections) × (slice_get train.body i ≡ Some (get_or items i 0))
 section_at p train i items plant h is within =
     let at : slice_get train.body i ≡ Some (get_or items i 0) = ap (λ l. slice_get l i) (sym is) ∙ slice_get-get_or items i 0 within in
     (body-known p train i (get_or items i 0) plant h at, at)
 
-pub section_known : (p : PlantLists) (train : Train) (i : ℕ) (items : List ℕ) → IsPlant p → is_body p train ≡ true → items ≡ train.body → i < length items → get_or train.body i 0 < length p.sections
+pub section_known : (p : PlantLists) (train : Train) (i : ℕ) (items : List ℕ) → IsPlant p → has_valid_body p train ≡ true → items ≡ train.body → i < length items → get_or train.body i 0 < length p.sections
 section_known p train i items plant h is within =
     let P : List ℕ → Type 0 = λ l. get_or l i 0 < length p.sections in
     subst P is (section_at p train i items plant h is within).0
 
 pub put_on :
     (p : PlantLists) (s : State) (train : Train) (i : ℕ) (items : List ℕ) (u v : Occupancy)
-    (before now : List Occupancy) → IsPlant p → NeverReturns p →
-    is_body p train ≡ true → items ≡ train.body → i < length items →
+    (before now : List Occupancy) → IsPlant p → NoWalkReturns p →
+    has_valid_body p train ≡ true → items ≡ train.body → i < length items →
     slice_get now (get_or items i 0) ≡ Some u → v ≡ after_taking p s train (get_or train.body i 0) i u →
-    AreWithTrainOn p s train (take i train.body) before now →
-    AreWithTrainOn p s train (take (i + 1) train.body) before (set now (get_or items i 0) v)
+    HasTrainAdded p s train (take i train.body) before now →
+    HasTrainAdded p s train (take (i + 1) train.body) before (set now (get_or items i 0) v)
 put_on p s train i items u v before now plant never h is within here after with_front =
     let x = get_or items i 0 in
     let at : slice_get train.body i ≡ Some x = (section_at p train i items plant h is within).1 in
     let same : v ≡ after_taking p s train x i u = after ∙ ap (λ l. after_taking p s train (get_or l i 0) i u) (sym is) in
-    let P : Occupancy → Type 0 = λ w. AreWithTrainOn p s train (take (i + 1) train.body) before (set now x w) in
+    let P : Occupancy → Type 0 = λ w. HasTrainAdded p s train (take (i + 1) train.body) before (set now x w) in
     subst P (sym same) (gone_on p s train i x u before now (body-once p train never h) at here with_front)
 
--- the next of the trains
 pub next_added :
     (p : PlantLists) (s : State) (trains : List Train) (i : ℕ) (t : Train) (before now : List Occupancy) →
     i < length trains → t ≡ get_or trains i t →
     before ≡ map (occupancy_of p (with_trains s (take i trains))) (range_with_len 0 (length p.sections)) →
-    AreWithTrainOn p s t t.body before now →
+    HasTrainAdded p s t t.body before now →
     now ≡ map (occupancy_of p (with_trains s (take (i + 1) trains))) (range_with_len 0 (length p.sections))
 next_added p s trains i t before now within at is added =
     let front : take (i + 1) trains ≡ take i trains ++ t ∷ [] = take_more trains i t within ∙ ap (λ u. take i trains ++ u ∷ []) (sym at) in
@@ -173,7 +168,6 @@ pub all_added : (p : PlantLists) (s : State) (trains : List Train) (i : ℕ) (no
 all_added p s trains i now past is made =
     made ∙ ap (λ ts. map (occupancy_of p (with_trains s ts)) (range_with_len 0 (length p.sections))) (take_all i trains past ∙ is)
 
--- without trains all sections are vacant
 pub none_added : (p : PlantLists) (s : State) (trains : List Train) (n : ℕ) (made : List Occupancy) →
     n ≡ length p.sections → made ≡ replicate n Vacant →
     made ≡ map (occupancy_of p (with_trains s (take 0 trains))) (range_with_len 0 (length p.sections))

@@ -1,4 +1,4 @@
--- The occupancies of sections as trains are added one by one.
+-- The occupancies of sections while trains are added one by one.
 use Rattle.std.proofs.Common.{◌≡◌, ℕ, ◌+◌, ◌<◌, Bool, true, false, not, ◌&&◌, ◌||◌, cond, Option, Some, None, List, [], ◌∷◌, ◌++◌, find, count_by, nat_lt, slice_get, inl, inr, refl, sym, ◌∙◌, ap, arith}
 use Rattle.std.specs.List.{list_any, sum_by}
 use Rattle.std.proofs.lemmas.Bool.{cases_Bool, false_from_ne_true, false≢true, or_parts, or_from}
@@ -9,7 +9,7 @@ use Rattle.std.proofs.lemmas.List.Sums.{sum_by-append, sum_by-cons}
 use Rattle.ilk_base.proofs.Once.{EachOnce}
 use Rattle.ilk_plant.specs.Network.{has_section}
 use Rattle.ilk_plant.specs.Plant.{PlantLists}
-use Rattle.ilk_plant.specs.State.{lie_of}
+use Rattle.ilk_plant.specs.State.{detected_position}
 use Rattle.ilk_plant.specs.declared.network.Section.{Section}
 use Rattle.ilk_plant.specs.declared.network.Section.TheVariants.{Linear, Point}
 use Rattle.ilk_plant.specs.declared.state.Lie.{Lie}
@@ -17,8 +17,8 @@ use Rattle.ilk_plant.specs.declared.state.Lie.TheVariants.{Plus, Minus, Moving}
 use Rattle.ilk_plant.specs.declared.state.State.{State}
 use Rattle.ilk_plant.specs.declared.state.Train.{Train}
 use Rattle.ilk_plant.proofs.InLists.{section-from}
-use Rattle.ilk_model.specs.Hazard.{is_hazardous, is_wrong, strays}
-use Rattle.ilk_model.proofs.Straying.{strays-has}
+use Rattle.ilk_model.specs.Hazard.{is_hazardous, is_wrong_under_train, is_wrong_under_body}
+use Rattle.ilk_model.proofs.Straying.{is_wrong_under_body-has}
 use Rattle.ilk_layout.specs.Occupancy.{occupancy_of, taken_by, taken_by_any}
 use Rattle.ilk_layout.specs.Standing.{has_no_train, is_wrong_between, is_wrong_under, section_before, with_train_on}
 use Rattle.ilk_layout.specs.declared.values.Occupancy.TheVariants.{Crash}
@@ -30,13 +30,12 @@ wrong-has p s x body h = by_section (slice_get p.sections x) refl
     by_section : (o : Option Section) → slice_get p.sections x ≡ o → has_section x body ≡ true
     by_section None e = absurd (false≢true (rw e at h))
     by_section (Some (Linear down up b c)) e = absurd (false≢true (rw e at h))
-    by_section (Some (Point stem plus minus faces)) e = strays-has x plus minus (lie_of p s x) body (rw e at h)
+    by_section (Some (Point stem plus minus faces)) e = is_wrong_under_body-has x plus minus (detected_position p s x) body (rw e at h)
 
--- at a place of a body, by what stands before and after it
 pub wrong-at : (p : PlantLists) (s : State) (body : List ℕ) (i x : ℕ) → EachOnce body → slice_get body i ≡ Some x → is_wrong_under p s x body ≡ is_wrong_between p s x (section_before body i) (slice_get body (i + 1))
-wrong-at p s body i x once at = by_section (slice_get p.sections x) refl (lie_of p s x) refl
+wrong-at p s body i x once at = by_section (slice_get p.sections x) refl (detected_position p s x) refl
   where
-    by_section : (o : Option Section) → slice_get p.sections x ≡ o → (l : Option Lie) → lie_of p s x ≡ l → is_wrong_under p s x body ≡ is_wrong_between p s x (section_before body i) (slice_get body (i + 1))
+    by_section : (o : Option Section) → slice_get p.sections x ≡ o → (l : Option Lie) → detected_position p s x ≡ l → is_wrong_under p s x body ≡ is_wrong_between p s x (section_before body i) (slice_get body (i + 1))
     by_section None e l f = rw e refl
     by_section (Some (Linear down up b c)) e l f = rw e refl
     by_section (Some (Point stem plus minus faces)) e None f = rw (e, f) refl
@@ -44,45 +43,43 @@ wrong-at p s body i x once at = by_section (slice_get p.sections x) refl (lie_of
     by_section (Some (Point stem plus minus faces)) e (Some Plus) f = rw (e, f) (pair-at body i x minus once at)
     by_section (Some (Point stem plus minus faces)) e (Some Minus) f = rw (e, f) (pair-at body i x plus once at)
 
--- the state with these trains
 abbrev pub with_trains : State → List Train → State
 with_trains s trains = record s { trains = trains }
 
--- whether a train has section x
 abbrev pub has_x : ℕ → Train → Bool
 has_x x train = has_section x train.body
 
-wrong-more : (p : PlantLists) (s : State) (ts : List Train) (t : Train) (x : ℕ) → is_wrong p (with_trains s (ts ++ t ∷ [])) x ≡ (is_wrong p (with_trains s ts) x || is_wrong_under p s x t.body)
+wrong-more : (p : PlantLists) (s : State) (ts : List Train) (t : Train) (x : ℕ) → is_wrong_under_train p (with_trains s (ts ++ t ∷ [])) x ≡ (is_wrong_under_train p (with_trains s ts) x || is_wrong_under p s x t.body)
 wrong-more p s ts t x = by_section (slice_get p.sections x) refl
   where
-    by_section : (o : Option Section) → slice_get p.sections x ≡ o → is_wrong p (with_trains s (ts ++ t ∷ [])) x ≡ (is_wrong p (with_trains s ts) x || is_wrong_under p s x t.body)
+    by_section : (o : Option Section) → slice_get p.sections x ≡ o → is_wrong_under_train p (with_trains s (ts ++ t ∷ [])) x ≡ (is_wrong_under_train p (with_trains s ts) x || is_wrong_under p s x t.body)
     by_section None e = rw e refl
     by_section (Some (Linear down up b c)) e = rw e refl
     by_section (Some (Point stem plus minus faces)) e =
         rw e
-        (list_any-append (λ (train : Train). strays x plus minus (lie_of p s x) train.body) ts (t ∷ [])
+        (list_any-append (λ (train : Train). is_wrong_under_body x plus minus (detected_position p s x) train.body) ts (t ∷ [])
         ∙ ap
-        (λ b. list_any (λ (train : Train). strays x plus minus (lie_of p s x) train.body) ts
+        (λ b. list_any (λ (train : Train). is_wrong_under_body x plus minus (detected_position p s x) train.body) ts
         || b)
-        (or-false (strays x plus minus (lie_of p s x) t.body)))
+        (or-false (is_wrong_under_body x plus minus (detected_position p s x) t.body)))
 
-pub wrong-none : (p : PlantLists) (s : State) (ts : List Train) (x : ℕ) → list_any (has_x x) ts ≡ false → is_wrong p (with_trains s ts) x ≡ false
+pub wrong-none : (p : PlantLists) (s : State) (ts : List Train) (x : ℕ) → list_any (has_x x) ts ≡ false → is_wrong_under_train p (with_trains s ts) x ≡ false
 wrong-none p s ts x none = by_section (slice_get p.sections x) refl
   where
-    each : (ts : List Train) (plus minus : ℕ) (lie : Option Lie) → list_any (has_x x) ts ≡ false → list_any (λ (train : Train). strays x plus minus lie train.body) ts ≡ false
+    each : (ts : List Train) (plus minus : ℕ) (lie : Option Lie) → list_any (has_x x) ts ≡ false → list_any (λ (train : Train). is_wrong_under_body x plus minus lie train.body) ts ≡ false
     each [] plus minus lie none = refl
     each (t ∷ ts) plus minus lie none =
         let parts = or_parts (has_section x t.body) (list_any (has_x x) ts) none in
-        or_from (strays x plus minus lie t.body)
-        (list_any (λ (train : Train). strays x plus minus lie train.body) ts)
-        (false_from_ne_true (strays x plus minus lie t.body)
-        (λ h. false≢true (sym parts.0 ∙ strays-has x plus minus lie t.body h)))
+        or_from (is_wrong_under_body x plus minus lie t.body)
+        (list_any (λ (train : Train). is_wrong_under_body x plus minus lie train.body) ts)
+        (false_from_ne_true (is_wrong_under_body x plus minus lie t.body)
+        (λ h. false≢true (sym parts.0 ∙ is_wrong_under_body-has x plus minus lie t.body h)))
         (each ts plus minus lie parts.1)
 
-    by_section : (o : Option Section) → slice_get p.sections x ≡ o → is_wrong p (with_trains s ts) x ≡ false
+    by_section : (o : Option Section) → slice_get p.sections x ≡ o → is_wrong_under_train p (with_trains s ts) x ≡ false
     by_section None e = rw e refl
     by_section (Some (Linear down up b c)) e = rw e refl
-    by_section (Some (Point stem plus minus faces)) e = rw e (each ts plus minus (lie_of p s x) none)
+    by_section (Some (Point stem plus minus faces)) e = rw e (each ts plus minus (detected_position p s x) none)
 
 count-more : (p : Train → Bool) (ts : List Train) (t : Train) → count_by p (ts ++ t ∷ []) ≡ count_by p ts + cond (p t) 1 0
 count-more p ts t = sum_by-append (λ u. cond (p u) 1 0) ts (t ∷ []) ∙ (let one : sum_by (λ u. cond (p u) 1 0) (t ∷ []) ≡ cond (p t) 1 0 = sum_by-cons (λ u. cond (p u) 1 0) t [] ∙ omega arith in ap (λ n. count_by p ts + n) one)
@@ -122,7 +119,6 @@ find-other-more : (p : Train → Bool) (ts : List Train) (t : Train) → p t ≡
 find-other-more p [] t away = rw away refl
 find-other-more p (u ∷ ts) t away = ap (cond (p u) (Some u)) (find-other-more p ts t away)
 
--- the occupancy with one more train
 pub occupancy-more : (p : PlantLists) (s : State) (ts : List Train) (t : Train) (x : ℕ) → occupancy_of p (with_trains s (ts ++ t ∷ [])) x ≡ with_train_on p s t t.body x (occupancy_of p (with_trains s ts) x)
 occupancy-more p s ts t x =
     elim (cases_Bool (has_section x t.body)) [
@@ -138,7 +134,8 @@ occupancy-more p s ts t x =
         let none : ◌≡◌ {A = ℕ} (cond (has_section x t.body) 1 0) 0 = ap (λ b. cond b 1 0) away in
         let same : count_by (has_x x) (ts ++ t ∷ []) ≡ count_by (has_x x) ts = omega (arith, count, none) in
         let right : is_wrong_under p s x t.body ≡ false = false_from_ne_true (is_wrong_under p s x t.body) (λ h. false≢true (sym away ∙ wrong-has p s x t.body h)) in
-        let wrong : is_wrong p (with_trains s (ts ++ t ∷ [])) x ≡ is_wrong p (with_trains s ts) x = wrong-more p s ts t x ∙ ap (λ b. is_wrong p (with_trains s ts) x || b) right ∙ or-false (is_wrong p (with_trains s ts) x) in
+        let wrong : is_wrong_under_train p (with_trains s (ts ++ t ∷ [])) x ≡ is_wrong_under_train p (with_trains s ts) x =
+        wrong-more p s ts t x ∙ ap (λ b. is_wrong_under_train p (with_trains s ts) x || b) right ∙ or-false (is_wrong_under_train p (with_trains s ts) x) in
         let found : find (has_x x) (ts ++ t ∷ []) ≡ find (has_x x) ts = find-other-more (has_x x) ts t away in
         rw (same, wrong, found, away) refl
 
@@ -147,8 +144,8 @@ occupancy-more p s ts t x =
         let one : ◌≡◌ {A = ℕ} (cond (has_section x t.body) 1 0) 1 = ap (λ b. cond b 1 0) has in
         let zero_before : count_by (has_x x) ts ≡ 0 = count-none (has_x x) ts none in
         let n : count_by (has_x x) (ts ++ t ∷ []) ≡ 1 = omega (arith, count, one, zero_before) in
-        let wrong_before : is_wrong p (with_trains s ts) x ≡ false = wrong-none p s ts x none in
-        let wrong : is_wrong p (with_trains s (ts ++ t ∷ [])) x ≡ is_wrong_under p s x t.body = wrong-more p s ts t x ∙ ap (λ b. b || is_wrong_under p s x t.body) wrong_before in
+        let wrong_before : is_wrong_under_train p (with_trains s ts) x ≡ false = wrong-none p s ts x none in
+        let wrong : is_wrong_under_train p (with_trains s (ts ++ t ∷ [])) x ≡ is_wrong_under p s x t.body = wrong-more p s ts t x ∙ ap (λ b. b || is_wrong_under p s x t.body) wrong_before in
         let found : find (has_x x) (ts ++ t ∷ []) ≡ Some t = find-none-more (has_x x) ts t none has in
         let found_before : find (has_x x) ts ≡ None = find-none (has_x x) ts none in
         rw (n, wrong, found, zero_before, wrong_before, found_before, has) (turned (is_wrong_under p s x t.body))

@@ -1,4 +1,4 @@
--- No event sees the order of the trains of a state without hazard.
+-- No event depends on the order of the trains of a state without hazard.
 use Rattle.std.proofs.Common.{◌≡◌, ℕ, zero, suc, ◌<◌, Bool, true, false, not, ◌&&◌, ◌||◌, IsPermutation, cond, find, length, nat_le, nat_lt, ◌+◌, option_and_then, position, remove, set, slice_get, Option, Some, None, is_some, List, [], ◌∷◌, inl, inr, ◌⊎◌, refl, sym, ◌∙◌, ap, subst}
 use Rattle.std.specs.List.{Contains, last_or, list_all, list_any, range_with_len}
 use Rattle.std.proofs.lemmas.Bool.{false≢true}
@@ -12,33 +12,33 @@ use Rattle.ilk_base.proofs.Positions.{is_some-position, position-at}
 use Rattle.ilk_base.proofs.Tested.{All-tested, list_all-from_All}
 use Rattle.ilk_plant.specs.Network.{has_section}
 use Rattle.ilk_plant.specs.Plant.{IsPlant, PlantLists, board_of, border, point_number}
-use Rattle.ilk_plant.specs.Shape.{is_body}
-use Rattle.ilk_plant.specs.Sound.{NeverReturns}
-use Rattle.ilk_plant.specs.State.{has_lock, is_clear, is_occupied, lie_of}
+use Rattle.ilk_plant.specs.Shape.{has_valid_body}
+use Rattle.ilk_plant.specs.Sound.{NoWalkReturns}
+use Rattle.ilk_plant.specs.State.{has_lock, is_clear, is_occupied, detected_position}
 use Rattle.ilk_plant.specs.declared.network.Section.{Section}
 use Rattle.ilk_plant.specs.declared.network.Section.TheVariants.{Linear, Point}
 use Rattle.ilk_plant.specs.declared.state.Aspect.TheVariants.{Closed}
 use Rattle.ilk_plant.specs.declared.state.Hold.TheVariants.{Free as FreeLock, Locked as LockedLock, Used as UsedLock}
 use Rattle.ilk_plant.specs.declared.state.State.{State}
 use Rattle.ilk_plant.specs.declared.state.Train.{Train}
-use Rattle.ilk_motion.specs.Body.{has_head, has_tail_before_head, is_first_of_several, is_only, stands_on, train_on, with_new_head, without_tail}
+use Rattle.ilk_motion.specs.Body.{has_head, has_tail_before_head, is_first_of_several, is_only_section, occupies_only, new_train_on, with_new_head, without_tail}
 use Rattle.ilk_motion.specs.Trains.{with_board_closed}
 use Rattle.ilk_motion.specs.Ahead.{ahead}
-use Rattle.ilk_routes.specs.Modes.{is_claimed, same_mode}
+use Rattle.ilk_routes.specs.Modes.{is_allocating_or_locked, same_mode}
 use Rattle.ilk_plant.specs.TableRules.{sections_locked_for}
 use Rattle.ilk_plant.specs.declared.state.Mode.TheVariants.{Marked, Locked, Occupied}
 use Rattle.ilk_model.specs.Event.{next}
-use Rattle.ilk_model.specs.Hazard.{is_hazardous, is_wrong, strays}
+use Rattle.ilk_model.specs.Hazard.{is_hazardous, is_wrong_under_train, is_wrong_under_body}
 use Rattle.ilk_model.specs.declared.event.Event.{Event}
 use Rattle.ilk_model.specs.declared.event.Event.TheVariants.{Mark, Allocate, Lock, Sense, Release, Finish, Throw, Settle, Enter, Head, Tail, Leave, Cancel}
-use Rattle.ilk_layout.specs.Laws.{DifferInOrder, DifferInOrderIfAny, IsCalm, OrderIsUnseen}
+use Rattle.ilk_layout.specs.Laws.{DifferInOrder, DifferInOrderIfAny, IsWellFormedAndSafe, OrderIsIrrelevant}
 use Rattle.ilk_layout.proofs.Bodies.{last-has}
 use Rattle.ilk_layout.proofs.Calm.{alone, no-hazard, none-hazardous}
 use Rattle.ilk_layout.proofs.Orders.{Within, kept-at, once-removed, permuted, removed-at, skip, skip-other}
 use Rattle.ilk_layout.proofs.Told.{state-once}
 use Rattle.ilk_layout.proofs.Trains.{has_x, with_trains}
 
--- one after another: what two ways of going on give differs in order alone if each does
+-- Two sequences of steps differ only in order if each step does.
 unseen-bind : {A : Type 0} (o : Option A) (f g : A → Option State) → ((x : A) → DifferInOrderIfAny (f x) (g x)) → DifferInOrderIfAny (option_and_then f o) (option_and_then g o)
 unseen-bind None f g each = tt
 unseen-bind (Some x) f g each = each x
@@ -52,13 +52,12 @@ unseen-if false true s t e d = cc
 reordered : (s : State) (ts : List Train) → IsPermutation s.trains ts → DifferInOrder s (with_trains s ts)
 reordered s ts order = record { routes = refl; points = refl; boards = refl; locks = refl; trains = order }
 
--- what stands in a list stands in its permutation
 within : (xs ys : List Train) → IsPermutation xs ys → Within xs ys
 within xs ys order i x at =
     let c : Contains ys x = Contains-permutation xs ys x order (i, slice_get_within xs i x at, get_or_from_slice_get xs i x x at) in
     (c.0, slice_get-get_or ys c.0 x c.1 ∙ ap Some c.2)
 
--- without one and the same item, they are still permutations
+-- Two permutations stay permutations without the same item.
 without : (xs ys : List Train) (i j : ℕ) (u : Train) → EachOnce xs → EachOnce ys → IsPermutation xs ys → slice_get xs i ≡ Some u → slice_get ys j ≡ Some u → IsPermutation (remove xs i) (remove ys j)
 without xs ys i j u once once_too order at also =
     permuted (remove xs i) (remove ys j) (once-removed xs i once) (once-removed ys j once_too) (into xs ys i j once at also (within xs ys order)) (into ys xs j i once_too also at (within ys xs (IsPermutation-sym xs ys order)))
@@ -74,7 +73,7 @@ remove-set [] i y = refl
 remove-set (x ∷ xs) zero y = refl
 remove-set (x ∷ xs) (suc i) y = ap (λ l. x ∷ l) (remove-set xs i y)
 
--- with another in its place too
+-- They also stay permutations if that item is replaced.
 replaced : (xs ys : List Train) (i j : ℕ) (u v : Train) → EachOnce xs → EachOnce ys → IsPermutation xs ys → slice_get xs i ≡ Some u → slice_get ys j ≡ Some u → IsPermutation (set xs i v) (set ys j v)
 replaced xs ys i j u v once once_too order at also =
     let rest = without xs ys i j u once once_too order at also in
@@ -89,7 +88,7 @@ replaced xs ys i j u v once once_too order at also =
         let P : List Train → Type 0 = λ l. IsPermutation (set zs k v) (v ∷ l) in
         subst P (remove-set zs k v) (IsPermutation-remove (set zs k v) k v (slice_get_within (set zs k v) k v there) (sym (get_or_from_slice_get (set zs k v) k v v there)))
 
--- in both lists the same train is found, or none
+-- The same train is found in both lists, or none.
 abbrev FindsSame : (Train → Bool) → List Train → List Train → Type 0
 FindsSame test xs ys = ((position test xs ≡ None) × (position test ys ≡ None)) ⊎ ((i j : ℕ) × (u : Train) × (position test xs ≡ Some i) × (slice_get xs i ≡ Some u) × (position test ys ≡ Some j) × (slice_get ys j ≡ Some u))
 
@@ -121,7 +120,7 @@ finds-same test xs ys order one = by_first (position test xs) refl (position tes
         let same : v.0 ≡ u.0 = same_Some v.0 u.0 (sym back.1 ∙ ap (slice_get xs) place ∙ u.1) in
         inr (i, j, u.0, e, u.1, f, v.1 ∙ ap Some same)
 
--- a train found by its head, its tail or its only section has that section
+-- A train found by its head, its tail or its only section has that section.
 head-has : (x : ℕ) (t : Train) → has_head x t ≡ true → has_section x t.body ≡ true
 head-has x t h = last-has x t.body h
 
@@ -133,20 +132,19 @@ tail-has x t h = of t.body h
     of (y ∷ []) h = cc
     of (y ∷ z ∷ rest) h = rw h refl
 
-only-has : (x : ℕ) (t : Train) → stands_on x t ≡ true → has_section x t.body ≡ true
+only-has : (x : ℕ) (t : Train) → occupies_only x t ≡ true → has_section x t.body ≡ true
 only-has x t h = of t.body h
   where
-    of : (body : List ℕ) → is_only x body ≡ true → has_section x body ≡ true
+    of : (body : List ℕ) → is_only_section x body ≡ true → has_section x body ≡ true
     of [] h = cc
     of (y ∷ []) h = rw h refl
     of (y ∷ z ∷ rest) h = cc
 
--- closing a board
 closed : (m : Option ℕ) (s t : State) → DifferInOrder s t → DifferInOrder (with_board_closed m s) (with_board_closed m t)
 closed None s t d = d
 closed (Some m) s t d = record { routes = d.routes; points = d.points; boards = ap (λ bs. set bs m Closed) d.boards; locks = d.locks; trains = d.trains }
 
-module _ (p : PlantLists) (plant : IsPlant p) (never : NeverReturns p) (s : State) (calm : IsCalm p s) (ts : List Train) (order : IsPermutation s.trains ts) where
+module _ (p : PlantLists) (plant : IsPlant p) (never : NoWalkReturns p) (s : State) (calm : IsWellFormedAndSafe p s) (ts : List Train) (order : IsPermutation s.trains ts) where
   abbrev t : State
   t = with_trains s ts
 
@@ -156,19 +154,19 @@ module _ (p : PlantLists) (plant : IsPlant p) (never : NeverReturns p) (s : Stat
   clear-same : is_clear t ≡ is_clear s
   clear-same i x = has_lock s x FreeLock && not (occupied-same i x)
 
-  -- the other order is without hazard too
+  -- The other order has no hazard either.
   hazardous-same : is_hazardous p t ≡ is_hazardous p s
   hazardous-same i x = nat_lt 1 (sum_by-IsPermutation (λ (u : Train). cond (has_section x u.body) 1 0) s.trains ts order i) || wrong-same x i
     where
-      wrong-same : (x : ℕ) → is_wrong p t x ≡ is_wrong p s x
+      wrong-same : (x : ℕ) → is_wrong_under_train p t x ≡ is_wrong_under_train p s x
       wrong-same x = by_section (slice_get p.sections x) refl
         where
-          by_section : (o : Option Section) → slice_get p.sections x ≡ o → is_wrong p t x ≡ is_wrong p s x
+          by_section : (o : Option Section) → slice_get p.sections x ≡ o → is_wrong_under_train p t x ≡ is_wrong_under_train p s x
           by_section None e = rw e refl
           by_section (Some (Linear down up b c)) e = rw e refl
-          by_section (Some (Point stem plus minus faces)) e = rw e (list_any-IsPermutation (λ (u : Train). strays x plus minus (lie_of p s x) u.body) ts s.trains (IsPermutation-sym s.trains ts order))
+          by_section (Some (Point stem plus minus faces)) e = rw e (list_any-IsPermutation (λ (u : Train). is_wrong_under_body x plus minus (detected_position p s x) u.body) ts s.trains (IsPermutation-sym s.trains ts order))
 
-  pub still-calm : IsCalm p t
+  pub still-calm : IsWellFormedAndSafe p t
   still-calm = record {
     shape = record {
       routes = calm.shape.routes;
@@ -176,7 +174,7 @@ module _ (p : PlantLists) (plant : IsPlant p) (never : NeverReturns p) (s : Stat
       boards = calm.shape.boards;
       locks = calm.shape.locks;
       counts = calm.shape.counts;
-      bodies = list_all-from_All (is_body p) ts (All-permutation (λ u. is_body p u ≡ true) s.trains ts order (All-tested (is_body p) (λ u. is_body p u ≡ true) (λ u h. h) s.trains calm.shape.bodies));
+      bodies = list_all-from_All (has_valid_body p) ts (All-permutation (λ u. has_valid_body p u ≡ true) s.trains ts order (All-tested (has_valid_body p) (λ u. has_valid_body p u ≡ true) (λ u h. h) s.trains calm.shape.bodies));
     };
     no_hazard = no-hazard p t (ap (λ f. find f (range_with_len 0 (length p.sections))) hazardous-same ∙ none-hazardous p s calm.no_hazard);
   }
@@ -190,7 +188,6 @@ module _ (p : PlantLists) (plant : IsPlant p) (never : NeverReturns p) (s : Stat
   same-train : (x : ℕ) (test : Train → Bool) → ((u : Train) → test u ≡ true → has_section x u.body ≡ true) → FindsSame test s.trains ts
   same-train x test has = finds-same test s.trains ts order (λ i j u v at also hu hv. alone p plant never s calm.shape calm.no_hazard i j x u v at also (has u hu) (has v hv))
 
-  -- a train is found in both orders, and what follows differs in order alone
   unseen-found : (x : ℕ) (test : Train → Bool) → ((u : Train) → test u ≡ true → has_section x u.body ≡ true) →
       (f g : ℕ → Train → Option State) →
       ((i j : ℕ) (u : Train) → slice_get s.trains i ≡ Some u → slice_get ts j ≡ Some u →
@@ -202,7 +199,6 @@ module _ (p : PlantLists) (plant : IsPlant p) (never : NeverReturns p) (s : Stat
         | inr found ↦ rw (found.3, found.5, found.4, found.6) (each found.0 found.1 found.2 found.4 found.6)
       ]
 
-  -- the state with other trains in the place of one
   with-replaced : (i j : ℕ) (u v : Train) → slice_get s.trains i ≡ Some u → slice_get ts j ≡ Some u → DifferInOrder (with_trains s (set s.trains i v)) (with_trains s (set ts j v))
   with-replaced i j u v at also = record { routes = refl; points = refl; boards = refl; locks = refl; trains = replaced s.trains ts i j u v once once-too order at also }
 
@@ -210,7 +206,7 @@ module _ (p : PlantLists) (plant : IsPlant p) (never : NeverReturns p) (s : Stat
   unseen (Mark r) = unseen-bind (slice_get p.routes r) _ _ (λ route. unseen-bind (slice_get s.routes r) _ _ (λ now. unseen-if _ _ _ _ refl (reordered _ ts order)))
   unseen (Allocate r) =
       unseen-bind (slice_get p.routes r) _ _ (λ route. unseen-bind (slice_get s.routes r) _ _ (λ now.
-      unseen-if _ _ _ _ (ap (λ f. same_mode now.mode Marked && (not (list_any (is_claimed s) route.conflicts) && list_all f (sections_locked_for route))) (sym clear-same)) (reordered _ ts order)))
+      unseen-if _ _ _ _ (ap (λ f. same_mode now.mode Marked && (not (list_any (is_allocating_or_locked s) route.conflicts) && list_all f (sections_locked_for route))) (sym clear-same)) (reordered _ ts order)))
   unseen (Lock r) = unseen-bind (slice_get p.routes r) _ _ (λ route. unseen-bind (slice_get s.routes r) _ _ (λ now. unseen-if _ _ _ _ refl (reordered _ ts order)))
   unseen (Sense r) =
       unseen-bind (slice_get p.routes r) _ _ (λ route. unseen-bind (slice_get s.routes r) _ _ (λ now. unseen-bind (slice_get route.path now.seen) _ _ (λ x.
@@ -224,17 +220,17 @@ module _ (p : PlantLists) (plant : IsPlant p) (never : NeverReturns p) (s : Stat
   unseen (Throw x) = unseen-bind (point_number p x) _ _ (λ n. unseen-bind (slice_get s.points n) _ _ (λ point. unseen-if _ _ _ _ refl (reordered _ ts order)))
   unseen (Settle x) = unseen-bind (point_number p x) _ _ (λ n. unseen-bind (slice_get s.points n) _ _ (λ point. unseen-if _ _ _ _ refl (reordered _ ts order)))
   unseen (Enter x) =
-      unseen-bind (border p x) _ _ (λ inward. unseen-if _ _ _ _ (ap (λ f. f x) (sym clear-same)) (record { routes = refl; points = refl; boards = refl; locks = refl; trains = IsPermutation-append_left (train_on x inward ∷ []) s.trains ts order }))
+      unseen-bind (border p x) _ _ (λ inward. unseen-if _ _ _ _ (ap (λ f. f x) (sym clear-same))
+      (record { routes = refl; points = refl; boards = refl; locks = refl; trains = IsPermutation-append_left (new_train_on x inward ∷ []) s.trains ts order }))
   unseen (Head x) =
       unseen-found x (has_head x) (head-has x) _ _ (λ i j u at also. unseen-bind (ahead p s x u.dir) _ _ (λ y.
       unseen-if _ _ _ _ refl (closed (board_of p x u.dir) _ _ (with-replaced i j u (with_new_head y u) at also))))
   unseen (Tail x) = unseen-bind (slice_get p.sections x) _ _ (λ section. unseen-found x (has_tail_before_head x) (tail-has x) _ _ (λ i j u at also. with-replaced i j u (without_tail u) at also))
   unseen (Leave x) =
-      unseen-bind (slice_get p.sections x) _ _ (λ section. unseen-found x (stands_on x) (only-has x) _ _ (λ i j u at also.
+      unseen-bind (slice_get p.sections x) _ _ (λ section. unseen-found x (occupies_only x) (only-has x) _ _ (λ i j u at also.
       unseen-if _ _ _ _ refl (record { routes = refl; points = refl; boards = refl; locks = refl; trains = without s.trains ts i j u once once-too order at also })))
 
--- no event sees the order of trains
-pub order-unseen : (p : PlantLists) → IsPlant p → NeverReturns p → OrderIsUnseen p
+pub order-unseen : (p : PlantLists) → IsPlant p → NoWalkReturns p → OrderIsIrrelevant p
 order-unseen p plant never s t event calm differ =
     let whole : with_trains s t.trains ≡ t = λ i. record { routes = sym differ.routes i; points = sym differ.points i; boards = sym differ.boards i; locks = sym differ.locks i; trains = t.trains } in
     let P : State → Type 0 = λ u. DifferInOrderIfAny (next p s event) (next p u event) in

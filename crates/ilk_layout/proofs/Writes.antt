@@ -1,4 +1,4 @@
--- One write to a state is one write to its image, and what stands in an image at the number of a variable.
+-- One write to a state is one write to its image; the value in an image at a variable's number.
 use Rattle.std.proofs.Common.{◌≡◌, ℕ, ◌+◌, ◌*◌, ◌<◌, Some, option_map, List, ◌++◌, length, map, set, slice_get, sym, ◌∙◌, ap, arith}
 use Rattle.std.specs.List.{flat_map}
 use Rattle.std.proofs.lemmas.List.{length-map, map-set}
@@ -15,11 +15,11 @@ use Rattle.ilk_plant.specs.declared.state.RouteState.{RouteState}
 use Rattle.ilk_plant.specs.declared.state.State.{State}
 use Rattle.ilk_layout.specs.Image.{point_values, route_values}
 use Rattle.ilk_layout.specs.Values.{aspect_value, hold_value, lie_value, mode_value, position_value}
-use Rattle.ilk_layout.specs.Variables.{at_var, board_var, lock_var, mode_var, occupancy_var, rel_var, seen_var, to_var}
+use Rattle.ilk_layout.specs.Variables.{detected_var, board_var, lock_var, mode_var, occupancy_var, rel_var, seen_var, commanded_var}
 use Rattle.ilk_layout.proofs.Parts.{get-fifth, get-first, get-fourth, get-second, get-third, set-fifth, set-first, set-fourth, set-second, set-third}
 use Rattle.ilk_layout.proofs.Places.{get-at, get-mode, get-rel, get-seen, get-to, length-points, length-routes, set-at, set-mode, set-rel, set-seen, set-to}
 
--- the image of a state with these occupancies in place of its own
+-- The image of a state with other occupancies.
 abbrev pub image_with : State → List ℕ → List ℕ
 image_with s occupancies =
     flat_map route_values s.routes ++ (flat_map point_values s.points ++ (map aspect_value s.boards ++ (map hold_value s.locks ++ occupancies)))
@@ -67,17 +67,17 @@ module _ (p : PlantLists) (s : State) (e : List ℕ) (shape : HasShape p s) wher
       let count = shape.routes in
       get-first _ _ _ _ e _ _ _ _ la lb lc ld (3 * r + 2) (omega arith) ∙ get-rel s.routes r now at
 
-  pub at-at : (n : ℕ) (point : PointState) → slice_get s.points n ≡ Some point → slice_get (image_with s e) (at_var p n) ≡ Some (lie_value point.at)
+  pub at-at : (n : ℕ) (point : PointState) → slice_get s.points n ≡ Some point → slice_get (image_with s e) (detected_var p n) ≡ Some (lie_value point.at)
   at-at n point at =
       let within = slice_get_within s.points n point at in
       let count = shape.points in
       get-second _ _ _ _ e _ _ _ _ la lb lc ld (2 * n) (omega arith) ∙ get-at s.points n point at
 
-  pub to-at : (n : ℕ) (point : PointState) → slice_get s.points n ≡ Some point → slice_get (image_with s e) (to_var p n) ≡ Some (position_value point.to)
+  pub to-at : (n : ℕ) (point : PointState) → slice_get s.points n ≡ Some point → slice_get (image_with s e) (commanded_var p n) ≡ Some (position_value point.to)
   to-at n point at =
       let within = slice_get_within s.points n point at in
       let count = shape.points in
-      let there : to_var p n ≡ 3 * length p.routes + (2 * n + 1) = omega arith in
+      let there : commanded_var p n ≡ 3 * length p.routes + (2 * n + 1) = omega arith in
       ap (slice_get (image_with s e)) there ∙ get-second _ _ _ _ e _ _ _ _ la lb lc ld (2 * n + 1) (omega arith) ∙ get-to s.points n point at
 
   pub board-at : (m : ℕ) (aspect : Aspect) → slice_get s.boards m ≡ Some aspect → slice_get (image_with s e) (board_var p m) ≡ Some (aspect_value aspect)
@@ -113,17 +113,17 @@ module _ (p : PlantLists) (s : State) (e : List ℕ) (shape : HasShape p s) wher
       let count = shape.routes in
       set-first _ _ _ _ e _ _ _ _ la lb lc ld (3 * r + 2) k (omega arith) ∙ ap (λ u. u ++ (b ++ (c ++ (d ++ e)))) (set-rel s.routes r now k at)
 
-  pub at-written : (n : ℕ) (point : PointState) (lie : Lie) → slice_get s.points n ≡ Some point → set (image_with s e) (at_var p n) (lie_value lie) ≡ image_with (record s { points = set s.points n (record point { at = lie }) }) e
+  pub at-written : (n : ℕ) (point : PointState) (lie : Lie) → slice_get s.points n ≡ Some point → set (image_with s e) (detected_var p n) (lie_value lie) ≡ image_with (record s { points = set s.points n (record point { at = lie }) }) e
   at-written n point lie at =
       let within = slice_get_within s.points n point at in
       let count = shape.points in
       set-second _ _ _ _ e _ _ _ _ la lb lc ld (2 * n) (lie_value lie) (omega arith) ∙ ap (λ u. a ++ (u ++ (c ++ (d ++ e)))) (set-at s.points n point lie at)
 
-  pub to-written : (n : ℕ) (point : PointState) (to : Position) → slice_get s.points n ≡ Some point → set (image_with s e) (to_var p n) (position_value to) ≡ image_with (record s { points = set s.points n (record point { to = to }) }) e
+  pub to-written : (n : ℕ) (point : PointState) (to : Position) → slice_get s.points n ≡ Some point → set (image_with s e) (commanded_var p n) (position_value to) ≡ image_with (record s { points = set s.points n (record point { to = to }) }) e
   to-written n point to at =
       let within = slice_get_within s.points n point at in
       let count = shape.points in
-      let there : to_var p n ≡ 3 * length p.routes + (2 * n + 1) = omega arith in
+      let there : commanded_var p n ≡ 3 * length p.routes + (2 * n + 1) = omega arith in
       ap (λ i. set (image_with s e) i (position_value to)) there ∙ set-second _ _ _ _ e _ _ _ _ la lb lc ld (2 * n + 1) (position_value to) (omega arith) ∙ ap (λ u. a ++ (u ++ (c ++ (d ++ e)))) (set-to s.points n point to at)
 
   pub board-written : (m : ℕ) (aspect : Aspect) → m < length p.boards → set (image_with s e) (board_var p m) (aspect_value aspect) ≡ image_with (record s { boards = set s.boards m aspect }) e

@@ -1,4 +1,4 @@
--- The image of a state: the values of the plant's variables, in their order.
+-- The image of a state: the values of the plant's variables, in order.
 use Rattle.std.specs.Prelude.{ℕ, List, [], ◌∷◌, ◌++◌, map, length}
 use Rattle.std.specs.List.{flat_map, range_with_len}
 use Rattle.ilk_plant.specs.Plant.{PlantLists}
@@ -14,7 +14,7 @@ route_values now = mode_value now.mode ∷ now.seen ∷ now.rel ∷ []
 abbrev pub point_values : PointState → List ℕ
 point_values point = lie_value point.at ∷ position_value point.to ∷ []
 
--- the numbers of the occupancies of all sections
+-- The numbers of the occupancies of all sections.
 abbrev pub occupancy_values : PlantLists → State → List ℕ
 occupancy_values p s = map (λ x. occupancy_value (occupancy_of p s x)) (range_with_len 0 (length p.sections))
 

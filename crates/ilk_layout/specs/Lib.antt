@@ -6,3 +6,4 @@ pub mod Wellformed
 pub mod Standing
 pub mod Decoded
 pub mod Laws
+pub mod Conditions

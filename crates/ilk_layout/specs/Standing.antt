@@ -1,16 +1,16 @@
--- Cited by private contracts alone: the occupancies of sections, as trains are added one by one.
+-- Used only in private contracts: the occupancies of sections while trains are added one by one.
 use Rattle.std.specs.Prelude.{ℕ, ◌+◌, ◌-◌, ◌≡◌, Bool, true, false, not, ◌&&◌, ◌||◌, ◌==◌, Option, Some, None, List, length, slice_get, option_map, if◌then◌else◌}
 use Rattle.ilk_base.specs.Option.{is_some_and}
 use Rattle.ilk_plant.specs.Network.{has_section}
 use Rattle.ilk_plant.specs.Plant.{PlantLists}
-use Rattle.ilk_plant.specs.State.{lie_of}
+use Rattle.ilk_plant.specs.State.{detected_position}
 use Rattle.ilk_plant.specs.declared.network.Section.{Section}
 use Rattle.ilk_plant.specs.declared.network.Section.TheVariants.{Linear, Point}
 use Rattle.ilk_plant.specs.declared.state.Lie.{Lie}
 use Rattle.ilk_plant.specs.declared.state.Lie.TheVariants.{Plus, Minus, Moving}
 use Rattle.ilk_plant.specs.declared.state.State.{State}
 use Rattle.ilk_plant.specs.declared.state.Train.{Train}
-use Rattle.ilk_model.specs.Hazard.{strays}
+use Rattle.ilk_model.specs.Hazard.{is_wrong_under_body}
 use Rattle.ilk_layout.specs.Occupancy.{taken_by}
 use Rattle.ilk_layout.specs.declared.values.Occupancy.{Occupancy}
 use Rattle.ilk_layout.specs.declared.values.Occupancy.TheVariants.{Vacant, Taken, Crash}
@@ -20,11 +20,12 @@ has_no_train Vacant = true
 has_no_train (Taken d tail head) = false
 has_no_train Crash = false
 
--- whether the section before or after is y
+-- Returns whether `before` or `after` is section `y`.
 abbrev pub is_beside : ℕ → Option ℕ → Option ℕ → Bool
 is_beside y before after = is_some_and before (λ z. z == y) || is_some_and after (λ z. z == y)
 
--- whether a body, in which these sections stand before and after the point on x, is wrong on it
+-- Returns whether a body is `wrong` on the point on `x`, if `before` and `after` are next to `x` in
+-- it.
 abbrev pub is_wrong_between : PlantLists → State → ℕ → Option ℕ → Option ℕ → Bool
 is_wrong_between p s x before after = by_section (slice_get p.sections x)
   where
@@ -37,35 +38,35 @@ is_wrong_between p s x before after = by_section (slice_get p.sections x)
     by_section : Option Section → Bool
     by_section None = false
     by_section (Some (Linear down up board_down board_up)) = false
-    by_section (Some (Point stem plus minus faces)) = by_lie plus minus (lie_of p s x)
+    by_section (Some (Point stem plus minus faces)) = by_lie plus minus (detected_position p s x)
 
--- the section before place i of a body
+-- The section before index `i` of a body, or `None`.
 abbrev pub section_before : List ℕ → ℕ → Option ℕ
 section_before body i = if i == 0 then None else slice_get body (i - 1)
 
--- the occupancy of the section at place i of a train's body, which had this one before
+-- The new occupancy of section `x`, at index `i` of the train's body, if it was `before`.
 abbrev pub after_taking : PlantLists → State → Train → ℕ → ℕ → Occupancy → Occupancy
 after_taking p s train x i before =
     if has_no_train before && not (is_wrong_between p s x (section_before train.body i) (slice_get train.body (i + 1)))
     then Taken train.dir (i == 0) (i + 1 == length train.body)
     else Crash
 
--- whether a body is wrong on the point on x
+-- Returns whether a body is `wrong` on the point on `x`.
 abbrev pub is_wrong_under : PlantLists → State → ℕ → List ℕ → Bool
 is_wrong_under p s x body = by_section (slice_get p.sections x)
   where
     by_section : Option Section → Bool
     by_section None = false
     by_section (Some (Linear down up board_down board_up)) = false
-    by_section (Some (Point stem plus minus faces)) = strays x plus minus (lie_of p s x) body
+    by_section (Some (Point stem plus minus faces)) = is_wrong_under_body x plus minus (detected_position p s x) body
 
--- the occupancy of x with one more train, of whose body these sections were gone through
+-- The occupancy of `x` after one more train is added, on the sections `gone` of its body so far.
 abbrev pub with_train_on : PlantLists → State → Train → List ℕ → ℕ → Occupancy → Occupancy
 with_train_on p s train gone x before =
     if has_section x gone
     then (if has_no_train before && not (is_wrong_under p s x train.body) then taken_by x train else Crash)
     else before
 
--- the occupancies, each changed by what the train does to its section
-abbrev pub AreWithTrainOn : PlantLists → State → Train → List ℕ → List Occupancy → List Occupancy → Type 0
-AreWithTrainOn p s train gone before now = (x : ℕ) → slice_get now x ≡ option_map (with_train_on p s train gone x) (slice_get before x)
+-- Holds if `now` is `before` with this train added on the sections `gone` of its body.
+abbrev pub HasTrainAdded : PlantLists → State → Train → List ℕ → List Occupancy → List Occupancy → Type 0
+HasTrainAdded p s train gone before now = (x : ℕ) → slice_get now x ≡ option_map (with_train_on p s train gone x) (slice_get before x)

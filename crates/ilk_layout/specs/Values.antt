@@ -1,4 +1,4 @@
--- The numbers of values: those of each type are numbered from 0, in the order of its declaration.
+-- The numbers of values: the values of each type are numbered from 0 in the order of declaration.
 use Rattle.std.specs.Prelude.{ℕ, true, false, Option, List, [], ◌∷◌, ◌==◌, find}
 use Rattle.ilk_plant.specs.declared.network.Dir.TheVariants.{Up, Down}
 use Rattle.ilk_plant.specs.declared.network.Position.{Position}
@@ -39,7 +39,8 @@ hold_value FreeLock = 0
 hold_value LockedLock = 1
 hold_value UsedLock = 2
 
--- 0 for vacant and 9 for crash; else 1, and 4 for a train down, 2 for its tail, 1 for its head
+-- 0 for `Vacant`, 9 for `Crash`; otherwise 1, plus 4 for a down train, 2 for its tail and 1 for its
+-- head.
 abbrev pub occupancy_value : Occupancy → ℕ
 occupancy_value Vacant = 0
 occupancy_value (Taken Up false false) = 1
@@ -52,17 +53,17 @@ occupancy_value (Taken Down true false) = 7
 occupancy_value (Taken Down true true) = 8
 occupancy_value Crash = 9
 
--- of some values, the one that has this number
-abbrev pub of_value : {A : Type 0} → (A → ℕ) → List A → ℕ → Option A
-of_value value_of all number = find (λ a. value_of a == number) all
+-- The value with this number among `all`, or `None`.
+abbrev pub from_value : {A : Type 0} → (A → ℕ) → List A → ℕ → Option A
+from_value value_of all number = find (λ a. value_of a == number) all
 
-abbrev pub lie_of_value : ℕ → Option Lie
-lie_of_value = of_value lie_value (LiesPlus ∷ LiesMinus ∷ Moving ∷ [])
+abbrev pub lie_from_value : ℕ → Option Lie
+lie_from_value = from_value lie_value (LiesPlus ∷ LiesMinus ∷ Moving ∷ [])
 
 abbrev pub all_occupancies : List Occupancy
 all_occupancies =
     Vacant ∷ Taken Up false false ∷ Taken Up false true ∷ Taken Up true false ∷ Taken Up true true
     ∷ Taken Down false false ∷ Taken Down false true ∷ Taken Down true false ∷ Taken Down true true ∷ Crash ∷ []
 
-abbrev pub occupancy_of_value : ℕ → Option Occupancy
-occupancy_of_value = of_value occupancy_value all_occupancies
+abbrev pub occupancy_from_value : ℕ → Option Occupancy
+occupancy_from_value = from_value occupancy_value all_occupancies

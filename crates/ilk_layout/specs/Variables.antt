@@ -1,6 +1,6 @@
--- The variables of a plant: their order, their numbers and their ranges. For each route there are its mode, the
--- number of path sections that were seen and of those that were released; then for each point where it lies and where
--- it is commanded; then the boards; then the locks of the sections; then the occupancies of the sections.
+-- The variables of a plant: their order, numbers and ranges. First come, for each route, its mode
+-- and its counts of seen and released path sections. Next are, for each point, its detected and its
+-- commanded position. The boards, the locks and the occupancies of the sections follow.
 use Rattle.std.specs.Prelude.{ℕ, ◌+◌, ◌*◌, List, [], ◌∷◌, ◌++◌, length, replicate}
 use Rattle.std.specs.List.{flat_map}
 use Rattle.ilk_plant.specs.Plant.{PlantLists, point_count}
@@ -15,7 +15,7 @@ seen_var r = 3 * r + 1
 abbrev pub rel_var : ℕ → ℕ
 rel_var r = 3 * r + 2
 
--- the first variables of the points, the boards, the locks and the occupancies
+-- The first variables of the points, boards, locks and occupancies.
 abbrev pub points_begin : PlantLists → ℕ
 points_begin p = 3 * length p.routes
 
@@ -28,12 +28,12 @@ locks_begin p = boards_begin p + length p.boards
 abbrev pub occupancies_begin : PlantLists → ℕ
 occupancies_begin p = locks_begin p + length p.sections
 
--- where the point with number n lies, and where it is commanded
-abbrev pub at_var : PlantLists → ℕ → ℕ
-at_var p n = points_begin p + 2 * n
+-- The detected and the commanded position of point number `n`.
+abbrev pub detected_var : PlantLists → ℕ → ℕ
+detected_var p n = points_begin p + 2 * n
 
-abbrev pub to_var : PlantLists → ℕ → ℕ
-to_var p n = points_begin p + 2 * n + 1
+abbrev pub commanded_var : PlantLists → ℕ → ℕ
+commanded_var p n = points_begin p + 2 * n + 1
 
 abbrev pub board_var : PlantLists → ℕ → ℕ
 board_var p m = boards_begin p + m
@@ -44,11 +44,11 @@ lock_var p x = locks_begin p + x
 abbrev pub occupancy_var : PlantLists → ℕ → ℕ
 occupancy_var p x = occupancies_begin p + x
 
--- five modes; none to all sections of the path seen, and released
+-- Five modes; 0 up to all sections of the path seen, and released.
 abbrev pub route_ranges : Route → List ℕ
 route_ranges route = 5 ∷ (length route.path + 1) ∷ (length route.path + 1) ∷ []
 
--- three ways to lie, and two to be commanded, for each of n points
+-- Three detected and two commanded positions for each of `n` points.
 abbrev pub points_ranges : ℕ → List ℕ
 points_ranges n = flat_map (λ range. range) (replicate n (3 ∷ 2 ∷ []))
 

@@ -14,7 +14,6 @@ use ilk_ir::Values;
 use ilk_plant::{Aspect, Hold, Plant, PointState, RouteState, State};
 use std::alloc::{AllocError, Global};
 
-// Adds the values of a route.
 fn push_route(values: &mut Values, now: &RouteState) -> Result<(), AllocError>
     requires seen { now.now.seen ≤ MAX_PATH }
     requires rel { now.now.rel ≤ MAX_PATH }
@@ -26,7 +25,6 @@ fn push_route(values: &mut Values, now: &RouteState) -> Result<(), AllocError>
     Ok(())
 }
 
-// Adds the values of all routes.
 fn push_routes(values: &mut Values, routes: &Row<RouteState>) -> Result<(), AllocError>
     requires { All (λ now. (now.seen ≤ MAX_PATH) × (now.rel ≤ MAX_PATH)) routes.now }
     ensures { OnOk result (values.new ≡ values.old ++ flat_map route_values routes.now) }
@@ -37,7 +35,6 @@ fn push_routes(values: &mut Values, routes: &Row<RouteState>) -> Result<(), Allo
     Ok(())
 }
 
-// Adds the values of all points.
 fn push_points(values: &mut Values, points: &Row<PointState>) -> Result<(), AllocError>
     ensures { OnOk result (values.new ≡ values.old ++ flat_map point_values points.now) }
 {
@@ -48,7 +45,6 @@ fn push_points(values: &mut Values, points: &Row<PointState>) -> Result<(), Allo
     Ok(())
 }
 
-// Adds the values of all boards.
 fn push_boards(values: &mut Values, boards: &Row<Aspect>) -> Result<(), AllocError>
     ensures { OnOk result (values.new ≡ values.old ++ map numbers.aspect_value boards.now) }
 {
@@ -58,7 +54,6 @@ fn push_boards(values: &mut Values, boards: &Row<Aspect>) -> Result<(), AllocErr
     Ok(())
 }
 
-// Adds the values of all locks.
 fn push_locks(values: &mut Values, locks: &Row<Hold>) -> Result<(), AllocError>
     ensures { OnOk result (values.new ≡ values.old ++ map numbers.hold_value locks.now) }
 {
@@ -68,7 +63,6 @@ fn push_locks(values: &mut Values, locks: &Row<Hold>) -> Result<(), AllocError>
     Ok(())
 }
 
-// Adds the values of the occupancies of all sections.
 fn push_occupancies(
     alloc: Global,
     values: &mut Values,
@@ -85,8 +79,8 @@ fn push_occupancies(
     Ok(())
 }
 
-/// The image of a state: the values of the plant's variables, in their order. The only refusal is
-/// want of memory.
+/// Returns the image of state `s`: the values of the plant's variables, in order. Fails only if
+/// memory runs out.
 pub fn image(alloc: Global, plant: &Plant, s: &State) -> Result<Values, AllocError>
     requires { HasShape plant.now s.now }
     ensures { IfOk result (λ values. values ≡ image_of plant.now s.now) }

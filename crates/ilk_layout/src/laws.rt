@@ -1,39 +1,40 @@
-//! The laws of images, each as a call that does nothing and tells a proof.
+//! Theorems about images.
 
-ghost use Rattle.ilk_layout.specs.Laws.{ImagesAreInRange, ImagesTellStates, OrderIsUnseen, WellformedAreImages};
+ghost use Rattle.ilk_layout.specs.Laws.{ImagesAreInRange, ImagesDetermineStates, OrderIsIrrelevant, WellformedAreImages};
 
 use ilk_plant::Plant;
 
-/// The image of a state with shape is in range.
+/// The image of a well-formed state is in range. Proof only; no run-time effect.
 pub fn images_are_in_range(plant: &Plant)
     ensures { ImagesAreInRange plant.now }
 {
     plant.is_sound();
 }
 
-/// Two states with shape and without hazard that have one image differ in the order of trains
-/// alone.
-pub fn images_tell_states(plant: &Plant)
-    ensures { ImagesTellStates plant.now }
+/// Two well-formed states without hazard that have the same image differ only in the order of
+/// trains. Proof only; no run-time effect.
+pub fn images_determine_states(plant: &Plant)
+    ensures { ImagesDetermineStates plant.now }
 {
     plant.is_sound();
-    plant.is_of_drafts();
+    plant.is_from_drafts();
 }
 
-/// Values in range are well-formed, by a condition on each section and those next to it, exactly
-/// where they are the image of a state with shape and without hazard.
+/// Values in range are well-formed if and only if they are the image of a well-formed state without
+/// hazard. Well-formed values meet a condition on each section and its neighbours. Proof only; no
+/// run-time effect.
 pub fn wellformed_are_images(plant: &Plant)
     ensures { WellformedAreImages plant.now }
 {
     plant.is_sound();
-    plant.is_of_drafts();
+    plant.is_from_drafts();
 }
 
-/// In a state with shape and without hazard no event sees the order of trains: two such states that
-/// differ in it alone have next states that differ in it alone, or none.
-pub fn order_is_unseen(plant: &Plant)
-    ensures { OrderIsUnseen plant.now }
+/// No event depends on the order of trains in a well-formed state without hazard: the next states,
+/// if any, also differ only in that order. Proof only; no run-time effect.
+pub fn order_is_irrelevant(plant: &Plant)
+    ensures { OrderIsIrrelevant plant.now }
 {
     plant.is_sound();
-    plant.is_of_drafts();
+    plant.is_from_drafts();
 }

@@ -1,29 +1,49 @@
-//! The image of a plant's state: a list of small values, in which every rule, form and formula above
-//! speaks of the state.
+//! The image of a state: a list of small values. All rules, forms and formulas in higher layers
+//! refer to the state through its image.
 //!
-//! A state has a list of trains with bodies of any length, and a formula wants a fixed number of
-//! values. So the image keeps for each section how it is occupied (`Occupancy`): by no train, by a
-//! train of this direction with or without its tail and its head there, or by a hazard. The
-//! variables, their order, numbers and ranges are those of `specs/Variables`; `image` takes one pass
+//! A state lists trains with bodies of any length, but a formula needs a fixed number of values. So
+//! the image stores an occupancy for each section (`Occupancy`): vacant, taken or a hazard. A taken
+//! section has the train's direction, and whether its tail and its head are there.
+//! `specs/Variables` defines the variables, their order, numbers and ranges. `image` takes one pass
 //! over the trains.
 //!
-//! That nothing is lost is the matter of the laws (`laws`), which do nothing and tell a proof: an
-//! image is in range; it tells its state but for the order of trains; values in range are an image
-//! exactly where they are well-formed, by a condition on each section and those next to it
-//! (`specs/Wellformed`); and no event sees the order of trains. `proofs/Changes` has one lemma for
-//! each change of a state, as one write to its image (two where the occupancies of two sections
-//! change together), and `specs/Decoded` has the trains that well-formed values stand for.
+//! `laws` states the theorems. Images are in range. An image determines its state up to the order
+//! of trains. Values in range are an image if and only if they are well-formed: a condition on each
+//! section and its neighbours (`specs/Wellformed`). No event depends on the order of trains. The
+//! last three are about well-formed states without hazard.
+//!
+//! `proofs/Changes` shows that each change of a state is one write to its image, or two if two
+//! occupancies change. `specs/Decoded` defines the trains that well-formed values represent.
+//!
+//! Atomic conditions on the values of a plant's variables. Each tests one value: a route's mode or
+//! counts, a point's detected or commanded position, a board, a lock or an occupancy.
+//!
+//! `specs/Conditions` defines each condition as a tree, and the calls here build it.
+//! `proofs/Values` shows its meaning for a state. Guards of rules (`ilk_behave`) and forms of goals
+//! consist of these conditions.
 #![tactic(auto)]
 
+mod conditions;
 mod images;
 mod laws;
 mod occupancies;
 mod values;
+mod variable_numbers;
 mod variables;
 
+pub use conditions::{
+    board_is, commanded_at_listed, is_commanded, is_detected, is_point_commanded,
+    is_point_detected, lies_at_listed, lock_is, mode_is, negated, no_train_at, occupancy_is,
+    rel_is, seen_is, train_at,
+};
 pub use images::image;
-pub use laws::{images_are_in_range, images_tell_states, order_is_unseen, wellformed_are_images};
+pub use laws::{
+    images_are_in_range, images_determine_states, order_is_irrelevant, wellformed_are_images,
+};
 pub use values::{
     Occupancy, aspect_value, hold_value, lie_value, mode_value, occupancy_value, position_value,
+};
+pub use variable_numbers::{
+    board_var, commanded_var, detected_var, lock_var, mode_var, occupancy_var, rel_var, seen_var,
 };
 pub use variables::ranges;

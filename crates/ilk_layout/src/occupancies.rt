@@ -1,12 +1,12 @@
 ghost use Rattle.std.specs.Prelude.{◌≡◌, ◌<◌, ◌+◌, IsTrue, Some, length, map, replicate, slice_index, IfOk};
 ghost use Rattle.std.specs.List.{range_with_len};
-ghost use Rattle.ilk_plant.specs.Shape.{HasShape, is_body};
+ghost use Rattle.ilk_plant.specs.Shape.{HasShape, has_valid_body};
 ghost use Rattle.ilk_layout.specs.Occupancy.{occupancy_of};
-ghost use Rattle.ilk_layout.specs.Standing.{AreWithTrainOn, after_taking, is_beside, has_no_train, is_wrong_between, section_before};
+ghost use Rattle.ilk_layout.specs.Standing.{HasTrainAdded, after_taking, is_beside, has_no_train, is_wrong_between, section_before};
 
 use crate::values::Occupancy;
 use ilk_base::Row;
-use ilk_plant::{Lie, Plant, Section, State, Train, lie_of};
+use ilk_plant::{Lie, Plant, Section, State, Train, detected_position};
 use std::alloc::{AllocError, Global};
 
 fn is_vacant(occupancy: Occupancy) -> bool
@@ -15,14 +15,15 @@ fn is_vacant(occupancy: Occupancy) -> bool
     occupancy == Occupancy::Vacant
 }
 
-// Whether the section before or after is `y`.
+// Returns whether `before` or `after` is section `y`.
 fn is_beside(y: u32, before: Option<u32>, after: Option<u32>) -> bool
     ensures { result ≡ is_beside y before after }
 {
     before == Some(y) || after == Some(y)
 }
 
-// Whether a body, in which these sections stand before and after the point on `x`, is wrong on it.
+// Returns whether a body is `wrong` on the point on `x`, if `before` and `after` are next to `x` in
+// it.
 fn is_wrong_between(
     plant: &Plant,
     s: &State,
@@ -35,7 +36,7 @@ fn is_wrong_between(
 {
     match *plant.section(x) {
         Section::Linear { .. } => false,
-        Section::Point { plus, minus, .. } => match lie_of(plant, s, x) {
+        Section::Point { plus, minus, .. } => match detected_position(plant, s, x) {
             None => false,
             Some(Lie::Plus) => is_beside(minus, before, after),
             Some(Lie::Minus) => is_beside(plus, before, after),
@@ -44,7 +45,7 @@ fn is_wrong_between(
     }
 }
 
-// The section before place `i` of a body.
+// Returns the section before index `i` of a body, or `None` if there is none.
 fn section_before(body: &[u32], i: usize) -> Option<u32>
     ensures { result ≡ section_before body.now i }
 {
@@ -55,7 +56,7 @@ fn section_before(body: &[u32], i: usize) -> Option<u32>
     }
 }
 
-// The occupancy of the section at place `i` of a train's body, which had this one before.
+// Returns the new occupancy of the section at index `i` of the train's body, if it was `before`.
 fn after_taking(plant: &Plant, s: &State, train: &Train, i: usize, before: Occupancy) -> Occupancy
     requires within { i < length train.now.body }
     requires known { slice_index train.now.body i < length plant.now.sections }
@@ -75,15 +76,15 @@ fn after_taking(plant: &Plant, s: &State, train: &Train, i: usize, before: Occup
     }
 }
 
-// Puts one more train on its sections.
+// Adds one train to the occupancies of its sections.
 fn put_train(plant: &Plant, s: &State, occupancies: &mut Row<Occupancy>, train: &Train)
-    requires body { IsTrue (is_body plant.now train.now) }
+    requires body { IsTrue (has_valid_body plant.now train.now) }
     requires sections { length occupancies.old ≡ length plant.now.sections }
-    ensures { AreWithTrainOn plant.now s.now train.now train.now.body occupancies.old
+    ensures { HasTrainAdded plant.now s.now train.now train.now.body occupancies.old
         occupancies.new }
 {
     plant.is_sound();
-    plant.is_of_drafts();
+    plant.is_from_drafts();
     let body = train.body.as_slice();
     for i in 0..body.len() {
         let x = body[i] as u64;
@@ -92,7 +93,7 @@ fn put_train(plant: &Plant, s: &State, occupancies: &mut Row<Occupancy>, train: 
     }
 }
 
-// So many sections, all of them vacant.
+// Returns a row of `count` vacant sections.
 fn vacant(alloc: Global, count: u32) -> Result<Row<Occupancy>, AllocError>
     ensures { IfOk result (λ made. made ≡ replicate count Occupancy.Vacant) }
 {
@@ -103,8 +104,8 @@ fn vacant(alloc: Global, count: u32) -> Result<Row<Occupancy>, AllocError>
     Ok(made)
 }
 
-/// The occupancies of all sections, in one pass over the trains. The only refusal is want of
-/// memory.
+/// Returns the occupancies of all sections, in one pass over the trains. Fails only if memory runs
+/// out.
 pub(crate) fn occupancies(
     alloc: Global,
     plant: &Plant,

@@ -3,18 +3,19 @@ ghost use Rattle.ilk_layout.specs.Values as numbers;
 
 use ilk_plant::{Aspect, Dir, Hold, Lie, Mode, Position};
 
-/// How a section is occupied.
+/// The occupancy of a section.
 #[derive(Clone, Copy, PartialEq, Eq, Debug)]
 pub enum Occupancy {
-    /// No train has it.
+    /// No train is in the section.
     Vacant,
-    /// A train that runs in this direction has it; whether it has its tail there, and its head.
+    /// A train in direction `dir` is in the section. `tail` and `head` say whether its tail and its
+    /// head are there.
     Taken { dir: Dir, tail: bool, head: bool },
-    /// A hazard stands there.
+    /// The section has a hazard.
     Crash,
 }
 
-/// The number of a mode.
+/// Returns the value of `mode` in an image.
 pub fn mode_value(mode: Mode) -> u8
     ensures { result ≡ numbers.mode_value mode }
 {
@@ -27,7 +28,7 @@ pub fn mode_value(mode: Mode) -> u8
     }
 }
 
-/// The number of where a point lies.
+/// Returns the value of a detected position in an image.
 pub fn lie_value(lie: Lie) -> u8
     ensures { result ≡ numbers.lie_value lie }
 {
@@ -38,7 +39,7 @@ pub fn lie_value(lie: Lie) -> u8
     }
 }
 
-/// The number of where a point is commanded.
+/// Returns the value of a commanded position in an image.
 pub fn position_value(position: Position) -> u8
     ensures { result ≡ numbers.position_value position }
 {
@@ -48,7 +49,7 @@ pub fn position_value(position: Position) -> u8
     }
 }
 
-/// The number of what a board shows.
+/// Returns the value of a board's aspect in an image.
 pub fn aspect_value(aspect: Aspect) -> u8
     ensures { result ≡ numbers.aspect_value aspect }
 {
@@ -58,7 +59,7 @@ pub fn aspect_value(aspect: Aspect) -> u8
     }
 }
 
-/// The number of a lock.
+/// Returns the value of a lock in an image.
 pub fn hold_value(hold: Hold) -> u8
     ensures { result ≡ numbers.hold_value hold }
 {
@@ -69,7 +70,7 @@ pub fn hold_value(hold: Hold) -> u8
     }
 }
 
-/// The number of an occupancy.
+/// Returns the value of `occupancy` in an image.
 pub fn occupancy_value(occupancy: Occupancy) -> u8
     ensures { result ≡ numbers.occupancy_value occupancy }
 {

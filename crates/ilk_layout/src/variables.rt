@@ -8,7 +8,7 @@ use ilk_ir::Ranges;
 use ilk_plant::{Plant, Route};
 use std::alloc::{AllocError, Global};
 
-// Adds this range, so many times.
+// Adds `range` `count` times.
 fn push_equal(ranges: &mut Ranges, count: u32, range: u8) -> Result<(), AllocError>
     ensures { OnOk result (ranges.new ≡ ranges.old ++ replicate count range) }
 {
@@ -18,7 +18,7 @@ fn push_equal(ranges: &mut Ranges, count: u32, range: u8) -> Result<(), AllocErr
     Ok(())
 }
 
-// Adds the ranges of a route's mode, and of how many sections of its path are seen and released.
+// Adds the ranges of a route's mode and of its counts of seen and released path sections.
 fn push_route(ranges: &mut Ranges, route: &Route) -> Result<(), AllocError>
     requires { length route.now.path ≤ MAX_PATH }
     ensures { OnOk result (ranges.new ≡ ranges.old ++ route_ranges route.now) }
@@ -30,7 +30,6 @@ fn push_route(ranges: &mut Ranges, route: &Route) -> Result<(), AllocError>
     Ok(())
 }
 
-// Adds the ranges of all routes.
 fn push_routes(ranges: &mut Ranges, plant: &Plant) -> Result<(), AllocError>
     ensures { OnOk result (ranges.new ≡ ranges.old ++ flat_map route_ranges plant.now.routes) }
 {
@@ -40,7 +39,7 @@ fn push_routes(ranges: &mut Ranges, plant: &Plant) -> Result<(), AllocError>
     Ok(())
 }
 
-// Adds the ranges of so many points.
+// Adds the ranges of `count` points.
 fn push_points(ranges: &mut Ranges, count: u32) -> Result<(), AllocError>
     ensures { OnOk result (ranges.new ≡ ranges.old ++ points_ranges count) }
 {
@@ -51,8 +50,8 @@ fn push_points(ranges: &mut Ranges, count: u32) -> Result<(), AllocError>
     Ok(())
 }
 
-/// For each variable of the plant, in their order, how many values it has. The only refusal is want
-/// of memory.
+/// Returns the number of values of each variable of the plant, in order. Fails only if memory runs
+/// out.
 pub fn ranges(alloc: Global, plant: &Plant) -> Result<Ranges, AllocError>
     ensures { IfOk result (λ ranges. ranges ≡ ranges_of_plant plant.now) }
 {

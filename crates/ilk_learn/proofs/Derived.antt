@@ -1,54 +1,51 @@
--- A clause in hand, with hints that show it, through the resolutions with the reasons of entries.
+-- The working clause and its hints, through the resolutions with reasons.
 use Rattle.std.proofs.Common.{◌≡◌, ℕ, ◌+◌, suc, inl, inr, true, false, ◌&&◌, not, eqb, List, [], ◌∷◌, refl, sym, ap, ◌∙◌, subst, Option, Some, add-one}
 use Rattle.std.specs.List.{filter}
 use Rattle.std.specs.Prelude.{slice_get}
 use Rattle.std.proofs.lemmas.Bool.{and_parts, and_from, or_cases, or_left, or_right, cases_Bool, not-true, not_from_false, true≢false}
 use Rattle.ilk_base.specs.Option.{is_some_and}
-use Rattle.ilk_cnf.specs.Literal.{Literal, opposite, same_lit, has_lit, has_var, vars_differ}
-use Rattle.ilk_cnf.specs.Formula.{clause_in}
+use Rattle.ilk_cnf.specs.Literal.{Literal, negated_lit, same_lit, has_lit, has_var, vars_differ}
+use Rattle.ilk_cnf.specs.Formula.{is_clause_over}
 use Rattle.ilk_trail.specs.declared.entry.Entry.{Entry}
 use Rattle.ilk_trail.specs.Laws.{lits_of}
 use Rattle.ilk_log.specs.declared.step.Step.{Step}
-use Rattle.ilk_log.specs.Propagation.{is_false, is_falsified, lone_unset, unit_of, after_hint}
-use Rattle.ilk_log.specs.Derived.{opposites, ends_false, is_derived}
-use Rattle.ilk_log.specs.Fresh.{others}
-use Rattle.ilk_learn.specs.Resolvent.{with_each_lit, resolvent}
+use Rattle.ilk_log.specs.Propagation.{is_false, is_falsified, single_unset_lit, unit_lit, after_hint}
+use Rattle.ilk_log.specs.Derived.{negated_clause, hints_end_in_conflict, is_derived}
+use Rattle.ilk_log.specs.Fresh.{other_lits}
+use Rattle.ilk_learn.specs.Resolvent.{joined_clause, resolvent}
 use Rattle.ilk_learn.proofs.Members.{var-of, no-var, same-var, kept-at, differ-kept, within-kept, from-without, in-without, joined-left, joined-from, joined-var-right, joined-differ, joined-within, each-within}
 use Rattle.ilk_cnf.proofs.SameLiterals.{same-lit, lit-is, has-var}
 
--- a clause is false where the opposite of each of its literals is set
-pub false-from : (set c : List Literal) → ((m : Literal) → has_lit m c ≡ true → has_lit (opposite m) set ≡ true) → is_falsified set c ≡ true
+pub false-from : (set c : List Literal) → ((m : Literal) → has_lit m c ≡ true → has_lit (negated_lit m) set ≡ true) → is_falsified set c ≡ true
 false-from set [] f = refl
 false-from set (l ∷ c) f =
     and_from (is_false set l) (is_falsified set c) (f l (or_left (same_lit l l) (has_lit l c) (same-lit l))) (false-from set c (λ m h. f m (or_right (same_lit m l) (has_lit m c) h)))
 
-pub false-at : (set c : List Literal) (m : Literal) → is_falsified set c ≡ true → has_lit m c ≡ true → has_lit (opposite m) set ≡ true
+pub false-at : (set c : List Literal) (m : Literal) → is_falsified set c ≡ true → has_lit m c ≡ true → has_lit (negated_lit m) set ≡ true
 false-at set [] m f h = absurd (cc)
 false-at set (l ∷ c) m f h =
     let p = and_parts (is_false set l) (is_falsified set c) f in
     elim (or_cases (same_lit m l) (has_lit m c) h) [
-      | inl e ↦ ap (λ (x : Literal). has_lit (opposite x) set) (lit-is m l e) ∙ p.0
+      | inl e ↦ ap (λ (x : Literal). has_lit (negated_lit x) set) (lit-is m l e) ∙ p.0
       | inr r ↦ false-at set c m p.1 r
     ]
 
--- the opposites of a clause's literals
-pub has-opposite : (c : List Literal) (m : Literal) → has_lit m c ≡ true → has_lit (opposite m) (opposites c) ≡ true
-has-opposite [] m h = absurd (cc)
-has-opposite (l ∷ c) m h =
+pub has-negated_lit : (c : List Literal) (m : Literal) → has_lit m c ≡ true → has_lit (negated_lit m) (negated_clause c) ≡ true
+has-negated_lit [] m h = absurd (cc)
+has-negated_lit (l ∷ c) m h =
     elim (or_cases (same_lit m l) (has_lit m c) h) [
-      | inl e ↦ or_left (same_lit (opposite m) (opposite l)) (has_lit (opposite m) (opposites c)) (ap (λ (x : Literal). same_lit (opposite m) (opposite x)) (sym (lit-is m l e)) ∙ same-lit (opposite m))
-      | inr r ↦ or_right (same_lit (opposite m) (opposite l)) (has_lit (opposite m) (opposites c)) (has-opposite c m r)
+      | inl e ↦ or_left (same_lit (negated_lit m) (negated_lit l)) (has_lit (negated_lit m) (negated_clause c)) (ap (λ (x : Literal). same_lit (negated_lit m) (negated_lit x)) (sym (lit-is m l e)) ∙ same-lit (negated_lit m))
+      | inr r ↦ or_right (same_lit (negated_lit m) (negated_lit l)) (has_lit (negated_lit m) (negated_clause c)) (has-negated_lit c m r)
     ]
 
-pub opposite-of : (c : List Literal) (m : Literal) → has_lit m (opposites c) ≡ true → (l : Literal) × (has_lit l c ≡ true) × (m ≡ opposite l)
-opposite-of [] m h = absurd (cc)
-opposite-of (l ∷ c) m h =
-    elim (or_cases (same_lit m (opposite l)) (has_lit m (opposites c)) h) [
-      | inl e ↦ (l, or_left (same_lit l l) (has_lit l c) (same-lit l), lit-is m (opposite l) e)
-      | inr r ↦ (let f = opposite-of c m r in (f.0, or_right (same_lit f.0 l) (has_lit f.0 c) f.1, f.2))
+pub negated_lit-of : (c : List Literal) (m : Literal) → has_lit m (negated_clause c) ≡ true → (l : Literal) × (has_lit l c ≡ true) × (m ≡ negated_lit l)
+negated_lit-of [] m h = absurd (cc)
+negated_lit-of (l ∷ c) m h =
+    elim (or_cases (same_lit m (negated_lit l)) (has_lit m (negated_clause c)) h) [
+      | inl e ↦ (l, or_left (same_lit l l) (has_lit l c) (same-lit l), lit-is m (negated_lit l) e)
+      | inr r ↦ (let f = negated_lit-of c m r in (f.0, or_right (same_lit f.0 l) (has_lit f.0 c) f.1, f.2))
     ]
 
--- where all but one literal of a clause are false, propagation sets that one
 none-open : (set d : List Literal) → ((m : Literal) → has_lit m d ≡ true → is_false set m ≡ true) → filter (λ m. not (is_false set m)) d ≡ []
 none-open set [] f = refl
 none-open set (m ∷ d) f =
@@ -78,25 +75,24 @@ one-open set (m ∷ c) l d h o f =
         ]
 
 pub unit-one : (set d : List Literal) (l : Literal) → vars_differ d ≡ true → has_lit l d ≡ true →
-    has_lit l set ≡ false → has_lit (opposite l) set ≡ false →
-    ((m : Literal) → has_lit m d ≡ true → same_lit l m ≡ false → has_lit (opposite m) set ≡ true) →
-    unit_of set d ≡ Some l
-unit-one set d l v h n o f = (let one = one-open set d l v h o f in ap (lone_unset set) one ∙ rw n refl)
+    has_lit l set ≡ false → has_lit (negated_lit l) set ≡ false →
+    ((m : Literal) → has_lit m d ≡ true → same_lit l m ≡ false → has_lit (negated_lit m) set ≡ true) →
+    unit_lit set d ≡ Some l
+unit-one set d l v h n o f = (let one = one-open set d l v h o f in ap (single_unset_lit set) one ∙ rw n refl)
 
--- a clause in hand: it is over different variables of 1 to n; where the entries are set, it is false;
--- and its hints end at a false clause from any of these literals on that make it false
+-- A working clause: over different variables of 1 to `n`, false under the entries, and its hints
+-- end at a false clause.
 pub record InHand (n : ℕ) (clauses : List (List Literal)) (es : List Entry) (s : Step) : Type 0 where
-  pub denied : (m : Literal) → has_lit m s.clause ≡ true → has_lit (opposite m) (lits_of es) ≡ true
+  pub denied : (m : Literal) → has_lit m s.clause ≡ true → has_lit (negated_lit m) (lits_of es) ≡ true
   pub differ : vars_differ s.clause ≡ true
-  pub within : clause_in n s.clause ≡ true
+  pub within : is_clause_over n s.clause ≡ true
   pub hinted : (k : ℕ) × (hs : List ℕ) × (s.hints ≡ k ∷ hs)
-  pub shown : (set : List Literal) → ((m : Literal) → has_lit m s.clause ≡ true → has_lit (opposite m) set ≡ true) → ((m : Literal) → has_lit m set ≡ true → has_lit m (lits_of es) ≡ true) → ends_false clauses set s.hints ≡ true
+  pub shown : (set : List Literal) → ((m : Literal) → has_lit m s.clause ≡ true → has_lit (negated_lit m) set ≡ true) → ((m : Literal) → has_lit m set ≡ true → has_lit m (lits_of es) ≡ true) → hints_end_in_conflict clauses set s.hints ≡ true
 
--- a clause that is false
 pub in_hand-start : (n : ℕ) (clauses : List (List Literal)) (es : List Entry) (i : ℕ) (c : List Literal) →
     slice_get clauses i ≡ Some c →
-    ((m : Literal) → has_lit m c ≡ true → has_lit (opposite m) (lits_of es) ≡ true) → vars_differ c ≡ true →
-    clause_in n c ≡ true → InHand n clauses es (record { clause = c; hints = (i + 1) ∷ [] })
+    ((m : Literal) → has_lit m c ≡ true → has_lit (negated_lit m) (lits_of es) ≡ true) → vars_differ c ≡ true →
+    is_clause_over n c ≡ true → InHand n clauses es (record { clause = c; hints = (i + 1) ∷ [] })
 in_hand-start n clauses es i c at f d w = record {
   denied = f;
   differ = d;
@@ -105,11 +101,10 @@ in_hand-start n clauses es i c at f d w = record {
   shown = λ set g _. (let q : i + 1 ≡ suc i = add-one i in rw q (rw at (false-from set c g)));
 }
 
--- an entry whose variable the clause doesn't have
 pub in_hand-skip : (n : ℕ) (clauses : List (List Literal)) (e : Entry) (es : List Entry) (s : Step) → InHand n clauses (e ∷ es) s → has_var e.lit.var s.clause ≡ false → InHand n clauses es s
 in_hand-skip n clauses e es s k u = record {
-  denied = λ m h. elim (or_cases (same_lit (opposite m) e.lit) (has_lit (opposite m) (lits_of es)) (k.denied m h)) [
-    | inl x ↦ absurd (no-var s.clause m (ap (λ (l : Literal). has_var l.var s.clause) (lit-is (opposite m) e.lit x) ∙ u) h)
+  denied = λ m h. elim (or_cases (same_lit (negated_lit m) e.lit) (has_lit (negated_lit m) (lits_of es)) (k.denied m h)) [
+    | inl x ↦ absurd (no-var s.clause m (ap (λ (l : Literal). has_var l.var s.clause) (lit-is (negated_lit m) e.lit x) ∙ u) h)
     | inr x ↦ x
   ];
   differ = k.differ;
@@ -118,42 +113,40 @@ in_hand-skip n clauses e es s k u = record {
   shown = λ set f g. k.shown set f (λ m h. or_right (same_lit m e.lit) (has_lit m (lits_of es)) (g m h));
 }
 
--- a clause that has l and is over different variables has no other literal of l's variable
 other-var : (d : List Literal) (l m : Literal) → vars_differ d ≡ true → has_lit l d ≡ true → has_lit m d ≡ true → same_lit l m ≡ false → m.var ≡ l.var → ⊥
 other-var d l m v h k n e = true≢false (sym (same-lit l) ∙ ap (same_lit l) (sym (same-var d m l v k h e)) ∙ n)
 
--- the resolvent with the reason of an entry
 pub in_hand-resolve :
     (n : ℕ) (clauses : List (List Literal)) (e : Entry) (es : List Entry) (s : Step) (r : ℕ)
     (d : List Literal) →
     InHand n clauses (e ∷ es) s → slice_get clauses r ≡ Some d → has_lit e.lit d ≡ true →
-    is_falsified (lits_of es) (others e.lit d) ≡ true → vars_differ d ≡ true → clause_in n d ≡ true →
+    is_falsified (lits_of es) (other_lits e.lit d) ≡ true → vars_differ d ≡ true → is_clause_over n d ≡ true →
     vars_differ (lits_of es) ≡ true → has_var e.lit.var (lits_of es) ≡ false →
     InHand n clauses es (record { clause = resolvent e.lit.var s.clause d; hints = (r + 1) ∷ s.hints })
 in_hand-resolve n clauses e es s r d k at has falsified differ within once unset = record {
-  denied = λ m h. (let w = from-without e.lit.var (with_each_lit s.clause d) m h in
+  denied = λ m h. (let w = from-without e.lit.var (joined_clause s.clause d) m h in
       elim (joined-from m s.clause d w.0) [
         | inl a ↦ earlier m (k.denied m a) w.1
         | inr a ↦ reason-denied m a (apart m w.1)
       ]);
-  differ = differ-kept (λ l. not (eqb l.var e.lit.var)) (with_each_lit s.clause d) (joined-differ s.clause d k.differ);
-  within = within-kept n (λ l. not (eqb l.var e.lit.var)) (with_each_lit s.clause d) (joined-within n s.clause d k.within within);
+  differ = differ-kept (λ l. not (eqb l.var e.lit.var)) (joined_clause s.clause d) (joined-differ s.clause d k.differ);
+  within = within-kept n (λ l. not (eqb l.var e.lit.var)) (joined_clause s.clause d) (joined-within n s.clause d k.within within);
   hinted = (r + 1, s.hints, refl);
-  shown = λ set f g. (let one : unit_of set d ≡ Some e.lit = unit-one set d e.lit differ has (unset-in set g e.lit refl) (unset-in set g (opposite e.lit) refl) (λ m a b. reason-false set f g m a b) in
+  shown = λ set f g. (let one : unit_lit set d ≡ Some e.lit = unit-one set d e.lit differ has (unset-in set g e.lit refl) (unset-in set g (negated_lit e.lit) refl) (λ m a b. reason-false set f g m a b) in
       let q : r + 1 ≡ suc r = add-one r in
       let next : after_hint clauses set (r + 1) ≡ Some (e.lit ∷ set) = rw q (rw at (rw one refl)) in
       let x = k.hinted in
-      let rest : ends_false clauses (e.lit ∷ set) s.hints ≡ true = k.shown (e.lit ∷ set) (λ m a. more-false set f m a) (λ m a. elim (or_cases (same_lit m e.lit) (has_lit m set) a) [
+      let rest : hints_end_in_conflict clauses (e.lit ∷ set) s.hints ≡ true = k.shown (e.lit ∷ set) (λ m a. more-false set f m a) (λ m a. elim (or_cases (same_lit m e.lit) (has_lit m set) a) [
         | inl y ↦ or_left (same_lit m e.lit) (has_lit m (lits_of es)) y
         | inr y ↦ or_right (same_lit m e.lit) (has_lit m (lits_of es)) (g m y)
       ]) in
-      let P : List ℕ → Type 0 = λ hs. ends_false clauses set ((r + 1) ∷ hs) ≡ true in
-      subst P (sym x.2) (ap (λ (o : Option (List Literal)). is_some_and o (λ z. ends_false clauses z (x.0 ∷ x.1))) next ∙ ap (ends_false clauses (e.lit ∷ set)) (sym x.2) ∙ rest));
+      let P : List ℕ → Type 0 = λ hs. hints_end_in_conflict clauses set ((r + 1) ∷ hs) ≡ true in
+      subst P (sym x.2) (ap (λ (o : Option (List Literal)). is_some_and o (λ z. hints_end_in_conflict clauses z (x.0 ∷ x.1))) next ∙ ap (hints_end_in_conflict clauses (e.lit ∷ set)) (sym x.2) ∙ rest));
 }
   where
-    earlier : (m : Literal) → has_lit (opposite m) (e.lit ∷ lits_of es) ≡ true → (m.var ≡ e.lit.var → ⊥) → has_lit (opposite m) (lits_of es) ≡ true
-    earlier m h u = elim (or_cases (same_lit (opposite m) e.lit) (has_lit (opposite m) (lits_of es)) h) [
-      | inl x ↦ absurd (u (ap (λ (l : Literal). l.var) (lit-is (opposite m) e.lit x)))
+    earlier : (m : Literal) → has_lit (negated_lit m) (e.lit ∷ lits_of es) ≡ true → (m.var ≡ e.lit.var → ⊥) → has_lit (negated_lit m) (lits_of es) ≡ true
+    earlier m h u = elim (or_cases (same_lit (negated_lit m) e.lit) (has_lit (negated_lit m) (lits_of es)) h) [
+      | inl x ↦ absurd (u (ap (λ (l : Literal). l.var) (lit-is (negated_lit m) e.lit x)))
       | inr x ↦ x
     ]
 
@@ -163,8 +156,8 @@ in_hand-resolve n clauses e es s r d k at has falsified differ within once unset
       | inr x ↦ x
     ]
 
-    reason-denied : (m : Literal) → has_lit m d ≡ true → same_lit e.lit m ≡ false → has_lit (opposite m) (lits_of es) ≡ true
-    reason-denied m a b = false-at (lits_of es) (others e.lit d) m falsified (kept-at (λ x. not (same_lit e.lit x)) d m a (not_from_false (same_lit e.lit m) b))
+    reason-denied : (m : Literal) → has_lit m d ≡ true → same_lit e.lit m ≡ false → has_lit (negated_lit m) (lits_of es) ≡ true
+    reason-denied m a b = false-at (lits_of es) (other_lits e.lit d) m falsified (kept-at (λ x. not (same_lit e.lit x)) d m a (not_from_false (same_lit e.lit m) b))
 
     unset-in : (set : List Literal) → ((m : Literal) → has_lit m set ≡ true → has_lit m (lits_of es) ≡ true) → (l : Literal) → l.var ≡ e.lit.var → has_lit l set ≡ false
     unset-in set g l v = elim (cases_Bool (has_lit l set)) [
@@ -173,32 +166,31 @@ in_hand-resolve n clauses e es s r d k at has falsified differ within once unset
     ]
 
     reason-false : (set : List Literal) →
-        ((m : Literal) → has_lit m (resolvent e.lit.var s.clause d) ≡ true → has_lit (opposite m) set ≡ true)
+        ((m : Literal) → has_lit m (resolvent e.lit.var s.clause d) ≡ true → has_lit (negated_lit m) set ≡ true)
         →
         ((m : Literal) → has_lit m set ≡ true → has_lit m (lits_of es) ≡ true) → (m : Literal) →
-        has_lit m d ≡ true → same_lit e.lit m ≡ false → has_lit (opposite m) set ≡ true
+        has_lit m d ≡ true → same_lit e.lit m ≡ false → has_lit (negated_lit m) set ≡ true
     reason-false set f g m a b =
-        let x = var-of (with_each_lit s.clause d) m.var (joined-var-right m.var s.clause d (has-var m d a)) in
+        let x = var-of (joined_clause s.clause d) m.var (joined-var-right m.var s.clause d (has-var m d a)) in
         let u : x.0.var ≡ e.lit.var → ⊥ = λ q. other-var d e.lit m differ has a b (sym x.1 ∙ q) in
-        let set-x = f x.0 (in-without e.lit.var (with_each_lit s.clause d) x.0 x.2 u) in
-        let same : opposite x.0 ≡ opposite m = same-var (lits_of es) (opposite x.0) (opposite m) once (g (opposite x.0) set-x) (reason-denied m a b) x.1 in
+        let set-x = f x.0 (in-without e.lit.var (joined_clause s.clause d) x.0 x.2 u) in
+        let same : negated_lit x.0 ≡ negated_lit m = same-var (lits_of es) (negated_lit x.0) (negated_lit m) once (g (negated_lit x.0) set-x) (reason-denied m a b) x.1 in
         ap (λ (l : Literal). has_lit l set) (sym same) ∙ set-x
 
-    more-false : (set : List Literal) → ((m : Literal) → has_lit m (resolvent e.lit.var s.clause d) ≡ true → has_lit (opposite m) set ≡ true) → (m : Literal) → has_lit m s.clause ≡ true → has_lit (opposite m) (e.lit ∷ set) ≡ true
-    more-false set f m a = elim (or_cases (same_lit (opposite m) e.lit) (has_lit (opposite m) (lits_of es)) (k.denied m a)) [
-      | inl x ↦ or_left (same_lit (opposite m) e.lit) (has_lit (opposite m) set) x
-      | inr x ↦ (let u : m.var ≡ e.lit.var → ⊥ = λ q. no-var (lits_of es) (opposite m) (ap (λ (w : ℕ). has_var w (lits_of es)) q ∙ unset) x in
-          or_right (same_lit (opposite m) e.lit) (has_lit (opposite m) set) (f m (in-without e.lit.var (with_each_lit s.clause d) m (joined-left m s.clause d a) u)))
+    more-false : (set : List Literal) → ((m : Literal) → has_lit m (resolvent e.lit.var s.clause d) ≡ true → has_lit (negated_lit m) set ≡ true) → (m : Literal) → has_lit m s.clause ≡ true → has_lit (negated_lit m) (e.lit ∷ set) ≡ true
+    more-false set f m a = elim (or_cases (same_lit (negated_lit m) e.lit) (has_lit (negated_lit m) (lits_of es)) (k.denied m a)) [
+      | inl x ↦ or_left (same_lit (negated_lit m) e.lit) (has_lit (negated_lit m) set) x
+      | inr x ↦ (let u : m.var ≡ e.lit.var → ⊥ = λ q. no-var (lits_of es) (negated_lit m) (ap (λ (w : ℕ). has_var w (lits_of es)) q ∙ unset) x in
+          or_right (same_lit (negated_lit m) e.lit) (has_lit (negated_lit m) set) (f m (in-without e.lit.var (joined_clause s.clause d) m (joined-left m s.clause d a) u)))
     ]
 
--- a clause with the same literals as that in hand, over different variables, is derived
 pub in_hand-derived :
     (n : ℕ) (clauses : List (List Literal)) (es : List Entry) (s : Step) (c : List Literal) →
     InHand n clauses es s → ((m : Literal) → has_lit m c ≡ true → has_lit m s.clause ≡ true) →
     ((m : Literal) → has_lit m s.clause ≡ true → has_lit m c ≡ true) → vars_differ c ≡ true →
     is_derived n clauses (record s { clause = c }) ≡ true
 in_hand-derived n clauses es s c k fewer more differ =
-    let within : clause_in n c ≡ true = each-within n c s.clause fewer k.within in
-    let ends : ends_false clauses (opposites c) s.hints ≡ true =
-    k.shown (opposites c) (λ m h. has-opposite c m (more m h)) (λ m h. (let o = opposite-of c m h in ap (λ (l : Literal). has_lit l (lits_of es)) o.2 ∙ k.denied o.0 (fewer o.0 o.1))) in
-    and_from (clause_in n c && vars_differ c) (ends_false clauses (opposites c) s.hints) (and_from (clause_in n c) (vars_differ c) within differ) ends
+    let within : is_clause_over n c ≡ true = each-within n c s.clause fewer k.within in
+    let ends : hints_end_in_conflict clauses (negated_clause c) s.hints ≡ true =
+    k.shown (negated_clause c) (λ m h. has-negated_lit c m (more m h)) (λ m h. (let o = negated_lit-of c m h in ap (λ (l : Literal). has_lit l (lits_of es)) o.2 ∙ k.denied o.0 (fewer o.0 o.1))) in
+    and_from (is_clause_over n c && vars_differ c) (hints_end_in_conflict clauses (negated_clause c) s.hints) (and_from (is_clause_over n c) (vars_differ c) within differ) ends

@@ -8,8 +8,8 @@ use Rattle.std.proofs.lemmas.Option.{same_Some}
 use Rattle.ilk_cnf.specs.Literal.{Literal, same_lit, has_lit, has_var, vars_differ}
 use Rattle.ilk_trail.specs.declared.entry.Entry.{Entry}
 use Rattle.ilk_learn.specs.Resolvent.{without_variable}
-use Rattle.ilk_learn.specs.Levels.{level_at, highest_level, in_front, highest_first}
-use Rattle.ilk_learn.specs.Asserting.{begins_at}
+use Rattle.ilk_learn.specs.Levels.{level_at, highest_level, with_moved_to_front, with_highest_first}
+use Rattle.ilk_learn.specs.Asserting.{has_first_at_level}
 use Rattle.ilk_learn.proofs.Members.{no-var, in-without, kept-at, from-without, front-from, front-has, front-differ}
 use Rattle.ilk_cnf.proofs.SameLiterals.{same-lit, lit-is}
 
@@ -34,7 +34,6 @@ find-none p (m ∷ c) l h k =
       ]
     ]
 
--- no literal is above the highest level, and one is at it
 pub below-highest : (es : List Entry) (c : List Literal) (l : Literal) → has_lit l c ≡ true → level_at es l ≤ highest_level es c
 below-highest es [] l h = absurd (cc)
 below-highest es (m ∷ c) l h =
@@ -57,48 +56,45 @@ highest-at es m (n ∷ c) =
       | inr t ↦ (r.0, or_right (same_lit r.0 m) (has_lit r.0 (n ∷ c)) r.1, omega (arith, r.2, leb-false (highest_level es (n ∷ c)) (level_at es m) t))
     ]
 
--- what holds of a list, and of it with one of its literals in front
-pub in_front-both : (P : List Literal → Type 0) (p : Literal → Bool) (c : List Literal) → (find p c ≡ None → P c) → ((l : Literal) → has_lit l c ≡ true → p l ≡ true → P (l ∷ without_variable l.var c)) → P (in_front (find p c) c)
-in_front-both P p c f g = go (find p c) refl
+pub with_moved_to_front-both : (P : List Literal → Type 0) (p : Literal → Bool) (c : List Literal) → (find p c ≡ None → P c) → ((l : Literal) → has_lit l c ≡ true → p l ≡ true → P (l ∷ without_variable l.var c)) → P (with_moved_to_front (find p c) c)
+with_moved_to_front-both P p c f g = go (find p c) refl
   where
-    go : (o : Option Literal) → find p c ≡ o → P (in_front o c)
+    go : (o : Option Literal) → find p c ≡ o → P (with_moved_to_front o c)
     go None e = f e
     go (Some l) e = (let q = find-has p c l e in g l q.0 q.1)
 
 abbrev at_highest : List Entry → List Literal → Literal → Bool
 at_highest es c l = eqb (level_at es l) (highest_level es c)
 
-pub highest_first-from : (es : List Entry) (c : List Literal) (m : Literal) → has_lit m (highest_first es c) ≡ true → has_lit m c ≡ true
-highest_first-from es c m =
-    in_front-both (λ x. has_lit m x ≡ true → has_lit m c ≡ true) (at_highest es c) c (λ _ h. h) (λ l h _ k. front-from l m c h k)
+pub with_highest_first-from : (es : List Entry) (c : List Literal) (m : Literal) → has_lit m (with_highest_first es c) ≡ true → has_lit m c ≡ true
+with_highest_first-from es c m =
+    with_moved_to_front-both (λ x. has_lit m x ≡ true → has_lit m c ≡ true) (at_highest es c) c (λ _ h. h) (λ l h _ k. front-from l m c h k)
 
-pub highest_first-has : (es : List Entry) (c : List Literal) (m : Literal) → vars_differ c ≡ true → has_lit m c ≡ true → has_lit m (highest_first es c) ≡ true
-highest_first-has es c m d k =
-    in_front-both (λ x. has_lit m x ≡ true) (at_highest es c) c (λ _. k) (λ l h _. front-has l m c d h k)
+pub with_highest_first-has : (es : List Entry) (c : List Literal) (m : Literal) → vars_differ c ≡ true → has_lit m c ≡ true → has_lit m (with_highest_first es c) ≡ true
+with_highest_first-has es c m d k =
+    with_moved_to_front-both (λ x. has_lit m x ≡ true) (at_highest es c) c (λ _. k) (λ l h _. front-has l m c d h k)
 
-pub highest_first-differ : (es : List Entry) (c : List Literal) → vars_differ c ≡ true → vars_differ (highest_first es c) ≡ true
-highest_first-differ es c d =
-    in_front-both (λ x. vars_differ x ≡ true) (at_highest es c) c (λ _. d) (λ l h _. front-differ l c d)
+pub with_highest_first-differ : (es : List Entry) (c : List Literal) → vars_differ c ≡ true → vars_differ (with_highest_first es c) ≡ true
+with_highest_first-differ es c d =
+    with_moved_to_front-both (λ x. vars_differ x ≡ true) (at_highest es c) c (λ _. d) (λ l h _. front-differ l c d)
 
--- it begins at the highest level
-pub highest_first-begins : (es : List Entry) (c : List Literal) → vars_differ c ≡ true → begins_at es (highest_level es (highest_first es c)) (highest_first es c) ≡ true
-highest_first-begins es c d =
-    in_front-both (λ x. begins_at es (highest_level es x) x ≡ true) (at_highest es c) c (λ e. nothing c e) (λ l h t. first l h t)
+pub with_highest_first-begins : (es : List Entry) (c : List Literal) → vars_differ c ≡ true → has_first_at_level es (highest_level es (with_highest_first es c)) (with_highest_first es c) ≡ true
+with_highest_first-begins es c d =
+    with_moved_to_front-both (λ x. has_first_at_level es (highest_level es x) x ≡ true) (at_highest es c) c (λ e. nothing c e) (λ l h t. first l h t)
   where
-    nothing : (c : List Literal) → find (at_highest es c) c ≡ None → begins_at es (highest_level es c) c ≡ true
+    nothing : (c : List Literal) → find (at_highest es c) c ≡ None → has_first_at_level es (highest_level es c) c ≡ true
     nothing [] e = refl
     nothing (m ∷ c) e =
         let a = highest-at es m c in
         absurd (true≢false (sym (eq-eqb (level_at es a.0) (highest_level es (m ∷ c)) a.2) ∙ find-none (at_highest es (m ∷ c)) (m ∷ c) a.0 e a.1))
 
-    first : (l : Literal) → has_lit l c ≡ true → at_highest es c l ≡ true → begins_at es (highest_level es (l ∷ without_variable l.var c)) (l ∷ without_variable l.var c) ≡ true
+    first : (l : Literal) → has_lit l c ≡ true → at_highest es c l ≡ true → has_first_at_level es (highest_level es (l ∷ without_variable l.var c)) (l ∷ without_variable l.var c) ≡ true
     first l h t =
         let top : level_at es l ≡ highest_level es c = eqb-true (level_at es l) (highest_level es c) t in
         let low : highest_level es (without_variable l.var c) ≤ highest_level es c =
         highest-below es (without_variable l.var c) (highest_level es c) (λ m k. below-highest es c m (from-without l.var c m k).0) in
         eq-eqb (level_at es l) (highest_level es (l ∷ without_variable l.var c)) (omega (arith, top, low))
 
--- what each literal passes, all pass
 pub all-from : (p : Literal → Bool) (c : List Literal) → ((m : Literal) → has_lit m c ≡ true → p m ≡ true) → list_all p c ≡ true
 all-from p [] f = refl
 all-from p (l ∷ c) f =
@@ -110,7 +106,6 @@ all-at p (l ∷ c) m f h =
     let q = and_parts (p l) (list_all p c) f in
     elim (or_cases (same_lit m l) (has_lit m c) h) [ inl e ↦ ap p (lit-is m l e) ∙ q.0 | inr r ↦ all-at p c m q.1 r ]
 
--- where no literal but that of one variable passes, one passes
 none-passes : (p : Literal → Bool) (c : List Literal) → ((m : Literal) → has_lit m c ≡ true → p m ≡ false) → filter p c ≡ []
 none-passes p [] f = refl
 none-passes p (m ∷ c) f =
@@ -137,7 +132,6 @@ one-passes p (m ∷ c) l d h t f =
           rw gone (one-passes p c l q.1 r t (λ x k y. f x (or_right (same_lit x m) (has_lit x c) k) y)))
     ]
 
--- where one literal passes and not just one does, one of another variable than v passes
 pub another-passes : (p : Literal → Bool) (c : List Literal) (v : ℕ) (l : Literal) → vars_differ c ≡ true → has_lit l c ≡ true → p l ≡ true → eqb (length (filter p c)) 1 ≡ false → (m : Literal) × (has_lit m c ≡ true) × (p m ≡ true) × (m.var ≡ v → ⊥)
 another-passes p c v l d h t n =
     elim (cases_eq l.var v) [
@@ -159,7 +153,6 @@ another-passes p c v l d h t n =
         let a = list_any-at (same_lit m) (without_variable v c) k in
         list_any-from p (without_variable v c) a.0 a.1 a.2 (ap p (sym (lit-is m a.1 a.3)) ∙ z)
 
--- where just one literal passes, two that pass are one
 pub lone-passes : (p : Literal → Bool) (c : List Literal) (a b : Literal) → eqb (length (filter p c)) 1 ≡ true → has_lit a c ≡ true → p a ≡ true → has_lit b c ≡ true → p b ≡ true → a ≡ b
 lone-passes p c a b n h t k u = go (filter p c) n (kept-at p c a h t) (kept-at p c b k u)
   where
@@ -172,16 +165,15 @@ lone-passes p c a b n h t k u = go (filter p c) n (kept-at p c a h t) (kept-at p
         ]
     go (x ∷ (y ∷ xs)) n h k = absurd (let e : length (x ∷ (y ∷ xs)) ≡ 1 = eqb-true (length (x ∷ (y ∷ xs))) 1 n in omega (arith, e))
 
--- the clause of a literal, with the others after it
 pub front-some : (es : List Entry) (c clause x : List Literal) (l first : Literal) → clause ≡ l ∷ [] →
     Some first ≡ find (λ m. eqb (level_at es m) (highest_level es c)) c →
-    x ≡ clause ++ (first ∷ without_variable first.var c) → x ≡ l ∷ highest_first es c
+    x ≡ clause ++ (first ∷ without_variable first.var c) → x ≡ l ∷ with_highest_first es c
 front-some es c clause x l first h f e =
-    e ∙ ap (λ (xs : List Literal). xs ++ (first ∷ without_variable first.var c)) h ∙ ap (λ (o : Option Literal). l ∷ in_front o c) f
+    e ∙ ap (λ (xs : List Literal). xs ++ (first ∷ without_variable first.var c)) h ∙ ap (λ (o : Option Literal). l ∷ with_moved_to_front o c) f
 
-pub front-none : (es : List Entry) (c clause : List Literal) (l : Literal) → clause ≡ l ∷ [] → None ≡ find (λ m. eqb (level_at es m) (highest_level es c)) c → clause ≡ l ∷ highest_first es c
+pub front-none : (es : List Entry) (c clause : List Literal) (l : Literal) → clause ≡ l ∷ [] → None ≡ find (λ m. eqb (level_at es m) (highest_level es c)) c → clause ≡ l ∷ with_highest_first es c
 front-none es c clause l h f =
-    h ∙ ap (λ (xs : List Literal). l ∷ xs) (sym (empty c f)) ∙ ap (λ (o : Option Literal). l ∷ in_front o c) f
+    h ∙ ap (λ (xs : List Literal). l ∷ xs) (sym (empty c f)) ∙ ap (λ (o : Option Literal). l ∷ with_moved_to_front o c) f
   where
     empty : (c : List Literal) → None ≡ find (at_highest es c) c → c ≡ []
     empty [] f = refl

@@ -1,4 +1,4 @@
--- How the fields of a clause in hand follow it.
+-- Updates of the working clause's fields.
 use Rattle.std.proofs.Common.{◌≡◌, ℕ, ◌+◌, ◌-◌, ◌^◌, ◌<◌, ◌≤◌, zero, suc, inl, inr, Bool, true, false, ◌&&◌, ◌||◌, not, eqb, List, [], ◌∷◌, ◌++◌, refl, sym, ap, ◌∙◌, subst, Option, Some, arith, length, take, set, get_or, add-one, option_map, length-append, append-nil}
 use Rattle.std.specs.Prelude.{slice_get, unwrap_or}
 use Rattle.std.specs.List.{filter}
@@ -10,50 +10,47 @@ use Rattle.std.proofs.lemmas.List.{get_or-set_same, get_or-set_other, get_or_rea
 use Rattle.std.proofs.lemmas.List.Elements.{filter-append}
 use Rattle.std.proofs.lemmas.List.Filters.{length-filter_both}
 use Rattle.ilk_base.proofs.Tested.{list_all-slice_get}
-use Rattle.ilk_clauses.specs.Reasons.{clause_at, HasReasons}
-use Rattle.ilk_cnf.specs.Literal.{Literal, opposite, same_lit, has_lit, has_var, vars_differ}
-use Rattle.ilk_cnf.specs.Formula.{Formula, IsFormula, lit_in, clause_in}
-use Rattle.ilk_cnf.proofs.Literals.{vars_differ-push, lit_in-parts}
+use Rattle.ilk_watches.specs.Reasons.{clause_at, HasReasons}
+use Rattle.ilk_cnf.specs.Literal.{Literal, negated_lit, same_lit, has_lit, has_var, vars_differ}
+use Rattle.ilk_cnf.specs.Formula.{Formula, IsFormula, is_lit_over, is_clause_over}
+use Rattle.ilk_cnf.proofs.Literals.{vars_differ-push, is_lit_over-parts}
 use Rattle.ilk_log.specs.Propagation.{is_falsified}
-use Rattle.ilk_log.specs.Fresh.{others}
+use Rattle.ilk_log.specs.Fresh.{other_lits}
 use Rattle.ilk_trail.specs.declared.entry.Entry.{Entry}
 use Rattle.ilk_trail.specs.Trail.{TrailList, entry_of, level_of}
 use Rattle.ilk_trail.specs.Laws.{IsTrail, lits_of, is_set}
 use Rattle.ilk_trail.proofs.Entries.{found}
-use Rattle.ilk_trail.proofs.Literals.{clause_in-push, count_of_vars}
-use Rattle.ilk_learn.specs.Resolvent.{without_variable, with_lit, with_each_lit}
+use Rattle.ilk_trail.proofs.Literals.{is_clause_over-push, count_of_vars}
+use Rattle.ilk_learn.specs.Resolvent.{without_variable, with_lit, joined_clause}
 use Rattle.ilk_learn.specs.Levels.{level_at, is_current}
 use Rattle.ilk_learn.specs.Hand.{HoldsClause, all_set}
 use Rattle.ilk_learn.proofs.Members.{differ-kept, within-kept, kept-at, none-without, var-push}
 use Rattle.ilk_learn.proofs.Derived.{false-at}
 use Rattle.ilk_learn.proofs.Highest.{all-from}
 use Rattle.ilk_learn.proofs.Walk.{stands}
-use Rattle.ilk_cnf.proofs.SameLiterals.{lit-is, has-var, lit_in-clause}
+use Rattle.ilk_cnf.proofs.SameLiterals.{lit-is, has-var, is_lit_over-clause}
 
--- what was read
 pub mark-read : (marks : List Bool) (i v : ℕ) (b : Bool) → i ≡ v → v < length marks → b ≡ get_or marks i b → get_or marks v false ≡ b
 mark-read marks i v b e h r = sym (get_or_read marks v b h (rw e at r) false)
 
 pub level-read : (es : List Entry) (l : Literal) (k : ℕ) → option_map (λ (e : Entry). e.level) (entry_of es l.var) ≡ Some k → level_at es l ≡ k
 level-read es l k h = ap (λ (o : Option ℕ). unwrap_or o 0) h
 
-pub within-marks : (t : TrailList) (marks : List Bool) (current : ℕ) (lower c : List Literal) (l : Literal) → HoldsClause t marks current lower c → lit_in t.vars l ≡ true → l.var < length marks
-within-marks t marks current lower c l h w = (let p = lit_in-parts t.vars l w in omega (arith, h.sized, p.1))
+pub within-marks : (t : TrailList) (marks : List Bool) (current : ℕ) (lower c : List Literal) (l : Literal) → HoldsClause t marks current lower c → is_lit_over t.vars l ≡ true → l.var < length marks
+within-marks t marks current lower c l h w = (let p = is_lit_over-parts t.vars l w in omega (arith, h.sized, p.1))
 
--- a clause has few literals
 pub few : (t : TrailList) (marks : List Bool) (current : ℕ) (lower c : List Literal) → HoldsClause t marks current lower c → IsTrail t → current ≤ 2 ^ 62 + 1
 few t marks current lower c h k =
     let all = count_of_vars t.vars c h.within h.differ in
     let both = length-filter_both (is_current t.entries) (λ l. not (is_current t.entries l)) (λ l. refl) c in
     omega (arith, all, both, h.counted, k.few)
 
--- a literal more
 pub holds-known : (t : TrailList) (marks : List Bool) (current : ℕ) (lower c : List Literal) (l : Literal) → HoldsClause t marks current lower c → get_or marks l.var false ≡ true → HoldsClause t marks current lower (with_lit c l)
 holds-known t marks current lower c l h m = (let known : has_var l.var c ≡ true = sym (h.marked l.var) ∙ m in rw known h)
 
 holds-push :
     (t : TrailList) (marks : List Bool) (current more : ℕ) (lower longer c : List Literal) (l : Literal) →
-    HoldsClause t marks current lower c → lit_in t.vars l ≡ true → has_var l.var c ≡ false →
+    HoldsClause t marks current lower c → is_lit_over t.vars l ≡ true → has_var l.var c ≡ false →
     more ≡ length (filter (is_current t.entries) (c ++ l ∷ [])) →
     longer ≡ filter (λ m. not (is_current t.entries m)) (c ++ l ∷ []) →
     HoldsClause t (set marks l.var true) more longer (c ++ l ∷ [])
@@ -72,7 +69,7 @@ holds-push t marks current more lower longer c l h w u e f = record {
   counted = e;
   rest = f;
   differ = vars_differ-push c l h.differ u;
-  within = clause_in-push t.vars c l h.within w;
+  within = is_clause_over-push t.vars c l h.within w;
 }
   where
     other : (a b : Bool) → b ≡ false → (a || (b || false)) ≡ a
@@ -80,7 +77,7 @@ holds-push t marks current more lower longer c l h w u e f = record {
     other false b e = rw e refl
 
 pub holds-current : (t : TrailList) (marks : List Bool) (current : ℕ) (lower c : List Literal) (l : Literal) →
-    HoldsClause t marks current lower c → lit_in t.vars l ≡ true → get_or marks l.var false ≡ false →
+    HoldsClause t marks current lower c → is_lit_over t.vars l ≡ true → get_or marks l.var false ≡ false →
     is_current t.entries l ≡ true → HoldsClause t (set marks l.var true) (current + 1) lower (with_lit c l)
 holds-current t marks current lower c l h w m k =
     let u : has_var l.var c ≡ false = sym (h.marked l.var) ∙ m in
@@ -92,7 +89,7 @@ holds-current t marks current lower c l h w m k =
     rw u (holds-push t marks current (current + 1) lower lower c l h w u long (h.rest ∙ sym (append-nil (filter q c)) ∙ sym none))
 
 pub holds-lower : (t : TrailList) (marks : List Bool) (current : ℕ) (lower c : List Literal) (l : Literal) →
-    HoldsClause t marks current lower c → lit_in t.vars l ≡ true → get_or marks l.var false ≡ false →
+    HoldsClause t marks current lower c → is_lit_over t.vars l ≡ true → get_or marks l.var false ≡ false →
     is_current t.entries l ≡ false →
     HoldsClause t (set marks l.var true) current (lower ++ l ∷ []) (with_lit c l)
 holds-lower t marks current lower c l h w m k =
@@ -103,22 +100,20 @@ holds-lower t marks current lower c l h w m k =
     let none : filter p (c ++ l ∷ []) ≡ filter p c ++ [] = filter-append p c (l ∷ []) ∙ rw k refl in
     rw u (holds-push t marks current current lower (lower ++ l ∷ []) c l h w u (h.counted ∙ ap length (sym (append-nil (filter p c)) ∙ sym none)) (ap (λ xs. xs ++ l ∷ []) h.rest ∙ sym one))
 
--- the literals of a clause, one after another
-joined-suc : (k d : List Literal) (i : ℕ) (x : Literal) → slice_get d i ≡ Some x → with_each_lit k (take (suc i) d) ≡ with_lit (with_each_lit k (take i d)) x
+joined-suc : (k d : List Literal) (i : ℕ) (x : Literal) → slice_get d i ≡ Some x → joined_clause k (take (suc i) d) ≡ with_lit (joined_clause k (take i d)) x
 joined-suc k [] i x h = absurd (cc)
 joined-suc k (y ∷ d) zero x h = (let q : y ≡ x = cc in ap (with_lit k) q)
 joined-suc k (y ∷ d) (suc i) x h = joined-suc (with_lit k y) d i x h
 
-pub joined-more : (k d : List Literal) (i : ℕ) (x : Literal) → slice_get d i ≡ Some x → with_each_lit k (take (i + 1) d) ≡ with_lit (with_each_lit k (take i d)) x
-joined-more k d i x h = ap (λ (n : ℕ). with_each_lit k (take n d)) (add-one i) ∙ joined-suc k d i x h
+pub joined-more : (k d : List Literal) (i : ℕ) (x : Literal) → slice_get d i ≡ Some x → joined_clause k (take (i + 1) d) ≡ with_lit (joined_clause k (take i d)) x
+joined-more k d i x h = ap (λ (n : ℕ). joined_clause k (take n d)) (add-one i) ∙ joined-suc k d i x h
 
-pub joined-whole : (k d : List Literal) (n : ℕ) → n ≡ length d → with_each_lit k (take n d) ≡ with_each_lit k d
-joined-whole k d n e = ap (λ (m : ℕ). with_each_lit k (take m d)) e ∙ ap (with_each_lit k) (take-length d)
+pub joined-whole : (k d : List Literal) (n : ℕ) → n ≡ length d → joined_clause k (take n d) ≡ joined_clause k d
+joined-whole k d n e = ap (λ (m : ℕ). joined_clause k (take m d)) e ∙ ap (joined_clause k) (take-length d)
 
-pub set-at : (t : TrailList) (d : List Literal) (i : ℕ) (l : Literal) → all_set t d ≡ true → slice_get d i ≡ Some l → (lit_in t.vars l ≡ true) × (is_set t.entries l.var ≡ true)
-set-at t d i l h at = and_parts (lit_in t.vars l) (is_set t.entries l.var) (list_all-slice_get (λ (m : Literal). lit_in t.vars m && is_set t.entries m.var) d i l h at)
+pub set-at : (t : TrailList) (d : List Literal) (i : ℕ) (l : Literal) → all_set t d ≡ true → slice_get d i ≡ Some l → (is_lit_over t.vars l ≡ true) × (is_set t.entries l.var ≡ true)
+set-at t d i l h at = and_parts (is_lit_over t.vars l) (is_set t.entries l.var) (list_all-slice_get (λ (m : Literal). is_lit_over t.vars m && is_set t.entries m.var) d i l h at)
 
--- a literal less
 pub same-level : (es : List Entry) (l m : Literal) → l.var ≡ m.var → is_current es l ≡ is_current es m
 same-level es l m e = ap (λ (v : ℕ). eqb (unwrap_or (option_map (λ (x : Entry). x.level) (entry_of es v)) 0) (level_of es)) e
 
@@ -168,7 +163,7 @@ some-current t marks current lower c l h k u =
     omega (arith, h.counted, r)
 
 pub holds-drop : (t : TrailList) (marks : List Bool) (current : ℕ) (lower c : List Literal) (l : Literal) →
-    HoldsClause t marks current lower c → lit_in t.vars l ≡ true → has_var l.var c ≡ true →
+    HoldsClause t marks current lower c → is_lit_over t.vars l ≡ true → has_var l.var c ≡ true →
     is_current t.entries l ≡ true →
     HoldsClause t (set marks l.var false) (current - 1) lower (without_variable l.var c)
 holds-drop t marks current lower c l h w k u =
@@ -187,7 +182,6 @@ holds-drop t marks current lower c l h w k u =
       within = within-kept t.vars (λ m. not (eqb m.var l.var)) c h.within;
     }
 
--- the reason of an entry is a clause whose literals are all set
 pub reason-known : (f : Formula) (t : TrailList) (v r : ℕ) → IsFormula f → f.vars ≡ t.vars →
     HasReasons f.clauses t.entries → is_set t.entries v ≡ true →
     option_map (λ (e : Entry). e.reason) (entry_of t.entries v) ≡ Some (Some r) →
@@ -196,15 +190,15 @@ reason-known f t v r form same reasons set h =
     let x = found t.entries v set in
     let why : x.entry.reason ≡ Some r = same_Some x.entry.reason (Some r) (sym (ap (option_map (λ (e : Entry). e.reason)) x.first) ∙ h) in
     let d = clause_at f.clauses r in
-    let p = and_parts (has_lit x.entry.lit d) (is_falsified (lits_of (take x.place t.entries)) (others x.entry.lit d)) (reasons x.place x.entry r x.stands why) in
+    let p = and_parts (has_lit x.entry.lit d) (is_falsified (lits_of (take x.place t.entries)) (other_lits x.entry.lit d)) (reasons x.place x.entry r x.stands why) in
     let at = stands f.clauses r x.entry.lit p.0 in
-    let within : clause_in t.vars d ≡ true = ap (λ (n : ℕ). clause_in n d) (sym same) ∙ list_all-slice_get (clause_in f.vars) f.clauses r d form.within at in (
+    let within : is_clause_over t.vars d ≡ true = ap (λ (n : ℕ). is_clause_over n d) (sym same) ∙ list_all-slice_get (is_clause_over f.vars) f.clauses r d form.within at in (
       slice_get_within f.clauses r d at,
-      all-from (λ (m : Literal). lit_in t.vars m && is_set t.entries m.var) d (λ m k. and_from (lit_in t.vars m) (is_set t.entries m.var) (lit_in-clause t.vars d m within k) (elim (cases_Bool (same_lit x.entry.lit m)) [
+      all-from (λ (m : Literal). is_lit_over t.vars m && is_set t.entries m.var) d (λ m k. and_from (is_lit_over t.vars m) (is_set t.entries m.var) (is_lit_over-clause t.vars d m within k) (elim (cases_Bool (same_lit x.entry.lit m)) [
         | inl y ↦ ap (λ (w : ℕ). is_set t.entries w) (sym (ap (λ (l : Literal). l.var) (lit-is x.entry.lit m y)) ∙ x.named) ∙ set
         | inr y ↦ front-set t.entries x.place m.var
-            (has-var (opposite m) (lits_of (take x.place t.entries))
-            (false-at (lits_of (take x.place t.entries)) (others x.entry.lit d) m p.1
+            (has-var (negated_lit m) (lits_of (take x.place t.entries))
+            (false-at (lits_of (take x.place t.entries)) (other_lits x.entry.lit d) m p.1
             (kept-at (λ z. not (same_lit x.entry.lit z)) d m k
             (not_from_false (same_lit x.entry.lit m) y))))
       ])),

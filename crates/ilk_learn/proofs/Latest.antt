@@ -1,4 +1,4 @@
--- The entries of a trail from the latest on.
+-- The entries of a trail, latest first.
 use Rattle.std.proofs.Common.{◌≡◌, ℕ, ◌≤◌, zero, suc, inl, inr, Bool, true, false, ◌||◌, not, eqb, List, [], ◌∷◌, ◌++◌, refl, sym, ap, ◌∙◌, subst, Some, arith, length, take, reverse}
 use Rattle.std.specs.List.{slice_get}
 use Rattle.std.proofs.Math.Seq.{take-length}
@@ -6,33 +6,31 @@ use Rattle.std.proofs.lemmas.Bool.{and_parts, and_from, or_cases, or_parts, or_f
 use Rattle.std.proofs.lemmas.List.{reverse-append}
 use Rattle.std.proofs.lemmas.List.Folds.{list_any-append}
 use Rattle.ilk_base.proofs.Lists.{item_at}
-use Rattle.ilk_cnf.specs.Literal.{Literal, opposite, same_lit, has_lit, has_var, vars_differ}
+use Rattle.ilk_cnf.specs.Literal.{Literal, negated_lit, same_lit, has_lit, has_var, vars_differ}
 use Rattle.ilk_log.specs.Propagation.{is_falsified}
-use Rattle.ilk_log.specs.Fresh.{others}
-use Rattle.ilk_clauses.specs.Reasons.{clause_at, is_reason, HasReasons}
+use Rattle.ilk_log.specs.Fresh.{other_lits}
+use Rattle.ilk_watches.specs.Reasons.{clause_at, is_reason, HasReasons}
 use Rattle.ilk_trail.specs.declared.entry.Entry.{Entry}
 use Rattle.ilk_trail.specs.Trail.{TrailList, entry_of, last_level, level_of}
-use Rattle.ilk_trail.specs.Laws.{IsTrail, lits_of, is_level_next, climbs}
+use Rattle.ilk_trail.specs.Laws.{IsTrail, lits_of, is_next_level, has_rising_levels}
 use Rattle.ilk_trail.proofs.Entries.{lits_of-push, found, set-at}
-use Rattle.ilk_trail.proofs.Levels.{last_level-push, climbs-front, next-level}
+use Rattle.ilk_trail.proofs.Levels.{last_level-push, has_rising_levels-front, next-level}
 use Rattle.ilk_trail.proofs.Literals.{vars_differ-front}
 use Rattle.ilk_learn.specs.Levels.{level_at}
 use Rattle.ilk_learn.proofs.Derived.{false-from, false-at}
 use Rattle.ilk_cnf.proofs.SameLiterals.{lit-is}
 
--- the level of the latest
 abbrev pub top_level : List Entry → ℕ
 top_level [] = 0
 top_level (e ∷ es) = e.level
 
--- what is so of an entry of the trail `all`, and of those before it
+-- Facts about an entry of the trail `all`, and those before it.
 pub record IsLatest (clauses : List (List Literal)) (all : List Entry) (e : Entry) (es : List Entry) : Type 0 where
   pub forced : (r : ℕ) → e.reason ≡ Some r → is_reason clauses (lits_of es) e.lit r ≡ true
   pub unset : has_var e.lit.var (lits_of es) ≡ false
-  pub next : is_level_next (top_level es) e ≡ true
+  pub next : is_next_level (top_level es) e ≡ true
   pub level : level_at all e.lit ≡ e.level
 
--- the same of each of them
 abbrev pub Latest : List (List Literal) → List Entry → List Entry → Type 0
 Latest clauses all [] = Unit {0}
 Latest clauses all (e ∷ es) = IsLatest clauses all e es × Latest clauses all es
@@ -42,7 +40,6 @@ latest-differ clauses all [] h = refl
 latest-differ clauses all (e ∷ es) h =
     and_from (not (has_var e.lit.var (lits_of es))) (vars_differ (lits_of es)) (not_from_false (has_var e.lit.var (lits_of es)) h.0.unset) (latest-differ clauses all es h.1)
 
--- no literal of these entries is above the level of the latest
 pub latest-level : (clauses : List (List Literal)) (all es : List Entry) (l : Literal) → Latest clauses all es → has_lit l (lits_of es) ≡ true → level_at all l ≤ top_level es
 latest-level clauses all [] l h k = absurd (cc)
 latest-level clauses all (e ∷ es) l h k =
@@ -51,7 +48,6 @@ latest-level clauses all (e ∷ es) l h k =
       | inr x ↦ (let n = next-level (top_level es) e h.0.next in omega (arith, n.0, latest-level clauses all es l h.1 x))
     ]
 
--- turned round, a list has the same literals
 or-turned : (a b : Bool) → (a || (b || false)) ≡ (b || a)
 or-turned true true = refl
 or-turned true false = refl
@@ -78,7 +74,6 @@ var-reverse v (e ∷ es) =
     ∙ or-turned (has_var v (lits_of (reverse es))) (eqb e.lit.var v)
     ∙ ap (λ (b : Bool). eqb e.lit.var v || b) (var-reverse v es)
 
--- a list is one more than its front
 pub take-one-more : {X : Type 0} (es : List X) (n : ℕ) (e : X) → slice_get es n ≡ Some e → take (suc n) es ≡ take n es ++ e ∷ []
 take-one-more [] n e h = absurd (cc)
 take-one-more (x ∷ es) zero e h = (let q : x ≡ e = cc in ap (λ y. y ∷ []) q)
@@ -93,7 +88,6 @@ top-reverse es (suc n) h =
     let x = item_at es n (omega arith) in
     ap top_level (reverse-one-more es n x.0 x.1) ∙ sym (last_level-push 0 (take n es) x.0) ∙ ap (last_level 0) (sym (take-one-more es n x.0 x.1))
 
--- fronts
 differ-front : (es : List Entry) (n : ℕ) → vars_differ (lits_of es) ≡ true → vars_differ (lits_of (take n es)) ≡ true
 differ-front es zero h = refl
 differ-front [] (suc n) h = refl
@@ -111,14 +105,13 @@ differ-front (e ∷ es) (suc n) h =
         let p = or_parts (eqb e.lit.var v) (has_var v (lits_of es)) h in
         or_from (eqb e.lit.var v) (has_var v (lits_of (take n es))) p.0 (var-front es n v p.1)
 
-climbs-take : (k : ℕ) (es : List Entry) (n : ℕ) → climbs k es ≡ true → climbs k (take n es) ≡ true
-climbs-take k es zero h = refl
-climbs-take k [] (suc n) h = refl
-climbs-take k (e ∷ es) (suc n) h =
-    let p = and_parts (is_level_next k e) (climbs e.level es) h in
-    and_from (is_level_next k e) (climbs e.level (take n es)) p.0 (climbs-take e.level es n p.1)
+has_rising_levels-take : (k : ℕ) (es : List Entry) (n : ℕ) → has_rising_levels k es ≡ true → has_rising_levels k (take n es) ≡ true
+has_rising_levels-take k es zero h = refl
+has_rising_levels-take k [] (suc n) h = refl
+has_rising_levels-take k (e ∷ es) (suc n) h =
+    let p = and_parts (is_next_level k e) (has_rising_levels e.level es) h in
+    and_from (is_next_level k e) (has_rising_levels e.level (take n es)) p.0 (has_rising_levels-take e.level es n p.1)
 
--- an entry is that of its variable
 one-place : (es : List Entry) (i j : ℕ) (x y : Entry) → vars_differ (lits_of es) ≡ true → slice_get es i ≡ Some x → slice_get es j ≡ Some y → x.lit.var ≡ y.lit.var → x ≡ y
 one-place [] i j x y d h k e = absurd (cc)
 one-place (z ∷ es) zero zero x y d h k e = cc
@@ -142,14 +135,12 @@ entry-at es i e d h =
 pub level-entry : (es : List Entry) (i : ℕ) (e : Entry) → vars_differ (lits_of es) ≡ true → slice_get es i ≡ Some e → level_at es e.lit ≡ e.level
 level-entry es i e d h = rw (entry-at es i e d h) refl
 
--- a reason of the same literals
 reason-reverse : (clauses : List (List Literal)) (es : List Entry) (l : Literal) (r : ℕ) → is_reason clauses (lits_of es) l r ≡ true → is_reason clauses (lits_of (reverse es)) l r ≡ true
 reason-reverse clauses es l r h =
     let d = clause_at clauses r in
-    let p = and_parts (has_lit l d) (is_falsified (lits_of es) (others l d)) h in
-    and_from (has_lit l d) (is_falsified (lits_of (reverse es)) (others l d)) p.0 (false-from (lits_of (reverse es)) (others l d) (λ m k. has-reverse (opposite m) es ∙ false-at (lits_of es) (others l d) m p.1 k))
+    let p = and_parts (has_lit l d) (is_falsified (lits_of es) (other_lits l d)) h in
+    and_from (has_lit l d) (is_falsified (lits_of (reverse es)) (other_lits l d)) p.0 (false-from (lits_of (reverse es)) (other_lits l d) (λ m k. has-reverse (negated_lit m) es ∙ false-at (lits_of es) (other_lits l d) m p.1 k))
 
--- the entries of a trail, turned round
 latest-take : (clauses : List (List Literal)) (t : TrailList) (n : ℕ) → HasReasons clauses t.entries → IsTrail t → n ≤ length t.entries → Latest clauses t.entries (reverse (take n t.entries))
 latest-take clauses t zero r k h = tt
 latest-take clauses t (suc n) r k h =
@@ -158,11 +149,11 @@ latest-take clauses t (suc n) r k h =
     let e = x.0 in
     let differ : vars_differ (lits_of (take n es ++ e ∷ [])) ≡ true = ap (λ (ys : List Entry). vars_differ (lits_of ys)) (sym (take-one-more es n e x.1)) ∙ differ-front es (suc n) k.once in
     let apart = vars_differ-front (lits_of (take n es)) e.lit (ap vars_differ (sym (lits_of-push (take n es) e)) ∙ differ) in
-    let climbing : climbs 0 (take n es ++ e ∷ []) ≡ true = ap (climbs 0) (sym (take-one-more es n e x.1)) ∙ climbs-take 0 es (suc n) k.climbing in
+    let climbing : has_rising_levels 0 (take n es ++ e ∷ []) ≡ true = ap (has_rising_levels 0) (sym (take-one-more es n e x.1)) ∙ has_rising_levels-take 0 es (suc n) k.climbing in
     let here : IsLatest clauses es e (reverse (take n es)) = record {
       forced = λ c q. reason-reverse clauses (take n es) e.lit c (r n e c x.1 q);
       unset = var-reverse e.lit.var (take n es) ∙ apart.1;
-      next = ap (λ (l : ℕ). is_level_next l e) (top-reverse es n (omega arith)) ∙ (climbs-front 0 (take n es) e climbing).1;
+      next = ap (λ (l : ℕ). is_next_level l e) (top-reverse es n (omega arith)) ∙ (has_rising_levels-front 0 (take n es) e climbing).1;
       level = level-entry es n e k.once x.1;
     } in
     let P : List Entry → Type 0 = λ ys. Latest clauses es ys in

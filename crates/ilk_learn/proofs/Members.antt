@@ -1,19 +1,18 @@
--- Which literals stand in clauses that were cut, joined or put in order.
+-- The literals of clauses that were cut, joined or reordered.
 use Rattle.std.proofs.Common.{◌≡◌, ◌⊎◌, ℕ, inl, inr, Bool, true, false, ◌||◌, not, eqb, List, [], ◌∷◌, ◌++◌, refl, sym, ap, ◌∙◌}
 use Rattle.std.specs.List.{filter}
 use Rattle.std.proofs.lemmas.Bool.{and_parts, and_from, or_cases, or_parts, or_from, or_left, or_right, cases_Bool, eqb-true, eqb-false, ne_eqb, cond_both, not-true, not_from_false, true≢false}
 use Rattle.std.proofs.lemmas.List.Folds.{list_any-append}
 use Rattle.ilk_cnf.specs.Literal.{Literal, same_lit, has_lit, has_var, vars_differ}
-use Rattle.ilk_cnf.specs.Formula.{lit_in, clause_in}
+use Rattle.ilk_cnf.specs.Formula.{is_lit_over, is_clause_over}
 use Rattle.ilk_cnf.proofs.Literals.{vars_differ-push}
-use Rattle.ilk_trail.proofs.Literals.{clause_in-push}
-use Rattle.ilk_learn.specs.Resolvent.{without_variable, with_lit, with_each_lit}
-use Rattle.ilk_cnf.proofs.SameLiterals.{same-lit, lit-is, has-var, lit_in-clause}
+use Rattle.ilk_trail.proofs.Literals.{is_clause_over-push}
+use Rattle.ilk_learn.specs.Resolvent.{without_variable, with_lit, joined_clause}
+use Rattle.ilk_cnf.proofs.SameLiterals.{same-lit, lit-is, has-var, is_lit_over-clause}
 
 abbrev pub Has : Literal → List Literal → Type 0
 Has l c = has_lit l c ≡ true
 
--- a literal of a variable that the list has
 pub var-of : (c : List Literal) (v : ℕ) → has_var v c ≡ true → (l : Literal) × (l.var ≡ v) × (has_lit l c ≡ true)
 var-of [] v h = absurd (cc)
 var-of (m ∷ c) v h =
@@ -22,11 +21,9 @@ var-of (m ∷ c) v h =
       | inr r ↦ (let f = var-of c v r in (f.0, f.1, or_right (same_lit f.0 m) (has_lit f.0 c) f.2))
     ]
 
--- no variable, no literal
 pub no-var : (c : List Literal) (l : Literal) → has_var l.var c ≡ false → has_lit l c ≡ true → ⊥
 no-var c l n h = true≢false (sym (has-var l c h) ∙ n)
 
--- of each variable a clause has one literal
 pub same-var : (c : List Literal) (a b : Literal) → vars_differ c ≡ true → has_lit a c ≡ true → has_lit b c ≡ true → a.var ≡ b.var → a ≡ b
 same-var [] a b d h k e = absurd (cc)
 same-var (m ∷ c) a b d h k e =
@@ -43,7 +40,6 @@ same-var (m ∷ c) a b d h k e =
       ]
     ]
 
--- what a test keeps
 pub kept-from : (p : Literal → Bool) (c : List Literal) (l : Literal) → has_lit l (filter p c) ≡ true → (has_lit l c ≡ true) × (p l ≡ true)
 kept-from p [] l h = absurd (cc)
 kept-from p (m ∷ c) l h =
@@ -83,16 +79,15 @@ differ-kept p (m ∷ c) h =
       | inr t ↦ rw t (differ-kept p c q.1)
     ]
 
-pub within-kept : (n : ℕ) (p : Literal → Bool) (c : List Literal) → clause_in n c ≡ true → clause_in n (filter p c) ≡ true
+pub within-kept : (n : ℕ) (p : Literal → Bool) (c : List Literal) → is_clause_over n c ≡ true → is_clause_over n (filter p c) ≡ true
 within-kept n p [] h = refl
 within-kept n p (m ∷ c) h =
-    let q = and_parts (lit_in n m) (clause_in n c) h in
+    let q = and_parts (is_lit_over n m) (is_clause_over n c) h in
     elim (cases_Bool (p m)) [
-      | inl t ↦ rw t (and_from (lit_in n m) (clause_in n (filter p c)) q.0 (within-kept n p c q.1))
+      | inl t ↦ rw t (and_from (is_lit_over n m) (is_clause_over n (filter p c)) q.0 (within-kept n p c q.1))
       | inr t ↦ rw t (within-kept n p c q.1)
     ]
 
--- the literals but those of a variable
 pub from-without : (v : ℕ) (c : List Literal) (l : Literal) → has_lit l (without_variable v c) ≡ true → (has_lit l c ≡ true) × (l.var ≡ v → ⊥)
 from-without v c l h =
     let q = kept-from (λ m. not (eqb m.var v)) c l h in
@@ -109,7 +104,6 @@ none-without v (m ∷ c) =
       | inr t ↦ rw t (or_from (eqb m.var v) (has_var v (without_variable v c)) t (none-without v c))
     ]
 
--- a clause with one literal more
 pub with_lit-both : (P : List Literal → Type 0) (c : List Literal) (l : Literal) → (has_var l.var c ≡ true → P c) → (has_var l.var c ≡ false → P (c ++ l ∷ [])) → P (with_lit c l)
 with_lit-both P c l f g = cond_both (has_var l.var c) c (c ++ l ∷ []) P f g
 
@@ -119,13 +113,12 @@ has-left m c d h = list_any-append (same_lit m) c d ∙ or_left (has_lit m c) (h
 pub var-push : (v : ℕ) (c : List Literal) (l : Literal) → has_var v (c ++ l ∷ []) ≡ (has_var v c || (eqb l.var v || false))
 var-push v c l = list_any-append (λ (m : Literal). eqb m.var v) c (l ∷ [])
 
--- clauses joined have the literals of the first, all variables of both, and no other literals
-pub joined-left : (m : Literal) (c d : List Literal) → has_lit m c ≡ true → has_lit m (with_each_lit c d) ≡ true
+pub joined-left : (m : Literal) (c d : List Literal) → has_lit m c ≡ true → has_lit m (joined_clause c d) ≡ true
 joined-left m c [] h = h
 joined-left m c (l ∷ d) h =
     joined-left m (with_lit c l) d (with_lit-both (λ x. has_lit m x ≡ true) c l (λ _. h) (λ _. has-left m c (l ∷ []) h))
 
-pub joined-from : (m : Literal) (c d : List Literal) → has_lit m (with_each_lit c d) ≡ true → (has_lit m c ≡ true) ⊎ (has_lit m d ≡ true)
+pub joined-from : (m : Literal) (c d : List Literal) → has_lit m (joined_clause c d) ≡ true → (has_lit m c ≡ true) ⊎ (has_lit m d ≡ true)
 joined-from m c [] h = inl h
 joined-from m c (l ∷ d) h =
     elim (joined-from m (with_lit c l) d h) [
@@ -136,12 +129,12 @@ joined-from m c (l ∷ d) h =
       | inr k ↦ inr (or_right (same_lit m l) (has_lit m d) k)
     ]
 
-pub joined-var-left : (v : ℕ) (c d : List Literal) → has_var v c ≡ true → has_var v (with_each_lit c d) ≡ true
+pub joined-var-left : (v : ℕ) (c d : List Literal) → has_var v c ≡ true → has_var v (joined_clause c d) ≡ true
 joined-var-left v c d h =
     let f = var-of c v h in
-    ap (λ (w : ℕ). has_var w (with_each_lit c d)) (sym f.1) ∙ has-var f.0 (with_each_lit c d) (joined-left f.0 c d f.2)
+    ap (λ (w : ℕ). has_var w (joined_clause c d)) (sym f.1) ∙ has-var f.0 (joined_clause c d) (joined-left f.0 c d f.2)
 
-pub joined-var-right : (v : ℕ) (c d : List Literal) → has_var v d ≡ true → has_var v (with_each_lit c d) ≡ true
+pub joined-var-right : (v : ℕ) (c d : List Literal) → has_var v d ≡ true → has_var v (joined_clause c d) ≡ true
 joined-var-right v c [] h = absurd (cc)
 joined-var-right v c (l ∷ d) h =
     elim (or_cases (eqb l.var v) (has_var v d) h) [
@@ -153,17 +146,16 @@ joined-var-right v c (l ∷ d) h =
       | inr r ↦ joined-var-right v (with_lit c l) d r
     ]
 
-pub joined-differ : (c d : List Literal) → vars_differ c ≡ true → vars_differ (with_each_lit c d) ≡ true
+pub joined-differ : (c d : List Literal) → vars_differ c ≡ true → vars_differ (joined_clause c d) ≡ true
 joined-differ c [] h = h
 joined-differ c (l ∷ d) h = joined-differ (with_lit c l) d (with_lit-both (λ x. vars_differ x ≡ true) c l (λ _. h) (λ n. vars_differ-push c l h n))
 
-pub joined-within : (n : ℕ) (c d : List Literal) → clause_in n c ≡ true → clause_in n d ≡ true → clause_in n (with_each_lit c d) ≡ true
+pub joined-within : (n : ℕ) (c d : List Literal) → is_clause_over n c ≡ true → is_clause_over n d ≡ true → is_clause_over n (joined_clause c d) ≡ true
 joined-within n c [] h k = h
 joined-within n c (l ∷ d) h k =
-    let p = and_parts (lit_in n l) (clause_in n d) k in
-    joined-within n (with_lit c l) d (with_lit-both (λ x. clause_in n x ≡ true) c l (λ _. h) (λ _. clause_in-push n c l h p.0)) p.1
+    let p = and_parts (is_lit_over n l) (is_clause_over n d) k in
+    joined-within n (with_lit c l) d (with_lit-both (λ x. is_clause_over n x ≡ true) c l (λ _. h) (λ _. is_clause_over-push n c l h p.0)) p.1
 
--- a literal of a clause put in front of it
 pub front-from : (l m : Literal) (c : List Literal) → has_lit l c ≡ true → has_lit m (l ∷ without_variable l.var c) ≡ true → has_lit m c ≡ true
 front-from l m c h k =
     elim (or_cases (same_lit m l) (has_lit m (without_variable l.var c)) k) [
@@ -182,8 +174,7 @@ pub front-differ : (l : Literal) (c : List Literal) → vars_differ c ≡ true �
 front-differ l c d =
     and_from (not (has_var l.var (without_variable l.var c))) (vars_differ (without_variable l.var c)) (not_from_false (has_var l.var (without_variable l.var c)) (none-without l.var c)) (differ-kept (λ m. not (eqb m.var l.var)) c d)
 
--- a clause whose literals are all in another that is over the variables
-pub each-within : (n : ℕ) (c d : List Literal) → ((m : Literal) → has_lit m c ≡ true → has_lit m d ≡ true) → clause_in n d ≡ true → clause_in n c ≡ true
+pub each-within : (n : ℕ) (c d : List Literal) → ((m : Literal) → has_lit m c ≡ true → has_lit m d ≡ true) → is_clause_over n d ≡ true → is_clause_over n c ≡ true
 each-within n [] d f h = refl
 each-within n (m ∷ c) d f h =
-    and_from (lit_in n m) (clause_in n c) (lit_in-clause n d m h (f m (or_left (same_lit m m) (has_lit m c) (same-lit m)))) (each-within n c d (λ x k. f x (or_right (same_lit x m) (has_lit x c) k)) h)
+    and_from (is_lit_over n m) (is_clause_over n c) (is_lit_over-clause n d m h (f m (or_left (same_lit m m) (has_lit m c) (same-lit m)))) (each-within n c d (λ x k. f x (or_right (same_lit x m) (has_lit x c) k)) h)

@@ -1,32 +1,31 @@
--- How a clause in hand is kept, entry by entry, from a conflict to a clause that asserts a literal.
+-- The working clause, entry by entry, from a conflict to an asserting clause.
 use Rattle.std.proofs.Common.{◌≡◌, ℕ, ◌+◌, ◌-◌, inl, inr, true, false, ◌&&◌, ◌||◌, not, eqb, List, [], ◌∷◌, ◌++◌, refl, sym, ap, ◌∙◌, subst, Some, length, get_or, option_map, append-nil, append_assoc}
 use Rattle.std.specs.Prelude.{nat_lt, slice_get}
 use Rattle.std.specs.Prelude.{Result, Ok, Err, OnOk, reverse}
 use Rattle.std.proofs.lemmas.List.{reverse-append}
 use Rattle.ilk_log.specs.declared.step.Step.{Step}
-use Rattle.ilk_learn.specs.Learning.{resolved}
-use Rattle.ilk_learn.specs.declared.hand.Hand.{Hand}
+use Rattle.ilk_learn.specs.Learning.{resolved_with_reason}
+use Rattle.ilk_learn.specs.declared.hand.WorkingClause.{WorkingClause}
 use Rattle.std.proofs.lemmas.Bool.{and_parts, and_from, or_parts, or_from, ltb-true, cases_Bool, eqb-true, eqb-false, ne_eqb, not-true}
 use Rattle.std.proofs.lemmas.Option.{same_Some, slice_get-get_or}
 use Rattle.std.proofs.lemmas.List.Folds.{list_any-append}
 use Rattle.ilk_base.proofs.Tested.{list_all-slice_get}
-use Rattle.ilk_clauses.specs.Reasons.{clause_at}
-use Rattle.ilk_cnf.specs.Literal.{Literal, opposite, has_var, vars_differ}
-use Rattle.ilk_cnf.specs.Formula.{Formula, IsFormula, lit_in, clause_in}
+use Rattle.ilk_watches.specs.Reasons.{clause_at}
+use Rattle.ilk_cnf.specs.Literal.{Literal, negated_lit, has_var, vars_differ}
+use Rattle.ilk_cnf.specs.Formula.{Formula, IsFormula, is_lit_over, is_clause_over}
 use Rattle.ilk_log.specs.Propagation.{is_false, is_falsified}
 use Rattle.ilk_trail.specs.declared.entry.Entry.{Entry}
 use Rattle.ilk_trail.specs.Trail.{TrailList, entry_of, level_of}
 use Rattle.ilk_trail.specs.Laws.{lits_of, is_set}
-use Rattle.ilk_learn.specs.Resolvent.{with_each_lit, resolvent}
+use Rattle.ilk_learn.specs.Resolvent.{joined_clause, resolvent}
 use Rattle.ilk_learn.specs.Levels.{is_current, highest_level}
-use Rattle.ilk_learn.specs.Asserting.{begins_at, is_asserting}
-use Rattle.ilk_learn.specs.Hand.{HoldsClause, IsConflict, Keeps, all_set, conflict_step}
+use Rattle.ilk_learn.specs.Asserting.{has_first_at_level, is_asserting}
+use Rattle.ilk_learn.specs.Hand.{HoldsClause, IsConflict, StoresStep, all_set, conflict_step}
 use Rattle.ilk_learn.proofs.Derived.{false-at}
 use Rattle.ilk_learn.proofs.Highest.{all-from}
-use Rattle.ilk_learn.proofs.Walk.{resolved-is, resolved-not}
-use Rattle.ilk_cnf.proofs.SameLiterals.{has-var, lit_in-clause}
+use Rattle.ilk_learn.proofs.Walk.{resolved_with_reason-is, resolved_with_reason-not}
+use Rattle.ilk_cnf.proofs.SameLiterals.{has-var, is_lit_over-clause}
 
--- what holds of each result that is no fault
 pub both-ok : {T E P Q R : Type 0} (r : Result T E) → OnOk r P → OnOk r Q → (P → Q → R) → OnOk r R
 both-ok (Ok x) p q f = f p q
 both-ok (Err e) p q f = tt
@@ -39,37 +38,35 @@ entry-var (x ∷ es) v e h =
       | inr t ↦ entry-var es v e (rw t at h)
     ]
 
--- an entry whose variable the clause doesn't have is passed
-pub keeps-same : (t : TrailList) (clauses : List (List Literal)) (h : Hand) (e : Entry) (s : Step) (v : ℕ) → entry_of t.entries v ≡ Some e → get_or h.marks.items v false ≡ false → Keeps t h s → Keeps t h (resolved clauses e s)
+pub keeps-same : (t : TrailList) (clauses : List (List Literal)) (h : WorkingClause) (e : Entry) (s : Step) (v : ℕ) → entry_of t.entries v ≡ Some e → get_or h.marks.items v false ≡ false → StoresStep t h s
+    → StoresStep t h (resolved_with_reason clauses e s)
 keeps-same t clauses h e s v at m k =
     let q = entry-var t.entries v e at in
     let none : has_var e.lit.var s.clause ≡ false = sym (k.holds.marked e.lit.var) ∙ ap (λ (w : ℕ). get_or h.marks.items w false) q ∙ m in
-    let P : Step → Type 0 = λ x. Keeps t h x in
-    subst P (sym (resolved-not clauses e s none)) k
+    let P : Step → Type 0 = λ x. StoresStep t h x in
+    subst P (sym (resolved_with_reason-not clauses e s none)) k
 
--- one whose variable it has is resolved with
-pub keeps-resolved :
-    (t : TrailList) (clauses : List (List Literal)) (old new : Hand) (e : Entry) (s : Step) (v r : ℕ) →
+pub keeps-resolved_with_reason :
+    (t : TrailList) (clauses : List (List Literal)) (old new : WorkingClause) (e : Entry) (s : Step) (v r : ℕ) →
     entry_of t.entries v ≡ Some e →
     option_map (λ (x : Entry). x.reason) (entry_of t.entries v) ≡ Some (Some r) →
-    get_or old.marks.items v false ≡ true → Keeps t old s →
+    get_or old.marks.items v false ≡ true → StoresStep t old s →
     ((k : List Literal) → HoldsClause t old.marks.items old.current old.lower.items k → has_var v k ≡ true →
     HoldsClause t new.marks.items new.current new.lower.items (resolvent v k (clause_at clauses r))) →
-    new.hints.items ≡ old.hints.items ++ (r + 1) ∷ [] → Keeps t new (resolved clauses e s)
-keeps-resolved t clauses old new e s v r at why m k f g =
+    new.hints.items ≡ old.hints.items ++ (r + 1) ∷ [] → StoresStep t new (resolved_with_reason clauses e s)
+keeps-resolved_with_reason t clauses old new e s v r at why m k f g =
     let q = entry-var t.entries v e at in
     let has : has_var v s.clause ≡ true = sym (k.holds.marked v) ∙ m in
     let has-e : has_var e.lit.var s.clause ≡ true = ap (λ (w : ℕ). has_var w s.clause) q ∙ has in
     let reason : e.reason ≡ Some r = same_Some e.reason (Some r) (sym (ap (option_map (λ (x : Entry). x.reason)) at) ∙ why) in
-    let P : Step → Type 0 = λ x. Keeps t new x in
+    let P : Step → Type 0 = λ x. StoresStep t new x in
     let Q : ℕ → Type 0 = λ w. HoldsClause t new.marks.items new.current new.lower.items (resolvent w s.clause (clause_at clauses r)) in
-    subst P (sym (resolved-is clauses e s r has-e reason)) (record {
+    subst P (sym (resolved_with_reason-is clauses e s r has-e reason)) (record {
       holds = subst Q (sym q) (f s.clause k.holds has);
       hinted = ap (λ (hs : List ℕ). (r + 1) ∷ hs) k.hinted ∙ sym (ap reverse g ∙ reverse-append old.hints.items ((r + 1) ∷ []));
     })
 
--- a clause over different variables, literal by literal
-joined-apart : (k d : List Literal) → vars_differ (k ++ d) ≡ true → with_each_lit k d ≡ k ++ d
+joined-apart : (k d : List Literal) → vars_differ (k ++ d) ≡ true → joined_clause k d ≡ k ++ d
 joined-apart k [] h = sym (append-nil k)
 joined-apart k (l ∷ d) h =
     let u : has_var l.var k ≡ false = unused k h in
@@ -84,25 +81,24 @@ joined-apart k (l ∷ d) h =
         let other = or_parts (eqb l.var m.var) (has_var m.var d) away.1 in
         or_from (eqb m.var l.var) (has_var l.var k) (ne_eqb m.var l.var (λ e. eqb-false l.var m.var other.0 (sym e))) (unused k p.1)
 
-pub joined-alone : (d : List Literal) → vars_differ d ≡ true → with_each_lit [] d ≡ d
+pub joined-alone : (d : List Literal) → vars_differ d ≡ true → joined_clause [] d ≡ d
 joined-alone d h = joined-apart [] d h
 
--- the literals of a conflict are set
 pub conflict-set : (f : Formula) (t : TrailList) (c : ℕ) → IsFormula f → IsConflict f t c → (all_set t (clause_at f.clauses c) ≡ true) × (vars_differ (clause_at f.clauses c) ≡ true)
 conflict-set f t c form k =
     let d = clause_at f.clauses c in
     let p = and_parts (nat_lt c (length f.clauses)) (is_falsified (lits_of t.entries) d) k.conflict in
     let at = slice_get-get_or f.clauses c [] (ltb-true c (length f.clauses) p.0) in
-    let within : clause_in t.vars d ≡ true = ap (λ (n : ℕ). clause_in n d) (sym k.vars) ∙ list_all-slice_get (clause_in f.vars) f.clauses c d form.within at in (
-      all-from (λ (m : Literal). lit_in t.vars m && is_set t.entries m.var) d
-          (λ m a. and_from (lit_in t.vars m) (is_set t.entries m.var) (lit_in-clause t.vars d m within a)
-          (has-var (opposite m) (lits_of t.entries) (false-at (lits_of t.entries) d m p.1 a))),
+    let within : is_clause_over t.vars d ≡ true = ap (λ (n : ℕ). is_clause_over n d) (sym k.vars) ∙ list_all-slice_get (is_clause_over f.vars) f.clauses c d form.within at in (
+      all-from (λ (m : Literal). is_lit_over t.vars m && is_set t.entries m.var) d
+          (λ m a. and_from (is_lit_over t.vars m) (is_set t.entries m.var) (is_lit_over-clause t.vars d m within a)
+          (has-var (negated_lit m) (lits_of t.entries) (false-at (lits_of t.entries) d m p.1 a))),
       list_all-slice_get vars_differ f.clauses c d form.differ at,
     )
 
-pub started-keeps : (f : Formula) (t : TrailList) (h : Hand) (c : ℕ) → IsFormula f → IsConflict f t c →
-    HoldsClause t h.marks.items h.current h.lower.items (with_each_lit [] (clause_at f.clauses c)) →
-    h.hints.items ≡ (c + 1) ∷ [] → Keeps t h (conflict_step f.clauses c)
+pub started-keeps : (f : Formula) (t : TrailList) (h : WorkingClause) (c : ℕ) → IsFormula f → IsConflict f t c →
+    HoldsClause t h.marks.items h.current h.lower.items (joined_clause [] (clause_at f.clauses c)) →
+    h.hints.items ≡ (c + 1) ∷ [] → StoresStep t h (conflict_step f.clauses c)
 started-keeps f t h c form k holds hints =
     let P : List Literal → Type 0 = λ x. HoldsClause t h.marks.items h.current h.lower.items x in
     record {
@@ -110,12 +106,11 @@ started-keeps f t h c form k holds hints =
       hinted = sym (ap reverse hints);
     }
 
--- the literals of an asserting clause are set
 pub asserting-set : (es : List Entry) (c : List Literal) (i : ℕ) (l : Literal) → is_asserting es c ≡ true → slice_get c i ≡ Some l → is_set es l.var ≡ true
 asserting-set es [] i l h at = absurd (cc)
 asserting-set es (m ∷ c) i l h at =
     let top = highest_level es c in
-    let one = and_parts (is_falsified (lits_of es) (m ∷ c) && is_current es m && nat_lt top (level_of es)) (begins_at es top c) h in
+    let one = and_parts (is_falsified (lits_of es) (m ∷ c) && is_current es m && nat_lt top (level_of es)) (has_first_at_level es top c) h in
     let two = and_parts (is_falsified (lits_of es) (m ∷ c) && is_current es m) (nat_lt top (level_of es)) one.0 in
     let three = and_parts (is_falsified (lits_of es) (m ∷ c)) (is_current es m) two.0 in
-    has-var (opposite l) (lits_of es) (list_all-slice_get (is_false (lits_of es)) (m ∷ c) i l three.0 at)
+    has-var (negated_lit l) (lits_of es) (list_all-slice_get (is_false (lits_of es)) (m ∷ c) i l three.0 at)

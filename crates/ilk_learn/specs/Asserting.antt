@@ -1,4 +1,4 @@
--- When a clause, after a search went back, forces its first literal.
+-- Clauses that force their first literal after backjumping.
 use Rattle.std.specs.Prelude.{ℕ, ◌==◌, Bool, true, false, ◌&&◌, nat_lt, List, [], ◌∷◌}
 use Rattle.ilk_cnf.specs.Literal.{Literal}
 use Rattle.ilk_log.specs.Propagation.{is_falsified}
@@ -7,19 +7,19 @@ use Rattle.ilk_trail.specs.Trail.{level_of}
 use Rattle.ilk_trail.specs.Laws.{lits_of}
 use Rattle.ilk_learn.specs.Levels.{level_at, is_current, highest_level}
 
--- the highest level of the literals after the first
+-- The highest level of the literals after the first.
 abbrev pub back_level : List Entry → List Literal → ℕ
 back_level entries [] = 0
 back_level entries (l ∷ ls) = highest_level entries ls
 
--- whether the first of these literals, where there is one, was set at level k
-abbrev pub begins_at : List Entry → ℕ → List Literal → Bool
-begins_at entries k [] = true
-begins_at entries k (l ∷ ls) = level_at entries l == k
+-- Returns whether the first of these literals, if there is one, was set at level `k`.
+abbrev pub has_first_at_level : List Entry → ℕ → List Literal → Bool
+has_first_at_level entries k [] = true
+has_first_at_level entries k (l ∷ ls) = level_at entries l == k
 
--- whether all literals of a clause are false, the first was set at the current level, the others at
--- lower levels, and the second, where there is one, at the highest of these
+-- Returns whether all literals of a clause are false, the first set at the current level, the
+-- others lower, and the second, if any, at the highest of their levels.
 abbrev pub is_asserting : List Entry → List Literal → Bool
 is_asserting entries [] = false
 is_asserting entries (l ∷ ls) =
-    is_falsified (lits_of entries) (l ∷ ls) && is_current entries l && nat_lt (highest_level entries ls) (level_of entries) && begins_at entries (highest_level entries ls) ls
+    is_falsified (lits_of entries) (l ∷ ls) && is_current entries l && nat_lt (highest_level entries ls) (level_of entries) && has_first_at_level entries (highest_level entries ls) ls

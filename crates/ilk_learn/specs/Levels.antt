@@ -1,4 +1,4 @@
--- The levels of a trail at which the literals of a clause were set.
+-- The levels at which the literals of a clause were set.
 use Rattle.std.specs.Prelude.{ℕ, ◌==◌, Bool, List, [], ◌∷◌, Option, Some, None, option_map, unwrap_or, max}
 use Rattle.std.specs.List.{find}
 use Rattle.ilk_cnf.specs.Literal.{Literal}
@@ -6,24 +6,23 @@ use Rattle.ilk_trail.specs.declared.entry.Entry.{Entry}
 use Rattle.ilk_trail.specs.Trail.{entry_of, level_of}
 use Rattle.ilk_learn.specs.Resolvent.{without_variable}
 
--- the level at which the variable of l was set, 0 where it is unset
+-- The level at which the variable of `l` was set, or 0 if it is unset.
 abbrev pub level_at : List Entry → Literal → ℕ
 level_at entries l = unwrap_or (option_map (λ (e : Entry). e.level) (entry_of entries l.var)) 0
 
--- whether l was set at the current level
 abbrev pub is_current : List Entry → Literal → Bool
 is_current entries l = level_at entries l == level_of entries
 
--- the highest level of the literals, 0 where there are none
+-- The highest level of the literals, or 0 if there are none.
 abbrev pub highest_level : List Entry → List Literal → ℕ
 highest_level entries [] = 0
 highest_level entries (l ∷ ls) = max (level_at entries l) (highest_level entries ls)
 
--- the literals with this one in front
-abbrev pub in_front : Option Literal → List Literal → List Literal
-in_front None ls = ls
-in_front (Some l) ls = l ∷ without_variable l.var ls
+-- The literals with this one in front.
+abbrev pub with_moved_to_front : Option Literal → List Literal → List Literal
+with_moved_to_front None ls = ls
+with_moved_to_front (Some l) ls = l ∷ without_variable l.var ls
 
--- the literals with the first of the highest level in front
-abbrev pub highest_first : List Entry → List Literal → List Literal
-highest_first entries ls = in_front (find (λ l. level_at entries l == highest_level entries ls) ls) ls
+-- The literals with the first of the highest level in front.
+abbrev pub with_highest_first : List Entry → List Literal → List Literal
+with_highest_first entries ls = with_moved_to_front (find (λ l. level_at entries l == highest_level entries ls) ls) ls

@@ -1,42 +1,42 @@
-//! What is learned, from the clause in hand where its walk ended.
+//! Builds the learned clause from the working clause at the end of the walk.
 
 ghost use Rattle.std.specs.Prelude.{◌≡◌, ◌-◌, ◌<◌, false, [], ◌∷◌, ◌++◌, find, reverse, IfOk, IsTrue};
 ghost use Rattle.std.specs.Bool.{◌==◌};
-ghost use Rattle.ilk_clauses.specs.Chained.{formula_of};
-ghost use Rattle.ilk_clauses.specs.Reasons.{is_conflict, HasReasons};
-ghost use Rattle.ilk_cnf.specs.Literal.{opposite};
-ghost use Rattle.ilk_cnf.specs.Formula.{clause_in};
-ghost use Rattle.ilk_log.specs.Propagation.{is_closed};
+ghost use Rattle.ilk_watches.specs.Chained.{formula_of};
+ghost use Rattle.ilk_watches.specs.Reasons.{is_conflict, HasReasons};
+ghost use Rattle.ilk_cnf.specs.Literal.{negated_lit};
+ghost use Rattle.ilk_cnf.specs.Formula.{is_clause_over};
+ghost use Rattle.ilk_log.specs.Propagation.{is_saturated};
 ghost use Rattle.ilk_log.specs.Derived.{is_derived};
 ghost use Rattle.ilk_log.specs.Fresh.{IsFresh};
-ghost use Rattle.ilk_trail.specs.Trail.{level_of, up_to};
+ghost use Rattle.ilk_trail.specs.Trail.{level_of, entries_up_to};
 ghost use Rattle.ilk_trail.specs.Laws.{lits_of};
 ghost use Rattle.ilk_learn.specs.Resolvent.{without_variable};
-ghost use Rattle.ilk_learn.specs.Levels.{highest_first, highest_level, level_at};
-ghost use Rattle.ilk_learn.specs.Learning.{learned};
+ghost use Rattle.ilk_learn.specs.Levels.{with_highest_first, highest_level, level_at};
+ghost use Rattle.ilk_learn.specs.Learning.{learned_step};
 ghost use Rattle.ilk_learn.specs.Asserting.{back_level, is_asserting};
-ghost use Rattle.ilk_learn.specs.Hand.{IsConflict, Keeps, all_set, conflict_step};
+ghost use Rattle.ilk_learn.specs.Hand.{IsConflict, StoresStep, all_set, conflict_step};
 
-use crate::hand::Hand;
-use ilk_clauses::Clauses;
+use crate::hand::WorkingClause;
 use ilk_cnf::{Lit, Lits};
 use ilk_log::{Hints, Step};
 use ilk_trail::Trail;
+use ilk_watches::Clauses;
 use std::alloc::{AllocError, Global};
 
-/// What a conflict above level 0 teaches.
+/// The result of a conflict above level 0.
 #[derive(Drop)]
 pub struct Learned {
-    /// The clause, the literal that it forces first, and the hints that show it.
+    /// The clause, with the literal that it forces first, and the hints that derive it.
     pub step: Step,
     /// The level to go back to, at which the clause forces its first literal.
     pub level: u64,
 }
 
-/// What is learned where all literals of clause `conflict` are false above level 0, and weren't at
-/// the level below. The clause is the one at the first unique implication point of the current level.
-/// It is derived by its hints, forces its first literal at the answered level, and is fresh where
-/// propagation was at its end there.
+/// Returns the clause learned from clause `conflict`, whose literals are all false above level 0,
+/// and weren't at the level below. It is the clause at the first unique implication point of the
+/// current level. It is derived by its hints and forces its first literal at the returned level. It
+/// is fresh if propagation had ended at that level.
 pub fn learn(
     alloc: Global,
     clauses: &Clauses,
@@ -49,17 +49,18 @@ pub fn learn(
         (is_conflict clauses.now.clauses (lits_of trail.now.entries) conflict) }
     requires level { 0 < level_of trail.now.entries }
     requires below { is_conflict clauses.now.clauses
-        (lits_of (up_to (level_of trail.now.entries - 1) trail.now.entries))
+        (lits_of (entries_up_to (level_of trail.now.entries - 1) trail.now.entries))
         conflict ≡ false }
     ensures step { IfOk result
-        (λ l. l.step ≡ learned clauses.now.clauses trail.now.entries conflict) }
+        (λ l. l.step ≡ learned_step clauses.now.clauses trail.now.entries conflict) }
     ensures level { IfOk result (λ l. l.level ≡ back_level trail.now.entries l.step.clause) }
     ensures derived { IfOk result
         (λ l. IsTrue (is_derived clauses.now.vars clauses.now.clauses l.step)) }
     ensures asserting { IfOk result (λ l. IsTrue (is_asserting trail.now.entries l.step.clause)) }
     ensures fresh { IfOk result
         (λ l.
-        IsTrue (is_closed clauses.now.clauses (lits_of (up_to l.level trail.now.entries))) →
+        IsTrue (is_saturated clauses.now.clauses
+        (lits_of (entries_up_to l.level trail.now.entries))) →
         IsFresh clauses.now.clauses l.step.clause) }
 {
     let _count = clauses.count();
@@ -69,8 +70,8 @@ pub fn learn(
     Ok(Learned { step, level })
 }
 
-/// The empty clause, with the hints that show it, where all literals of clause `conflict` are false at
-/// level 0.
+/// Returns the empty clause with its hints, if all literals of clause `conflict` are false at level
+/// 0.
 pub fn refute(
     alloc: Global,
     clauses: &Clauses,
@@ -82,7 +83,8 @@ pub fn refute(
     requires conflict { IsTrue
         (is_conflict clauses.now.clauses (lits_of trail.now.entries) conflict) }
     requires level { level_of trail.now.entries ≡ 0 }
-    ensures step { IfOk result (λ s. s ≡ learned clauses.now.clauses trail.now.entries conflict) }
+    ensures step { IfOk result (λ s. s
+        ≡ learned_step clauses.now.clauses trail.now.entries conflict) }
     ensures derived { IfOk result
         (λ s. IsTrue (is_derived clauses.now.vars clauses.now.clauses s)) }
     ensures empty { IfOk result (λ s. s.clause ≡ []) }
@@ -92,7 +94,7 @@ pub fn refute(
     analysed(alloc, clauses, trail, conflict)
 }
 
-// What is learned from a conflict, at any level.
+// Returns the clause learned from a conflict, at any level.
 fn analysed(
     alloc: Global,
     clauses: &Clauses,
@@ -100,10 +102,10 @@ fn analysed(
     conflict: u64,
 ) -> Result<Step, AllocError>
     requires { IsConflict (formula_of clauses.now) trail.now conflict }
-    ensures { IfOk result (λ s. s ≡ learned clauses.now.clauses trail.now.entries conflict) }
+    ensures { IfOk result (λ s. s ≡ learned_step clauses.now.clauses trail.now.entries conflict) }
 {
     let mut hand = started(alloc, clauses, trail, conflict)?;
-    let point = hand.walk(clauses, trail, conflict)?;
+    let point = hand.resolve_backwards(clauses, trail, conflict)?;
     let clause = match point {
         Some(lit) => clause_at_point(alloc, trail, lit, hand.lower.as_slice())?,
         None => Lits::new(alloc),
@@ -112,24 +114,26 @@ fn analysed(
     Ok(Step { clause, hints })
 }
 
-// Clause `conflict` in hand.
+// Creates the working clause from clause `conflict`.
 fn started(
     alloc: Global,
     clauses: &Clauses,
     trail: &Trail,
     conflict: u64,
-) -> Result<Hand, AllocError>
+) -> Result<WorkingClause, AllocError>
     requires { IsConflict (formula_of clauses.now) trail.now conflict }
-    ensures { IfOk result (λ h. Keeps trail.now h (conflict_step clauses.now.clauses conflict)) }
+    ensures { IfOk result (λ h. StoresStep trail.now h
+        (conflict_step clauses.now.clauses conflict)) }
 {
     let _count = clauses.count();
-    let mut hand = Hand::new(alloc, trail, clauses.vars())?;
-    hand.join(clauses, trail, conflict)?;
+    let mut hand = WorkingClause::new(alloc, trail, clauses.vars())?;
+    hand.add_literals_of(clauses, trail, conflict)?;
     hand.hints.push(conflict + 1)?;
     Ok(hand)
 }
 
-// The clause with the opposite of `lit` first, and next one of the highest level of the others.
+// Returns the clause that begins with the opposite of `lit`, then a literal of the highest level of
+// `lower`, then the others.
 fn clause_at_point(
     alloc: Global,
     trail: &Trail,
@@ -137,7 +141,8 @@ fn clause_at_point(
     lower: &[Lit],
 ) -> Result<Lits, AllocError>
     requires { IsTrue (all_set trail.now lower.now) }
-    ensures { IfOk result (λ c. c ≡ opposite lit ∷ highest_first trail.now.entries lower.now) }
+    ensures { IfOk result (λ c. c ≡ negated_lit lit
+        ∷ with_highest_first trail.now.entries lower.now) }
 {
     let mut clause = Lits::new(alloc);
     clause.push(lit.negated())?;
@@ -147,7 +152,7 @@ fn clause_at_point(
     }
 }
 
-// The clause with this literal, and then the others, at its end.
+// Returns `clause` with `first` and then the other literals appended.
 fn with_first(mut clause: Lits, first: Lit, lits: &[Lit]) -> Result<Lits, AllocError>
     ensures { IfOk result (λ c. c ≡ clause ++ (first ∷ without_variable first.var lits.now)) }
 {
@@ -160,7 +165,7 @@ fn with_first(mut clause: Lits, first: Lit, lits: &[Lit]) -> Result<Lits, AllocE
     Ok(clause)
 }
 
-// The first literal of the highest level.
+// Returns the first literal of the highest level, or `None` if there are no literals.
 fn first_highest(trail: &Trail, lits: &[Lit]) -> Option<Lit>
     requires { IsTrue (all_set trail.now lits.now) }
     ensures { result
@@ -176,7 +181,7 @@ fn first_highest(trail: &Trail, lits: &[Lit]) -> Option<Lit>
     None
 }
 
-// The highest level of the literals, 0 where there are none.
+// Returns the highest level of the literals, or 0 if there are none.
 fn top_level(trail: &Trail, lits: &[Lit]) -> u64
     requires { IsTrue (all_set trail.now lits.now) }
     ensures { result ≡ highest_level trail.now.entries lits.now }
@@ -188,9 +193,8 @@ fn top_level(trail: &Trail, lits: &[Lit]) -> u64
     top
 }
 
-// The highest level of the literals after the first.
 fn level_below(trail: &Trail, clause: &Lits) -> u64
-    requires within { IsTrue (clause_in trail.now.vars clause.now) }
+    requires within { IsTrue (is_clause_over trail.now.vars clause.now) }
     requires asserting { IsTrue (is_asserting trail.now.entries clause.now) }
     ensures { result ≡ back_level trail.now.entries clause.now }
 {
@@ -200,7 +204,7 @@ fn level_below(trail: &Trail, clause: &Lits) -> u64
     trail.level_of(*clause.at(1))
 }
 
-// The hints from the last on, in memory of just their size.
+// Returns the hints in reverse order, in memory of exactly their size.
 fn turned(alloc: Global, hints: &[u64]) -> Result<Hints, AllocError>
     ensures { IfOk result (λ h. h ≡ reverse hints.now) }
 {

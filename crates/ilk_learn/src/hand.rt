@@ -1,50 +1,51 @@
-//! The clause in hand while it is resolved with the reasons of entries.
+//! The working clause, which is resolved with the reasons of entries.
 
 ghost use Rattle.std.specs.Prelude.{◌≡◌, ◌+◌, ◌-◌, ◌<◌, ◌^◌, true, false, [], ◌∷◌, ◌++◌, List, Some, length, slice_index_or, IfOk, OnOk, IsTrue};
-ghost use Rattle.ilk_clauses.specs.Chained.{formula_of};
-ghost use Rattle.ilk_clauses.specs.Reasons.{clause_at, HasReasons};
+ghost use Rattle.ilk_watches.specs.Chained.{formula_of};
+ghost use Rattle.ilk_watches.specs.Reasons.{clause_at, HasReasons};
 ghost use Rattle.ilk_cnf.specs.Literal.{Literal, has_var};
-ghost use Rattle.ilk_cnf.specs.Formula.{lit_in};
+ghost use Rattle.ilk_cnf.specs.Formula.{is_lit_over};
 ghost use Rattle.ilk_log.specs.declared.step.Step.{Step as StepValue};
 ghost use Rattle.ilk_trail.specs.declared.entry.Entry.{Entry};
 ghost use Rattle.ilk_trail.specs.Trail.{entry_of};
 ghost use Rattle.ilk_trail.specs.Laws.{is_set};
-ghost use Rattle.ilk_learn.specs.Resolvent.{with_lit, with_each_lit, resolvent};
+ghost use Rattle.ilk_learn.specs.Resolvent.{with_lit, joined_clause, resolvent};
 ghost use Rattle.ilk_learn.specs.Levels.{is_current};
-ghost use Rattle.ilk_learn.specs.Learning.{is_implication_point, resolved};
-ghost use Rattle.ilk_learn.specs.Hand.{HandHolds, IsConflict, Keeps, Reached, all_set, conflict_step};
+ghost use Rattle.ilk_learn.specs.Learning.{is_implication_point, resolved_with_reason};
+ghost use Rattle.ilk_learn.specs.Hand.{StoresClause, IsConflict, StoresStep, HasWalkedTo, all_set, conflict_step};
 
-use ilk_clauses::Clauses;
 use ilk_cnf::Lit;
 use ilk_trail::Trail;
+use ilk_watches::Clauses;
 use smallvec::SmallVec;
 use std::alloc::{AllocError, Global};
 
-// How many lower literals, and how many hints, stand in the hand itself.
+// The number of lower literals, and of hints, that fit into `WorkingClause` itself.
 const SHORT: usize = 16;
 
-// A clause, and the hints that show it. Short ones take no memory of their own.
+/// A clause under resolution, and the hints that derive it. Up to 16 lower literals and up to 16
+/// hints need no allocation of their own.
 #[derive(Drop)]
-pub struct Hand {
-    // by variable: whether the clause has a literal of it
+pub struct WorkingClause {
+    // By variable: whether the clause has a literal of it.
     pub marks: Vec<bool>,
-    // how many of its literals were set at the current level
+    // The number of its literals that were set at the current level.
     pub current: u64,
-    // its other literals
+    // Its other literals.
     pub lower: SmallVec<Lit, SHORT>,
-    // the last of them first
+    // In reverse order.
     pub hints: SmallVec<u64, SHORT>,
 }
 
-impl Hand {
-    // The clause of no literal, without hints.
-    pub fn new(alloc: Global, trail: &Trail, vars: u64) -> Result<Hand, AllocError>
+impl WorkingClause {
+    /// Creates the empty clause over variables 1 to `vars`, without hints.
+    pub fn new(alloc: Global, trail: &Trail, vars: u64) -> Result<WorkingClause, AllocError>
         requires few { vars < 2 ^ 63 }
         requires vars { vars ≡ trail.now.vars }
-        ensures holds { IfOk result (λ h. HandHolds trail.now h []) }
+        ensures holds { IfOk result (λ h. StoresClause trail.now h []) }
         ensures hints { IfOk result (λ h. h.hints.items ≡ []) }
     {
-        Ok(Hand {
+        Ok(WorkingClause {
             marks: vec![in alloc; false; vars as usize + 1]?,
             current: 0,
             lower: SmallVec::new(alloc),
@@ -52,14 +53,14 @@ impl Hand {
         })
     }
 
-    // Adds a literal, where the clause has none of its variable.
+    // Adds `lit`, if the clause has no literal of its variable.
     fn meet(&mut self, trail: &Trail, lit: Lit) -> Result<(), AllocError>
-        requires held { (c : List Literal) × HandHolds trail.now self.old c }
-        requires within { IsTrue (lit_in trail.now.vars lit) }
+        requires held { (c : List Literal) × StoresClause trail.now self.old c }
+        requires within { IsTrue (is_lit_over trail.now.vars lit) }
         requires set { IsTrue (is_set trail.now.entries lit.var) }
         ensures holds { OnOk result
-            ((c : List Literal) → HandHolds trail.now self.old c →
-            HandHolds trail.now self.new (with_lit c lit)) }
+            ((c : List Literal) → StoresClause trail.now self.old c →
+            StoresClause trail.now self.new (with_lit c lit)) }
         ensures hints { self.new.hints ≡ self.old.hints }
     {
         let var = lit.var() as usize;
@@ -75,14 +76,19 @@ impl Hand {
         Ok(())
     }
 
-    // Adds the literals of clause `c` over variables that the clause in hand doesn't have.
-    pub fn join(&mut self, clauses: &Clauses, trail: &Trail, c: u64) -> Result<(), AllocError>
-        requires held { (k : List Literal) × HandHolds trail.now self.old k }
+    /// Adds the literals of clause `c` over variables that the clause in hand does not have.
+    pub fn add_literals_of(
+        &mut self,
+        clauses: &Clauses,
+        trail: &Trail,
+        c: u64,
+    ) -> Result<(), AllocError>
+        requires held { (k : List Literal) × StoresClause trail.now self.old k }
         requires known { c < length clauses.now.clauses }
         requires set { IsTrue (all_set trail.now (clause_at clauses.now.clauses c)) }
         ensures holds { OnOk result
-            ((k : List Literal) → HandHolds trail.now self.old k →
-            HandHolds trail.now self.new (with_each_lit k (clause_at clauses.now.clauses c))) }
+            ((k : List Literal) → StoresClause trail.now self.old k →
+            StoresClause trail.now self.new (joined_clause k (clause_at clauses.now.clauses c))) }
         ensures hints { self.new.hints ≡ self.old.hints }
     {
         for i in 0..clauses.length(c) {
@@ -91,7 +97,7 @@ impl Hand {
         Ok(())
     }
 
-    // Resolves with clause `reason` upon the variable of `lit`.
+    // Resolves with clause `reason` on the variable of `lit`.
     fn resolve(
         &mut self,
         clauses: &Clauses,
@@ -99,40 +105,40 @@ impl Hand {
         lit: Lit,
         reason: u64,
     ) -> Result<(), AllocError>
-        requires held { (k : List Literal) × HandHolds trail.now self.old k ×
+        requires held { (k : List Literal) × StoresClause trail.now self.old k ×
             IsTrue (has_var lit.var k) }
-        requires within { IsTrue (lit_in trail.now.vars lit) }
+        requires within { IsTrue (is_lit_over trail.now.vars lit) }
         requires current { IsTrue (is_current trail.now.entries lit) }
         requires known { reason < length clauses.now.clauses }
         requires numbered { reason + 1 < 2 ^ 64 }
         requires set { IsTrue (all_set trail.now (clause_at clauses.now.clauses reason)) }
         ensures holds { OnOk result
-            ((k : List Literal) → HandHolds trail.now self.old k → IsTrue (has_var lit.var k) →
-            HandHolds trail.now self.new
+            ((k : List Literal) → StoresClause trail.now self.old k → IsTrue (has_var lit.var k) →
+            StoresClause trail.now self.new
             (resolvent lit.var k (clause_at clauses.now.clauses reason))) }
         ensures hints { OnOk result
             (self.new.hints.items ≡ self.old.hints.items ++ (reason + 1) ∷ []) }
     {
-        self.join(clauses, trail, reason)?;
+        self.add_literals_of(clauses, trail, reason)?;
         self.marks[lit.var() as usize] = false;
         self.current -= 1;
         self.hints.push(reason + 1)?;
         Ok(())
     }
 
-    // Passes the entry of `lit`: where the clause has its variable, resolves with its reason.
+    // Passes the entry of `lit`. If the clause has its variable, resolves with its reason.
     fn pass(&mut self, clauses: &Clauses, trail: &Trail, lit: Lit) -> Result<(), AllocError>
-        requires held { (s : StepValue) × Keeps trail.now self.old s }
+        requires held { (s : StepValue) × StoresStep trail.now self.old s }
         requires reasons { HasReasons clauses.now.clauses trail.now.entries }
         requires vars { clauses.now.vars ≡ trail.now.vars }
-        requires within { IsTrue (lit_in trail.now.vars lit) }
+        requires within { IsTrue (is_lit_over trail.now.vars lit) }
         requires set { IsTrue (is_set trail.now.entries lit.var) }
         requires current { slice_index_or self.old.marks.items lit.var false ≡ true →
             IsTrue (is_current trail.now.entries lit) }
         ensures { OnOk result
             ((e : Entry) (s : StepValue) → entry_of trail.now.entries lit.var ≡ Some e →
-            Keeps trail.now self.old s →
-            Keeps trail.now self.new (resolved clauses.now.clauses e s)) }
+            StoresStep trail.now self.old s →
+            StoresStep trail.now self.new (resolved_with_reason clauses.now.clauses e s)) }
     {
         let _count = clauses.count();
         if self.marks[lit.var() as usize] {
@@ -143,12 +149,12 @@ impl Hand {
         Ok(())
     }
 
-    // Whether the clause has the variable of `lit`, and just one literal of the current level, above
-    // level 0.
+    // Returns whether the clause has the variable of `lit` and exactly one literal of the current
+    // level, which is above 0.
     fn is_point(&self, trail: &Trail, lit: Lit) -> bool
-        requires held { (c : List Literal) × HandHolds trail.now self.now c }
-        requires within { IsTrue (lit_in trail.now.vars lit) }
-        ensures { (c : List Literal) → HandHolds trail.now self.now c →
+        requires held { (c : List Literal) × StoresClause trail.now self.now c }
+        requires within { IsTrue (is_lit_over trail.now.vars lit) }
+        ensures { (c : List Literal) → StoresClause trail.now self.now c →
             result ≡ is_implication_point trail.now.entries lit c }
     {
         let marked = self.marks[lit.var() as usize];
@@ -156,17 +162,19 @@ impl Hand {
         marked && (level > 0 && self.current == 1)
     }
 
-    // Goes through the entries from the latest on, as far as the point, and answers its literal.
-    pub fn walk(
+    /// Walks back from the latest entry, and resolves with the reason of each entry whose variable
+    /// the clause has. Stops at the first implication point and returns its literal. Returns `None`
+    /// if there is none.
+    pub fn resolve_backwards(
         &mut self,
         clauses: &Clauses,
         trail: &Trail,
         conflict: u64,
     ) -> Result<Option<Lit>, AllocError>
         requires conflict { IsConflict (formula_of clauses.now) trail.now conflict }
-        requires held { Keeps trail.now self.old (conflict_step clauses.now.clauses conflict) }
+        requires held { StoresStep trail.now self.old (conflict_step clauses.now.clauses conflict) }
         ensures { IfOk result
-            (λ point. Reached trail.now clauses.now.clauses conflict self.new point) }
+            (λ point. HasWalkedTo trail.now clauses.now.clauses conflict self.new point) }
     {
         let _clauses = clauses.count();
         let mut i = trail.count();

@@ -1,24 +1,25 @@
--- Readers that fail at a line for what stands up to it, and fail at none that can be completed.
+-- Readers that fail at a line because of the lines up to it, and never at one that can be
+-- completed.
 use Rattle.std.proofs.Common.{◌≡◌, ℕ, ◌+◌, ◌<◌, ◌≤◌, Bool, true, false, ◌==◌, Option, Some, None, Result, Ok, Err, List, [], ◌∷◌, ◌++◌, cond, drop, length, slice_get, take, refl, sym, ap, ◌∙◌, arith, subst, suc, zero}
 use Rattle.std.specs.Str.{bytes_eq}
 use Rattle.std.proofs.lemmas.Bool.Decides.{nat_tests}
 use Rattle.std.proofs.lemmas.Slice.Eq.{bytes_eq-Decides}
 use Rattle.ilk_base.specs.Result.{◌>>=◌}
 use Rattle.ilk_lines.specs.Lines.{Bytes}
-use Rattle.ilk_lines.specs.Reading.{LinesPart, after_line, each_told, leading, onto}
+use Rattle.ilk_lines.specs.Reading.{LinesPart, lines_after, values_from_lines, leading_values, prepend_option}
 use Rattle.ilk_base.proofs.Results.{err_is}
 use Rattle.ilk_lines.proofs.InOrder.{told_with, values_left}
 
--- a reader of lines and of the bytes after them
+-- A reader of lines and of the bytes after them.
 abbrev pub Reader : Type 0 → Type 0
 Reader T = List Bytes → Bytes → Result T ℕ
 
--- some lines that a reader takes to a run
+-- Holds if the reader succeeds on some lines.
 abbrev pub Fills : {T : Type 0} → Reader T → Type 0
 Fills {T} read = (more : List Bytes) × (t : T) × (read more [] ≡ Ok t)
 
--- a reader of lines of which the first has the number n fails at line m: after some lines that can be
--- completed, and for the next of them, whatever follows
+-- Holds if the reader fails at line `m`, whatever follows it, and the lines before it can be
+-- completed. Lines are numbered from `n`.
 pub record FailsAt {T : Type 0} (n : ℕ) (read : Reader T) (lines : List Bytes) (m : ℕ) : Type 0 where
   pub passed : ℕ
   pub at : m ≡ n + passed
@@ -26,16 +27,14 @@ pub record FailsAt {T : Type 0} (n : ℕ) (read : Reader T) (lines : List Bytes)
   pub seen : passed < length lines → (more : List Bytes) (bytes : Bytes) → read (take (suc passed) lines ++ more) bytes ≡ Err m
   pub before : Fills (λ more bytes. read (take passed lines ++ more) bytes)
 
--- a reader goes line by line: it can be filled, and where it fails it fails at a line
+-- Holds if the reader can be completed, and any failure is at a line.
 pub record IsByLine {T : Type 0} (n : ℕ) (read : Reader T) : Type 0 where
   pub fills : Fills read
   pub fails : (lines : List Bytes) (bytes : Bytes) (m : ℕ) → read lines bytes ≡ Err m → FailsAt n read lines m
 
--- a reader fails at its first line
 pub fails_first : {T : Type 0} (n m : ℕ) (read : Reader T) (lines : List Bytes) → m ≡ n → (0 < length lines → (more : List Bytes) (bytes : Bytes) → read (take 1 lines ++ more) bytes ≡ Err m) → Fills read → FailsAt n read lines m
 fails_first n m read lines same seen fills = record { passed = zero; at = omega (arith, same); within = omega arith; seen = seen; before = fills }
 
--- a reader that goes on after a line fails where it fails then
 pub fails_next : {T : Type 0} (n m : ℕ) (read next : Reader T) (line : Bytes) (lines : List Bytes) → ((more : List Bytes) (bytes : Bytes) → read (line ∷ more) bytes ≡ next more bytes) → FailsAt (n + 1) next lines m → FailsAt n read (line ∷ lines) m
 fails_next n m read next line lines goes fails = record {
   passed = suc fails.passed;
@@ -48,9 +47,9 @@ fails_next n m read next line lines goes fails = record {
 same_bytes : (bytes : Bytes) → bytes_eq bytes bytes ≡ true
 same_bytes bytes = (bytes_eq-Decides bytes bytes).1 refl
 
--- a wanted line, and then the next reader
+-- A wanted line, then the next reader.
 abbrev pub after_then : {T : Type 0} → Bytes → ℕ → Reader T → Reader T
-after_then wanted n next lines bytes = after_line wanted n lines >>= (λ more. next more bytes)
+after_then wanted n next lines bytes = lines_after wanted n lines >>= (λ more. next more bytes)
 
 after_passes : {T : Type 0} (wanted : Bytes) (n : ℕ) (next : Reader T) (line : Bytes) → bytes_eq line wanted ≡ true → (more : List Bytes) (bytes : Bytes) → after_then wanted n next (line ∷ more) bytes ≡ next more bytes
 after_passes wanted n next line same more bytes = ap (λ b. cond {A = Result (List Bytes) ℕ} b (Ok more) (Err n) >>= (λ ls. next ls bytes)) same
@@ -74,22 +73,20 @@ after_by_line wanted n next by = record { fills = after_fills wanted n next by.f
             let here : n ≡ m = err_is (sym (after_refuses wanted n next line differs lines bytes) ∙ e) in
             fails_first n m (after_then wanted n next) (line ∷ lines) (sym here) (λ some more others. after_refuses wanted n next line differs more others ∙ ap (λ k. Err k) here) (after_fills wanted n next by.fills)
 
--- the part with one value more
 abbrev with_value : {A : Type 0} → A → LinesPart A → LinesPart A
 with_value v part = record part { values = v ∷ part.values }
 
--- lines for items, and then the next reader
+-- Lines for items, then the next reader.
 abbrev pub each_then : {A T : Type 0} → (ℕ → Bytes → Option A) → List ℕ → ℕ → (LinesPart A → Bytes → Result T ℕ) → Reader T
-each_then value items n next lines bytes = each_told value items n lines >>= (λ part. next part bytes)
+each_then value items n next lines bytes = values_from_lines value items n lines >>= (λ part. next part bytes)
 
--- the next reader after these values, of lines of which the first has this number
+-- The next reader after these values.
 abbrev pub part_reader : {A T : Type 0} → (LinesPart A → Bytes → Result T ℕ) → List A → ℕ → Reader T
 part_reader next values number lines bytes = next (record { values = values; number = number; lines = lines }) bytes
 
 none_enough : (k : ℕ) → (0 == suc k) ≡ false
 none_enough k = grind (arith, nat_tests)
 
--- no value is told
 no_values : {A : Type 0} (x : ℕ) (items : List ℕ) (n : ℕ) (lines : List Bytes) → told_with {A = A} (x ∷ items) n lines [] ≡ Err (n + 0)
 no_values {A = A} x items n lines =
     ap (λ b. cond {A = Result (LinesPart A) ℕ} b (Ok (record { values = []; number = n + length (x ∷ items); lines = drop (length (x ∷ items)) lines })) (Err (n + 0))) (none_enough (length items))
@@ -103,10 +100,9 @@ each_refuses :
     value x line ≡ None → (more : List Bytes) (bytes : Bytes) →
     each_then value (x ∷ items) n next (line ∷ more) bytes ≡ Err (n + 0)
 each_refuses {A = A} value x items n next line none more bytes =
-    ap (λ (o : Option A). told_with (x ∷ items) n (line ∷ more) (onto o (values_left value items more)) >>= (λ part. next part bytes)) none
+    ap (λ (o : Option A). told_with (x ∷ items) n (line ∷ more) (prepend_option o (values_left value items more)) >>= (λ part. next part bytes)) none
     ∙ ap (λ (r : Result (LinesPart A) ℕ). r >>= (λ part. next part bytes)) (no_values x items n (line ∷ more))
 
--- what is told with one value more
 told_more : {A T : Type 0} (x : ℕ) (items : List ℕ) (n : ℕ) (line : Bytes) (more : List Bytes) (v : A) (values : List A) (next : LinesPart A → Bytes → Result T ℕ) (bytes : Bytes)
     → (told_with (x ∷ items) n (line ∷ more) (v ∷ values) >>= (λ part. next part bytes)) ≡ (told_with items (n + 1) more values >>= (λ part. next (with_value v part) bytes))
 told_more {A = A} x items n line more v values next bytes = by_count (length values == length items) refl
@@ -128,14 +124,12 @@ each_goes :
     each_then value (x ∷ items) n next (line ∷ more) bytes
     ≡ each_then value items (n + 1) (λ part. next (with_value v part)) more bytes
 each_goes value x items n next line v some more bytes =
-    ap (λ o. told_with (x ∷ items) n (line ∷ more) (onto o (values_left value items more)) >>= (λ part. next part bytes)) some
+    ap (λ o. told_with (x ∷ items) n (line ∷ more) (prepend_option o (values_left value items more)) >>= (λ part. next part bytes)) some
     ∙ told_more x items n line more v (values_left value items more) next bytes
 
--- an item has a line that tells a value of it
 abbrev pub HasLine : {A : Type 0} → (ℕ → Bytes → Option A) → ℕ → Type 0
 HasLine {A} value x = (line : Bytes) × (v : A) × (value x line ≡ Some v)
 
--- one more item
 each_more :
     {A T : Type 0} (value : ℕ → Bytes → Option A) (x : ℕ) (items : List ℕ) (n : ℕ)
     (next : LinesPart A → Bytes → Result T ℕ) →
@@ -163,7 +157,6 @@ each_more {A = A} value x items n next own rest = record { fills = fills; fails 
         fails_first n m (each_then value (x ∷ items) n next) [] (omega (arith, here)) (λ some. absurd (omega arith)) fills
     fails (line ∷ lines) bytes m e = by_value line lines bytes m e (value x line) refl
 
--- a reader of lines for items, and then a next one, goes by line where each item has a line
 pub each_by_line :
     {A T : Type 0} (value : ℕ → Bytes → Option A) (items : List ℕ) (n : ℕ)
     (next : LinesPart A → Bytes → Result T ℕ) →
@@ -179,14 +172,13 @@ each_by_line {A = A} value (x ∷ items) n next has by =
     each_more value x items n next (has zero x refl) (λ v. each_by_line value items (n + 1) (λ part. next (with_value v part)) (λ i y at. has (suc i) y at)
     (λ values. let P : ℕ → Type 0 = λ k. IsByLine k (part_reader next (v ∷ values) k) in subst P same (by (v ∷ values))))
 
--- lines as long as they tell values, a wanted line, and then the next reader
+-- Lines with values, a wanted line, then the next reader.
 abbrev taken_then : {A T : Type 0} → Bytes → ℕ → (List A → ℕ → Reader T) → List Bytes → Bytes → List A → Result T ℕ
-taken_then wanted n next lines bytes values = after_line wanted (n + length values) (drop (length values) lines) >>= (λ more. next values (n + length values + 1) more bytes)
+taken_then wanted n next lines bytes values = lines_after wanted (n + length values) (drop (length values) lines) >>= (λ more. next values (n + length values + 1) more bytes)
 
 abbrev pub leading_then : {A T : Type 0} → (Bytes → Option A) → Bytes → ℕ → (List A → ℕ → Reader T) → Reader T
-leading_then value wanted n next lines bytes = taken_then wanted n next lines bytes (leading value lines)
+leading_then value wanted n next lines bytes = taken_then wanted n next lines bytes (leading_values value lines)
 
--- after a line that tells a value
 leading_goes :
     {A T : Type 0} (value : Bytes → Option A) (wanted : Bytes) (n : ℕ) (next : List A → ℕ → Reader T)
     (line : Bytes) (v : A) →
@@ -194,12 +186,11 @@ leading_goes :
     leading_then value wanted n next (line ∷ more) bytes
     ≡ leading_then value wanted (n + 1) (λ values. next (v ∷ values)) more bytes
 leading_goes {A = A} value wanted n next line v some more bytes =
-    let values : List A = leading value more in
+    let values : List A = leading_values value more in
     let number : n + length (v ∷ values) ≡ n + 1 + length values = omega arith in
-    ap (λ (o : Option A). taken_then wanted n next (line ∷ more) bytes (onto o values)) some
-    ∙ ap (λ k. after_line wanted k (drop (length values) more) >>= (λ ls. next (v ∷ values) (k + 1) ls bytes)) number
+    ap (λ (o : Option A). taken_then wanted n next (line ∷ more) bytes (prepend_option o values)) some
+    ∙ ap (λ k. lines_after wanted k (drop (length values) more) >>= (λ ls. next (v ∷ values) (k + 1) ls bytes)) number
 
--- at a line that tells none, the wanted line is asked
 leading_stops :
     {A T : Type 0} (value : Bytes → Option A) (wanted : Bytes) (n : ℕ) (next : List A → ℕ → Reader T)
     (line : Bytes) →
@@ -208,8 +199,8 @@ leading_stops :
     ≡ after_then wanted n (next [] (n + 1)) (line ∷ more) bytes
 leading_stops {A = A} value wanted n next line none more bytes =
     let number : n + 0 ≡ n = omega arith in
-    ap (λ (o : Option A). taken_then wanted n next (line ∷ more) bytes (onto o (leading value more))) none
-    ∙ ap (λ k. after_line wanted k (line ∷ more) >>= (λ ls. next [] (k + 1) ls bytes)) number
+    ap (λ (o : Option A). taken_then wanted n next (line ∷ more) bytes (prepend_option o (leading_values value more))) none
+    ∙ ap (λ k. lines_after wanted k (line ∷ more) >>= (λ ls. next [] (k + 1) ls bytes)) number
 
 leading_fills : {A T : Type 0} (value : Bytes → Option A) (wanted : Bytes) (n : ℕ) (next : List A → ℕ → Reader T) → value wanted ≡ None → Fills (next [] (n + 1)) → Fills (leading_then value wanted n next)
 leading_fills value wanted n next none (more, t, e) =
@@ -254,7 +245,6 @@ leading_fails {A = A} value wanted none (line ∷ lines) n next by bytes m e =
         fails_next n m (leading_then value wanted n next) (leading_then value wanted (n + 1) (λ values. next (v ∷ values))) line lines (leading_goes value wanted n next line v some)
         (later v (sym (leading_goes value wanted n next line v some lines bytes) ∙ e))
 
--- a reader of lines as long as they tell values goes by line
 pub leading_by_line :
     {A T : Type 0} (value : Bytes → Option A) (wanted : Bytes) (n : ℕ) (next : List A → ℕ → Reader T) →
     value wanted ≡ None → ((values : List A) (number : ℕ) → IsByLine number (next values number)) →

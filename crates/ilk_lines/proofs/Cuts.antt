@@ -4,7 +4,7 @@ use Rattle.std.specs.List.{position_from, position_or_len, onto_first}
 use Rattle.std.proofs.lemmas.Bool.{ltb-true}
 use Rattle.std.proofs.lemmas.Iterator.Adapters.{position_from-zero}
 use Rattle.std.proofs.lemmas.List.Splits.{slice_split_first}
-use Rattle.ilk_lines.specs.Reading.{at_the_end}
+use Rattle.ilk_lines.specs.Reading.{expect_end}
 use Rattle.ilk_lines.specs.Lines.{after_lines, last_part, lines_of, parts_at, parts_but_last}
 
 none_by : (b : Bool) (c i x : ℕ) (xs : List ℕ) →
@@ -18,11 +18,10 @@ none_from : (c i : ℕ) (xs : List ℕ) → position_from (λ b. b == c) i xs �
 none_from c i [] e = refl
 none_from c i (x ∷ xs) e = none_by (x == c) c i x xs (λ here. none_from c (i + 1) xs here) e
 
--- a text without the byte is one part
 pub parts-none : (c : ℕ) (xs : List ℕ) → position (λ b. b == c) xs ≡ None → parts_at c xs ≡ xs ∷ []
 parts-none c xs e = none_from c 0 xs (sym (position_from-zero (λ b. b == c) xs) ∙ e)
 
--- the first part ends at the first such byte
+-- The first part ends at the first such byte.
 pub parts-some : (c : ℕ) (xs : List ℕ) (i : ℕ) → position (λ b. b == c) xs ≡ Some i → parts_at c xs ≡ take i xs ∷ parts_at c (drop (i + 1) xs)
 parts-some c xs i e = by_place (nat_lt (position_or_len (λ b. b == c) xs) (length xs)) refl e
   where
@@ -32,7 +31,6 @@ parts-some c xs i e = by_place (nat_lt (position_or_len (λ b. b == c) xs) (leng
         slice_split_first (λ b. b == c) xs 0 (ltb-true _ _ within) ∙ ap (λ n. take n xs ∷ parts_at c (drop (n + 1) xs)) same
     by_place false within here = cc
 
--- a text has a first part
 pub parts_follow : (c : ℕ) (xs : List ℕ) → (part : List ℕ) × (parts : List (List ℕ)) × (parts_at c xs ≡ part ∷ parts)
 parts_follow c [] = ([], [], refl)
 parts_follow c (x ∷ xs) = follow (x == c) c x xs (parts_follow c xs)
@@ -41,24 +39,21 @@ parts_follow c (x ∷ xs) = follow (x == c) c x xs (parts_follow c xs)
     follow true c x xs rest = ([], parts_at c xs, refl)
     follow false c x xs (part, parts, e) = (x ∷ part, parts, ap (onto_first x) e)
 
--- a line that is ended stands before the lines of what follows it
 pub lines_cut : (text line rest : List ℕ) → parts_at 10 text ≡ line ∷ parts_at 10 rest → (lines_of text ≡ line ∷ lines_of rest) × (after_lines text ≡ after_lines rest)
 lines_cut text line rest e = by_parts (parts_follow 10 rest)
   where
     by_parts : ((part : List ℕ) × (parts : List (List ℕ)) × (parts_at 10 rest ≡ part ∷ parts)) → (lines_of text ≡ line ∷ lines_of rest) × (after_lines text ≡ after_lines rest)
     by_parts (part, parts, follows) = (rw (e, follows) refl, rw (e, follows) refl)
 
--- a text that is one part has no line
 pub lines_none : (text line : List ℕ) → parts_at 10 text ≡ line ∷ [] → lines_of text ≡ []
 lines_none text line e = ap parts_but_last e
 
--- where something is left, the text doesn't end
-pub not_at_end : (n : ℕ) (text : List ℕ) → 0 < length text → at_the_end n (lines_of text) (after_lines text) ≡ Err n
+pub not_at_end : (n : ℕ) (text : List ℕ) → 0 < length text → expect_end n (lines_of text) (after_lines text) ≡ Err n
 not_at_end n [] some = absurd (omega arith)
 not_at_end n (b ∷ text) some = by_first (b == 10) (parts_follow 10 text)
   where
     ends : List (List ℕ) → Type 0
-    ends parts = at_the_end n (parts_but_last parts) (last_part parts) ≡ Err n
+    ends parts = expect_end n (parts_but_last parts) (last_part parts) ≡ Err n
 
     by_first : (yes : Bool) → ((part : List ℕ) × (parts : List (List ℕ)) × (parts_at 10 text ≡ part ∷ parts)) → ends (cond yes ([] ∷ parts_at 10 text) (onto_first b (parts_at 10 text)))
     by_first true (part, parts, follows) = rw follows refl

@@ -1,4 +1,4 @@
--- A number is read exactly where it is written.
+-- A number is read if and only if it is written so.
 use Rattle.std.proofs.Common.{◌≡◌, ℕ, ◌<◌, ◌≤◌, ◌^◌, true, false, ◌==◌, ◌&&◌, ◌||◌, not, Some, [], ◌∷◌, length, nat_le, slice_index, refl, sym, ap, ◌∙◌, arith, suc, zero}
 use Rattle.std.specs.Char.{is_ascii_digit}
 use Rattle.std.specs.Fmt.{decimal}
@@ -14,7 +14,7 @@ use Rattle.std.proofs.lemmas.Str.Parse.{IsNumeralModel, numerals_by_value, tells
 use Rattle.ilk_base.specs.Option.{only_if}
 use Rattle.ilk_lines.specs.Decimal.{decimal_up_to, is_decimal}
 use Rattle.ilk_lines.specs.Lines.{Bytes}
-use Rattle.ilk_lines.specs.Written.{Lacks}
+use Rattle.ilk_lines.specs.Written.{LacksByte}
 use Rattle.ilk_lines.proofs.Lacking.{lacks_failing}
 
 digits_same : (word : Bytes) → list_all is_ascii_digit word ≡ all_ascii_digits word
@@ -33,7 +33,6 @@ alone n first h e = grind (arith, nat_tests)
 at_most : (k m : ℕ) → nat_le k m ≡ true → k ≤ m
 at_most k m h = grind (arith, nat_tests)
 
--- a number that is read is written so, and is within the limit
 pub decimal-written : (limit : ℕ) (word : Bytes) (n : ℕ) → limit < 2 ^ 64 → decimal_up_to limit word ≡ Some n → (word ≡ decimal n) × (n ≤ limit)
 decimal-written limit word n small e =
     let read = cond_some (is_decimal word && nat_le (digits_value 10 word) limit) (digits_value 10 word) n e in
@@ -46,7 +45,6 @@ decimal-written limit word n small e =
     let same : digits_value 10 word ≡ n = read.1 in
     (sym (decimal-digits_value own word digits some (alone (length word) (slice_index word 0) begins.1) (omega arith)) ∙ ap decimal same, omega arith)
 
--- a number that is read is within the limit
 pub decimal-within : (limit : ℕ) (word : Bytes) (n : ℕ) → decimal_up_to limit word ≡ Some n → n ≤ limit
 decimal-within limit word n e =
     let read = cond_some (is_decimal word && nat_le (digits_value 10 word) limit) (digits_value 10 word) n e in
@@ -61,7 +59,6 @@ first_of_decimal (suc n) small =
     let other : not (slice_index (decimal (suc n)) 0 == 48) ≡ true = grind (arith, nat_tests) in
     or_right (length (decimal (suc n)) == 1) _ other
 
--- a number up to the limit is read as it is written
 pub decimal_back : (limit n : ℕ) → limit < 2 ^ 64 → n ≤ limit → decimal_up_to limit (decimal n) ≡ Some n
 decimal_back limit n small below =
     let digits : list_all is_ascii_digit (decimal n) ≡ true = digits_same (decimal n) ∙ digits_decimal own n (omega arith) in
@@ -72,11 +69,9 @@ decimal_back limit n small below =
     let within : nat_le (digits_value 10 (decimal n)) limit ≡ true = ap (λ k. nat_le k limit) value ∙ le-leb n limit below in
     ap (λ b. only_if b (digits_value 10 (decimal n))) (and_from _ _ number within) ∙ ap (λ k. Some k) value
 
--- a number has no byte but digits
-pub decimal_lacks : (c n : ℕ) → is_ascii_digit c ≡ false → n < 2 ^ 64 → Lacks c (decimal n)
+pub decimal_lacks : (c n : ℕ) → is_ascii_digit c ≡ false → n < 2 ^ 64 → LacksByte c (decimal n)
 decimal_lacks c n other small = lacks_failing is_ascii_digit c (decimal n) other (digits_same (decimal n) ∙ digits_decimal own n small)
 
--- a number up to the limit is read exactly where it is written
 pub decimal_exactly : (limit : ℕ) (word : Bytes) → limit < 2 ^ 64 → (n : ℕ) → (decimal_up_to limit word ≡ Some n) ↔ ((word ≡ decimal n) × (n ≤ limit))
 decimal_exactly limit word small n = (
   λ e. decimal-written limit word n small e,

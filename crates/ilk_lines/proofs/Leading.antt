@@ -1,49 +1,45 @@
--- The values of the first lines, as far as each has one.
+-- The values of the first lines, up to the first line without one.
 use Rattle.std.proofs.Common.{◌≡◌, ℕ, ◌+◌, ◌≤◌, All, Option, Some, None, List, [], ◌∷◌, ◌++◌, length, drop, map, refl, sym, ap, ◌∙◌, append_assoc, arith, suc, zero}
 use Rattle.std.proofs.lemmas.List.{drop-drop, length-append, length-drop}
 use Rattle.std.proofs.lemmas.List.Elements.{All-nil, All-cons}
 use Rattle.ilk_lines.specs.Lines.{Bytes}
-use Rattle.ilk_lines.specs.LinesLeft.{HasTaken, LinesLeft}
-use Rattle.ilk_lines.specs.Reading.{leading, onto}
+use Rattle.ilk_lines.specs.LinesLeft.{TookFirstLines, LinesLeft}
+use Rattle.ilk_lines.specs.Reading.{leading_values, prepend_option}
 
--- a value moves from what is left to what was taken
 pub taken_one : {A : Type 0} (whole taken left rest new : List A) (x : A) → whole ≡ taken ++ left → left ≡ x ∷ rest → new ≡ taken ++ x ∷ [] → whole ≡ new ++ rest
 taken_one whole taken left rest new x e f g = e ∙ ap (λ xs. taken ++ xs) f ∙ sym (append_assoc taken (x ∷ []) rest) ∙ ap (λ xs. xs ++ rest) (sym g)
 
-onto_all : {A : Type 0} (value : Bytes → Option A) (P : A → Type 0) (line : Bytes) (o : Option A) → value line ≡ o → (rest : List A) → ((l : Bytes) (v : A) → value l ≡ Some v → P v) → All P rest → All P (onto o rest)
+onto_all : {A : Type 0} (value : Bytes → Option A) (P : A → Type 0) (line : Bytes) (o : Option A) → value line ≡ o → (rest : List A) → ((l : Bytes) (v : A) → value l ≡ Some v → P v) → All P rest → All P (prepend_option o rest)
 onto_all value P line None this rest holds later = All-nil P
 onto_all value P line (Some v) this rest holds later = All-cons P v rest (holds line v this) later
 
--- what holds of each value that a line tells holds of all of these
-pub leading_all : {A : Type 0} (value : Bytes → Option A) (P : A → Type 0) → ((line : Bytes) (v : A) → value line ≡ Some v → P v) → (lines : List Bytes) → All P (leading value lines)
+pub leading_all : {A : Type 0} (value : Bytes → Option A) (P : A → Type 0) → ((line : Bytes) (v : A) → value line ≡ Some v → P v) → (lines : List Bytes) → All P (leading_values value lines)
 leading_all value P holds [] = All-nil P
-leading_all value P holds (line ∷ lines) = onto_all value P line (value line) refl (leading value lines) holds (leading_all value P holds lines)
+leading_all value P holds (line ∷ lines) = onto_all value P line (value line) refl (leading_values value lines) holds (leading_all value P holds lines)
 
--- where each value's line is the one that is written for it, the lines are those that are written for the values
+-- If each value's line is the written one, so are the lines.
 pub leading_lines : {A : Type 0} (value : Bytes → Option A) (line_of : A → Bytes) →
     ((line : Bytes) (v : A) → value line ≡ Some v → line ≡ line_of v) → (lines : List Bytes) →
-    lines ≡ map line_of (leading value lines) ++ drop (length (leading value lines)) lines
+    lines ≡ map line_of (leading_values value lines) ++ drop (length (leading_values value lines)) lines
 leading_lines value line_of holds [] = refl
 leading_lines {A = A} value line_of holds (line ∷ lines) = by_value (value line) refl (leading_lines value line_of holds lines)
   where
-    by_value : (o : Option A) → value line ≡ o → lines ≡ map line_of (leading value lines) ++ drop (length (leading value lines)) lines
-        → line ∷ lines ≡ map line_of (onto o (leading value lines)) ++ drop (length (onto o (leading value lines))) (line ∷ lines)
+    by_value : (o : Option A) → value line ≡ o → lines ≡ map line_of (leading_values value lines) ++ drop (length (leading_values value lines)) lines
+        → line ∷ lines ≡ map line_of (prepend_option o (leading_values value lines)) ++ drop (length (prepend_option o (leading_values value lines))) (line ∷ lines)
     by_value None this rest = refl
     by_value (Some v) this rest = ap (λ l. l ∷ lines) (holds line v this) ∙ ap (λ ls. line_of v ∷ ls) rest
 
--- the lines that are written for values tell these, up to a line that tells none
 pub leading_back :
     {A : Type 0} (value : Bytes → Option A) (line_of : A → Bytes) (values : List A) (last : Bytes)
     (rest : List Bytes) →
     All (λ v. value (line_of v) ≡ Some v) values → value last ≡ None →
-    leading value (map line_of values ++ last ∷ rest) ≡ values
-leading_back value line_of [] last rest told none = ap (λ o. onto o (leading value rest)) none
+    leading_values value (map line_of values ++ last ∷ rest) ≡ values
+leading_back value line_of [] last rest told none = ap (λ o. prepend_option o (leading_values value rest)) none
 leading_back value line_of (v ∷ values) last rest told none =
-    ap (λ o. onto o (leading value (map line_of values ++ last ∷ rest))) (told zero v (omega arith))
+    ap (λ o. prepend_option o (leading_values value (map line_of values ++ last ∷ rest))) (told zero v (omega arith))
     ∙ ap (λ vs. v ∷ vs) (leading_back value line_of values last rest (λ k d within. told (suc k) d (omega arith)) none)
 
--- one line more is taken
-pub takes_one : (n : ℕ) (old left rest : LinesLeft) (line : Bytes) → HasTaken n old left → left.lines ≡ line ∷ rest.lines → rest.number ≡ left.number + 1 → rest.after ≡ left.after → HasTaken (n + 1) old rest
+pub takes_one : (n : ℕ) (old left rest : LinesLeft) (line : Bytes) → TookFirstLines n old left → left.lines ≡ line ∷ rest.lines → rest.number ≡ left.number + 1 → rest.after ≡ left.after → TookFirstLines (n + 1) old rest
 takes_one n old left rest line taken e f g =
     let long : length (line ∷ rest.lines) ≡ length (drop n old.lines) = ap length (sym e ∙ taken.lines) in
     record {
@@ -53,6 +49,5 @@ takes_one n old left rest line taken e f g =
       after = g ∙ taken.after;
     }
 
--- there are as many values at least as were taken
 pub enough_values : {A : Type 0} (whole taken left : List A) → whole ≡ taken ++ left → length taken ≤ length whole
 enough_values whole taken left e = omega (arith, ap length e, length-append taken left)

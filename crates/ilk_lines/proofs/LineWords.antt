@@ -1,4 +1,4 @@
--- A line is its words, and words that are written are read again.
+-- A line is its words, and written words are read back.
 use Rattle.std.proofs.Common.{◌≡◌, ℕ, ◌+◌, ◌<◌, Bool, true, false, ◌==◌, All, Option, Some, None, option_map, List, [], ◌∷◌, ◌++◌, cond, drop, flat_map, get_or, length, position, take, refl, sym, ap, ◌∙◌, arith, append_assoc, suc, zero, zero-add}
 use Rattle.std.specs.List.{list_any, onto_first, position_from}
 use Rattle.std.specs.Str.{bytes_eq}
@@ -11,13 +11,13 @@ use Rattle.std.proofs.lemmas.Option.{cond_some, same_Some}
 use Rattle.std.proofs.lemmas.Slice.Eq.{bytes_eq-Decides}
 use Rattle.ilk_base.specs.Option.{◌>>=◌, only_if}
 use Rattle.ilk_lines.specs.Lines.{Bytes, parts_at}
-use Rattle.ilk_lines.specs.Words.{after_start, after_word, first_word, words_of}
-use Rattle.ilk_lines.specs.Written.{Lacks, line_of, spaced}
+use Rattle.ilk_lines.specs.Words.{strip_start, strip_first_word, split_first_word, words_of}
+use Rattle.ilk_lines.specs.Written.{LacksByte, line_of, word_and_rest}
 use Rattle.ilk_lines.proofs.Cuts.{parts_follow}
 use Rattle.ilk_base.proofs.Options.{bind_some}
 use Rattle.ilk_lines.proofs.Lacking.{part_alone, part_first}
 
-place_from : (i : ℕ) (word rest : Bytes) → Lacks 32 word → position_from (λ b. b == 32) i (word ++ 32 ∷ rest) ≡ Some (i + length word)
+place_from : (i : ℕ) (word rest : Bytes) → LacksByte 32 word → position_from (λ b. b == 32) i (word ++ 32 ∷ rest) ≡ Some (i + length word)
 place_from i [] rest lacks = ap Some (omega arith)
 place_from i (x ∷ word) rest lacks =
     let parts = or_parts (x == 32) (list_any (λ b. b == 32) word) lacks in
@@ -26,8 +26,7 @@ place_from i (x ∷ word) rest lacks =
 abbrev some_pair : Bytes → Bytes → Option (Bytes × Bytes)
 some_pair front back = Some (front, back)
 
--- a word that lacks spaces is the first word
-pub first_back : (word rest : Bytes) → Lacks 32 word → first_word (spaced word rest) ≡ Some (word, rest)
+pub first_back : (word rest : Bytes) → LacksByte 32 word → split_first_word (word_and_rest word rest) ≡ Some (word, rest)
 first_back word rest lacks =
     let place : position (λ b. b == 32) (word ++ 32 ∷ rest) ≡ Some (length word) = position_from-zero (λ b. b == 32) (word ++ 32 ∷ rest) ∙ place_from 0 word rest lacks ∙ ap Some (zero-add (length word)) in
     let front : take (length word) (word ++ 32 ∷ rest) ≡ word = take_at word (32 ∷ rest) (length word) refl in
@@ -36,17 +35,15 @@ first_back word rest lacks =
     ap (option_map {U = Bytes × Bytes} (λ i. (take i (word ++ 32 ∷ rest), drop (i + 1) (word ++ 32 ∷ rest)))) place
     ∙ ap (λ (f : Bytes). some_pair f (drop (length word + 1) (word ++ 32 ∷ rest))) front ∙ ap (λ (b : Bytes). some_pair word b) back
 
--- bytes before the first that passes don't pass
-lacks_before : (c : ℕ) (line : Bytes) (i : ℕ) → ((k : ℕ) → k < i → (get_or line k 0 == c) ≡ false) → Lacks c (take i line)
+lacks_before : (c : ℕ) (line : Bytes) (i : ℕ) → ((k : ℕ) → k < i → (get_or line k 0 == c) ≡ false) → LacksByte c (take i line)
 lacks_before c line zero before = refl
 lacks_before c [] (suc i) before = refl
 lacks_before c (x ∷ line) (suc i) before = rw (before zero (omega arith)) (lacks_before c line i (λ k below. before (suc k) (omega arith)))
 
--- a line is its first word, which lacks spaces, a space, and what follows
-pub first_word-joins : (line word rest : Bytes) → first_word line ≡ Some (word, rest) → (line ≡ spaced word rest) × Lacks 32 word
-first_word-joins line word rest e = by_place (position (λ b. b == 32) line) refl e
+pub split_first_word-joins : (line word rest : Bytes) → split_first_word line ≡ Some (word, rest) → (line ≡ word_and_rest word rest) × LacksByte 32 word
+split_first_word-joins line word rest e = by_place (position (λ b. b == 32) line) refl e
   where
-    by_place : (o : Option ℕ) → position (λ b. b == 32) line ≡ o → option_map {U = Bytes × Bytes} (λ i. (take i line, drop (i + 1) line)) o ≡ Some (word, rest) → (line ≡ spaced word rest) × Lacks 32 word
+    by_place : (o : Option ℕ) → position (λ b. b == 32) line ≡ o → option_map {U = Bytes × Bytes} (λ i. (take i line, drop (i + 1) line)) o ≡ Some (word, rest) → (line ≡ word_and_rest word rest) × LacksByte 32 word
     by_place None this that = cc
     by_place (Some i) this that =
         let pair : ◌≡◌ {A = Bytes × Bytes} (take i line, drop (i + 1) line) (word, rest) = same_Some _ _ that in
@@ -57,30 +54,27 @@ first_word-joins line word rest e = by_place (position (λ b. b == 32) line) ref
           ap (list_any (λ b. b == 32)) (sym front) ∙ lacks_before 32 line i found.2,
         )
 
-pub after_start-joins : (beginning line rest : Bytes) → after_start beginning line ≡ Some rest → line ≡ beginning ++ rest
-after_start-joins beginning line rest e =
+pub strip_start-joins : (beginning line rest : Bytes) → strip_start beginning line ≡ Some rest → line ≡ beginning ++ rest
+strip_start-joins beginning line rest e =
     let begins = cond_some (bytes_eq (take (length beginning) line) beginning) (drop (length beginning) line) rest e in
     let same : take (length beginning) line ≡ beginning = (bytes_eq-Decides (take (length beginning) line) beginning).0 begins.0 in
     sym (take-append-drop (length beginning) line) ∙ ap (λ xs. xs ++ drop (length beginning) line) same ∙ ap (λ ys. beginning ++ ys) begins.1
 
--- a line is its word, a space, and what follows
-pub after_word-joins : (word line rest : Bytes) → after_word word line ≡ Some rest → line ≡ spaced word rest
-after_word-joins word line rest e =
-    let a = bind_some (after_start word line) _ rest e in
-    after_start-joins word line a.0 a.1 ∙ ap (λ xs. word ++ xs) (after_start-joins (32 ∷ []) a.0 rest a.2)
+pub strip_first_word-joins : (word line rest : Bytes) → strip_first_word word line ≡ Some rest → line ≡ word_and_rest word rest
+strip_first_word-joins word line rest e =
+    let a = bind_some (strip_start word line) _ rest e in
+    strip_start-joins word line a.0 a.1 ∙ ap (λ xs. word ++ xs) (strip_start-joins (32 ∷ []) a.0 rest a.2)
 
-start_back : (beginning rest : Bytes) → after_start beginning (beginning ++ rest) ≡ Some rest
+start_back : (beginning rest : Bytes) → strip_start beginning (beginning ++ rest) ≡ Some rest
 start_back beginning rest =
     let front : take (length beginning) (beginning ++ rest) ≡ beginning = take_at beginning rest (length beginning) refl in
     let back : drop (length beginning) (beginning ++ rest) ≡ rest = drop_at beginning rest (length beginning) refl in
     let same : bytes_eq (take (length beginning) (beginning ++ rest)) beginning ≡ true = (bytes_eq-Decides _ _).1 front in
     ap (λ b. only_if b (drop (length beginning) (beginning ++ rest))) same ∙ ap (λ (r : Bytes). Some r) back
 
--- what is written after a word follows it
-pub word_back : (word rest : Bytes) → after_word word (spaced word rest) ≡ Some rest
-word_back word rest = ap (λ (o : Option Bytes). o >>= after_start (32 ∷ [])) (start_back word (32 ∷ rest)) ∙ start_back (32 ∷ []) rest
+pub word_back : (word rest : Bytes) → strip_first_word word (word_and_rest word rest) ≡ Some rest
+word_back word rest = ap (λ (o : Option Bytes). o >>= strip_start (32 ∷ [])) (start_back word (32 ∷ rest)) ∙ start_back (32 ∷ []) rest
 
--- the parts of a text, each after its byte, are the text after one such byte
 pub parts-joined : (c : ℕ) (xs : Bytes) → c ∷ xs ≡ flat_map (λ part. c ∷ part) (parts_at c xs)
 parts-joined c [] = refl
 parts-joined c (x ∷ xs) = join (x == c) refl (parts_follow c xs) (parts-joined c xs)
@@ -95,7 +89,6 @@ parts-joined c (x ∷ xs) = join (x == c) refl (parts_follow c xs) (parts-joined
         let tail : xs ≡ part ++ flat_map (λ q. c ∷ q) parts = ap (drop 1) whole in
         ap (λ ys. c ∷ x ∷ ys) tail ∙ sym (ap (λ ps. flat_map (λ q. c ∷ q) (onto_first x ps)) follows)
 
--- a line is its words with one space between each two
 pub line-words : (line : Bytes) → line ≡ line_of (words_of line)
 line-words [] = refl
 line-words (x ∷ line) = join (x == 32) refl (parts_follow 32 line) (line-words line)
@@ -105,8 +98,7 @@ line-words (x ∷ line) = join (x == 32) refl (parts_follow 32 line) (line-words
     join false differs (part, [], follows) rest = ap (λ ys. x ∷ ys) (rest ∙ ap line_of follows) ∙ sym (ap (λ ps. line_of (onto_first x ps)) follows)
     join false differs (part, next ∷ parts, follows) rest = ap (λ ys. x ∷ ys) (rest ∙ ap line_of follows) ∙ sym (ap (λ ps. line_of (onto_first x ps)) follows)
 
--- words that lack spaces are the words of their line
-pub words_back : (words : List Bytes) → 0 < length words → All (Lacks 32) words → words_of (line_of words) ≡ words
+pub words_back : (words : List Bytes) → 0 < length words → All (LacksByte 32) words → words_of (line_of words) ≡ words
 words_back [] some plain = absurd (omega arith)
 words_back (word ∷ []) some plain = part_alone 32 word (plain zero [] (omega arith))
 words_back (word ∷ next ∷ more) some plain =

@@ -8,7 +8,6 @@ use Rattle.std.proofs.lemmas.Bool.Decides.{nat_tests}
 use Rattle.std.proofs.lemmas.List.{drop_more}
 use Rattle.ilk_lines.specs.Decimal.{decimal_up_to, is_decimal}
 
--- more digits make no smaller number
 value_grows : (n : ℕ) (word : List ℕ) → n ≤ digits_value_after 10 n word
 value_grows n [] = omega arith
 value_grows n (b ∷ word) = let rest = value_grows (n * 10 + digit_value b) word in omega arith
@@ -20,7 +19,6 @@ not_both : (b c : Bool) (n : ℕ) → c ≡ false → None ≡ cond (b && c) (So
 not_both true c n h = rw h refl
 not_both false c n h = refl
 
--- a number that has passed the limit isn't read
 pub over_limit : (word : List ℕ) (n limit i : ℕ) →
     digits_value 10 word ≡ digits_value_after 10 n (drop i word) →
     list_all is_ascii_digit (drop i word) ≡ true → i < length word → limit < n * 10 + (get_or word i 0 - 48) →

@@ -1,10 +1,9 @@
--- What was taken of a text into the front of a buffer, and what is left of the text.
+-- Bytes moved from a text into the front of a buffer, and those left.
 use Rattle.std.proofs.Common.{◌≡◌, ℕ, ◌+◌, ◌-◌, ◌<◌, ◌≤◌, [], ◌++◌, length, take, drop, min, sym, ap, ◌∙◌, append_assoc, arith, length-append, length-drop, take-add, take-append-drop}
 use Rattle.std.proofs.lemmas.List.{drop_all, drop_at, length-take-le, take-append-le, take_at}
 use borrow.Rule.Slice.PartMut.{put_mid, post_of, take_put}
 use Rattle.ilk_lines.specs.Lines.{Bytes}
 
--- a buffer whose places from count on were lent to take the next piece of a text: k bytes of a token that was made last
 pub token_taken : (whole into piece token new rest : Bytes) (count k : ℕ) → count ≤ length into →
     length piece ≡ length into - count → whole ≡ take count into ++ (token ++ rest) →
     k ≡ min (length piece) (length token) → take k piece ≡ take k token → new ≡ drop k token
@@ -31,10 +30,8 @@ token_taken whole into piece token new rest count k within long is few same left
       λ more. left ∙ drop_all k token (omega (arith, more, size, rest_of, few)),
     )
 
--- where a text is what was taken of it, and what is left, the former are its first bytes
 pub taken-bytes : (whole left into : Bytes) (n : ℕ) → n ≤ length into → whole ≡ take n into ++ left → take n into ≡ take n whole
 taken-bytes whole left into n within so = sym (ap (take n) so ∙ take_at (take n into) left n (length-take-le n into within))
 
--- and the latter are the others
 pub taken-rest : (whole left into : Bytes) (n : ℕ) → n ≤ length into → whole ≡ take n into ++ left → left ≡ drop n whole
 taken-rest whole left into n within so = sym (ap (drop n) so ∙ drop_at (take n into) left n (length-take-le n into within))

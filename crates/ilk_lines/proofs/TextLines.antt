@@ -1,15 +1,14 @@
--- A text is its lines, and lines that are written are read again.
+-- A text is its lines, and written lines are read back.
 use Rattle.std.proofs.Common.{◌≡◌, Bool, true, false, ◌==◌, All, List, [], ◌∷◌, ◌++◌, cond, refl, sym, ap, ◌∙◌, arith, append_assoc, append-nil, suc, zero}
 use Rattle.std.specs.List.{onto_first}
 use Rattle.std.proofs.lemmas.Bool.Decides.{Decides-eqb}
 use Rattle.std.proofs.lemmas.List.Concat.{flat_map-append}
 use Rattle.ilk_lines.specs.Lines.{Bytes, after_lines, last_part, lines_of, parts_at, parts_but_last}
-use Rattle.ilk_lines.specs.Written.{Lacks, text_of}
+use Rattle.ilk_lines.specs.Written.{LacksByte, text_of}
 use Rattle.ilk_lines.proofs.Cuts.{lines_cut, parts_follow}
 use Rattle.ilk_lines.proofs.Lacking.{part_alone, part_first}
 
--- lines that lack line feeds are the lines of their text, with what stands after them
-pub lines_then : (ls : List Bytes) (after : Bytes) → All (Lacks 10) ls → Lacks 10 after → (lines_of (text_of ls ++ after) ≡ ls) × (after_lines (text_of ls ++ after) ≡ after)
+pub lines_then : (ls : List Bytes) (after : Bytes) → All (LacksByte 10) ls → LacksByte 10 after → (lines_of (text_of ls ++ after) ≡ ls) × (after_lines (text_of ls ++ after) ≡ after)
 lines_then [] after plain rest = (ap parts_but_last (part_alone 10 after rest), ap last_part (part_alone 10 after rest))
 lines_then (line ∷ ls) after plain lacks =
     let rest : Bytes = text_of ls ++ after in
@@ -18,14 +17,12 @@ lines_then (line ∷ ls) after plain lacks =
     let cut = lines_cut (line ++ 10 ∷ rest) line rest (part_first 10 line rest (plain zero [] (omega arith))) in
     (ap lines_of text ∙ cut.0 ∙ ap (λ more. line ∷ more) tail.0, ap after_lines text ∙ cut.1 ∙ tail.1)
 
--- lines that lack line feeds are the lines of their text
-pub lines_back : (ls : List Bytes) → All (Lacks 10) ls → (lines_of (text_of ls) ≡ ls) × (after_lines (text_of ls) ≡ [])
+pub lines_back : (ls : List Bytes) → All (LacksByte 10) ls → (lines_of (text_of ls) ≡ ls) × (after_lines (text_of ls) ≡ [])
 lines_back ls plain =
     let whole : text_of ls ++ [] ≡ text_of ls = append-nil (text_of ls) in
     let back = lines_then ls [] plain refl in
     (ap lines_of (sym whole) ∙ back.0, ap after_lines (sym whole) ∙ back.1)
 
--- a text is its lines, each with its line feed, and what stands after them
 pub text-lines : (text : Bytes) → text ≡ text_of (lines_of text) ++ after_lines text
 text-lines [] = refl
 text-lines (x ∷ text) = join (x == 10) refl (parts_follow 10 text) (text-lines text)
@@ -38,6 +35,5 @@ text-lines (x ∷ text) = join (x == 10) refl (parts_follow 10 text) (text-lines
     join false differs (part, [], follows) rest = ap (λ ys. x ∷ ys) (rest ∙ ap whole follows) ∙ sym (ap (λ ps. whole (onto_first x ps)) follows)
     join false differs (part, next ∷ parts, follows) rest = ap (λ ys. x ∷ ys) (rest ∙ ap whole follows) ∙ sym (ap (λ ps. whole (onto_first x ps)) follows)
 
--- the text of lines joined
 pub text_of-append : (xs ys : List Bytes) → text_of (xs ++ ys) ≡ text_of xs ++ text_of ys
 text_of-append xs ys = flat_map-append (λ (line : Bytes). line ++ 10 ∷ []) xs ys

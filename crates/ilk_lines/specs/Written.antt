@@ -1,30 +1,30 @@
--- Lines, and words of a line, as they are written.
+-- Lines and words as they are written.
 use Rattle.std.specs.Prelude.{ℕ, ◌≡◌, Bool, false, List, [], ◌∷◌, ◌++◌, ◌==◌, flat_map, map, zip}
 use Rattle.std.specs.List.{list_any}
 use Rattle.ilk_lines.specs.Lines.{Bytes}
 
--- the text of these lines, each ended by one line feed
+-- The text of these lines, each ended by one line feed.
 abbrev pub text_of : List Bytes → Bytes
 text_of lines = flat_map (λ line. line ++ 10 ∷ []) lines
 
--- a word, one space, and what follows
-abbrev pub spaced : Bytes → Bytes → Bytes
-spaced word rest = word ++ 32 ∷ rest
+-- A word, one space and the rest.
+abbrev pub word_and_rest : Bytes → Bytes → Bytes
+word_and_rest word rest = word ++ 32 ∷ rest
 
--- words with one space between each two
+-- The words with one space between each two.
 abbrev pub line_of : List Bytes → Bytes
 line_of [] = []
 line_of (word ∷ []) = word
-line_of (word ∷ next ∷ more) = spaced word (line_of (next ∷ more))
+line_of (word ∷ next ∷ more) = word_and_rest word (line_of (next ∷ more))
 
--- whether a text has the byte c
+-- Returns whether a text has the byte `c`.
 abbrev pub has_byte : ℕ → Bytes → Bool
 has_byte c text = list_any (λ b. b == c) text
 
--- no byte of the text is c
-abbrev pub Lacks : ℕ → Bytes → Type 0
-Lacks c text = has_byte c text ≡ false
+-- Holds if no byte of the text is `c`.
+abbrev pub LacksByte : ℕ → Bytes → Type 0
+LacksByte c text = has_byte c text ≡ false
 
--- a line for each item, with its value
-abbrev pub each_line : {A : Type 0} → (ℕ → A → Bytes) → List ℕ → List A → List Bytes
-each_line line items values = map (λ pair. line pair.0 pair.1) (zip items values)
+-- One line for each item with its value.
+abbrev pub lines_of_items : {A : Type 0} → (ℕ → A → Bytes) → List ℕ → List A → List Bytes
+lines_of_items line items values = map (λ pair. line pair.0 pair.1) (zip items values)

@@ -1,14 +1,14 @@
 ghost use Rattle.std.specs.Prelude.{◌≡◌, ◌<◌, ◌+◌, ◌^◌, [], ◌∷◌, length, OnOk, IfOk, IfErr, OnErr, IfSome, IfNone, Ok, Err};
 ghost use Rattle.ilk_lines.specs.LinesLeft.{lines_from};
-ghost use Rattle.ilk_lines.specs.Reading.{after_line, at_the_end};
+ghost use Rattle.ilk_lines.specs.Reading.{lines_after, expect_end};
 ghost use Rattle.ilk_lines.specs.declared.fault.LineFault.TheVariants.{BadLine};
 
 use crate::LineFault;
 use crate::parts::first_line;
 use std::marker::Model;
 
-/// The lines of a text that are still to be read, each ended by a line feed, with the number of the
-/// first of them. Contracts see the number, the lines, and the bytes after the last line feed.
+/// The unread lines of a text, each ended by a line feed, with the number of the first of them.
+/// Contracts see the number, the lines, and the bytes after the last line feed.
 #[derive(Drop)]
 pub struct Lines<'a> {
     rest: &'a [u8],
@@ -27,8 +27,8 @@ impl<'a> Model for Lines<'a> {
 }
 
 impl<'a> Lines<'a> {
-    /// The lines of a text, of which the first has the number 1.
-    pub fn of(text: &'a [u8]) -> Lines<'a>
+    /// Creates the lines of a text, numbered from 1.
+    pub fn from_text(text: &'a [u8]) -> Lines<'a>
         ensures { result ≡ lines_from 1 text.now }
     {
         Lines {
@@ -37,14 +37,14 @@ impl<'a> Lines<'a> {
         }
     }
 
-    /// The number of the next line.
+    /// Returns the number of the next line.
     pub fn number(&self) -> u64
         ensures { result ≡ self.now.number }
     {
         self.number
     }
 
-    /// The next line, and the lines after it. None exactly where no line is left.
+    /// Returns the next line and the lines after it. Returns `None` if and only if no line is left.
     pub fn split_first(&self) -> Option<(&'a [u8], Lines<'a>)>
         ensures lines { IfSome result (λ first. self.now.lines ≡ first.0.now ∷ first.1.lines) }
         ensures after { IfSome result (λ first. first.1.after ≡ self.now.after) }
@@ -59,7 +59,7 @@ impl<'a> Lines<'a> {
         Some((line, after))
     }
 
-    /// Reads the next line. None exactly where no line is left.
+    /// Reads the next line. Returns `None` if and only if no line is left.
     pub fn next(&mut self) -> Option<&'a [u8]>
         ensures line { IfSome result (λ line. self.old.lines ≡ line.now ∷ self.new.lines) }
         ensures after { self.new.after ≡ self.old.after }
@@ -72,8 +72,8 @@ impl<'a> Lines<'a> {
         Some(line)
     }
 
-    /// Reads the next line. Where no line is left, the line with the next number is bad.
-    pub fn line(&mut self) -> Result<&'a [u8], LineFault>
+    /// Reads the next line. If no line is left, the line with the next number is bad.
+    pub fn read_line(&mut self) -> Result<&'a [u8], LineFault>
         ensures line { IfOk result (λ line. self.old.lines ≡ line.now ∷ self.new.lines) }
         ensures after { self.new.after ≡ self.old.after }
         ensures number { OnOk result (self.new.number ≡ self.old.number + 1) }
@@ -87,14 +87,14 @@ impl<'a> Lines<'a> {
         }
     }
 
-    /// Reads the next line, which must be this one, or else it is bad.
-    pub fn pass(&mut self, wanted: &[u8]) -> Result<(), LineFault>
+    /// Reads the next line, which must be `wanted`; otherwise that line is bad.
+    pub fn expect_line(&mut self, wanted: &[u8]) -> Result<(), LineFault>
         ensures ok { OnOk result
-            (after_line wanted.now self.old.number self.old.lines ≡ Ok self.new.lines) }
+            (lines_after wanted.now self.old.number self.old.lines ≡ Ok self.new.lines) }
         ensures after { self.new.after ≡ self.old.after }
         ensures number { OnOk result (self.new.number ≡ self.old.number + 1) }
         ensures bad { OnErr result
-            (after_line wanted.now self.old.number self.old.lines ≡ Err self.old.number) }
+            (lines_after wanted.now self.old.number self.old.lines ≡ Err self.old.number) }
         ensures same { OnErr result (self.new ≡ self.old) }
         ensures fault { IfErr result (λ fault. fault ≡ BadLine self.old.number) }
     {
@@ -107,13 +107,13 @@ impl<'a> Lines<'a> {
         }
     }
 
-    /// Nothing is left to read, neither a line nor a byte, or else the next line is bad.
+    /// Checks that neither a line nor a byte is left; otherwise the next line is bad.
     #[tactic(auto, using(crate::proofs::Cuts::not_at_end))]
     pub fn finish(&self) -> Result<(), LineFault>
         ensures ok { OnOk result
-            (at_the_end self.now.number self.now.lines self.now.after ≡ Ok tt) }
+            (expect_end self.now.number self.now.lines self.now.after ≡ Ok tt) }
         ensures bad { OnErr result
-            (at_the_end self.now.number self.now.lines self.now.after ≡ Err self.now.number) }
+            (expect_end self.now.number self.now.lines self.now.after ≡ Err self.now.number) }
         ensures fault { IfErr result (λ fault. fault ≡ BadLine self.now.number) }
     {
         if self.rest.is_empty() {

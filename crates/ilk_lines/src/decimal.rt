@@ -7,21 +7,21 @@ ghost use Rattle.ilk_lines.specs.Decimal.{decimal_up_to, is_decimal};
 
 use std::alloc::AllocError;
 
-// Whether each byte is a digit.
 fn all_digits(word: &[u8]) -> bool
     ensures { result ≡ list_all is_ascii_digit word.now }
 {
     word.iter().all(|b| b.is_ascii_digit())
 }
 
-/// Whether a word is a decimal number: digits, of which the first isn't 0 unless it is alone.
+/// Returns whether `word` is a decimal number: one or more digits, without a leading 0 except in 0
+/// itself.
 pub fn is_decimal(word: &[u8]) -> bool
     ensures { result ≡ is_decimal word.now }
 {
     all_digits(word) && !word.is_empty() && (word.len() == 1 || word[0] != b'0')
 }
 
-// The number with one digit more at its end, where it is at most the limit.
+// Returns the number with one more digit at its end, if it is at most `limit`.
 fn with_digit(number: u64, digit: u64, limit: u64) -> Option<u64>
     ensures { result ≡ only_if (nat_le (number * 10 + digit) limit) (number * 10 + digit) }
 {
@@ -30,8 +30,8 @@ fn with_digit(number: u64, digit: u64, limit: u64) -> Option<u64>
 }
 
 #[tactic(auto, using(crate::proofs::Numbers::over_limit))]
-/// The number that a word writes in decimal, if it is at most the limit. None exactly where the word
-/// is no decimal number, or its number is greater, also where no `u64` holds it.
+/// Returns the number that `word` writes in decimal, if it is at most `limit`. Returns `None` if
+/// and only if the word isn't a decimal number or its number is greater, even too great for `u64`.
 pub fn decimal_up_to(word: &[u8], limit: u64) -> Option<u64>
     ensures { result ≡ decimal_up_to limit word.now }
 {
@@ -45,8 +45,8 @@ pub fn decimal_up_to(word: &[u8], limit: u64) -> Option<u64>
     Some(number)
 }
 
-/// Writes a number in decimal at the end of a text. Where there is no memory for it, nothing is said
-/// of what the text then has.
+/// Adds `number` in decimal at the end of `text`. If memory runs out, the contents of `text` are
+/// unspecified.
 pub fn push_decimal(text: &mut String, number: u64) -> Result<(), AllocError>
     ensures { OnOk result (string_bytes text.new ≡ string_bytes text.old ++ decimal number) }
 {

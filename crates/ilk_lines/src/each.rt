@@ -1,19 +1,19 @@
 ghost use Rattle.std.specs.Prelude.{ℕ, ◌≡◌, ◌<◌, ◌≤◌, ◌^◌, length, Option, Ok, IfOk, OnOk};
-ghost use Rattle.ilk_lines.specs.Answers.{TellsPart, part_of};
+ghost use Rattle.ilk_lines.specs.Answers.{MatchesPartResult, part_with};
 ghost use Rattle.ilk_lines.specs.Lines.{Bytes};
-ghost use Rattle.ilk_lines.specs.LinesLeft.{HasTaken};
-ghost use Rattle.ilk_lines.specs.Reading.{each_told, leading, leading_part};
+ghost use Rattle.ilk_lines.specs.LinesLeft.{TookFirstLines};
+ghost use Rattle.ilk_lines.specs.Reading.{values_from_lines, leading_values, leading_part};
 
 use crate::{LineFault, Lines};
 use ilk_base::Row;
 use std::alloc::{AllocError, Global};
 
-/// Reads a line for each item, in order, and answers what these tell: `tell` answers what a line
-/// tells of an item. The first line that is missing, or that tells nothing of its item, is bad.
-/// Where `tell` computes the function `value` of an item and a line, the answer is the one that the
-/// definition `each_told` gives for `value`. Whatever is answered, the lines that were read are the
-/// first ones, at most one for each item, and the others are left.
-pub fn read_each<T: Drop, F: Fn(u32, &[u8]) -> Option<T>>(
+/// Reads one line for each item, in order, and returns their values: `tell` returns the value of an
+/// item and its line. The first missing line, or line without a value, is bad. If `tell` computes
+/// the function `value`, the result is that of the definition `values_from_lines` for `value`. In
+/// every case the lines read are the first ones, at most one for each item, and the others are
+/// left.
+pub fn read_lines<T: Drop, F: Fn(u32, &[u8]) -> Option<T>>(
     alloc: Global,
     lines: &mut Lines,
     items: &[u32],
@@ -22,9 +22,10 @@ pub fn read_each<T: Drop, F: Fn(u32, &[u8]) -> Option<T>>(
     requires { F.IsAlwaysCallable tell }
     ensures told { (value : ℕ → Bytes → Option T) →
         ((x : ℕ) (line : _) (v : _) → x < 2 ^ 32 → F.post tell x line v → v ≡ value x line.now) →
-        TellsPart (each_told value items.now lines.old.number lines.old.lines) lines.new result }
+        MatchesPartResult (values_from_lines value items.now lines.old.number lines.old.lines)
+        lines.new result }
     ensures after { OnOk result (lines.new.after ≡ lines.old.after) }
-    ensures left { (n : ℕ) × (n ≤ length items.now) × HasTaken n lines.old lines.new }
+    ensures left { (n : ℕ) × (n ≤ length items.now) × TookFirstLines n lines.old lines.new }
 {
     let mut values = Row::new(alloc);
     for x in items {
@@ -40,12 +41,11 @@ pub fn read_each<T: Drop, F: Fn(u32, &[u8]) -> Option<T>>(
     Ok(values)
 }
 
-/// Reads the next lines, as long as they tell something, and answers what they tell: `tell` answers
-/// what a line tells, or that there is no memory for it. Where it computes the function `value` of a
-/// line, the answer is the one that the definition `leading_part` gives for `value`. Whatever is
-/// answered, the lines that were read are the first ones, each of which told something, and the others
-/// are left.
-pub fn read_leading<T: Drop, F: Fn(&[u8]) -> Result<Option<T>, AllocError>>(
+/// Reads the next lines as long as they have values, and returns these: `tell` returns the value of
+/// a line, or an error if memory runs out. If it computes the function `value`, the result is that
+/// of the definition `leading_part` for `value`. In every case the lines read are the first ones,
+/// each with a value, and the others are left.
+pub fn read_while_some<T: Drop, F: Fn(&[u8]) -> Result<Option<T>, AllocError>>(
     alloc: Global,
     lines: &mut Lines,
     tell: F,
@@ -55,11 +55,11 @@ pub fn read_leading<T: Drop, F: Fn(&[u8]) -> Result<Option<T>, AllocError>>(
         ((line : _) (v : _) → F.post tell line (Ok v) → v ≡ value line.now) →
         IfOk result
         (λ values. leading_part value lines.old.number lines.old.lines
-        ≡ part_of values lines.new) }
+        ≡ part_with values lines.new) }
     ensures after { lines.new.after ≡ lines.old.after }
-    ensures left { (n : ℕ) × HasTaken n lines.old lines.new × ((value : Bytes → Option T)
+    ensures left { (n : ℕ) × TookFirstLines n lines.old lines.new × ((value : Bytes → Option T)
         → ((line : _) (v : _) → F.post tell line (Ok v) → v ≡ value line.now)
-        → n ≤ length (leading value lines.old.lines)) }
+        → n ≤ length (leading_values value lines.old.lines)) }
 {
     let mut values = Row::new(alloc);
     while let Some((line, after)) = lines.split_first() {

@@ -1,9 +1,9 @@
 ghost use Rattle.std.specs.Prelude.{◌≡◌, [], ◌∷◌, Some, None, codes};
 ghost use Rattle.ilk_lines.specs.Decimal.{decimal_up_to};
 ghost use Rattle.ilk_lines.specs.Lines.{after_lines, lines_of};
-ghost use Rattle.ilk_lines.specs.Words.{after_word, first_word, words_of};
+ghost use Rattle.ilk_lines.specs.Words.{strip_first_word, split_first_word, words_of};
 
-// Lines of texts, and what stands after them.
+// Lines of texts, and the bytes after them.
 fn lines_of_texts()
     ensures two { lines_of (codes "a\n\n") ≡ codes "a" ∷ [] ∷ [] }
     ensures unfed { lines_of (codes "a\nb") ≡ codes "a" ∷ [] }
@@ -16,13 +16,13 @@ fn words_of_lines()
     ensures two { words_of (codes "a b") ≡ codes "a" ∷ codes "b" ∷ [] }
     ensures spaces { words_of (codes "a  b") ≡ codes "a" ∷ [] ∷ codes "b" ∷ [] }
     ensures empty { words_of [] ≡ [] ∷ [] }
-    ensures first { first_word (codes "a b c") ≡ Some (codes "a", codes "b c") }
-    ensures alone { first_word (codes "a") ≡ None }
-    ensures after { after_word (codes "a") (codes "a b") ≡ Some (codes "b") }
-    ensures longer { after_word (codes "a") (codes "ab c") ≡ None }
+    ensures first { split_first_word (codes "a b c") ≡ Some (codes "a", codes "b c") }
+    ensures alone { split_first_word (codes "a") ≡ None }
+    ensures after { strip_first_word (codes "a") (codes "a b") ≡ Some (codes "b") }
+    ensures longer { strip_first_word (codes "a") (codes "ab c") ≡ None }
 {}
 
-// Numbers in decimal, up to ten and up to the greatest `u64`.
+// Decimal numbers, up to ten and up to the greatest `u64`.
 fn numbers_of_words()
     ensures none { decimal_up_to 10 (codes "0") ≡ Some 0 }
     ensures most { decimal_up_to 10 (codes "10") ≡ Some 10 }

@@ -4,14 +4,14 @@ ghost use Rattle.ilk_lines.specs.declared.fault.LineFault.TheVariants.{OutOfMemo
 use std::alloc::AllocError;
 use thiserror::Error;
 
-/// Why lines weren't read.
+/// The reason why lines weren't read.
 #[derive(Clone, Copy, PartialEq, Eq, Debug, Error)]
 pub enum LineFault {
-    /// The line with this number, from 1, is bad: it isn't one that may stand there, or it is
-    /// missing, or no line feed ends it.
+    /// The line with this number, from 1, is bad: it isn't allowed at this place, it is missing, or
+    /// no line feed ends it.
     #[error("line {0} is bad")]
     BadLine(u64),
-    /// There was no memory for what the lines tell.
+    /// Memory ran out.
     #[error("out of memory")]
     OutOfMemory,
 }

@@ -1,23 +1,26 @@
-//! Texts that are read line by line and word by word, and know nothing of what they are about: the
-//! lines of a text, the words of a line, and decimal numbers with one spelling each.
+//! Reading of texts by lines and words, independent of their subject: the lines of a text, the
+//! words of a line, and decimal numbers with one spelling each.
 //!
-//! A format of lines is defined over plain lists (`specs/`): a text is the list of its lines
-//! (`Lines`), a line the list of its words (`Words`), and a number is read where it is written
-//! (`Decimal`). What lines tell one after another, with the number of the first bad line, is put
-//! together from the parts in `Reading`. So a format's definition is a list of parts, and its reader
-//! a list of calls, each with the part as its contract.
+//! A line format is defined over plain lists (`specs/`): a text is the list of its lines (`Lines`),
+//! and a line is the list of its words (`Words`). `Decimal` defines numbers. `Reading` combines the
+//! results of consecutive lines with the number of the first bad line. A format's definition is
+//! therefore a list of parts. Its reader is a list of calls, each with its part as contract.
 //!
-//! A text is read by `Lines::of`; then, line by line, by `pass` where one line must stand, by
-//! `read_each` where a line must tell of each item, by `read_leading` for as many lines as tell
-//! something, or by `next`, `line` and `split_first` in a loop of the caller's own; and last by
-//! `finish`. A text of another form is taken apart at a byte by `cut`. A line is taken apart by
-//! `after_word`, `first_word` and `next_word`, and its numbers are read by `decimal_up_to`.
-//! `push_decimal` writes a number. The laws say that what is written is read again, and nothing
-//! else: `texts_are_their_lines`, `lines_are_their_words`, `decimals_are_those_written`.
+//! `Lines::from_text` starts the reading of a text, and `finish` ends it. In between, line by line:
 //!
-//! A long text is taken in pieces, and needn't be held: `Token` has the few bytes of it that were made
-//! last, whose numbers `itoa` writes without memory. `Untaken` is what is left to take of a text that
-//! is held.
+//! - `expect_line` reads a required line.
+//! - `read_lines` reads one line for each item.
+//! - `read_while_some` reads as many lines as match.
+//! - `next`, `read_line` and `split_first` serve loops of the caller.
+//!
+//! `split_at_byte` splits a text of another form at a byte. `strip_first_word`, `split_first_word`
+//! and `split_next_word` split a line, and `decimal_up_to` reads its numbers. `push_decimal` writes
+//! a number. The laws state that written texts, and only these, are read back:
+//! `texts_are_their_lines`, `lines_are_their_words`, `decimals_are_those_written`.
+//!
+//! A long text can be taken in pieces without holding all of it. `ShortBytes` has its few most
+//! recent bytes; `itoa` writes its numbers without memory. `RemainingBytes` is the untaken rest of
+//! a text that is held.
 #![tactic(auto)]
 
 mod cursor;
@@ -33,10 +36,10 @@ mod words;
 
 pub use cursor::Lines;
 pub use decimal::{decimal_up_to, is_decimal, push_decimal};
-pub use each::{read_each, read_leading};
+pub use each::{read_lines, read_while_some};
 pub use fault::LineFault;
 pub use laws::{decimals_are_those_written, lines_are_their_words, texts_are_their_lines};
-pub use parts::cut;
-pub use token::Token;
-pub use untaken::Untaken;
-pub use words::{after_start, after_word, first_word, next_word};
+pub use parts::split_at_byte;
+pub use token::ShortBytes;
+pub use untaken::RemainingBytes;
+pub use words::{split_first_word, split_next_word, strip_first_word, strip_start};

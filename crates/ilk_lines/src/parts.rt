@@ -2,15 +2,15 @@ ghost use Rattle.std.specs.Prelude.{◌≡◌, ◌<◌, ◌==◌, ◌+◌, [], �
 ghost use Rattle.std.specs.Option.{option_map_or};
 ghost use Rattle.ilk_lines.specs.Lines.{after_lines, lines_of, parts_at};
 
-/// The place of the first byte `at`.
+/// Returns the index of the first byte `at`.
 pub(crate) fn place_of(text: &[u8], at: u8) -> Option<usize>
     ensures { result ≡ position (λ b. b == at) text.now }
 {
     text.iter().position(|b| *b == at)
 }
 
-/// What stands before the first byte `at`, and what stands after it, if there is one.
-pub fn cut(text: &[u8], at: u8) -> (&[u8], Option<&[u8]>)
+/// Returns the bytes before the first byte `at`, and those after it if there is one.
+pub fn split_at_byte(text: &[u8], at: u8) -> (&[u8], Option<&[u8]>)
     ensures parts { parts_at at text.now
         ≡ result.0.now ∷ option_map_or (λ rest. parts_at at rest.now) result.1 [] }
     ensures shorter { IfSome result.1 (λ rest. length rest.now < length text.now) }
@@ -22,14 +22,15 @@ pub fn cut(text: &[u8], at: u8) -> (&[u8], Option<&[u8]>)
 }
 
 #[tactic(auto, using(crate::proofs::Cuts::lines_cut, crate::proofs::Cuts::lines_none))]
-/// The first line of a text, and what stands after it. None where no line feed ends a line.
+/// Returns the first line of a text and the rest after it. Returns `None` if the text has no line
+/// feed.
 pub(crate) fn first_line(text: &[u8]) -> Option<(&[u8], &[u8])>
     ensures lines { lines_of text.now
         ≡ option_map_or (λ cut. cut.0.now ∷ lines_of cut.1.now) result [] }
     ensures after { IfSome result (λ cut. after_lines text.now ≡ after_lines cut.1.now) }
     ensures shorter { IfSome result (λ cut. length cut.1.now < length text.now) }
 {
-    let (line, rest) = cut(text, b'\n');
+    let (line, rest) = split_at_byte(text, b'\n');
     match rest {
         Some(rest) => Some((line, rest)),
         None => None,

@@ -4,19 +4,19 @@ ghost use Rattle.std.specs.Fmt.{decimal};
 use itoa::write_digits;
 use std::marker::Model;
 
-// How many bytes a token may have: four more than the longest number of 64 bits.
+// The capacity of a token: four bytes more than the longest 64-bit number.
 const SIZE: usize = 24;
 
-/// A few bytes of a text that is made piece by piece without memory: 24 at most, seen as those that are
-/// still to be taken. They are written from the last to the first.
+/// At most 24 bytes of a text that is made piece by piece without memory. Contracts see the bytes
+/// that are still to be taken. They are written from last to first.
 #[derive(Drop)]
-pub struct Token {
+pub struct ShortBytes {
     bytes: [u8; SIZE],
-    // Where the bytes begin that weren't taken. They go to the end.
+    // The start of the untaken bytes, which extend to the end.
     start: usize,
 }
 
-impl Model for Token {
+impl Model for ShortBytes {
     ghost use Rattle.std.specs.Prelude.{ℕ, ◌≤◌, List, drop};
 
     ghost Value = { List ℕ };
@@ -26,18 +26,18 @@ impl Model for Token {
     ghost invariant = { λ token. token.start ≤ 24 };
 }
 
-impl Token {
-    /// No bytes.
-    pub fn none() -> Token
+impl ShortBytes {
+    /// Creates an empty token.
+    pub fn empty() -> ShortBytes
         ensures { result ≡ [] }
     {
-        Token {
+        ShortBytes {
             bytes: [0; SIZE],
             start: SIZE,
         }
     }
 
-    /// Whether all bytes were taken.
+    /// Returns whether all bytes were taken.
     #[inline]
     pub fn is_empty(&self) -> bool
         ensures { result ≡ (length self.now == 0) }
@@ -45,9 +45,9 @@ impl Token {
         self.start == SIZE
     }
 
-    /// Writes these bytes before those that it has.
+    /// Writes `word` before the present bytes.
     #[inline]
-    pub fn lead(&mut self, word: &[u8])
+    pub fn prepend(&mut self, word: &[u8])
         requires { length word.now + length self.old ≤ 24 }
         ensures { self.new ≡ word.now ++ self.old }
     {
@@ -57,9 +57,9 @@ impl Token {
         self.start = start;
     }
 
-    /// Writes a number in decimal before what it has.
+    /// Writes `number` in decimal before the present bytes.
     #[inline]
-    pub fn lead_decimal(&mut self, number: u64)
+    pub fn prepend_decimal(&mut self, number: u64)
         requires { length self.old ≤ 4 }
         ensures text { self.new ≡ decimal number ++ self.old }
         ensures short { length self.new ≤ length self.old + 20 }
@@ -68,8 +68,8 @@ impl Token {
         self.start = write_digits(number, &mut self.bytes, end);
     }
 
-    /// Takes the next bytes into the front of the buffer, as many as there are and the buffer has
-    /// places for, and answers how many.
+    /// Moves the next bytes to the front of `into`, as many as exist and fit, and returns their
+    /// number.
     #[inline]
     pub fn take(&mut self, into: &mut [u8]) -> usize
         ensures count { result ≡ min (length into.old) (length self.old) }

@@ -3,15 +3,15 @@ ghost use Rattle.std.specs.Prelude.{◌≡◌, [], drop, length, min, take};
 use std::alloc::Global;
 use std::marker::Model;
 
-/// Bytes that are taken in pieces: seen as those that are still to be taken.
+/// Bytes that are taken in pieces. Contracts see those that are still to be taken.
 #[derive(Drop)]
-pub struct Untaken {
+pub struct RemainingBytes {
     bytes: Vec<u8>,
-    // How many of the bytes were taken.
+    // The number of bytes taken.
     taken: usize,
 }
 
-impl Model for Untaken {
+impl Model for RemainingBytes {
     ghost use Rattle.std.specs.Prelude.{ℕ, ◌≤◌, List, drop, vec_len};
 
     ghost Value = { List ℕ };
@@ -21,23 +21,23 @@ impl Model for Untaken {
     ghost invariant = { λ untaken. untaken.taken ≤ vec_len untaken.bytes };
 }
 
-impl Untaken {
-    /// No bytes.
-    pub fn none(alloc: Global) -> Untaken
+impl RemainingBytes {
+    /// Creates an empty value.
+    pub fn empty(alloc: Global) -> RemainingBytes
         ensures { result ≡ [] }
     {
-        Untaken::of(Vec::new(alloc))
+        RemainingBytes::from_bytes(Vec::new(alloc))
     }
 
-    /// These bytes.
-    pub fn of(bytes: Vec<u8>) -> Untaken
+    /// Creates a value from `bytes`, none of them taken.
+    pub fn from_bytes(bytes: Vec<u8>) -> RemainingBytes
         ensures { result ≡ bytes.items }
     {
-        Untaken { bytes, taken: 0 }
+        RemainingBytes { bytes, taken: 0 }
     }
 
-    /// Takes the next bytes into the front of the buffer, as many as there are and the buffer has
-    /// places for, and answers how many. It wants no memory.
+    /// Moves the next bytes to the front of `into`, as many as exist and fit, and returns their
+    /// number. Needs no memory.
     pub fn take(&mut self, into: &mut [u8]) -> usize
         ensures count { result ≡ min (length into.old) (length self.old) }
         ensures bytes { take result into.new ≡ take result self.old }

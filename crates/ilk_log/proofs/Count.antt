@@ -1,5 +1,5 @@
--- Fresh steps differ as sets of literals, and over n variables there are 3^n - 1 such sets that aren't
--- empty: a clause's code has a digit for each variable.
+-- Fresh steps differ as sets of literals. Over n variables there are 3^n - 1 such sets that are not
+-- empty, because a clause's code has a digit for each variable.
 use Rattle.std.proofs.Common.{◌≡◌, ℕ, zero, suc, ◌+◌, ◌*◌, ◌^◌, ◌<◌, ◌≤◌, inl, inr, Bool, true, false, ◌&&◌, not, cond, eqb, List, [], ◌∷◌, ◌++◌, length, map, refl, sym, ap, ◌∙◌, subst, arith, Some}
 use Rattle.std.specs.Prelude.{slice_get, nat_lt, nat_le}
 use Rattle.std.specs.List.{list_any, filter, IsDistinct, AllByRecursion, count_by}
@@ -11,24 +11,24 @@ use Rattle.std.proofs.lemmas.Map.Keys.{IsDistinct-cons}
 use Rattle.std.proofs.Math.Nat.{pow-succ'}
 use Rattle.ilk_base.proofs.Lists.{at-before}
 use Rattle.ilk_base.proofs.Tested.{list_any-from}
-use Rattle.ilk_cnf.specs.Literal.{Literal, plus, minus, opposite, same_lit, has_lit, has_var, vars_differ}
-use Rattle.ilk_cnf.specs.Formula.{Formula, lit_in, clause_in}
+use Rattle.ilk_cnf.specs.Literal.{Literal, positive_lit, negative_lit, negated_lit, same_lit, has_lit, has_var, vars_differ}
+use Rattle.ilk_cnf.specs.Formula.{Formula, is_lit_over, is_clause_over}
 use Rattle.ilk_log.specs.declared.step.Step.{Step}
-use Rattle.ilk_log.specs.Propagation.{is_false, is_falsified, lone_unset, unit_of, after_hints}
-use Rattle.ilk_log.specs.Derived.{opposites, is_derived, each_derived, is_derived_log, is_empty}
-use Rattle.ilk_log.specs.Fresh.{others, IsFresh, EachFresh}
+use Rattle.ilk_log.specs.Propagation.{is_false, is_falsified, single_unset_lit, unit_lit, after_hints}
+use Rattle.ilk_log.specs.Derived.{negated_clause, is_derived, each_derived, is_derived_log, is_empty}
+use Rattle.ilk_log.specs.Fresh.{other_lits, IsFresh, EachFresh}
 use Rattle.ilk_cnf.proofs.SameLiterals.{same-lit, lit-is, has-var}
 
--- 1 for the positive literal of v, 2 for the negative one, 0 for neither
+-- 1 for the positive literal of `v`, 2 for the negative one, 0 for neither.
 abbrev digit : List Literal → ℕ → ℕ
-digit c v = cond (has_lit (plus v) c) 1 (cond (has_lit (minus v) c) 2 0)
+digit c v = cond (has_lit (positive_lit v) c) 1 (cond (has_lit (negative_lit v) c) 2 0)
 
 abbrev code : ℕ → List Literal → ℕ
 code zero c = 0
 code (suc n) c = digit c (suc n) + 3 * code n c
 
 digit-small : (c : List Literal) (v : ℕ) → digit c v ≤ 2
-digit-small c v = go (has_lit (plus v) c) (has_lit (minus v) c)
+digit-small c v = go (has_lit (positive_lit v) c) (has_lit (negative_lit v) c)
   where
     go : (a b : Bool) → cond a 1 (cond b 2 0) ≤ 2
     go true b = omega arith
@@ -39,7 +39,6 @@ code-below : (n : ℕ) (c : List Literal) → code n c < 3 ^ n
 code-below zero c = omega arith
 code-below (suc n) c = omega (arith, code-below n c, digit-small c (suc n), pow-succ' 3 n)
 
--- equal codes have equal digits
 digits-same : (n v : ℕ) (c d : List Literal) → code n c ≡ code n d → 0 < v → v ≤ n → digit c v ≡ digit d v
 digits-same zero v c d e p h = absurd (omega arith)
 digits-same (suc n) v c d e p h =
@@ -52,7 +51,6 @@ digits-same (suc n) v c d e p h =
       | inr s ↦ digits-same n v c d r p (omega arith)
     ]
 
--- a literal with a digit makes the code positive
 code-positive : (n v : ℕ) (c : List Literal) → 0 < digit c v → 0 < v → v ≤ n → 0 < code n c
 code-positive zero v c d p h = absurd (omega arith)
 code-positive (suc n) v c d p h =
@@ -61,63 +59,60 @@ code-positive (suc n) v c d p h =
       | inr s ↦ omega (arith, code-positive n v c d p (omega arith))
     ]
 
--- literals
 no-lit : (l : Literal) (ls : List Literal) → has_var l.var ls ≡ false → has_lit l ls ≡ false
 no-lit l ls h = elim (cases_Bool (has_lit l ls)) [ inl t ↦ absurd (true≢false (sym (has-var l ls t) ∙ h)) | inr f ↦ f ]
 
--- a clause over different variables doesn't have both literals of one
-not-both : (v : ℕ) (c : List Literal) → vars_differ c ≡ true → has_lit (plus v) c ≡ true → has_lit (minus v) c ≡ true → ⊥
+not-both : (v : ℕ) (c : List Literal) → vars_differ c ≡ true → has_lit (positive_lit v) c ≡ true → has_lit (negative_lit v) c ≡ true → ⊥
 not-both v [] d p m = absurd (cc)
 not-both v (l ∷ c) d p m =
     let q = and_parts (not (has_var l.var c)) (vars_differ c) d in
     let none : has_var l.var c ≡ false = not-true (has_var l.var c) q.0 in
     let N : ℕ → Type 0 = λ j. has_var j c ≡ false in
-    elim (or_cases (same_lit (plus v) l) (has_lit (plus v) c) p) [
-      | inl a ↦ (let e : plus v ≡ l = lit-is (plus v) l a in
+    elim (or_cases (same_lit (positive_lit v) l) (has_lit (positive_lit v) c) p) [
+      | inl a ↦ (let e : positive_lit v ≡ l = lit-is (positive_lit v) l a in
           let z : has_var v c ≡ false = subst N (sym (ap (λ (x : Literal). x.var) e)) none in
-          elim (or_cases (same_lit (minus v) l) (has_lit (minus v) c) m) [
-            | inl b ↦ true≢false (ap (λ (x : Literal). x.positive) (e ∙ sym (lit-is (minus v) l b)))
-            | inr b ↦ true≢false (sym (has-var (minus v) c b) ∙ z)
+          elim (or_cases (same_lit (negative_lit v) l) (has_lit (negative_lit v) c) m) [
+            | inl b ↦ true≢false (ap (λ (x : Literal). x.positive) (e ∙ sym (lit-is (negative_lit v) l b)))
+            | inr b ↦ true≢false (sym (has-var (negative_lit v) c b) ∙ z)
           ])
-      | inr a ↦ elim (or_cases (same_lit (minus v) l) (has_lit (minus v) c) m) [
-        | inl b ↦ (let e : minus v ≡ l = lit-is (minus v) l b in
+      | inr a ↦ elim (or_cases (same_lit (negative_lit v) l) (has_lit (negative_lit v) c) m) [
+        | inl b ↦ (let e : negative_lit v ≡ l = lit-is (negative_lit v) l b in
             let z : has_var v c ≡ false = subst N (sym (ap (λ (x : Literal). x.var) e)) none in
-            true≢false (sym (has-var (plus v) c a) ∙ z))
+            true≢false (sym (has-var (positive_lit v) c a) ∙ z))
         | inr b ↦ not-both v c q.1 a b
       ]
     ]
 
--- the literals that a digit tells
-digit-plus : (v : ℕ) (c : List Literal) → digit c v ≡ 1 → has_lit (plus v) c ≡ true
-digit-plus v c e = go (has_lit (plus v) c) (has_lit (minus v) c) e
+digit-positive_lit : (v : ℕ) (c : List Literal) → digit c v ≡ 1 → has_lit (positive_lit v) c ≡ true
+digit-positive_lit v c e = go (has_lit (positive_lit v) c) (has_lit (negative_lit v) c) e
   where
     go : (a b : Bool) → ◌≡◌ {A = ℕ} (cond a 1 (cond b 2 0)) 1 → a ≡ true
     go true b e = refl
     go false true e = absurd (omega (arith, e))
     go false false e = absurd (omega (arith, e))
 
-digit-minus : (v : ℕ) (c : List Literal) → digit c v ≡ 2 → has_lit (minus v) c ≡ true
-digit-minus v c e = go (has_lit (plus v) c) (has_lit (minus v) c) e
+digit-negative_lit : (v : ℕ) (c : List Literal) → digit c v ≡ 2 → has_lit (negative_lit v) c ≡ true
+digit-negative_lit v c e = go (has_lit (positive_lit v) c) (has_lit (negative_lit v) c) e
   where
     go : (a b : Bool) → ◌≡◌ {A = ℕ} (cond a 1 (cond b 2 0)) 2 → b ≡ true
     go true b e = absurd (omega (arith, e))
     go false true e = refl
     go false false e = absurd (omega (arith, e))
 
--- of two clauses with one code, each literal of the one is in the other
+-- If two clauses have one code, each literal of one is in the other.
 includes : (n : ℕ) (c s : List Literal) (v : ℕ) (b : Bool) → code n c ≡ code n s → vars_differ c ≡ true → 0 < v → v ≤ n → has_lit (record { var = v; positive = b }) c ≡ true → has_lit (record { var = v; positive = b }) s ≡ true
 includes n c s v true e d p h i =
     let x : digit c v ≡ 1 = rw i refl in
-    digit-plus v s (sym (digits-same n v c s e p h) ∙ x)
+    digit-positive_lit v s (sym (digits-same n v c s e p h) ∙ x)
 includes n c s v false e d p h i =
-    let no : has_lit (plus v) c ≡ false = elim (cases_Bool (has_lit (plus v) c)) [ inl t ↦ absurd (not-both v c d t i) | inr f ↦ f ] in
+    let no : has_lit (positive_lit v) c ≡ false = elim (cases_Bool (has_lit (positive_lit v) c)) [ inl t ↦ absurd (not-both v c d t i) | inr f ↦ f ] in
     let x : digit c v ≡ 2 = rw (no, i) refl in
-    digit-minus v s (sym (digits-same n v c s e p h) ∙ x)
+    digit-negative_lit v s (sym (digits-same n v c s e p h) ∙ x)
 
-in-range : (n : ℕ) (l : Literal) (c : List Literal) → clause_in n c ≡ true → has_lit l c ≡ true → (0 < l.var) × (l.var ≤ n)
+in-range : (n : ℕ) (l : Literal) (c : List Literal) → is_clause_over n c ≡ true → has_lit l c ≡ true → (0 < l.var) × (l.var ≤ n)
 in-range n l [] ci h = absurd (cc)
 in-range n l (m ∷ c) ci h =
-    let q = and_parts (lit_in n m) (clause_in n c) ci in
+    let q = and_parts (is_lit_over n m) (is_clause_over n c) ci in
     elim (or_cases (same_lit l m) (has_lit l c) h) [
       | inl s ↦ (let e = ap (λ (x : Literal). x.var) (lit-is l m s) in
           let r : (nat_lt 0 m.var ≡ true) × (nat_le m.var n ≡ true) = and_parts _ _ q.0 in
@@ -125,22 +120,20 @@ in-range n l (m ∷ c) ci h =
       | inr r ↦ in-range n l c q.1 r
     ]
 
--- a literal of s other than l is false where the others are set false
-other-false : (l m : Literal) (s : List Literal) → has_lit m s ≡ true → same_lit l m ≡ false → is_false (opposites (others l s)) m ≡ true
+other-false : (l m : Literal) (s : List Literal) → has_lit m s ≡ true → same_lit l m ≡ false → is_false (negated_clause (other_lits l s)) m ≡ true
 other-false l m [] h d = absurd (cc)
 other-false l m (x ∷ s) h d =
     elim (or_cases (same_lit m x) (has_lit m s) h) [
       | inl e ↦ (let q : m ≡ x = lit-is m x e in
           let k : same_lit l x ≡ false = ap (same_lit l) (sym q) ∙ d in
-          rw k (or_left (same_lit (opposite m) (opposite x)) _ (ap (λ (y : Literal). same_lit (opposite m) (opposite y)) (sym q) ∙ same-lit (opposite m))))
+          rw k (or_left (same_lit (negated_lit m) (negated_lit x)) _ (ap (λ (y : Literal). same_lit (negated_lit m) (negated_lit y)) (sym q) ∙ same-lit (negated_lit m))))
       | inr r ↦ (let i = other-false l m s r d in
           elim (cases_Bool (same_lit l x)) [
             | inl t ↦ rw t i
-            | inr t ↦ rw t (or_right (same_lit (opposite m) (opposite x)) _ i)
+            | inr t ↦ rw t (or_right (same_lit (negated_lit m) (negated_lit x)) _ i)
           ])
     ]
 
--- where every literal of c but l is false, c is false, or l is its one open literal
 all-false : (set : List Literal) (l : Literal) (c : List Literal) → has_lit l c ≡ false → ((m : Literal) → has_lit m c ≡ true → same_lit l m ≡ false → is_false set m ≡ true) → is_falsified set c ≡ true
 all-false set l [] h f = refl
 all-false set l (m ∷ c) h f =
@@ -173,32 +166,31 @@ one-open set l (m ∷ c) d h o f =
           rw k (one-open set l c q.1 i o rest))
     ]
 
--- a fresh clause has no literal more than none of the clauses before
-fresh-new : (n i : ℕ) (clauses : List (List Literal)) (c s : List Literal) → IsFresh clauses s → slice_get clauses i ≡ Some c → vars_differ c ≡ true → clause_in n c ≡ true → code n c ≡ code n s → ⊥
+-- A fresh clause differs, as a set, from every clause before.
+fresh-new : (n i : ℕ) (clauses : List (List Literal)) (c s : List Literal) → IsFresh clauses s → slice_get clauses i ≡ Some c → vars_differ c ≡ true → is_clause_over n c ≡ true → code n c ≡ code n s → ⊥
 fresh-new n i clauses c s fr at d ci e =
     let l = fr.0 in
-    let set = opposites (others l s) in
+    let set = negated_clause (other_lits l s) in
     let start = fr.2 [] set refl in
     let falses : (m : Literal) → has_lit m c ≡ true → same_lit l m ≡ false → is_false set m ≡ true = λ m h k. (
     let r = in-range n m c ci h in
     other-false l m s (includes n c s m.var m.positive e d r.0 r.1 h) k) in
     elim (cases_Bool (has_lit l c)) [
-      | inl t ↦ (let unset-not : is_false set l ≡ false = no-lit (opposite l) set start.0 in
+      | inl t ↦ (let unset-not : is_false set l ≡ false = no-lit (negated_lit l) set start.0 in
           let unset : has_lit l set ≡ false = no-lit l set start.0 in
-          let u : unit_of set c ≡ Some l = ap (lone_unset set) (one-open set l c d t unset-not falses) ∙ rw unset refl in
+          let u : unit_lit set c ≡ Some l = ap (single_unset_lit set) (one-open set l c d t unset-not falses) ∙ rw unset refl in
           let step : after_hints clauses set (suc i ∷ []) ≡ Some (l ∷ set) = rw (at, u) refl in
           let late = fr.2 (suc i ∷ []) (l ∷ set) step in
           true≢false (sym (or_left (eqb l.var l.var) (has_var l.var set) (eq-eqb l.var l.var refl)) ∙ late.0))
       | inr t ↦ true≢false (sym (list_any-from (is_falsified set) clauses i c at (all-false set l c t falses)) ∙ start.1)
     ]
 
--- the codes of the steps with a literal
 abbrev has_literal : Step → Bool
 has_literal s = not (is_empty s.clause)
 
 later-differ : (n i : ℕ) (clauses : List (List Literal)) (c : List Literal) (log : List Step) →
     each_derived n clauses log ≡ true → EachFresh clauses log → slice_get clauses i ≡ Some c →
-    vars_differ c ≡ true → clause_in n c ≡ true →
+    vars_differ c ≡ true → is_clause_over n c ≡ true →
     AllByRecursion (λ y. eqb (code n c) y ≡ false)
     (map (λ (s : Step). code n s.clause) (filter (λ (s : Step). not (is_empty s.clause)) log))
 later-differ n i clauses c [] dl fr at d ci = tt
@@ -219,16 +211,15 @@ unfolding IsDistinct
 codes-distinct n clauses [] dl fr = tt
 codes-distinct n clauses (s ∷ log) dl fr =
     let p = and_parts (is_derived n clauses s) (each_derived n (clauses ++ s.clause ∷ []) log) dl in
-    let q = and_parts (clause_in n s.clause && vars_differ s.clause) _ p.0 in
-    let r = and_parts (clause_in n s.clause) (vars_differ s.clause) q.0 in
+    let q = and_parts (is_clause_over n s.clause && vars_differ s.clause) _ p.0 in
+    let r = and_parts (is_clause_over n s.clause) (vars_differ s.clause) q.0 in
     let rest = codes-distinct n (clauses ++ s.clause ∷ []) log p.1 fr.1 in
     elim (cases_Bool (is_empty s.clause)) [
       | inl t ↦ rw t rest
       | inr t ↦ rw t (later-differ n (length clauses) (clauses ++ s.clause ∷ []) s.clause log p.1 fr.1 (at-last clauses s.clause) r.1 r.0, rest)
     ]
 
--- a clause with a literal has a positive code
-positive-code : (n : ℕ) (c : List Literal) → is_empty c ≡ false → clause_in n c ≡ true → 0 < code n c
+positive-code : (n : ℕ) (c : List Literal) → is_empty c ≡ false → is_clause_over n c ≡ true → 0 < code n c
 positive-code n [] e ci = absurd (cc)
 positive-code n (l ∷ c) e ci =
     let h : has_lit l (l ∷ c) ≡ true = or_left (same_lit l l) _ (same-lit l) in
@@ -237,7 +228,7 @@ positive-code n (l ∷ c) e ci =
   where
     some : (v : ℕ) (b : Bool) → has_lit (record { var = v; positive = b }) (l ∷ c) ≡ true → 0 < digit (l ∷ c) v
     some v true h = rw h (omega arith)
-    some v false h = go (has_lit (plus v) (l ∷ c)) (has_lit (minus v) (l ∷ c)) h
+    some v false h = go (has_lit (positive_lit v) (l ∷ c)) (has_lit (negative_lit v) (l ∷ c)) h
       where
         go : (a b : Bool) → b ≡ true → 0 < cond a 1 (cond b 2 0)
         go true b e = omega arith
@@ -247,8 +238,8 @@ code-range : (n q : ℕ) (clauses : List (List Literal)) (log : List Step) → e
 code-range n q clauses [] dl h = absurd (cc)
 code-range n q clauses (s ∷ log) dl h =
     let p = and_parts (is_derived n clauses s) (each_derived n (clauses ++ s.clause ∷ []) log) dl in
-    let k = and_parts (clause_in n s.clause && vars_differ s.clause) _ p.0 in
-    let r = and_parts (clause_in n s.clause) (vars_differ s.clause) k.0 in
+    let k = and_parts (is_clause_over n s.clause && vars_differ s.clause) _ p.0 in
+    let r = and_parts (is_clause_over n s.clause) (vars_differ s.clause) k.0 in
     elim (cases_Bool (is_empty s.clause)) [
       | inl t ↦ code-range n q (clauses ++ s.clause ∷ []) log p.1 (rw t at h)
       | inr t ↦ elim (or_cases (eqb q (code n s.clause)) _ (rw t at h)) [
@@ -262,7 +253,6 @@ no-zero n clauses log dl [] f = tt
 no-zero n clauses log dl (x ∷ xs) f =
     (ne_eqb 0 x (λ e. (let p = f x (or_left (eqb x x) _ (eq-eqb x x refl)) in absurd (omega (arith, e, p)))), no-zero n clauses log dl xs (λ q h. f q (or_right (eqb q x) _ h)))
 
--- derived and fresh steps are fewer than 3^n
 pub fresh_few : (f : Formula) (log : List Step) → is_derived_log f log ≡ true → EachFresh f.clauses log → count_by (λ s. not (is_empty s.clause)) log < 3 ^ f.vars
 fresh_few f log dl fr =
     let n = f.vars in

@@ -1,4 +1,4 @@
--- What is left of a log's lines, token by token.
+-- The rest of a log's lines, token by token.
 use Rattle.std.proofs.Common.{◌≡◌, ℕ, ◌+◌, ◌<◌, Some, List, [], ◌∷◌, ◌++◌, length, drop, set, slice_get, map, flat_map, sym, ap, ◌∙◌, append_assoc, arith}
 use Rattle.std.proofs.lemmas.List.{drop_more, drop-set-lt}
 use Rattle.std.proofs.lemmas.Option.{slice_get_within, get_or_from_slice_get}
@@ -12,7 +12,6 @@ use Rattle.ilk_log.specs.StepText.{lit_word, step_text}
 use Rattle.ilk_log.specs.TextLeft.{literals_left}
 use Rattle.ilk_log.proofs.Texts.{text_is}
 
--- a line is the word step, and then its literals and hints
 pub line_begins : (s : Step) → step_text s ++ 10 ∷ [] ≡ codes "step" ++ literals_left s
 line_begins s =
     let c : Bytes = flat_map (λ (l : Literal). 32 ∷ lit_word l) s.clause in
@@ -22,7 +21,7 @@ line_begins s =
     regroup : (a b c d e f : Bytes) → ((((a ++ b) ++ c) ++ d) ++ e) ++ f ≡ a ++ (b ++ (c ++ (d ++ (e ++ f))))
     regroup a b c d e f = simp append_assoc
 
--- the lines of the steps from one on: its line's word, what follows it, and the lines of the steps after it, whatever stands in its place then
+-- The lines from one step on do not depend on the step in its place after its bytes are taken.
 pub line_next : (log : List Step) (next : ℕ) (s x : Step) → slice_get log next ≡ Some s → text_of (map step_text (drop next log)) ≡ codes "step" ++ (literals_left s ++ text_of (map step_text (drop (next + 1) (set log next x))))
 line_next log next s x at =
     let within : next < length log = slice_get_within log next s at in

@@ -1,4 +1,4 @@
--- What is written for a step is its line.
+-- The text that is written for a step is its line.
 use Rattle.std.proofs.Common.{◌≡◌, ℕ, ◌+◌, List, [], ◌∷◌, ◌++◌, map, flat_map, take, refl, sym, ap, ◌∙◌, append_assoc}
 use Rattle.std.specs.Prelude.{codes, slice_get, Some}
 use Rattle.std.specs.Fmt.{decimal}
@@ -11,7 +11,6 @@ use Rattle.ilk_lines.specs.Written.{line_of}
 use Rattle.ilk_log.specs.declared.step.Step.{Step}
 use Rattle.ilk_log.specs.StepText.{lit_word, step_words, step_text}
 
--- a space before each word
 abbrev led : List Bytes → Bytes
 led words = flat_map (λ w. 32 ∷ w) words
 
@@ -27,7 +26,6 @@ led-map : {A : Type 0} (f : A → Bytes) (xs : List A) → led (map f xs) ≡ fl
 led-map f [] = refl
 led-map f (x ∷ xs) = ap (λ (t : Bytes). (32 ∷ f x) ++ t) (led-map f xs)
 
--- the text that is put together after what stood there is the line
 pub text_is : (start : Bytes) (s : Step) → ((((start ++ codes "step") ++ flat_map (λ (l : Literal). 32 ∷ lit_word l) s.clause) ++ codes " 0") ++ flat_map (λ (n : ℕ). 32 ∷ decimal n) s.hints) ++ codes " 0" ≡ start ++ step_text s
 text_is start s =
     let c : Bytes = flat_map (λ (l : Literal). 32 ∷ lit_word l) s.clause in
@@ -50,7 +48,6 @@ text_is start s =
     regroup : (t a b c d e : List ℕ) → ((((t ++ a) ++ b) ++ c) ++ d) ++ e ≡ t ++ (a ++ (b ++ (c ++ (d ++ e))))
     regroup t a b c d e = simp append_assoc
 
--- a text with the first i numbers after it, each after a space, and then number i after a space
 pub numbers-grow : (start now next : Bytes) (ns : List ℕ) (i n : ℕ) → slice_get ns i ≡ Some n →
     now ≡ start ++ flat_map (λ k. 32 ∷ decimal k) (take i ns) → next ≡ (now ++ 32 ∷ []) ++ decimal n →
     next ≡ start ++ flat_map (λ k. 32 ∷ decimal k) (take (i + 1) ns)

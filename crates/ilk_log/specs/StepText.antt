@@ -3,24 +3,24 @@ use Rattle.std.specs.Prelude.{Bool, ◌&&◌, ◌^◌, List, [], ◌∷◌, ◌+
 use Rattle.std.specs.Fmt.{decimal}
 use Rattle.std.specs.List.{list_all}
 use Rattle.ilk_cnf.specs.Literal.{Literal}
-use Rattle.ilk_cnf.specs.Formula.{clause_in}
+use Rattle.ilk_cnf.specs.Formula.{is_clause_over}
 use Rattle.ilk_lines.specs.Lines.{Bytes}
 use Rattle.ilk_lines.specs.Written.{line_of}
 use Rattle.ilk_log.specs.declared.step.Step.{Step}
 
--- a literal: its variable in decimal, after a minus sign where it is negative
+-- A literal: its variable in decimal, after a minus sign if it is negative.
 abbrev pub lit_word : Literal → Bytes
 lit_word l = if l.positive then decimal l.var else 45 ∷ decimal l.var
 
--- the words of a step: the word step, its literals and 0, its hints and 0
+-- The words of a step: the word `step`, its literals and 0, its hints and 0.
 abbrev pub step_words : Step → List Bytes
 step_words s = codes "step" ∷ (map lit_word s.clause ++ (codes "0" ∷ (map decimal s.hints ++ codes "0" ∷ [])))
 
--- the line of a step: its words, with one space between each two
+-- The line of a step: its words, with one space between each two.
 abbrev pub step_text : Step → Bytes
 step_text s = line_of (step_words s)
 
--- whether the numbers of a step are those that a line may have: variables from 1 to 2^62, and hints
--- from 1 to the greatest number of 64 bits
-abbrev pub has_numbers : Step → Bool
-has_numbers s = clause_in (2 ^ 62) s.clause && list_all (λ h. nat_lt 0 h && nat_lt h (2 ^ 64)) s.hints
+-- Returns whether a line may have the numbers of a step: variables from 1 to 2^62, and hints from 1
+-- to the greatest number of 64 bits.
+abbrev pub has_writable_numbers : Step → Bool
+has_writable_numbers s = is_clause_over (2 ^ 62) s.clause && list_all (λ h. nat_lt 0 h && nat_lt h (2 ^ 64)) s.hints

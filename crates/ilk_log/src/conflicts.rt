@@ -3,7 +3,7 @@ ghost use Rattle.ilk_log.specs.Conflicts.{conflicts_of};
 
 use crate::steps::Log;
 
-/// How many steps of a log have a literal: each of these is what a conflict taught.
+/// Returns the number of steps with a literal: each is a clause learned from a conflict.
 pub fn conflicts_in(log: &Log) -> u64
     ensures { result ≡ conflicts_of log.now }
 {

@@ -6,15 +6,15 @@ ghost use Rattle.ilk_log.specs.Derived.{is_derived_log, is_refutation};
 ghost use Rattle.ilk_log.specs.Fresh.{EachFresh};
 ghost use Rattle.ilk_log.specs.declared.step.Step.{Step as StepValue};
 
-/// No assignment satisfies a formula that a log refutes. The call does nothing, and tells a proof.
+/// No assignment satisfies a formula that a log refutes. Proof only; no run-time effect.
 #[tactic(auto, using(crate::proofs::Sound::refutation_refutes))]
 pub fn refutations_refute()
     ensures { (a : List Bool) (f : Formula) (log : List StepValue) →
         IsTrue (is_refutation f log) → satisfies a f.clauses ≡ false }
 {}
 
-/// Over n variables, a log of derived and fresh steps has fewer than 3^n steps with a literal. The
-/// call does nothing, and tells a proof.
+/// Over n variables, a log of derived and fresh steps has fewer than 3^n steps with a literal.
+/// Proof only; no run-time effect.
 #[tactic(auto, using(crate::proofs::Count::fresh_few))]
 pub fn fresh_steps_are_few()
     ensures { (f : Formula) (log : List StepValue) → IsTrue (is_derived_log f log) →

@@ -4,16 +4,16 @@ ghost use Rattle.ilk_log.specs.StepText.{step_text};
 
 use crate::steps::Log;
 use crate::steps_left::StepsLeft;
-use ilk_lines::Token;
+use ilk_lines::ShortBytes;
 use std::alloc::Global;
 use std::marker::Model;
 
-/// The lines of a log, as a text that is taken in pieces: seen as the bytes that are still to be taken.
-/// No text is held: each token is made of the packed steps when it is to be taken.
+/// The lines of a log, produced in pieces. Contracts see the bytes that are still to be taken. Each
+/// token is made from the packed steps when it is needed; no text is held.
 #[derive(Drop)]
 pub struct LogText {
-    // What was made last.
-    token: Token,
+    // The last token that was made.
+    token: ShortBytes,
     left: StepsLeft,
 }
 
@@ -26,18 +26,18 @@ impl Model for LogText {
 }
 
 impl LogText {
-    /// The lines of all steps, each with its line feed.
-    pub fn of(alloc: Global, log: Log) -> LogText
+    /// Creates the text of all steps, each line with its line feed.
+    pub fn from_log(alloc: Global, log: Log) -> LogText
         ensures { result ≡ text_of (map step_text log) }
     {
         LogText {
-            token: Token::none(),
-            left: StepsLeft::of(alloc, log),
+            token: ShortBytes::empty(),
+            left: StepsLeft::from_log(alloc, log),
         }
     }
 
-    /// Takes the next bytes into the front of the buffer, as many as there are and the buffer has
-    /// places for, and answers how many. It wants no memory.
+    /// Copies the next bytes to the front of `into`, as many as fit, and returns their number.
+    /// Needs no memory.
     pub fn take(&mut self, into: &mut [u8]) -> usize
         ensures count { result ≡ min (length into.old) (length self.old) }
         ensures bytes { take result into.new ≡ take result self.old }
@@ -45,7 +45,7 @@ impl LogText {
     {
         let mut count = self.token.take(into);
         'tokens: while count < into.len() {
-            self.left.make(&mut self.token);
+            self.left.next_piece(&mut self.token);
             if self.token.is_empty() {
                 return count;
             }

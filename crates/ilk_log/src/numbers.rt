@@ -1,21 +1,21 @@
-//! The numbers in the bytes of a packed step. Each is told by its way from the number before it, since
-//! the literals of a clause and the hints of a step mostly lie near each other: twice the way up, or
-//! one less than twice the way down, in 64 bits. A way has seven bits a byte, the high ones first, and
-//! each byte but its last has 128 more.
+//! The numbers in the bytes of a packed step. Each is stored as its difference from the one before,
+//! because literals and hints of a step are mostly near each other. The difference is twice the way
+//! up, or one less than twice the way down, in 64 bits. It takes seven bits a byte, high bits
+//! first; each byte but the last has 128 added.
 
 ghost use Rattle.std.specs.Prelude.{◌≡◌, ◌∷◌, [], drop, IfSome, IfNone};
-ghost use Rattle.ilk_log.specs.Packed.{longer, moved, numbers_from};
+ghost use Rattle.ilk_log.specs.Packed.{append_bits, add_delta, decoded_numbers};
 
-// A way with seven more bits at its end.
-fn longer(way: u64, bits: u8) -> u64
-    ensures { result ≡ longer way bits }
+// Appends seven bits to a difference.
+fn append_bits(way: u64, bits: u8) -> u64
+    ensures { result ≡ append_bits way bits }
 {
     way.wrapping_mul(128).wrapping_add(bits as u64)
 }
 
-// The number that lies so far from the last one.
-fn moved(last: u64, way: u64) -> u64
-    ensures { result ≡ moved last way }
+// Returns the number at a given difference from the last one.
+fn add_delta(last: u64, way: u64) -> u64
+    ensures { result ≡ add_delta last way }
 {
     if way % 2 == 0 {
         last.wrapping_add(way / 2)
@@ -24,12 +24,13 @@ fn moved(last: u64, way: u64) -> u64
     }
 }
 
-/// The number whose way begins at byte `at`, and where the next begins. None where no more is told.
-pub fn number_at(bytes: &[u8], at: usize, last: u64) -> Option<(u64, usize)>
+/// Returns the number whose difference begins at byte `at`, and the start of the next. Returns
+/// `None` if there are no more.
+pub fn decode_number(bytes: &[u8], at: usize, last: u64) -> Option<(u64, usize)>
     ensures some { IfSome result
-        (λ r. numbers_from last 0 (drop at bytes.now)
-        ≡ r.0 ∷ numbers_from r.0 0 (drop r.1 bytes.now)) }
-    ensures none { IfNone result (numbers_from last 0 (drop at bytes.now) ≡ []) }
+        (λ r. decoded_numbers last 0 (drop at bytes.now)
+        ≡ r.0 ∷ decoded_numbers r.0 0 (drop r.1 bytes.now)) }
+    ensures none { IfNone result (decoded_numbers last 0 (drop at bytes.now) ≡ []) }
 {
     let mut way = 0;
     let mut next = at;
@@ -37,9 +38,9 @@ pub fn number_at(bytes: &[u8], at: usize, last: u64) -> Option<(u64, usize)>
         let byte = bytes[next];
         next += 1;
         if byte < 128 {
-            return Some((moved(last, longer(way, byte)), next));
+            return Some((add_delta(last, append_bits(way, byte)), next));
         }
-        way = longer(way, byte - 128);
+        way = append_bits(way, byte - 128);
     }
     None
 }

@@ -1,10 +1,10 @@
 ghost use Rattle.std.specs.Prelude.{◌≡◌, ◌^◌, ◌++◌, [], ℕ, List, map, not, IfOk, IsTrue, OnOk};
-ghost use Rattle.ilk_cnf.specs.Formula.{clause_in, lit_in};
+ghost use Rattle.ilk_cnf.specs.Formula.{is_clause_over, is_lit_over};
 ghost use Rattle.ilk_log.specs.Derived.{is_empty};
-ghost use Rattle.ilk_log.specs.Packed.{number_of, numbers_from, step_told, Tells};
+ghost use Rattle.ilk_log.specs.Packed.{number_from_lit, decoded_numbers, step_from_numbers, ContainsNumbers};
 
 use crate::hints::Hints;
-use crate::numbers::number_at;
+use crate::numbers::decode_number;
 use crate::numbers_written::push_number;
 use crate::step::Step;
 use crate::unpack::{read_hints, read_literals};
@@ -13,28 +13,28 @@ use std::alloc::{AllocError, Global};
 use std::marker::Model;
 use std::mem::swap;
 
-/// A step in as few bytes as serve: a search keeps tens of thousands, each with hundreds of numbers,
-/// which take little more than a byte each.
+/// A step in few bytes. A search keeps tens of thousands, each with hundreds of numbers, which take
+/// little more than a byte each.
 #[derive(Drop)]
 pub(crate) struct PackedStep {
-    // how many of the numbers are literals
+    // The number of literals among the numbers.
     literals: u64,
     bytes: Vec<u8>,
 }
 
 impl Model for PackedStep {
     ghost use Rattle.ilk_log.specs.declared.step.Step.{Step};
-    ghost use Rattle.ilk_log.specs.Packed.{step_told, numbers_from};
+    ghost use Rattle.ilk_log.specs.Packed.{step_from_numbers, decoded_numbers};
 
     ghost Value = { Step };
 
-    ghost view = { λ s. step_told s.literals (numbers_from 0 0 s.bytes.items) };
+    ghost view = { λ s. step_from_numbers s.literals (decoded_numbers 0 0 s.bytes.items) };
 }
 
 impl PackedStep {
-    /// The same step, packed. Its variables are from 1 to 2^62, and its hints are any numbers.
-    pub(crate) fn of(alloc: Global, step: &Step) -> Result<PackedStep, AllocError>
-        requires { IsTrue (clause_in (2 ^ 62) step.now.clause) }
+    /// Packs a step. Its variables are from 1 to 2^62; its hints are any numbers.
+    pub(crate) fn pack(alloc: Global, step: &Step) -> Result<PackedStep, AllocError>
+        requires { IsTrue (is_clause_over (2 ^ 62) step.now.clause) }
         ensures { IfOk result (λ packed. packed ≡ step.now) }
     {
         let mut bytes = Vec::new(alloc);
@@ -46,8 +46,8 @@ impl PackedStep {
         })
     }
 
-    /// The step in hand.
-    pub(crate) fn unpacked(&self, alloc: Global) -> Result<Step, AllocError>
+    /// Returns the unpacked step.
+    pub(crate) fn unpack_step(&self, alloc: Global) -> Result<Step, AllocError>
         ensures { IfOk result (λ step. step ≡ self.now) }
     {
         let bytes = self.bytes.as_slice();
@@ -56,26 +56,26 @@ impl PackedStep {
         Ok(Step { clause, hints })
     }
 
-    /// Whether its clause has a literal.
+    /// Returns whether its clause has a literal.
     pub(crate) fn has_literal(&self) -> bool
         ensures { result ≡ not (is_empty self.now.clause) }
     {
-        self.literals > 0 && number_at(self.bytes.as_slice(), 0, 0).is_some()
+        self.literals > 0 && decode_number(self.bytes.as_slice(), 0, 0).is_some()
     }
 
-    // Gives its bytes for others, and says how many of the numbers are literals. Nothing is said of what
-    // step it then is.
-    pub(crate) fn trade(&mut self, bytes: &mut Vec<u8>) -> u64
-        ensures { self.old ≡ step_told result (numbers_from 0 0 bytes.new.items) }
+    // Swaps its bytes with `bytes` and returns the number of its literals. The contract leaves open
+    // which step it then is.
+    pub(crate) fn exchange_bytes(&mut self, bytes: &mut Vec<u8>) -> u64
+        ensures { self.old ≡ step_from_numbers result (decoded_numbers 0 0 bytes.new.items) }
     {
         swap(&mut self.bytes, bytes);
         self.literals
     }
 }
 
-/// Whether the variables of a step are from 1 to 2^62.
+/// Returns whether the variables of a step are from 1 to 2^62.
 pub(crate) fn is_packable(step: &Step) -> bool
-    ensures { result ≡ clause_in (2 ^ 62) step.now.clause }
+    ensures { result ≡ is_clause_over (2 ^ 62) step.now.clause }
 {
     step.clause
         .as_slice()
@@ -83,34 +83,34 @@ pub(crate) fn is_packable(step: &Step) -> bool
         .all(|l| 0 < l.var() && l.var() <= 1 << 62)
 }
 
-// The number of a literal, from 0.
-fn number_of(l: Lit) -> u64
-    requires { IsTrue (lit_in (2 ^ 62) l) }
-    ensures { result ≡ number_of l }
+// Returns the number of a literal, from 0.
+fn number_from_lit(l: Lit) -> u64
+    requires { IsTrue (is_lit_over (2 ^ 62) l) }
+    ensures { result ≡ number_from_lit l }
 {
     2 * (l.var() - 1) + l.positive() as u64
 }
 
-// Writes the numbers of literals, and answers the last.
+// Appends the numbers of literals and returns the last.
 fn push_literals(bytes: &mut Vec<u8>, lits: &[Lit]) -> Result<u64, AllocError>
-    requires numbered { IsTrue (clause_in (2 ^ 62) lits.now) }
-    requires start { Tells bytes.old.items [] 0 0 }
-    ensures { IfOk result (λ last. Tells bytes.new.items (map number_of lits.now) last 0) }
+    requires numbered { IsTrue (is_clause_over (2 ^ 62) lits.now) }
+    requires start { ContainsNumbers bytes.old.items [] 0 0 }
+    ensures { IfOk result (λ last. ContainsNumbers bytes.new.items (map number_from_lit lits.now)
+        last 0) }
 {
     let mut last = 0;
     for lit in lits {
-        let number = number_of(*lit);
+        let number = number_from_lit(*lit);
         push_number(bytes, last, number)?;
         last = number;
     }
     Ok(last)
 }
 
-// Writes hints after other numbers.
 fn push_hints(bytes: &mut Vec<u8>, last: u64, hints: &Hints) -> Result<(), AllocError>
     ensures { OnOk result
-        ((numbers : List ℕ) → Tells bytes.old.items numbers last 0 →
-        numbers_from 0 0 bytes.new.items ≡ numbers ++ hints.now) }
+        ((numbers : List ℕ) → ContainsNumbers bytes.old.items numbers last 0 →
+        decoded_numbers 0 0 bytes.new.items ≡ numbers ++ hints.now) }
 {
     let mut last = last;
     for i in 0..hints.len() {

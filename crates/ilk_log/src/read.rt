@@ -1,21 +1,21 @@
 ghost use Rattle.std.specs.Prelude.{◌≡◌, ◌↔◌, IfOk, Some, [], option_map, IsTrue};
 ghost use Rattle.std.specs.Option.{option_map_or};
 ghost use Rattle.ilk_lines.specs.Words.{words_of};
-ghost use Rattle.ilk_log.specs.StepReading.{hints_of, lits_of_words, step_of};
-ghost use Rattle.ilk_log.specs.StepText.{has_numbers, step_text};
+ghost use Rattle.ilk_log.specs.StepReading.{hints_from_words, lits_from_words, step_from_words};
+ghost use Rattle.ilk_log.specs.StepText.{has_writable_numbers, step_text};
 ghost use Rattle.ilk_log.specs.declared.step.Step.{Step as StepValue};
-ghost use Rattle.ilk_log.specs.StepWords.{count_of, lit_of};
+ghost use Rattle.ilk_log.specs.StepWords.{count_from_word, lit_from_word};
 
 use crate::hints::Hints;
 use crate::step::Step;
 use ilk_base::Row;
 use ilk_cnf::{Lit, Lits};
-use ilk_lines::{decimal_up_to, next_word};
+use ilk_lines::{decimal_up_to, split_next_word};
 use std::alloc::{AllocError, Global};
 
-/// The number from 1 to the limit that a word is. None exactly where it is none.
-pub fn count_of(word: &[u8], limit: u64) -> Option<u64>
-    ensures { result ≡ count_of limit word.now }
+/// Returns the number from 1 to `limit` that `word` is, or `None` if it is not one.
+pub fn count_from_word(word: &[u8], limit: u64) -> Option<u64>
+    ensures { result ≡ count_from_word limit word.now }
 {
     let n = decimal_up_to(word, limit)?;
     if n > 0 { Some(n) } else { None }
@@ -24,17 +24,18 @@ pub fn count_of(word: &[u8], limit: u64) -> Option<u64>
 // The greatest variable.
 const MAX_VAR: u64 = 1 << 62;
 
-/// The literal that a word writes, over a variable from 1 to 2^62. None exactly where it writes none.
-pub fn lit_of(word: &[u8]) -> Option<Lit>
-    ensures { result ≡ lit_of word.now }
+/// Returns the literal that `word` writes, over a variable from 1 to 2^62, or `None` if it writes
+/// none.
+pub fn lit_from_word(word: &[u8]) -> Option<Lit>
+    ensures { result ≡ lit_from_word word.now }
 {
     match word {
-        [b'-', var @ ..] => Some(Lit::new(count_of(var, MAX_VAR)?, false)),
-        _ => Some(Lit::new(count_of(word, MAX_VAR)?, true)),
+        [b'-', var @ ..] => Some(Lit::new(count_from_word(var, MAX_VAR)?, false)),
+        _ => Some(Lit::new(count_from_word(word, MAX_VAR)?, true)),
     }
 }
 
-// The literals before the word 0, and what has the words after it.
+// Reads the literals before the word 0. Also returns the rest of the line after it.
 fn read_lits<'a>(
     alloc: Global,
     line: &'a [u8],
@@ -43,16 +44,16 @@ fn read_lits<'a>(
         (λ told.
         option_map (λ pair. (pair.0, option_map_or (λ rest. words_of rest.now) pair.1 []))
         told
-        ≡ lits_of_words (words_of line.now)) }
+        ≡ lits_from_words (words_of line.now)) }
 {
     let mut lits = Row::new(alloc);
     let mut left = line;
     'words: loop {
-        let (word, rest) = next_word(left);
+        let (word, rest) = split_next_word(left);
         if word == b"0".as_slice() {
             return Ok(Some((lits, rest)));
         }
-        let Some(l) = lit_of(word) else {
+        let Some(l) = lit_from_word(word) else {
             return Ok(None);
         };
         let Some(rest) = rest else {
@@ -64,21 +65,20 @@ fn read_lits<'a>(
 }
 
 #[tactic(auto, using(crate::proofs::Words::hints_more))]
-// The hints before the word 0, with which the line must end.
 fn read_hints(alloc: Global, line: &[u8]) -> Result<Option<Hints>, AllocError>
-    ensures { IfOk result (λ told. told ≡ hints_of (words_of line.now)) }
+    ensures { IfOk result (λ told. told ≡ hints_from_words (words_of line.now)) }
 {
     let mut hints = Hints::new(alloc);
     let mut left = line;
     'words: loop {
-        let (word, rest) = next_word(left);
+        let (word, rest) = split_next_word(left);
         if word == b"0".as_slice() {
             return match rest {
                 Some(_) => Ok(None),
                 None => Ok(Some(hints)),
             };
         }
-        let Some(h) = count_of(word, u64::MAX) else {
+        let Some(h) = count_from_word(word, u64::MAX) else {
             return Ok(None);
         };
         let Some(rest) = rest else {
@@ -89,11 +89,10 @@ fn read_hints(alloc: Global, line: &[u8]) -> Result<Option<Hints>, AllocError>
     }
 }
 
-// The step that the words of a line tell.
 fn read_words(alloc: Global, line: &[u8]) -> Result<Option<Step>, AllocError>
-    ensures { IfOk result (λ told. told ≡ step_of (words_of line.now)) }
+    ensures { IfOk result (λ told. told ≡ step_from_words (words_of line.now)) }
 {
-    let (word, rest) = next_word(line);
+    let (word, rest) = split_next_word(line);
     if word != b"step".as_slice() {
         return Ok(None);
     }
@@ -112,12 +111,12 @@ fn read_words(alloc: Global, line: &[u8]) -> Result<Option<Step>, AllocError>
     Ok(Some(Step { clause, hints }))
 }
 
-/// The step whose line this is. None exactly where it is the line of no step whose variables are
-/// from 1 to 2^62, and whose hints are from 1 to the greatest `u64`.
+/// Returns the step whose line this is. Its variables are from 1 to 2^62, and its hints from 1 to
+/// the greatest `u64`. Returns `None` if it is the line of no such step.
 pub fn read_step(alloc: Global, line: &[u8]) -> Result<Option<Step>, AllocError>
     ensures { IfOk result
         (λ told. (s : StepValue) →
-        (told ≡ Some s) ↔ ((line.now ≡ step_text s) × IsTrue (has_numbers s))) }
+        (told ≡ Some s) ↔ ((line.now ≡ step_text s) × IsTrue (has_writable_numbers s))) }
 {
     read_words(alloc, line)
 }

@@ -1,18 +1,18 @@
 ghost use Rattle.std.specs.Prelude.{◌≡◌, ◌++◌, [], IfNone, option_to_list};
 
-use crate::numbers::number_at;
+use crate::numbers::decode_number;
 use crate::packed::PackedStep;
-use crate::unpack::literal_told;
+use crate::unpack::lit_from_number;
 use ilk_cnf::Lit;
 use std::alloc::Global;
 use std::marker::Model;
 
-/// What is left to read of a step: its literals, one after another, and then its hints. It has the
-/// bytes of the step, and reads them without memory.
+/// The unread part of a step: its literals, then its hints. It owns the bytes of the step, and
+/// reads them without memory.
 #[derive(Drop)]
 pub(crate) struct StepReader {
     bytes: Vec<u8>,
-    // where the next number begins, the last number, and how many literals are left
+    // The start of the next number, the last number, and the number of literals left.
     at: usize,
     last: u64,
     literals: u64,
@@ -20,15 +20,15 @@ pub(crate) struct StepReader {
 
 impl Model for StepReader {
     ghost use Rattle.ilk_log.specs.declared.step.Step.{Step};
-    ghost use Rattle.ilk_log.specs.Packed.{step_left};
+    ghost use Rattle.ilk_log.specs.Packed.{unread_step};
 
     ghost Value = { Step };
 
-    ghost view = { λ r. step_left r.bytes.items r.at r.last r.literals };
+    ghost view = { λ r. unread_step r.bytes.items r.at r.last r.literals };
 }
 
 impl StepReader {
-    /// Nothing is left.
+    /// Creates a reader with nothing left.
     pub(crate) fn new(alloc: Global) -> StepReader
         ensures { result ≡ record { clause = []; hints = [] } }
     {
@@ -40,17 +40,17 @@ impl StepReader {
         }
     }
 
-    /// Takes the bytes of a step, which is left to read then as a whole. What it had goes to the step,
-    /// and nothing is said of that.
-    pub(crate) fn turn_to(&mut self, step: &mut PackedStep)
+    /// Takes the bytes of `step`, which is then unread as a whole. The reader's old bytes go to
+    /// `step`, and the contract leaves open which step that is.
+    pub(crate) fn begin_step(&mut self, step: &mut PackedStep)
         ensures { self.new ≡ step.old }
     {
-        self.literals = step.trade(&mut self.bytes);
+        self.literals = step.exchange_bytes(&mut self.bytes);
         self.at = 0;
         self.last = 0;
     }
 
-    /// The next literal. None where none is left.
+    /// Reads the next literal. Returns `None` if none is left.
     pub(crate) fn next_literal(&mut self) -> Option<Lit>
         ensures clause { self.old.clause ≡ option_to_list result ++ self.new.clause }
         ensures none { IfNone result (self.old.clause ≡ []) }
@@ -59,21 +59,21 @@ impl StepReader {
         if self.literals == 0 {
             return None;
         }
-        let (number, next) = number_at(self.bytes.as_slice(), self.at, self.last)?;
+        let (number, next) = decode_number(self.bytes.as_slice(), self.at, self.last)?;
         self.literals -= 1;
         self.last = number;
         self.at = next;
-        Some(literal_told(number))
+        Some(lit_from_number(number))
     }
 
-    /// The next hint, where no literal is left. None where none is left.
+    /// Reads the next hint, after all literals. Returns `None` if none is left.
     pub(crate) fn next_hint(&mut self) -> Option<u64>
         requires { self.old.clause ≡ [] }
         ensures hints { self.old.hints ≡ option_to_list result ++ self.new.hints }
         ensures none { IfNone result (self.old.hints ≡ []) }
         ensures clause { self.new.clause ≡ [] }
     {
-        let (number, next) = number_at(self.bytes.as_slice(), self.at, self.last)?;
+        let (number, next) = decode_number(self.bytes.as_slice(), self.at, self.last)?;
         self.last = number;
         self.at = next;
         Some(number)

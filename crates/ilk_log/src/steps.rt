@@ -6,8 +6,8 @@ use ilk_base::Row;
 use std::alloc::{AllocError, Global};
 use std::marker::Model;
 
-/// The steps of a search, in order, which contracts see as that list. A search keeps tens of thousands,
-/// each with hundreds of numbers: each is packed, in little more than a byte a number.
+/// The steps of a search, in order; contracts see them as a list. A search keeps tens of thousands,
+/// each with hundreds of numbers, so each is packed, in little more than a byte a number.
 #[derive(Drop)]
 pub struct Log {
     steps: Row<PackedStep>,
@@ -24,7 +24,7 @@ impl Model for Log {
 }
 
 impl Log {
-    /// No step.
+    /// Creates an empty log.
     pub fn new(alloc: Global) -> Log
         ensures { result ≡ [] }
     {
@@ -34,42 +34,42 @@ impl Log {
         }
     }
 
-    /// How many steps there are.
+    /// Returns the number of steps.
     pub fn len(&self) -> u64
         ensures { result ≡ length self.now }
     {
         self.steps.len()
     }
 
-    /// Step `i`, made anew of what is kept of it.
+    /// Returns step `i`, unpacked.
     pub fn at(&self, i: u64) -> Result<Step, AllocError>
         requires { i < length self.now }
         ensures { IfOk result (λ step. slice_get self.now i ≡ Some step) }
     {
-        self.steps.at(i).unpacked(self.alloc)
+        self.steps.at(i).unpack_step(self.alloc)
     }
 
-    /// Adds a step at the end. Where memory runs out the log is unchanged.
+    /// Adds a step at the end. If memory runs out, the log is unchanged.
     pub fn push(&mut self, step: Step) -> Result<(), AllocError>
         ensures ok { OnOk result (self.new ≡ self.old ++ step ∷ []) }
         ensures err { OnErr result (self.new ≡ self.old) }
     {
-        // There is no literal of another variable: `Lit::new` makes none.
+        // Never happens: `Lit::new` makes no literal of such a variable.
         if !is_packable(&step) {
             return Err(AllocError);
         }
-        let packed = PackedStep::of(self.alloc, &step)?;
+        let packed = PackedStep::pack(self.alloc, &step)?;
         self.steps.push(packed)
     }
 
-    /// The steps as they are kept.
+    /// Returns the packed steps.
     pub(crate) fn packed(&self) -> &[PackedStep]
         ensures { result.now ≡ self.now }
     {
         self.steps.as_slice()
     }
 
-    /// The steps as they are kept, to be taken apart.
+    /// Converts the log into its packed steps.
     pub(crate) fn into_packed(self) -> Row<PackedStep>
         ensures { result ≡ self }
     {

@@ -1,5 +1,5 @@
-//! The lines of a log, made token by token without memory: the word `step`, each literal and each hint
-//! with the space before it, and 0 where they end.
+//! The lines of a log, made token by token without memory: the word `step`, each literal and hint
+//! with a space before it, and 0 after the last of each.
 
 ghost use Rattle.std.specs.Prelude.{◌≡◌, ◌<◌, ◌∷◌, ◌++◌, [], length, map};
 ghost use Rattle.ilk_lines.specs.Written.{text_of};
@@ -11,11 +11,11 @@ use crate::reader::StepReader;
 use crate::steps::Log;
 use ilk_base::Row;
 use ilk_cnf::Lit;
-use ilk_lines::Token;
+use ilk_lines::ShortBytes;
 use std::alloc::Global;
 use std::marker::Model;
 
-/// Where a line stands that is made: no line was begun, or its literals are next, or its hints.
+/// The position in the line being made: none begun, at its literals, or at its hints.
 #[derive(Clone, Copy)]
 pub(crate) enum Place {
     Between,
@@ -23,13 +23,13 @@ pub(crate) enum Place {
     Hints,
 }
 
-/// What is left to make of the lines of a log: seen as their bytes.
+/// The rest of a log's lines; contracts see its bytes.
 #[derive(Drop)]
 pub(crate) struct StepsLeft {
     steps: Row<PackedStep>,
     // The number of the next step, from 0.
     next: u64,
-    // What is left of the step before it.
+    // The rest of the step before it.
     step: StepReader,
     place: Place,
 }
@@ -48,23 +48,22 @@ impl Model for StepsLeft {
     ghost invariant = { λ left. FitsPlace left.place left.step };
 }
 
-// The word of a literal, after a space.
 #[inline]
-fn lead_literal(token: &mut Token, l: Lit)
+fn lead_literal(token: &mut ShortBytes, l: Lit)
     requires { token.old ≡ [] }
     ensures { token.new ≡ 32 ∷ lit_word l }
 {
-    token.lead_decimal(l.var());
+    token.prepend_decimal(l.var());
     if l.positive() {
-        token.lead(b" ");
+        token.prepend(b" ");
     } else {
-        token.lead(b" -");
+        token.prepend(b" -");
     }
 }
 
-// Makes the next token where the literals are told, and answers where the line then stands.
+// Makes the next token among the literals and returns the new position.
 #[inline]
-fn make_literal(step: &mut StepReader, token: &mut Token) -> Place
+fn make_literal(step: &mut StepReader, token: &mut ShortBytes) -> Place
     requires { token.old ≡ [] }
     ensures bytes { literals_left step.old ≡ token.new ++ line_left result step.new }
     ensures some { 0 < length token.new }
@@ -76,15 +75,15 @@ fn make_literal(step: &mut StepReader, token: &mut Token) -> Place
             Place::Literals
         }
         None => {
-            token.lead(b" 0");
+            token.prepend(b" 0");
             Place::Hints
         }
     }
 }
 
-// Makes the next token where the hints are told, and answers where the line then stands.
+// Makes the next token among the hints and returns the new position.
 #[inline]
-fn make_hint(step: &mut StepReader, token: &mut Token) -> Place
+fn make_hint(step: &mut StepReader, token: &mut ShortBytes) -> Place
     requires empty { token.old ≡ [] }
     requires alone { step.old.clause ≡ [] }
     ensures bytes { hints_left step.old.hints ≡ token.new ++ line_left result step.new }
@@ -93,20 +92,20 @@ fn make_hint(step: &mut StepReader, token: &mut Token) -> Place
 {
     match step.next_hint() {
         Some(n) => {
-            token.lead_decimal(n);
-            token.lead(b" ");
+            token.prepend_decimal(n);
+            token.prepend(b" ");
             Place::Hints
         }
         None => {
-            token.lead(b" 0\n");
+            token.prepend(b" 0\n");
             Place::Between
         }
     }
 }
 
 impl StepsLeft {
-    /// The lines of all steps, each with its line feed.
-    pub(crate) fn of(alloc: Global, log: Log) -> StepsLeft
+    /// Starts the lines of all steps, each with its line feed.
+    pub(crate) fn from_log(alloc: Global, log: Log) -> StepsLeft
         ensures { result ≡ text_of (map step_text log) }
     {
         StepsLeft {
@@ -117,9 +116,9 @@ impl StepsLeft {
         }
     }
 
-    /// Makes the next token: an empty one only where nothing is left.
+    /// Makes the next token. It is empty only if nothing is left.
     #[inline]
-    pub(crate) fn make(&mut self, token: &mut Token)
+    pub(crate) fn next_piece(&mut self, token: &mut ShortBytes)
         requires { token.old ≡ [] }
         ensures bytes { self.old ≡ token.new ++ self.new }
         ensures some { token.new ≡ [] → self.old ≡ [] }
@@ -133,10 +132,10 @@ impl StepsLeft {
             }
             Place::Between => {
                 if self.next < self.steps.len() {
-                    self.step.turn_to(self.steps.at_mut(self.next));
+                    self.step.begin_step(self.steps.at_mut(self.next));
                     self.next += 1;
                     self.place = Place::Literals;
-                    token.lead(b"step");
+                    token.prepend(b"step");
                 }
             }
         }

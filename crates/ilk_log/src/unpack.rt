@@ -1,52 +1,53 @@
 ghost use Rattle.std.specs.Prelude.{◌≡◌, drop, map, take, IfOk};
-ghost use Rattle.ilk_log.specs.Packed.{literal_told, numbers_from};
+ghost use Rattle.ilk_log.specs.Packed.{lit_from_number, decoded_numbers};
 
 use crate::hints::Hints;
-use crate::numbers::number_at;
+use crate::numbers::decode_number;
 use ilk_cnf::{Lit, Lits};
 use std::alloc::{AllocError, Global};
 
-// The literal of a number.
-pub fn literal_told(number: u64) -> Lit
-    ensures { result ≡ literal_told number }
+/// Returns the literal that `number` encodes.
+pub fn lit_from_number(number: u64) -> Lit
+    ensures { result ≡ lit_from_number number }
 {
     Lit::new(number / 2 % (1 << 62) + 1, number % 2 == 1)
 }
 
-/// The literals of so many first numbers, where the next number begins, and the last.
+/// Returns the literals of the first `count` numbers, the start of the next number, and the last.
 pub fn read_literals(
     alloc: Global,
     bytes: &[u8],
     count: u64,
 ) -> Result<(Lits, usize, u64), AllocError>
     ensures literals { IfOk result
-        (λ r. r.0 ≡ map literal_told (take count (numbers_from 0 0 bytes.now))) }
+        (λ r. r.0 ≡ map lit_from_number (take count (decoded_numbers 0 0 bytes.now))) }
     ensures rest { IfOk result
-        (λ r. numbers_from r.2 0 (drop r.1 bytes.now) ≡ drop count (numbers_from 0 0 bytes.now)) }
+        (λ r. decoded_numbers r.2 0 (drop r.1 bytes.now)
+        ≡ drop count (decoded_numbers 0 0 bytes.now)) }
 {
     let mut lits = Lits::new(alloc);
     let mut at = 0;
     let mut last = 0;
     'literals: for i in 0..count {
-        let Some((number, next)) = number_at(bytes, at, last) else {
+        let Some((number, next)) = decode_number(bytes, at, last) else {
             return Ok((lits, at, last));
         };
-        lits.push(literal_told(number))?;
+        lits.push(lit_from_number(number))?;
         at = next;
         last = number;
     }
     Ok((lits, at, last))
 }
 
-/// The numbers from byte `at` on, after the last one.
+/// Returns the numbers from byte `at` on, after `last`.
 pub fn read_hints(alloc: Global, bytes: &[u8], at: usize, last: u64) -> Result<Hints, AllocError>
-    ensures { IfOk result (λ hints. hints ≡ numbers_from last 0 (drop at bytes.now)) }
+    ensures { IfOk result (λ hints. hints ≡ decoded_numbers last 0 (drop at bytes.now)) }
 {
     let mut hints = Hints::with_capacity(alloc, bytes.len() as u64)?;
     let mut at = at;
     let mut last = last;
     'numbers: loop {
-        let Some((number, next)) = number_at(bytes, at, last) else {
+        let Some((number, next)) = decode_number(bytes, at, last) else {
             return Ok(hints);
         };
         hints.push(number)?;

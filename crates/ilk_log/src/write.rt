@@ -9,7 +9,6 @@ use ilk_cnf::Lit;
 use ilk_lines::push_decimal;
 use std::alloc::{AllocError, Global};
 
-// Writes a space and a literal at the end of a text.
 fn push_lit(text: &mut String, l: Lit) -> Result<(), AllocError>
     ensures { OnOk result (string_bytes text.new ≡ string_bytes text.old ++ 32 ∷ lit_word l) }
 {
@@ -17,7 +16,6 @@ fn push_lit(text: &mut String, l: Lit) -> Result<(), AllocError>
     push_decimal(text, l.var())
 }
 
-// Writes each literal after a space.
 fn push_lits(text: &mut String, lits: &[Lit]) -> Result<(), AllocError>
     ensures { OnOk result
         (string_bytes text.new
@@ -29,7 +27,6 @@ fn push_lits(text: &mut String, lits: &[Lit]) -> Result<(), AllocError>
     Ok(())
 }
 
-// Writes each hint after a space.
 fn push_hints(text: &mut String, hints: &Hints) -> Result<(), AllocError>
     ensures { OnOk result
         (string_bytes text.new
@@ -43,8 +40,8 @@ fn push_hints(text: &mut String, hints: &Hints) -> Result<(), AllocError>
 }
 
 #[tactic(auto, using(crate::proofs::Texts::text_is))]
-/// Writes the line of a step, without its line feed, at the end of a text. Where there is no memory
-/// for it, nothing is said of what the text then has.
+/// Appends the line of a step, without its line feed, to a text. If memory runs out, the content of
+/// the text is unspecified.
 pub fn push_step(text: &mut String, step: &Step) -> Result<(), AllocError>
     requires { IsTrue (list_all (λ h. nat_lt 0 h) step.now.hints) }
     ensures { OnOk result (string_bytes text.new ≡ string_bytes text.old ++ step_text step.now) }
@@ -56,7 +53,7 @@ pub fn push_step(text: &mut String, step: &Step) -> Result<(), AllocError>
     text.push_str(" 0")
 }
 
-/// The line of a step, without its line feed.
+/// Returns the line of a step, without its line feed.
 pub fn write_step(alloc: Global, step: &Step) -> Result<Vec<u8>, AllocError>
     requires { IsTrue (list_all (λ h. nat_lt 0 h) step.now.hints) }
     ensures { IfOk result (λ line. line.items ≡ step_text step.now) }

@@ -1,4 +1,4 @@
--- Tests that two values are one.
+-- Equality tests.
 use Rattle.std.proofs.Common.{◌≡◌, true, refl}
 use Rattle.ilk_plant.specs.State.{same_hold}
 use Rattle.ilk_plant.specs.declared.network.Position.{Position}
@@ -12,7 +12,7 @@ use Rattle.ilk_plant.specs.declared.state.Lie.TheVariants.{Plus as LiesPlus, Min
 use Rattle.ilk_plant.specs.declared.state.Mode.{Mode}
 use Rattle.ilk_plant.specs.declared.state.Mode.TheVariants.{Free, Marked, Allocating, Locked, Occupied}
 use Rattle.ilk_routes.specs.Boards.{same_aspect}
-use Rattle.ilk_routes.specs.Lies.{lie_in, lies_at}
+use Rattle.ilk_routes.specs.Lies.{lie_from_position, is_lie_at_position}
 use Rattle.ilk_routes.specs.Modes.{same_mode}
 use Rattle.ilk_model.specs.Commanded.{same_position}
 
@@ -53,12 +53,11 @@ pub own_position : (a : Position) → same_position a a ≡ true
 own_position Plus = refl
 own_position Minus = refl
 
--- a point that lies at a position
-pub one_lie : (lie : Lie) (at : Position) → lies_at lie at ≡ true → lie ≡ lie_in at
+pub one_lie : (lie : Lie) (at : Position) → is_lie_at_position lie at ≡ true → lie ≡ lie_from_position at
 one_lie LiesPlus Plus h = refl
 one_lie LiesMinus Minus h = refl
 one_lie lie at h = cc
 
-pub own_lie : (at : Position) → lies_at (lie_in at) at ≡ true
+pub own_lie : (at : Position) → is_lie_at_position (lie_from_position at) at ≡ true
 own_lie Plus = refl
 own_lie Minus = refl

@@ -1,4 +1,4 @@
--- Runs over small plants, worked by computing.
+-- Runs over small plants, by computation.
 use Rattle.std.proofs.Common.{◌≡◌, ℕ, Option, Some, None, List, [], ◌∷◌, option_map, codes, refl}
 use Rattle.ilk_plant.specs.Plant.{PlantLists}
 use Rattle.ilk_plant.specs.Start.{start}
@@ -20,15 +20,16 @@ use Rattle.ilk_model.specs.declared.event.Event.TheVariants.{Mark, Allocate, Loc
 use Rattle.ilk_model.specs.declared.hazards.HazardAt.{HazardAt}
 use Rattle.ilk_model.specs.declared.hazards.HazardAt.TheVariants.{Two, Wrong}
 
--- the hazard, if any, in which the run of these events from the start ends; none where they are no run
+-- The hazard, if any, after the run of these events from the initial state, or `None` if they are
+-- not a run.
 abbrev ends_in : PlantLists → List Event → Option (Option HazardAt)
 ends_in p events = option_map (hazard p) (run p (start p) events)
 
--- two sections a and b without boards: a train enters at each, and the first moves on into the other
+-- A train enters each of sections a and b, and the first moves into b.
 two_trains_meet : ends_in two_sections (Enter 0 ∷ Enter 1 ∷ Head 0 ∷ []) ≡ Some (Some (Two 1))
 two_trains_meet = refl
 
--- without a train no head moves; one train alone is no hazard; a second can't enter where the first stands
+-- Without a train no head moves. One train is no hazard, and a second can't enter its section.
 no_train_moves : ends_in two_sections (Head 0 ∷ []) ≡ None
 no_train_moves = refl
 
@@ -38,14 +39,12 @@ one_train = refl
 entry_is_taken : ends_in two_sections (Enter 0 ∷ Enter 0 ∷ []) ≡ None
 entry_is_taken = refl
 
--- no run goes on past a hazard
 ends_at_hazard : ends_in two_sections (Enter 0 ∷ Enter 1 ∷ Head 0 ∷ Tail 0 ∷ []) ≡ None
 ends_at_hazard = refl
 
 abbrev board : ℕ → Dir → Board
 board x d = record { section = x; dir = d }
 
--- a route without overlap
 abbrev route : ℕ → Option ℕ → List ℕ → List (ℕ × Position) → List ℕ → Route
 route source destination path points conflicts = record {
   source = source;
@@ -62,7 +61,7 @@ route source destination path points conflicts = record {
     listed [] = []
     listed (entry ∷ rest) = record { point = entry.0; at = entry.1 } ∷ listed rest
 
--- two sections with a board for the way in at each end, and a route from each board to the other section
+-- Two sections with an entry board at each end, and a route from each board to the other section.
 abbrev line_with_boards : PlantLists
 line_with_boards = record {
   sections = Linear None (Some 1) None (Some 0) ∷ Linear (Some 0) None (Some 1) None ∷ [];
@@ -73,7 +72,7 @@ line_with_boards = record {
   route_names = codes "r1" ∷ codes "r2" ∷ [];
 }
 
--- the first head closes the board, so the second can't pass it
+-- The first head closes the board, so the second can't pass it.
 abbrev one_train_passes : List Event
 one_train_passes = Mark 0 ∷ Allocate 0 ∷ Lock 0 ∷ Enter 0 ∷ Head 0 ∷ Tail 0 ∷ Enter 0 ∷ []
 
@@ -83,14 +82,13 @@ board_lets_one_pass = refl
 board_is_closed : ends_in line_with_boards (Mark 0 ∷ Allocate 0 ∷ Lock 0 ∷ Enter 0 ∷ Head 0 ∷ Tail 0 ∷ Enter 0 ∷ Head 0 ∷ []) ≡ None
 board_is_closed = refl
 
--- a route whose path isn't vacant isn't allocated
 path_is_marked : ends_in line_with_boards (Enter 1 ∷ Mark 0 ∷ []) ≡ Some None
 path_is_marked = refl
 
 path_is_occupied : ends_in line_with_boards (Enter 1 ∷ Mark 0 ∷ Allocate 0 ∷ []) ≡ None
 path_is_occupied = refl
 
--- a station: a border, a point that faces up, two tracks, a point that faces down, a border
+-- A station: a border, a point that faces up, two tracks, a point that faces down, a border.
 abbrev pub station : PlantLists
 station = record {
   sections =
@@ -117,25 +115,23 @@ station = record {
   route_names = codes "r1" ∷ codes "r2" ∷ codes "r3" ∷ codes "r4" ∷ codes "r5" ∷ codes "r6" ∷ codes "r7" ∷ codes "r8" ∷ [];
 }
 
--- a route is set, used by a train, and finished
+-- A route is set, used by a train, and finished.
 route_is_used : ends_in station (Mark 0 ∷ Allocate 0 ∷ Lock 0 ∷ Enter 0 ∷ Head 0 ∷ Sense 0 ∷ Head 1 ∷ Sense 0 ∷ Tail 0 ∷ Tail 1 ∷ Release 0 ∷ Finish 0 ∷ []) ≡ Some None
 route_is_used = refl
 
--- a section that the train still stands on isn't released
+-- An occupied section isn't released.
 release_is_early : ends_in station (Mark 0 ∷ Allocate 0 ∷ Lock 0 ∷ Enter 0 ∷ Head 0 ∷ Sense 0 ∷ Head 1 ∷ Sense 0 ∷ Tail 0 ∷ Release 0 ∷ []) ≡ None
 release_is_early = refl
 
--- a point that lies where it is commanded isn't thrown
 point_lies_as_commanded : ends_in station (Mark 0 ∷ Allocate 0 ∷ Lock 0 ∷ Enter 0 ∷ Head 0 ∷ Throw 1 ∷ []) ≡ None
 point_lies_as_commanded = refl
 
--- a train stands over the first point, which is commanded to its other leg
+-- A train is on the first point, which is commanded to its other leg.
 abbrev over_the_point : State
 over_the_point = record (start station) {
   points = record { at = LiesPlus; to = Minus } ∷ record { at = LiesPlus; to = Plus } ∷ [];
   trains = record { dir = Up; body = 0 ∷ 1 ∷ [] } ∷ [];
 }
 
--- thrown under the train, it is wrong
 point_thrown_under_train : option_map (hazard station) (run station over_the_point (Throw 1 ∷ [])) ≡ Some (Some (Wrong 1))
 point_thrown_under_train = refl

@@ -1,5 +1,5 @@
--- The families of the invariant, worked by computing: for each family states that keep it, and for each of its conditions
--- a state that breaks that condition. What a state breaks is told of all nine families.
+-- Examples of the families of the invariant. For each family there are states that satisfy it, and
+-- a violation of each of its conditions. The result always covers all nine families.
 use Rattle.std.proofs.Common.{◌≡◌, ℕ, not, Some, None, List, [], ◌∷◌, ◌++◌, set, refl}
 use Rattle.std.specs.List.{filter}
 use Rattle.ilk_plant.specs.Plant.{PlantLists}
@@ -29,10 +29,10 @@ board x d = record { section = x; dir = d }
 abbrev at_position : ℕ → Position → Listed
 at_position x position = record { point = x; at = position }
 
--- a station: a border 0, a point 1 that faces up, the tracks 2 and 3, a point 4 that faces down, a border 5. Up from
--- board 0 run route 0 to track 2, route 1 to track 3 with point 4 as its overlap, and route 3 to track 2 with point 4 as
--- its protecting point; up from board 2 runs route 2 from track 2 out of the network, with board 0 as its protecting
--- board; down from board 1 runs route 4 from track 2 out of the network
+-- A station: border 0, point 1 facing up, tracks 2 and 3, point 4 facing down, border 5. Up from
+-- board 0: route 0 to track 2, route 1 to track 3 with overlap 4, route 3 to track 2 with
+-- protecting point 4. Up from board 2: route 2 from track 2 out of the network, with protecting
+-- board 0. Down from board 1: route 4 from track 2 out of the network.
 abbrev station : PlantLists
 station = record {
   sections =
@@ -65,15 +65,15 @@ station = record {
     out_at_0 : Route
     out_at_0 = record { source = 1; destination = None; path = 1 ∷ 0 ∷ []; overlap = []; points = at_position 1 Plus ∷ []; conflicts = []; protecting_points = []; protecting_boards = [] }
 
--- the start, and what states differ from it in
+-- The initial state, and changes to it.
 abbrev at_rest : State
 at_rest = start station
 
--- route r has this mode, and has seen and released so many sections
+-- Route r in this mode, with these counts seen and released.
 abbrev with_route : ℕ → Mode → ℕ → ℕ → State → State
 with_route r mode seen rel s = record s { routes = set s.routes r (record { mode = mode; seen = seen; rel = rel }) }
 
--- point n lies so and is commanded so
+-- Point n with these detected and commanded positions.
 abbrev with_point : ℕ → Lie → Position → State → State
 with_point n at to s = record s { points = set s.points n (record { at = at; to = to }) }
 
@@ -89,19 +89,17 @@ used sections s = record s { locks = with_locks s.locks sections UsedLock }
 abbrev with_train : Dir → List ℕ → State → State
 with_train d body s = record s { trains = s.trains ++ record { dir = d; body = body } ∷ [] }
 
--- the numbers of the families that a state breaks
+-- The numbers of the violated families.
 abbrev broken : State → List ℕ
 broken s = filter (λ j. not (keeps station s j)) (1 ∷ 2 ∷ 3 ∷ 4 ∷ 5 ∷ 6 ∷ 7 ∷ 8 ∷ 9 ∷ [])
 
--- no family is broken at the start
 nothing_breaks : broken at_rest ≡ []
 nothing_breaks = refl
 
--- so the start meets the invariant
 start_meets : Meets station at_rest
 start_meets = record { shape = start-shape station; no_hazard = refl; families_kept = refl }
 
--- and so does a state in which a train has passed the source of route 0, and is sensed in its first section
+-- A train has passed the source of route 0, and is sensed in its first section.
 abbrev on_its_way : State
 on_its_way = with_route 0 Occupied 1 0 (locked (2 ∷ []) (used (1 ∷ []) (with_train Up (0 ∷ 1 ∷ []) at_rest)))
 
@@ -112,179 +110,150 @@ on_its_way_meets = record {
   families_kept = refl;
 }
 
--- V1
--- a route that is Free has seen a section
+-- V1.
 a_free_route_has_seen : broken (with_route 0 Free 1 0 at_rest) ≡ 1 ∷ []
 a_free_route_has_seen = refl
 
--- a route that is Free has released a section
 a_free_route_has_released : broken (with_route 0 Free 0 1 at_rest) ≡ 1 ∷ []
 a_free_route_has_released = refl
 
--- an Occupied route has released as many as it has seen
 all_seen_are_released : broken (with_route 0 Occupied 1 1 (locked (2 ∷ []) at_rest)) ≡ 1 ∷ []
 all_seen_are_released = refl
 
--- an Occupied route has seen more sections than its path has
 more_are_seen_than_there_are : broken (with_route 0 Occupied 3 0 (used (1 ∷ 2 ∷ []) at_rest)) ≡ 1 ∷ []
 more_are_seen_than_there_are = refl
 
--- an Occupied route has seen one more than it has released, and its path is no longer than that: kept
+-- Seen is one more than released, and is the whole path.
 one_is_seen : broken (with_route 0 Occupied 2 1 (used (2 ∷ []) at_rest)) ≡ []
 one_is_seen = refl
 
--- V2
--- two routes hold section 1, both in their paths
+-- V2.
 both_have_it_in_their_paths : broken (with_route 4 Allocating 0 0 (with_route 0 Allocating 0 0 (locked (0 ∷ 1 ∷ 2 ∷ []) at_rest))) ≡ 2 ∷ []
 both_have_it_in_their_paths = refl
 
--- two routes hold section 4, one of them in its overlap
 one_has_it_in_its_overlap : broken (with_route 2 Allocating 0 0 (with_route 1 Allocating 0 0 (with_point 0 LiesPlus Minus (locked (1 ∷ 3 ∷ 4 ∷ 5 ∷ []) at_rest)))) ≡ 2 ∷ []
 one_has_it_in_its_overlap = refl
 
--- two routes hold section 4, for one of them it is a protecting point
 one_is_protected_by_its_point : broken (with_route 3 Allocating 0 0 (with_route 2 Allocating 0 0 (locked (1 ∷ 2 ∷ 4 ∷ 5 ∷ []) at_rest))) ≡ 2 ∷ []
 one_is_protected_by_its_point = refl
 
--- section 1, which is in both paths, is released by one of them: kept
+-- Section 1 is in both paths, and one route has released it.
 a_released_section_is_not_held : broken (with_route 4 Allocating 0 0 (with_route 0 Occupied 2 1 (locked (0 ∷ 1 ∷ []) (used (2 ∷ []) at_rest)))) ≡ []
 a_released_section_is_not_held = refl
 
--- of two routes with section 1 in their paths one is only Marked: kept
 a_marked_route_holds_nothing : broken (with_route 4 Marked 0 0 (with_route 0 Allocating 0 0 (locked (1 ∷ 2 ∷ []) at_rest))) ≡ []
 a_marked_route_holds_nothing = refl
 
--- V3
--- a section of the path that is seen has lock Locked
+-- V3.
 a_seen_section_is_not_used : broken (with_route 0 Occupied 1 0 (locked (1 ∷ 2 ∷ []) at_rest)) ≡ 3 ∷ []
 a_seen_section_is_not_used = refl
 
--- a section of the path that is not seen has lock Used
 an_unseen_section_is_not_locked : broken (with_route 0 Occupied 1 0 (used (1 ∷ 2 ∷ []) at_rest)) ≡ 3 ∷ []
 an_unseen_section_is_not_locked = refl
 
--- a section of the overlap has lock Free
 an_overlap_is_not_locked : broken (with_route 1 Allocating 0 0 (with_point 0 LiesPlus Minus (locked (1 ∷ 3 ∷ []) at_rest))) ≡ 3 ∷ []
 an_overlap_is_not_locked = refl
 
--- the section of a protecting point has lock Free
 a_protecting_point_is_not_locked : broken (with_route 3 Allocating 0 0 (locked (1 ∷ 2 ∷ []) at_rest)) ≡ 3 ∷ []
 a_protecting_point_is_not_locked = refl
 
--- V4
--- a train stands on the path of an Allocating route
+-- V4.
 an_allocating_route_has_a_train : broken (with_route 0 Allocating 0 0 (locked (1 ∷ 2 ∷ []) (with_train Up (2 ∷ []) at_rest))) ≡ 4 ∷ []
 an_allocating_route_has_a_train = refl
 
--- one stands on its overlap alone: kept
 an_overlap_may_have_a_train : broken (with_route 1 Allocating 0 0 (with_point 0 LiesPlus Minus (locked (1 ∷ 3 ∷ 4 ∷ []) (with_train Down (5 ∷ 4 ∷ []) at_rest)))) ≡ 7 ∷ 8 ∷ []
 an_overlap_may_have_a_train = refl
 
--- V5
--- a board is Open, and no route is Locked
+-- V5.
 no_route_opens_it : broken (with_open 0 at_rest) ≡ 5 ∷ []
 no_route_opens_it = refl
 
--- an Open board is the source of an Occupied route
 its_route_is_occupied : broken (with_route 0 Occupied 1 0 (with_open 0 (locked (2 ∷ []) (used (1 ∷ []) at_rest)))) ≡ 5 ∷ []
 its_route_is_occupied = refl
 
--- two boards are Open, and one Locked route has one of them as its source
+-- Two boards are Open; only one is the source of a Locked route.
 it_is_no_source_of_the_route : broken (with_route 0 Locked 0 0 (with_open 2 (with_open 0 (locked (1 ∷ 2 ∷ []) at_rest)))) ≡ 5 ∷ []
 it_is_no_source_of_the_route = refl
 
--- a train stands on the path of the Locked route
 the_path_has_a_train : broken (with_route 0 Locked 0 0 (with_open 0 (locked (1 ∷ 2 ∷ []) (with_train Up (2 ∷ []) at_rest)))) ≡ 5 ∷ []
 the_path_has_a_train = refl
 
--- an Open board is the source of a Locked route whose path is vacant: kept
 its_route_is_locked : broken (with_route 0 Locked 0 0 (with_open 0 (locked (1 ∷ 2 ∷ []) at_rest))) ≡ []
 its_route_is_locked = refl
 
--- V6
--- the point of an Allocating path is commanded elsewhere
+-- V6.
 an_allocating_route_has_not_commanded : broken (with_route 0 Allocating 0 0 (with_point 0 LiesPlus Minus (locked (1 ∷ 2 ∷ []) at_rest))) ≡ 6 ∷ []
 an_allocating_route_has_not_commanded = refl
 
--- the point of a Locked path lies at its position, and is commanded elsewhere
 a_locked_point_is_commanded_elsewhere : broken (with_route 0 Locked 0 0 (with_point 0 LiesPlus Minus (with_open 0 (locked (1 ∷ 2 ∷ []) at_rest)))) ≡ 6 ∷ []
 a_locked_point_is_commanded_elsewhere = refl
 
--- the point of a Locked path is commanded to its position, and lies elsewhere
 a_locked_point_lies_elsewhere : broken (with_route 0 Locked 0 0 (with_point 0 LiesMinus Plus (with_open 0 (locked (1 ∷ 2 ∷ []) at_rest)))) ≡ 6 ∷ []
 a_locked_point_lies_elsewhere = refl
 
--- the point of an Occupied path moves
 an_occupied_point_moves : broken (with_route 0 Occupied 1 0 (with_point 0 Moving Plus (locked (2 ∷ []) (used (1 ∷ []) at_rest)))) ≡ 6 ∷ []
 an_occupied_point_moves = refl
 
--- the point is released, and so not held any more: kept
 a_released_point_may_lie_elsewhere : broken (with_route 0 Occupied 2 1 (with_point 0 LiesMinus Minus (used (2 ∷ []) at_rest))) ≡ []
 a_released_point_may_lie_elsewhere = refl
 
--- a listed point of the overlap is not asked, nor where a point of an Allocating path lies: kept
+-- Overlap points aren't checked, nor detected positions for an Allocating route.
 an_overlap_point_may_lie_elsewhere : broken (with_route 1 Allocating 0 0 (with_point 0 LiesPlus Minus (locked (1 ∷ 3 ∷ 4 ∷ []) at_rest))) ≡ []
 an_overlap_point_may_lie_elsewhere = refl
 
--- V7
--- the head is on the path of an Occupied route, all behind it is seen, and all before it is vacant: kept
+-- V7.
 an_occupied_route_leads : broken (with_route 0 Occupied 1 0 (locked (2 ∷ []) (used (1 ∷ []) (with_train Up (0 ∷ 1 ∷ []) at_rest)))) ≡ []
 an_occupied_route_leads = refl
 
--- the head has just closed the source of a Locked route: kept
+-- The head has just closed the source of a Locked route.
 a_locked_route_leads : broken (with_route 0 Locked 0 0 (locked (1 ∷ 2 ∷ []) (with_train Up (0 ∷ 1 ∷ []) at_rest))) ≡ []
 a_locked_route_leads = refl
 
--- the head is on no path of a route that is set: neither is its section kept for it
+-- The head is on no path of a set route, so its section isn't kept either.
 no_route_leads : broken (with_train Up (1 ∷ []) at_rest) ≡ 7 ∷ 8 ∷ []
 no_route_leads = refl
 
--- the source of the Locked route is Open: it has a train on its path, too
+-- V5 is violated too, by the train on the path.
 the_source_is_open : broken (with_route 0 Locked 0 0 (with_open 0 (locked (1 ∷ 2 ∷ []) (with_train Up (0 ∷ 1 ∷ []) at_rest)))) ≡ 5 ∷ 7 ∷ []
 the_source_is_open = refl
 
--- the route runs in the other direction: neither is the section kept for the train
+-- The section isn't kept for the train either.
 the_route_runs_the_other_way : broken (with_route 4 Occupied 1 0 (locked (0 ∷ []) (used (1 ∷ []) (with_train Up (1 ∷ []) at_rest)))) ≡ 7 ∷ 8 ∷ []
 the_route_runs_the_other_way = refl
 
--- the route is Allocating: it has a train on its path, and does not keep the section for it
+-- V4 is violated too, by the train on the path, and V8.
 the_route_is_allocating : broken (with_route 0 Allocating 0 0 (locked (1 ∷ 2 ∷ []) (with_train Up (1 ∷ []) at_rest))) ≡ 4 ∷ 7 ∷ 8 ∷ []
 the_route_is_allocating = refl
 
--- the route has seen a section beyond the head
+-- The route has seen a section beyond the head.
 more_is_seen : broken (with_route 0 Occupied 2 0 (used (1 ∷ 2 ∷ []) (with_train Up (1 ∷ []) at_rest))) ≡ 7 ∷ []
 more_is_seen = refl
 
--- a later section of the path has another train. Route 1 has the head on its path too, and what is beyond it is vacant, but it is Free: the parts have to hold of one route
+-- A later section of the path has another train. Route 1 also has the head on its path, with a
+-- vacant rest, but is Free: all conditions must hold for one route.
 a_later_section_has_a_train : broken (with_route 0 Occupied 1 0 (locked (2 ∷ []) (used (1 ∷ []) (with_train Up (2 ∷ []) (with_train Up (0 ∷ 1 ∷ []) at_rest))))) ≡ 7 ∷ []
 a_later_section_has_a_train = refl
 
--- V8
--- section 1 of the body is on the path of an Occupied route that has not released it: kept
+-- V8.
 an_occupied_route_keeps_it : broken (with_route 0 Occupied 2 0 (used (1 ∷ 2 ∷ []) (with_train Up (1 ∷ 2 ∷ []) at_rest))) ≡ []
 an_occupied_route_keeps_it = refl
 
--- the route has released it
 it_is_released : broken (with_route 0 Occupied 2 1 (used (2 ∷ []) (with_train Up (1 ∷ 2 ∷ []) at_rest))) ≡ 8 ∷ []
 it_is_released = refl
 
--- no route is set
 no_route_keeps_it : broken (with_train Up (1 ∷ 2 ∷ []) at_rest) ≡ 8 ∷ []
 no_route_keeps_it = refl
 
--- the route runs in the other direction
 the_route_that_keeps_it_runs_the_other_way : broken (with_route 4 Occupied 1 0 (locked (0 ∷ []) (used (1 ∷ []) (with_train Up (1 ∷ 2 ∷ []) at_rest)))) ≡ 8 ∷ []
 the_route_that_keeps_it_runs_the_other_way = refl
 
--- the route is Allocating: it has a train on its path, too
+-- V4 is violated too, by the train on the path.
 the_route_that_keeps_it_is_allocating : broken (with_route 0 Allocating 0 0 (locked (1 ∷ 2 ∷ []) (with_train Up (1 ∷ 2 ∷ []) at_rest))) ≡ 4 ∷ 8 ∷ []
 the_route_that_keeps_it_is_allocating = refl
 
--- V9
--- two routes are Locked, and the source of one is a protecting board of the other
+-- V9.
 a_protecting_board_is_open : broken (with_route 2 Locked 0 0 (with_route 0 Locked 0 0 (with_open 2 (with_open 0 (locked (1 ∷ 2 ∷ 4 ∷ 5 ∷ []) at_rest))))) ≡ 9 ∷ []
 a_protecting_board_is_open = refl
 
--- the route with the protecting board is Occupied: kept
 an_occupied_route_does_not_ask : broken (with_route 2 Occupied 1 0 (with_route 0 Locked 0 0 (with_open 0 (locked (1 ∷ 2 ∷ 5 ∷ []) (used (4 ∷ []) at_rest))))) ≡ []
 an_occupied_route_does_not_ask = refl

@@ -1,4 +1,4 @@
--- The least family that a state breaks, worked by computing.
+-- The first family that a state violates, by computation.
 use Rattle.std.proofs.Common.{◌≡◌, Some, None, [], ◌∷◌, option_map, set, refl}
 use Rattle.ilk_plant.specs.Plant.{PlantLists}
 use Rattle.ilk_plant.specs.Start.{start}
@@ -10,20 +10,20 @@ use Rattle.ilk_plant.specs.declared.state.RouteState.{RouteState}
 use Rattle.ilk_plant.specs.declared.state.State.{State}
 use Rattle.ilk_motion.specs.TwoSections.{two_sections}
 use Rattle.ilk_routes.specs.Locks.{with_locks}
-use Rattle.ilk_model.specs.Meets.{least_broken}
+use Rattle.ilk_model.specs.Meets.{least_broken_family}
 use Rattle.ilk_model.specs.Run.{run}
 use Rattle.ilk_model.specs.declared.event.Event.TheVariants.{Enter}
 use Rattle.ilk_model.proofs.Examples.{station}
 
--- two sections without boards: nothing is broken at the start. A train that has entered is on no path of a route: its head
--- breaks V7, and its body V8
-nothing_at_the_start : least_broken two_sections (start two_sections) ≡ None
+-- Two sections without boards. A train that has entered is on no route's path: its head violates
+-- V7, its body V8.
+nothing_at_the_start : least_broken_family two_sections (start two_sections) ≡ None
 nothing_at_the_start = refl
 
-one_has_entered : option_map (least_broken two_sections) (run two_sections (start two_sections) (Enter 0 ∷ [])) ≡ Some (Some 7)
+one_has_entered : option_map (least_broken_family two_sections) (run two_sections (start two_sections) (Enter 0 ∷ [])) ≡ Some (Some 7)
 one_has_entered = refl
 
--- the station, where the route from track t1 to b2 has the board on b1 among its protecting boards
+-- The station, but the route from track t1 to b2 has the board on b1 as a protecting board.
 abbrev protected : PlantLists
 protected = record station {
   routes = set station.routes 2 (record {
@@ -41,7 +41,7 @@ protected = record station {
 abbrev locked_route : RouteState
 locked_route = record { mode = Locked; seen = 0; rel = 0 }
 
--- that route and the one from b1 to t1 are Locked, and their sources are Open
+-- That route and the one from b1 to t1 are Locked, and their sources are Open.
 abbrev both_are_locked : State
 both_are_locked = record (start protected) {
   routes = set (set (start protected).routes 0 locked_route) 2 locked_route;
@@ -49,9 +49,8 @@ both_are_locked = record (start protected) {
   locks = with_locks (start protected).locks (1 ∷ 2 ∷ 4 ∷ 5 ∷ []) LockedLock;
 }
 
-the_board_on_b1_is_open : least_broken protected both_are_locked ≡ Some 9
+the_board_on_b1_is_open : least_broken_family protected both_are_locked ≡ Some 9
 the_board_on_b1_is_open = refl
 
--- without the protecting board nothing is broken
-no_board_is_protecting : least_broken station both_are_locked ≡ None
+no_board_is_protecting : least_broken_family station both_are_locked ≡ None
 no_board_is_protecting = refl

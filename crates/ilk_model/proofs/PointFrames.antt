@@ -1,5 +1,5 @@
--- What throw and settle leave alone: a law for each, which has what was asked, what the event changes, and
--- says of every other list of the state that it is as it was.
+-- Frame theorems of throw and settle: what each requires, what it changes, and that nothing else
+-- changes.
 use Rattle.std.proofs.Common.{◌≡◌, ℕ, true, false, not, Some, set, slice_get, refl}
 use Rattle.std.proofs.lemmas.Bool.{and_parts}
 use Rattle.std.proofs.lemmas.Option.{cond_some, option_and_then_some}
@@ -8,19 +8,19 @@ use Rattle.ilk_plant.specs.Plant.{PlantLists, point_number}
 use Rattle.ilk_plant.specs.declared.state.Lie.TheVariants.{Moving}
 use Rattle.ilk_plant.specs.declared.state.PointState.{PointState}
 use Rattle.ilk_plant.specs.declared.state.State.{State}
-use Rattle.ilk_routes.specs.Lies.{is_moving, lie_in, lies_at}
+use Rattle.ilk_routes.specs.Lies.{is_moving, lie_from_position, is_lie_at_position}
 use Rattle.ilk_routes.specs.Points.{after_settle, after_throw}
 use Rattle.ilk_model.proofs.SameLists.{same-lists}
 
--- throw x: the point on x didn't move, and didn't lie where it is commanded; routes, boards, locks and trains stay, all
--- other points, and where points are commanded
+-- `throw x`: the point on x was neither moving nor in its commanded position. Only its detected
+-- position changes.
 pub record IsThrown (p : PlantLists) (s t : State) (x : ℕ) : Type 0 where
   pub n : ℕ
   pub point : PointState
   pub number : point_number p x ≡ Some n
   pub state : slice_get s.points n ≡ Some point
   pub still : is_moving point.at ≡ false
-  pub elsewhere : lies_at point.at point.to ≡ false
+  pub elsewhere : is_lie_at_position point.at point.to ≡ false
   pub routes : t.routes ≡ s.routes
   pub points : t.points ≡ set s.points n (record point { at = Moving })
   pub boards : t.boards ≡ s.boards
@@ -33,14 +33,14 @@ throw-frame p s t x e =
     option_and_then_some _ (slice_get s.points n) t e1 (λ point state e2.
     let done = cond_some _ _ t e2 in
     let same = same-lists _ t done.1 in
-    let asked = and_parts (not (is_moving point.at)) (not (lies_at point.at point.to)) done.0 in
+    let asked = and_parts (not (is_moving point.at)) (not (is_lie_at_position point.at point.to)) done.0 in
     record {
       n = n;
       point = point;
       number = number;
       state = state;
       still = fails (is_moving point.at) asked.0;
-      elsewhere = fails (lies_at point.at point.to) asked.1;
+      elsewhere = fails (is_lie_at_position point.at point.to) asked.1;
       routes = same.routes;
       points = same.points;
       boards = same.boards;
@@ -48,7 +48,7 @@ throw-frame p s t x e =
       trains = same.trains;
     }))
 
--- settle x: the point on x moved; routes, boards, locks and trains stay, all other points, and where points are commanded
+-- `settle x`: the point on x was moving. Only its detected position changes.
 pub record IsSettled (p : PlantLists) (s t : State) (x : ℕ) : Type 0 where
   pub n : ℕ
   pub point : PointState
@@ -56,7 +56,7 @@ pub record IsSettled (p : PlantLists) (s t : State) (x : ℕ) : Type 0 where
   pub state : slice_get s.points n ≡ Some point
   pub moved : is_moving point.at ≡ true
   pub routes : t.routes ≡ s.routes
-  pub points : t.points ≡ set s.points n (record point { at = lie_in point.to })
+  pub points : t.points ≡ set s.points n (record point { at = lie_from_position point.to })
   pub boards : t.boards ≡ s.boards
   pub locks : t.locks ≡ s.locks
   pub trains : t.trains ≡ s.trains

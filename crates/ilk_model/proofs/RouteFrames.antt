@@ -1,5 +1,5 @@
--- What each event of a route leaves alone: one law for each. It has what was asked, what the event changes,
--- and says of every other list of the state that it is as it was.
+-- Frame theorems of route events: what each requires, what it changes, and that nothing else
+-- changes.
 use Rattle.std.proofs.Common.{◌≡◌, ℕ, ◌+◌, ◌≤◌, true, false, not, ◌==◌, ◌&&◌, ◌||◌, Some, None, List, length, nat_le, set, slice_get, refl, sym, ◌∙◌, arith}
 use Rattle.std.specs.Prelude.{if◌then◌else◌}
 use Rattle.std.specs.List.{last_or, list_all}
@@ -17,23 +17,23 @@ use Rattle.ilk_plant.specs.declared.state.Mode.TheVariants.{Free, Marked, Alloca
 use Rattle.ilk_plant.specs.declared.state.RouteState.{RouteState}
 use Rattle.ilk_plant.specs.declared.state.State.{State}
 use Rattle.ilk_plant.specs.declared.table.Route.{Route}
-use Rattle.ilk_routes.specs.Boards.{has_aspect, is_protecting}
-use Rattle.ilk_routes.specs.Claims.{sections_beside, wanted_points}
-use Rattle.ilk_routes.specs.Lies.{lies_as_listed, with_commands}
+use Rattle.ilk_routes.specs.Boards.{has_aspect, is_held_closed}
+use Rattle.ilk_routes.specs.Claims.{sections_beside_path, required_points}
+use Rattle.ilk_routes.specs.Lies.{is_detected_as_listed, with_commands}
 use Rattle.ilk_routes.specs.Locks.{with_locks}
 use Rattle.ilk_routes.specs.Modes.{same_mode}
-use Rattle.ilk_routes.specs.Routes.{after_allocate, after_cancel, after_finish, after_lock, after_mark, after_release, after_sense, can_claim, can_lock}
+use Rattle.ilk_routes.specs.Routes.{after_allocate, after_cancel, after_finish, after_lock, after_mark, after_release, after_sense, can_reserve_sections, can_lock}
 use Rattle.ilk_model.specs.Holding.{is_locked_or_occupied}
 use Rattle.ilk_model.proofs.Alike.{one_mode}
 use Rattle.ilk_model.proofs.SameLists.{same-lists}
 
--- from s to t the state of route r changes, from `now` to `new`, and that of no other route
+-- From s to t only the state of route r changes among the routes, from `now` to `new`.
 pub record ChangesRoute (p : PlantLists) (s t : State) (r : ℕ) (route : Route) (now new : RouteState) : Type 0 where
   pub known : slice_get p.routes r ≡ Some route
   pub state : slice_get s.routes r ≡ Some now
   pub routes : t.routes ≡ set s.routes r new
 
--- mark r: r was Free; points, boards, locks and trains stay
+-- `mark r`: r was Free. Points, boards, locks and trains don't change.
 pub record IsMarked (p : PlantLists) (s t : State) (r : ℕ) : Type 0 where
   pub route : Route
   pub now : RouteState
@@ -61,14 +61,15 @@ mark-frame p s t r e =
       trains = same.trains;
     }))
 
--- allocate r: r was Marked, and its sections had lock Free and were vacant; boards and trains stay, and how points lie
+-- `allocate r`: r was Marked, and its sections had lock Free and were vacant. Boards, trains and
+-- detected positions don't change.
 pub record IsAllocated (p : PlantLists) (s t : State) (r : ℕ) : Type 0 where
   pub route : Route
   pub now : RouteState
   pub changes : ChangesRoute p s t r route now (record now { mode = Allocating })
   pub was : now.mode ≡ Marked
   pub clear : list_all (is_clear s) (sections_locked_for route) ≡ true
-  pub points : t.points ≡ with_commands p s.points (wanted_points route)
+  pub points : t.points ≡ with_commands p s.points (required_points route)
   pub boards : t.boards ≡ s.boards
   pub locks : t.locks ≡ with_locks s.locks (sections_locked_for route) LockedLock
   pub trains : t.trains ≡ s.trains
@@ -79,7 +80,7 @@ allocate-frame p s t r e =
     option_and_then_some _ (slice_get s.routes r) t e1 (λ now state e2.
     let done = cond_some _ _ t e2 in
     let same = same-lists _ t done.1 in
-    let asked = and_parts (same_mode now.mode Marked) (can_claim s route) done.0 in
+    let asked = and_parts (same_mode now.mode Marked) (can_reserve_sections s route) done.0 in
     record {
       route = route;
       now = now;
@@ -92,16 +93,17 @@ allocate-frame p s t r e =
       trains = same.trains;
     }))
 
--- lock r: r was Allocating, its points lay as listed, its protecting boards were Closed, and no Locked route had its source
--- among its protecting boards; points, locks and trains stay, and all boards but the source
+-- `lock r`: r was Allocating, its points were in position, its protecting boards were Closed, and
+-- its source was not a protecting board of a Locked route. Points, locks, trains and other boards
+-- don't change.
 pub record IsLocked (p : PlantLists) (s t : State) (r : ℕ) : Type 0 where
   pub route : Route
   pub now : RouteState
   pub changes : ChangesRoute p s t r route now (record now { mode = Locked })
   pub was : now.mode ≡ Allocating
-  pub lie : list_all (lies_as_listed p s) (wanted_points route) ≡ true
+  pub lie : list_all (is_detected_as_listed p s) (required_points route) ≡ true
   pub closed : list_all (λ m. has_aspect s m Closed) route.protecting_boards ≡ true
-  pub unprotecting : is_protecting p s route.source ≡ false
+  pub unprotecting : is_held_closed p s route.source ≡ false
   pub points : t.points ≡ s.points
   pub boards : t.boards ≡ set s.boards route.source Open
   pub locks : t.locks ≡ s.locks
@@ -114,9 +116,9 @@ lock-frame p s t r e =
     let done = cond_some _ _ t e2 in
     let same = same-lists _ t done.1 in
     let asked = and_parts (same_mode now.mode Allocating) (can_lock p s route) done.0 in
-    let lie = list_all (lies_as_listed p s) (wanted_points route) in
+    let lie = list_all (is_detected_as_listed p s) (required_points route) in
     let closed = list_all (λ m. has_aspect s m Closed) route.protecting_boards in
-    let parts = and_parts (lie && closed) (not (is_protecting p s route.source)) asked.1 in
+    let parts = and_parts (lie && closed) (not (is_held_closed p s route.source)) asked.1 in
     let both = and_parts lie closed parts.0 in
     record {
       route = route;
@@ -125,15 +127,15 @@ lock-frame p s t r e =
       was = one_mode now.mode Allocating asked.0;
       lie = both.0;
       closed = both.1;
-      unprotecting = fails (is_protecting p s route.source) parts.1;
+      unprotecting = fails (is_held_closed p s route.source) parts.1;
       points = same.points;
       boards = same.boards;
       locks = same.locks;
       trains = same.trains;
     }))
 
--- sense r: r was Locked or Occupied, and x, the path section after the seen ones, was occupied and had lock Locked; points
--- and trains stay, all locks but that of x, and all boards but the source
+-- `sense r`: r was Locked or Occupied, and x, the first path section not yet seen, was occupied and
+-- had lock Locked. Points, trains, other locks and boards other than the source don't change.
 pub record IsSensed (p : PlantLists) (s t : State) (r : ℕ) : Type 0 where
   pub route : Route
   pub now : RouteState
@@ -172,8 +174,9 @@ sense-frame p s t r e =
       trains = same.trains;
     })))
 
--- release r: r was Occupied, at least two more were seen than released, and x, the path section after the released ones, was
--- vacant and had lock Used; points, boards and trains stay, and all locks but that of x
+-- `release r`: r was Occupied with at least two more seen than released. Section x, the first one
+-- not yet released, was vacant and had lock Used. Points, boards, trains and other locks don't
+-- change.
 pub record IsReleased (p : PlantLists) (s t : State) (r : ℕ) : Type 0 where
   pub route : Route
   pub now : RouteState
@@ -219,14 +222,14 @@ release-frame p s t r e =
     at_most : (n m : ℕ) → nat_le n m ≡ true → n ≤ m
     at_most n m h = grind (arith, nat_tests)
 
--- the last of a list, by its place
 last-place : (xs : List ℕ) (n x : ℕ) → n + 1 ≡ length xs → last_or None xs ≡ Some x → slice_get xs n ≡ Some x
 last-place xs n x count last =
     let item = item_at xs n (omega (arith, count)) in
     item.1 ∙ sym (last_or-at None xs n item.0 count item.1) ∙ last
 
--- finish r: r was Occupied, its whole path was seen, and all of it but its last section x was released; points, boards and
--- trains stay, and all locks but those of x and of the sections beside the path
+-- `finish r`: r was Occupied, its whole path was seen, and all of it except its last section x was
+-- released. Points, boards, trains, and locks other than those of x, overlap and protecting points
+-- don't change.
 pub record IsFinished (p : PlantLists) (s t : State) (r : ℕ) : Type 0 where
   pub route : Route
   pub now : RouteState
@@ -238,7 +241,7 @@ pub record IsFinished (p : PlantLists) (s t : State) (r : ℕ) : Type 0 where
   pub last : slice_get route.path now.rel ≡ Some x
   pub points : t.points ≡ s.points
   pub boards : t.boards ≡ s.boards
-  pub locks : t.locks ≡ with_locks (set s.locks x FreeLock) (sections_beside route) FreeLock
+  pub locks : t.locks ≡ with_locks (set s.locks x FreeLock) (sections_beside_path route) FreeLock
   pub trains : t.trains ≡ s.trains
 
 pub finish-frame : (p : PlantLists) (s t : State) (r : ℕ) → after_finish p s r ≡ Some t → IsFinished p s t r
@@ -266,7 +269,8 @@ finish-frame p s t r e =
       trains = same.trains;
     })))
 
--- cancel r: r was Marked or Allocating; points, boards and trains stay, and all locks unless r was Allocating
+-- `cancel r`: r was Marked or Allocating. Points, boards and trains don't change, nor locks unless
+-- r was Allocating.
 pub record IsCancelled (p : PlantLists) (s t : State) (r : ℕ) : Type 0 where
   pub route : Route
   pub now : RouteState

@@ -1,8 +1,7 @@
--- Two states that are one have the same lists.
+-- Equal states have the same lists.
 use Rattle.std.proofs.Common.{◌≡◌, refl, sym, ap}
 use Rattle.ilk_plant.specs.declared.state.State.{State}
 
--- two states that are one have the same lists
 pub record SameLists (s t : State) : Type 0 where
   pub routes : t.routes ≡ s.routes
   pub points : t.points ≡ s.points

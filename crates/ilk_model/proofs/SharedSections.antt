@@ -1,4 +1,4 @@
--- Sections as bits: those of a body, and those that two or more trains have.
+-- Sections as bits: those of a body, and those that two or more trains occupy.
 use Rattle.std.proofs.Common.{◌≡◌, ◌≢◌, ℕ, zero, suc, ◌+◌, ◌-◌, ◌*◌, ◌%◌, ◌^◌, ◌<◌, ◌≤◌, Bool, true, false, ◌==◌, ◌&&◌, ◌||◌, cond, List, count_by, get_or, length, max, min, nat_lt, take, refl, sym, ap, ◌∙◌, arith, subst}
 use Rattle.std.specs.Int.{bit_at, w128}
 use Rattle.std.specs.Int.Bits.{bit_and, bit_or}
@@ -12,7 +12,6 @@ use Rattle.ilk_plant.specs.Network.{has_section}
 use Rattle.ilk_model.specs.Shared.{is_shared}
 use Rattle.ilk_model.specs.declared.shared.SharedSections.{SharedSections}
 
--- the bit of a test
 abbrev pub bit : Bool → ℕ
 bit b = cond b 1 0
 
@@ -20,7 +19,6 @@ pub bit-test : (b : Bool) → (bit b == 1) ≡ b
 bit-test true = refl
 bit-test false = refl
 
--- a bit tells whether it is 1
 pub bit-own : (bits x : ℕ) → bit_at bits x ≡ bit (bit_at bits x == 1)
 bit-own bits x = by_value (bit_at bits x) (bit_at-lt bits x)
   where
@@ -29,12 +27,10 @@ bit-own bits x = by_value (bit_at bits x) (bit_at-lt bits x)
     by_value (suc zero) small = refl
     by_value (suc (suc b)) small = absurd (omega arith)
 
--- a bit of a list with one more item
 pub bit_more : (bits new x : ℕ) (had this : Bool) → bit_at bits x ≡ bit had → bit_at new x ≡ bit ((bit_at bits x == 1) || this) → bit_at new x ≡ bit (had || this)
 bit_more bits new x had this before more =
     more ∙ ap (λ b. bit ((b == 1) || this)) before ∙ ap (λ b. bit (b || this)) (bit-test had)
 
--- one more section is set
 pub bit_set : (bits y x : ℕ) (h : Bool) → y < 128 → bit_at bits x ≡ bit h → bit_at (bit_or bits (1 * 2 ^ y % 2 ^ 128)) x ≡ bit (h || (y == x))
 bit_set bits y x h below e = by_test (y == x) refl
   where
@@ -46,13 +42,11 @@ bit_set bits y x h below e = by_test (y == x) refl
         let other : x ≢ y = λ equal. (let wrong : (y == x) ≡ true = (Decides-eqb y x).1 (sym equal) in absurd (cc)) in
         bit_at_set_other w128 bits y below x other ∙ e ∙ ap bit (sym (or-false h))
 
--- a section that is none
 pub bit_kept : (bits y x : ℕ) (h : Bool) → 128 ≤ y → x < 128 → bit_at bits x ≡ bit h → bit_at bits x ≡ bit (h || (y == x))
 bit_kept bits y x h past below e =
     let differs : (y == x) ≡ false = grind (arith, nat_tests) in
     e ∙ ap bit (sym (or-false h)) ∙ ap (λ b. bit (h || b)) (sym differs)
 
--- the sections of a list with one more
 pub has_more : (x : ℕ) (sections : List ℕ) (i d : ℕ) → i < length sections → has_section x (take (i + 1) sections) ≡ (has_section x (take i sections) || (get_or sections i d == x))
 has_more x sections i d within = list_any_more (λ y. y == x) sections i d within
 
@@ -62,7 +56,6 @@ max_bits true false = refl
 max_bits false true = refl
 max_bits false false = refl
 
--- the bits of two lists together
 pub bit_either : (left right x : ℕ) (a b : Bool) → bit_at left x ≡ bit a → bit_at right x ≡ bit b → bit_at (bit_or left right) x ≡ bit (a || b)
 bit_either left right x a b own other = bit_at_or left right x ∙ (λ j. max (own j) (other j)) ∙ max_bits a b
 
@@ -72,7 +65,6 @@ min_bits true false = refl
 min_bits false true = refl
 min_bits false false = refl
 
--- whether there is one, and whether there are two, with one more
 some_more : (c : ℕ) → (nat_lt 0 c || true) ≡ nat_lt 0 (c + 1)
 some_more c = let more : nat_lt 0 (c + 1) ≡ true = grind (arith, nat_tests) in or-true (nat_lt 0 c) ∙ sym more
 
@@ -89,7 +81,7 @@ two_same true b = refl
 two_same false true = refl
 two_same false false = refl
 
--- the bits after a train that has the section, or hasn't, among the first trains
+-- The bits after one more train.
 module _ {T : Type 0} (has : T → Bool) (trains : List T) (i : ℕ) (d : T) (within : i < length trains) (x seen shared body : ℕ)
     (before : bit_at seen x ≡ bit (nat_lt 0 (count_by has (take i trains))))
     (twice : bit_at shared x ≡ bit (nat_lt 1 (count_by has (take i trains))))
@@ -111,7 +103,7 @@ module _ {T : Type 0} (has : T → Bool) (trains : List T) (i : ℕ) (d : T) (wi
       by_test true e = ap bit (two_more (count_by has (take i trains)) ∙ ap (nat_lt 1) (sym (count_by_more_yes has trains i d within e)))
       by_test false e = ap bit (two_same (nat_lt 1 (count_by has (take i trains))) (nat_lt 0 (count_by has (take i trains))) ∙ ap (nat_lt 1) (sym (count_by_more_no has trains i d within e)))
 
--- where the low and the high bits are exact, all are
+-- All bits are exact if the low and the high ones are.
 pub shared_exact : (shared : SharedSections) (two : ℕ → Bool) → ((x : ℕ) → x < 128 → bit_at shared.low x ≡ bit (two (0 + x))) → ((x : ℕ) → x < 128 → bit_at shared.high x ≡ bit (two (128 + x))) → (x : ℕ) → x < 256 → is_shared shared x ≡ two x
 shared_exact shared two low high x within = by_test (nat_lt x 128) refl
   where

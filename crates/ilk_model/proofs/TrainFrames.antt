@@ -1,5 +1,5 @@
--- What each event of a train leaves alone: one law for each. It has what was asked, what the event changes,
--- and says of every other list of the state that it is as it was.
+-- Frame theorems of train events: what each requires, what it changes, and that nothing else
+-- changes.
 use Rattle.std.proofs.Common.{◌≡◌, ℕ, ◌+◌, true, false, not, Option, Some, None, List, [], ◌∷◌, ◌++◌, position, remove, set, slice_get, refl, ◌∙◌}
 use Rattle.std.proofs.lemmas.Bool.{and_parts}
 use Rattle.std.proofs.lemmas.Option.{cond_some, option_and_then_some, same_Some}
@@ -12,11 +12,12 @@ use Rattle.ilk_plant.specs.declared.state.Hold.TheVariants.{Free as FreeLock}
 use Rattle.ilk_plant.specs.declared.state.State.{State}
 use Rattle.ilk_plant.specs.declared.state.Train.{Train}
 use Rattle.ilk_motion.specs.Ahead.{ahead}
-use Rattle.ilk_motion.specs.Body.{has_head, has_tail_before_head, stands_on, train_on, with_new_head, without_tail}
+use Rattle.ilk_motion.specs.Body.{has_head, has_tail_before_head, occupies_only, new_train_on, with_new_head, without_tail}
 use Rattle.ilk_motion.specs.Trains.{after_enter, after_head, after_leave, after_tail, may_pass, with_board_closed}
 use Rattle.ilk_model.proofs.SameLists.{SameLists, same-lists}
 
--- enter x: x is a border, and was vacant, with lock Free; routes, points, boards and locks stay, and all trains
+-- `enter x`: x is a border, and was vacant with lock Free. Routes, points, boards, locks and the
+-- present trains don't change.
 pub record IsEntered (p : PlantLists) (s t : State) (x : ℕ) : Type 0 where
   pub inward : Dir
   pub borders : border p x ≡ Some inward
@@ -26,7 +27,7 @@ pub record IsEntered (p : PlantLists) (s t : State) (x : ℕ) : Type 0 where
   pub points : t.points ≡ s.points
   pub boards : t.boards ≡ s.boards
   pub locks : t.locks ≡ s.locks
-  pub trains : t.trains ≡ s.trains ++ train_on x inward ∷ []
+  pub trains : t.trains ≡ s.trains ++ new_train_on x inward ∷ []
 
 pub enter-frame : (p : PlantLists) (s t : State) (x : ℕ) → after_enter p s x ≡ Some t → IsEntered p s t x
 enter-frame p s t x e =
@@ -46,18 +47,16 @@ enter-frame p s t x e =
       trains = same.trains;
     })
 
--- closing a board leaves all else alone
 closed-lists : (board : Option ℕ) (s : State) → SameLists (record s { boards = (with_board_closed board s).boards }) (with_board_closed board s)
 closed-lists None s = record { routes = refl; points = refl; boards = refl; locks = refl; trains = refl }
 closed-lists (Some m) s = record { routes = refl; points = refl; boards = refl; locks = refl; trains = refl }
 
--- the boards, where trains alone change
 closed-boards : (board : Option ℕ) (s : State) (trains : List Train) → (with_board_closed board (record s { trains = trains })).boards ≡ (with_board_closed board s).boards
 closed-boards None s trains = refl
 closed-boards (Some m) s trains = refl
 
--- head x: train i had its head at x, y lay ahead, and it might pass the board; routes, points and locks stay, all other
--- trains, and all boards but the one at x
+-- `head x`: train i had its head at x, y was ahead, and it might pass the board. Routes, points,
+-- locks, other trains and boards other than that at x don't change.
 pub record IsHeaded (p : PlantLists) (s t : State) (x : ℕ) : Type 0 where
   pub i : ℕ
   pub train : Train
@@ -96,7 +95,8 @@ head-frame p s t x e =
       trains = same.trains ∙ closed.trains;
     })))
 
--- tail x: train i of two or more sections had its tail at x; routes, points, boards and locks stay, and all other trains
+-- `tail x`: train i of two or more sections had its tail at x. Routes, points, boards, locks and
+-- other trains don't change.
 pub record IsTailed (p : PlantLists) (s t : State) (x : ℕ) : Type 0 where
   pub i : ℕ
   pub train : Train
@@ -126,12 +126,13 @@ tail-frame p s t x e =
       trains = same.trains;
     })))
 
--- leave x: train i stood on x alone; routes, points, boards and locks stay, and all other trains
+-- `leave x`: x was the only section of train i. Routes, points, boards, locks and other trains
+-- don't change.
 pub record IsLeft (p : PlantLists) (s t : State) (x : ℕ) : Type 0 where
   pub i : ℕ
   pub train : Train
   pub at : slice_get s.trains i ≡ Some train
-  pub alone : stands_on x train ≡ true
+  pub alone : occupies_only x train ≡ true
   pub routes : t.routes ≡ s.routes
   pub points : t.points ≡ s.points
   pub boards : t.boards ≡ s.boards
@@ -141,14 +142,14 @@ pub record IsLeft (p : PlantLists) (s t : State) (x : ℕ) : Type 0 where
 pub leave-frame : (p : PlantLists) (s t : State) (x : ℕ) → after_leave p s x ≡ Some t → IsLeft p s t x
 leave-frame p s t x e =
     option_and_then_some _ (slice_get p.sections x) t e (λ section known e0.
-    option_and_then_some _ (position (stands_on x) s.trains) t e0 (λ i first e1.
+    option_and_then_some _ (position (occupies_only x) s.trains) t e0 (λ i first e1.
     option_and_then_some _ (slice_get s.trains i) t e1 (λ train at e2.
     let same = same-lists _ t (cond_some _ _ t e2).1 in
     record {
       i = i;
       train = train;
       at = at;
-      alone = position-at (stands_on x) s.trains i train first at;
+      alone = position-at (occupies_only x) s.trains i train first at;
       routes = same.routes;
       points = same.points;
       boards = same.boards;

@@ -1,4 +1,4 @@
--- The table of events: the state that follows an event, where it is enabled, and none where it isn't.
+-- The table of events: the next state if the event is enabled, otherwise `None`.
 use Rattle.std.specs.Prelude.{Option}
 use Rattle.ilk_plant.specs.Plant.{PlantLists}
 use Rattle.ilk_plant.specs.declared.state.State.{State}

@@ -1,4 +1,4 @@
--- The words of events, by which run texts are written and read.
+-- The words of events in run texts.
 use Rattle.std.specs.Prelude.{ℕ, List, codes}
 use Rattle.ilk_model.specs.declared.event.Event.{Event}
 use Rattle.ilk_model.specs.declared.event.Event.TheVariants.{Mark, Allocate, Lock, Sense, Release, Finish, Throw, Settle, Enter, Head, Tail, Leave, Cancel}

@@ -1,4 +1,4 @@
--- The invariant: what a state has that has the shape, no hazard, and breaks no family.
+-- The invariant: the state is well-formed, has no hazard, and violates no family.
 use Rattle.std.specs.Prelude.{ℕ, ◌-◌, ◌≡◌, Bool, not, Option, None, List, [], ◌∷◌, IsTrue, find, length, slice_get}
 use Rattle.std.specs.List.{list_all, range_with_len}
 use Rattle.ilk_base.specs.Option.{is_some_and}
@@ -8,23 +8,23 @@ use Rattle.ilk_plant.specs.declared.state.State.{State}
 use Rattle.ilk_model.specs.Families.{keeps_v1, keeps_v2, keeps_v3, keeps_v4, keeps_v5, keeps_v6, keeps_v7, keeps_v8, keeps_v9}
 use Rattle.ilk_model.specs.Hazard.{hazard}
 
--- the families in order, V1 first
+-- The families in order.
 abbrev pub families : List (PlantLists → State → Bool)
 families = keeps_v1 ∷ keeps_v2 ∷ keeps_v3 ∷ keeps_v4 ∷ keeps_v5 ∷ keeps_v6 ∷ keeps_v7 ∷ keeps_v8 ∷ keeps_v9 ∷ []
 
--- whether s keeps family VJ, for j from 1 to 9
+-- Returns whether s satisfies family Vj, for j from 1 to 9.
 abbrev pub keeps : PlantLists → State → ℕ → Bool
 keeps p s j = is_some_and (slice_get families (j - 1)) (λ keeps_it. keeps_it p s)
 
--- the number of the least family that s doesn't keep; none where it keeps all nine
-abbrev pub least_broken : PlantLists → State → Option ℕ
-least_broken p s = find (λ j. not (keeps p s j)) (range_with_len 1 (length families))
+-- The number of the first family that s violates, or `None` if it satisfies all nine.
+abbrev pub least_broken_family : PlantLists → State → Option ℕ
+least_broken_family p s = find (λ j. not (keeps p s j)) (range_with_len 1 (length families))
 
--- whether s keeps all nine families
+-- Returns whether s satisfies all nine families.
 abbrev pub keeps_all : PlantLists → State → Bool
 keeps_all p s = list_all (λ keeps_it. keeps_it p s) families
 
--- s has the shape, has no hazard, and keeps all nine families
+-- Holds if s is well-formed, has no hazard, and satisfies all nine families.
 pub record Meets (p : PlantLists) (s : State) : Type 0 where
   pub shape : HasShape p s
   pub no_hazard : hazard p s ≡ None

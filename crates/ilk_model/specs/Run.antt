@@ -1,4 +1,4 @@
--- Runs: lists of events, each enabled in turn, in which no state but the last is a hazard.
+-- Runs: lists of events, each enabled in turn. Only the last state may have a hazard.
 use Rattle.std.specs.Prelude.{Option, Some, List, [], ◌∷◌, is_none}
 use Rattle.ilk_base.specs.Option.{◌>>=◌, only_if}
 use Rattle.ilk_plant.specs.Plant.{PlantLists}
@@ -7,15 +7,15 @@ use Rattle.ilk_model.specs.Event.{next}
 use Rattle.ilk_model.specs.Hazard.{hazard}
 use Rattle.ilk_model.specs.declared.event.Event.{Event}
 
--- the state after an event, if it is enabled and no hazard stands before it
-abbrev pub step : PlantLists → State → Event → Option State
-step p s event = do
+-- The state after an event, if the event is enabled and the state before it has no hazard.
+abbrev pub next_if_no_hazard : PlantLists → State → Event → Option State
+next_if_no_hazard p s event = do
   safe ← only_if (is_none (hazard p s)) s
   next p safe event
 
--- the last state of the run of these events from s; none where they are no run
+-- The last state of the run of these events from s, or `None` if they are not a run.
 abbrev pub run : PlantLists → State → List Event → Option State
 run p s [] = Some s
 run p s (event ∷ rest) = do
-  t ← step p s event
+  t ← next_if_no_hazard p s event
   run p t rest

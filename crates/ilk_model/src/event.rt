@@ -29,8 +29,8 @@ pub enum Event {
     Cancel(u32),
 }
 
-/// Does the event, if it is enabled. True exactly where it is; on false and for want of memory
-/// the state is as it was.
+/// Applies the event if it is enabled. Returns whether it is enabled. Otherwise, or if memory runs
+/// out, the state doesn't change.
 pub fn apply(alloc: Global, plant: &Plant, s: &mut State, e: Event) -> Result<bool, AllocError>
     requires { HasShape plant.now s.old }
     ensures answer { IfOk result (λ enabled. enabled ≡ is_some (next plant.now s.old e)) }

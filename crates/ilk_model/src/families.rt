@@ -1,18 +1,18 @@
-//! The nine families of the invariant together: the least that a state breaks.
+//! The first of the nine families of the invariant that a state violates.
 ghost use Rattle.std.specs.Prelude.{◌≡◌};
 ghost use Rattle.ilk_plant.specs.Shape.{HasShape};
-ghost use Rattle.ilk_model.specs.Meets.{least_broken};
+ghost use Rattle.ilk_model.specs.Meets.{least_broken_family};
 
 use crate::held::keeps_v2;
 use crate::route_families::{keeps_v1, keeps_v3, keeps_v4, keeps_v5, keeps_v6, keeps_v9};
 use crate::train_families::{keeps_v7, keeps_v8};
 use ilk_plant::{Plant, State};
 
-/// The number of the least family of the invariant, 1 to 9, that a state breaks. None where it keeps
-/// all nine.
+/// Returns the number, 1 to 9, of the first family of the invariant that a state violates. Returns
+/// `None` if no family is violated.
 pub fn broken_family(plant: &Plant, s: &State) -> Option<u8>
     requires { HasShape plant.now s.now }
-    ensures { result ≡ least_broken plant.now s.now }
+    ensures { result ≡ least_broken_family plant.now s.now }
 {
     if !keeps_v1(plant, s) {
         return Some(1);

@@ -1,19 +1,18 @@
-//! The family of the invariant that speaks of what routes hold together, V2, by the bits of the
-//! sections that two or more routes hold.
+//! Family V2, which concerns all routes together, by the bits of the sections that two or more
+//! routes hold.
 ghost use Rattle.std.specs.Prelude.{ℕ, ◌≡◌, ◌+◌, ◌<◌, drop, if◌then◌else◌, length, map, not};
 ghost use Rattle.std.specs.Int.{bit_at};
-ghost use Rattle.ilk_base.specs.Each.{each_below};
+ghost use Rattle.ilk_base.specs.Each.{all_below};
 ghost use Rattle.ilk_plant.specs.Network.{has_section};
 ghost use Rattle.ilk_plant.specs.Shape.{HasShape};
 ghost use Rattle.ilk_model.specs.Families.{keeps_v2};
 ghost use Rattle.ilk_model.specs.Holding.{holds_section, route_holds};
-ghost use Rattle.ilk_model.specs.Shared.{is_held_twice, is_shared};
+ghost use Rattle.ilk_model.specs.Shared.{is_held_by_two_routes, is_shared};
 
 use crate::holding::holds_sections;
 use crate::shared::{SharedSections, is_shared, sections_of, with_section};
 use ilk_plant::{Listed, Plant, Route, RouteState, State};
 
-// The sections of listed points, as bits: bit `x` for section `from` + `x`, for `x` below 128.
 fn sections_of_points(points: &[Listed], from: u32) -> u128
     ensures { (x : ℕ) → x < 128 →
         bit_at result x
@@ -26,7 +25,7 @@ fn sections_of_points(points: &[Listed], from: u32) -> u128
     bits
 }
 
-// The sections of the path that a route has not given back.
+// Returns the sections of the path that a route hasn't released.
 fn kept_sections(route: &Route, now: RouteState) -> &[u32]
     ensures { result.now ≡ drop now.rel route.now.path }
 {
@@ -35,7 +34,7 @@ fn kept_sections(route: &Route, now: RouteState) -> &[u32]
     if rel < path.len() { &path[rel..] } else { &[] }
 }
 
-// The sections that a route holds, as bits: bit `x` for section `from` + `x`, for `x` below 128.
+// Returns the sections that a route holds as bits: bit `x`, below 128, for section `from` + `x`.
 fn held_sections(route: &Route, now: RouteState, from: u32) -> u128
     ensures { (x : ℕ) → x < 128 →
         bit_at result x ≡ (if holds_section (from + x) route.now now then 1 else 0) }
@@ -49,7 +48,6 @@ fn held_sections(route: &Route, now: RouteState, from: u32) -> u128
     overlap | protecting | kept
 }
 
-// The sections that route `r` holds, as bits: bit `x` for section `from` + `x`, for `x` below 128.
 fn held_by(plant: &Plant, s: &State, r: u32, from: u32) -> u128
     requires shape { HasShape plant.now s.now }
     requires known { r < length plant.now.routes }
@@ -59,12 +57,10 @@ fn held_by(plant: &Plant, s: &State, r: u32, from: u32) -> u128
     held_sections(plant.route(r), *s.routes.at(r as u64), from)
 }
 
-// The sections that two or more routes hold, as bits: bit `x` for section `from` + `x`, for `x`
-// below 128.
 fn held_twice_from(plant: &Plant, s: &State, from: u32) -> u128
     requires { HasShape plant.now s.now }
     ensures { (x : ℕ) → x < 128 →
-        bit_at result x ≡ (if is_held_twice plant.now s.now (from + x) then 1 else 0) }
+        bit_at result x ≡ (if is_held_by_two_routes plant.now s.now (from + x) then 1 else 0) }
 {
     let mut seen: u128 = 0;
     let mut shared: u128 = 0;
@@ -76,10 +72,9 @@ fn held_twice_from(plant: &Plant, s: &State, from: u32) -> u128
     shared
 }
 
-// The sections below 256 that two or more routes hold.
 fn held_twice(plant: &Plant, s: &State) -> SharedSections
     requires { HasShape plant.now s.now }
-    ensures { (x : ℕ) → x < 256 → is_shared result x ≡ is_held_twice plant.now s.now x }
+    ensures { (x : ℕ) → x < 256 → is_shared result x ≡ is_held_by_two_routes plant.now s.now x }
 {
     SharedSections {
         low: held_twice_from(plant, s, 0),
@@ -87,14 +82,13 @@ fn held_twice(plant: &Plant, s: &State) -> SharedSections
     }
 }
 
-// Whether no section of the plant is one of these.
 fn has_none_of(plant: &Plant, shared: SharedSections) -> bool
-    ensures { result ≡ each_below (length plant.now.sections) (λ x. not (is_shared shared x)) }
+    ensures { result ≡ all_below (length plant.now.sections) (λ x. not (is_shared shared x)) }
 {
     (0..plant.sections()).all(|x| !is_shared(shared, x))
 }
 
-// Whether no two routes hold one section.
+// Returns whether no two routes hold the same section.
 pub(crate) fn keeps_v2(plant: &Plant, s: &State) -> bool
     requires { HasShape plant.now s.now }
     ensures { result ≡ keeps_v2 plant.now s.now }

@@ -1,12 +1,12 @@
-//! Events, runs and hazards of a plant: the one table of all events, over those of trains and those
-//! of routes and points.
+//! Events, runs and hazards of a plant, in one table of all train, route and point events.
 //!
-//! A run begins in a state, at the start by `start`, and goes on by `apply`, an event at a time;
-//! `hazard` tells whether a state has two trains in one section, or a train on a point that moves
-//! or lies wrongly; `is_wrong` asks the second of a single section. `Event` has its words for run
-//! texts. The definition of a run (`specs/Run.antt`) goes on only from states without hazard.
-//! `broken_family` tells the least of the nine families of the invariant (`specs/Families.antt`,
-//! and `specs/Meets.antt` for all of them) that a state breaks.
+//! A run begins in a state, such as the initial one from `start`. `apply` extends it by one event.
+//! `hazard` returns whether two trains are in one section, or a train is on a point that is moving
+//! or not set for it. `is_wrong_under_train` checks the second for one section. The definition of a
+//! run (`specs/Run.antt`) continues only from states without a hazard.
+//!
+//! `broken_family` returns the first of the nine families of the invariant that a state violates
+//! (`specs/Families.antt`, and `specs/Meets.antt` for all of them).
 #![tactic(auto)]
 
 mod event;
@@ -21,5 +21,5 @@ mod words;
 
 pub use event::{Event, apply};
 pub use families::broken_family;
-pub use hazards::{HazardAt, hazard, is_wrong};
+pub use hazards::{HazardAt, hazard, is_wrong_under_train};
 pub use ilk_plant::start_state as start;

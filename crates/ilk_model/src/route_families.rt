@@ -1,5 +1,5 @@
-//! The families of the invariant that speak of routes with their points and boards: V1, V3 to V6
-//! and V9.
+//! The families of the invariant that concern single routes with their points and boards: V1, V3 to
+//! V6 and V9.
 ghost use Rattle.std.specs.Prelude.{◌≡◌, ◌==◌, ◌&&◌, ◌||◌, true, if◌then◌else◌, length, map, nat_le, nat_lt, not};
 ghost use Rattle.std.specs.List.{list_all};
 ghost use Rattle.ilk_plant.specs.Shape.{HasShape};
@@ -8,21 +8,21 @@ ghost use Rattle.ilk_plant.specs.declared.state.Aspect.TheVariants.{Open, Closed
 ghost use Rattle.ilk_plant.specs.declared.state.Hold.TheVariants.{Locked as LockedLock};
 ghost use Rattle.ilk_plant.specs.declared.state.Mode.TheVariants.{Allocating, Locked, Occupied};
 ghost use Rattle.ilk_routes.specs.Boards.{has_aspect};
-ghost use Rattle.ilk_routes.specs.Claims.{sections_beside};
+ghost use Rattle.ilk_routes.specs.Claims.{sections_beside_path};
 ghost use Rattle.ilk_routes.specs.Modes.{same_mode};
 ghost use Rattle.ilk_model.specs.Commanded.{is_commanded_as_listed};
-ghost use Rattle.ilk_model.specs.Families.{has_its_locks, is_commanded_for, keeps_v1, keeps_v3, keeps_v4, keeps_v5, keeps_v6, keeps_v9, lies_for, lock_on_path};
-ghost use Rattle.ilk_model.specs.Holding.{each_place, holds_sections, is_vacant, some_route};
+ghost use Rattle.ilk_model.specs.Families.{has_required_locks, is_commanded_for, keeps_v1, keeps_v3, keeps_v4, keeps_v5, keeps_v6, keeps_v9, is_detected_for, path_section_lock};
+ghost use Rattle.ilk_model.specs.Holding.{all_path_indices_pass, holds_sections, is_vacant, any_route_passes};
 
 use crate::holding::{all_vacant, holds_sections, is_kept_on_path, is_locked_or_occupied};
 use ilk_plant::{
     Aspect, Hold, Listed, Mode, Plant, Route, RouteState, Row, State, has_lock, has_section,
-    point_on,
+    point_number_at,
 };
-use ilk_routes::{all_closed, has_aspect, lies_as_listed};
+use ilk_routes::{all_closed, has_aspect, is_detected_as_listed};
 
-// Whether the counts of a route fit its mode: an Occupied one has given back less than was seen, and
-// no more was seen than its path has; of another one nothing was seen or given back.
+// Returns whether the counts of a route fit its mode. If it is Occupied, fewer sections are
+// released than seen, and at most the whole path is seen. Otherwise both counts are 0.
 fn counts_fit_mode(route: &Route, now: RouteState) -> bool
     ensures { result ≡ (if same_mode now.mode Occupied
         then nat_lt now.rel now.seen && nat_le now.seen (length route.now.path)
@@ -35,7 +35,7 @@ fn counts_fit_mode(route: &Route, now: RouteState) -> bool
     }
 }
 
-// Whether the counts of each route fit its mode.
+// Returns whether the counts of each route fit its mode.
 pub(crate) fn keeps_v1(plant: &Plant, s: &State) -> bool
     requires { HasShape plant.now s.now }
     ensures { result ≡ keeps_v1 plant.now s.now }
@@ -43,9 +43,8 @@ pub(crate) fn keeps_v1(plant: &Plant, s: &State) -> bool
     (0..plant.routes()).all(|r| counts_fit_mode(plant.route(r), *s.routes.at(r as u64)))
 }
 
-// The lock of a section that a route holds at place `i` of its path.
 fn lock_on_path(now: RouteState, i: u64) -> Hold
-    ensures { result ≡ lock_on_path now i }
+    ensures { result ≡ path_section_lock now i }
 {
     if i < now.seen as u64 {
         Hold::Used
@@ -54,17 +53,15 @@ fn lock_on_path(now: RouteState, i: u64) -> Hold
     }
 }
 
-// Whether each section that the route holds on its path has its lock.
 fn path_has_its_locks(s: &State, route: &Route, now: RouteState) -> bool
     ensures { result
-        ≡ each_place route.now
-        (λ i x. not (nat_le now.rel i) || has_lock s.now x (lock_on_path now i)) }
+        ≡ all_path_indices_pass route.now
+        (λ i x. not (nat_le now.rel i) || has_lock s.now x (path_section_lock now i)) }
 {
     route.path.as_slice().iter().enumerate().all(|(i, x)| i < now.rel as usize
         || has_lock(s, *x, lock_on_path(now, i as u64)))
 }
 
-// Whether each of the sections has lock Locked.
 fn all_locked(s: &State, sections: &Row<u32>) -> bool
     ensures { result ≡ list_all (λ x. has_lock s.now x LockedLock) sections.now }
 {
@@ -74,7 +71,6 @@ fn all_locked(s: &State, sections: &Row<u32>) -> bool
         .all(|x| has_lock(s, *x, Hold::Locked))
 }
 
-// Whether each of the points' sections has lock Locked.
 fn all_points_locked(s: &State, points: &Row<Listed>) -> bool
     ensures { result
         ≡ list_all (λ x. has_lock s.now x LockedLock) (map (λ listed. listed.point) points.now) }
@@ -86,29 +82,27 @@ fn all_points_locked(s: &State, points: &Row<Listed>) -> bool
         .all(|x| has_lock(s, x, Hold::Locked))
 }
 
-// Whether each section beside the route's path has lock Locked: those of its overlap and of its
-// protecting points.
 fn all_beside_locked(s: &State, route: &Route) -> bool
-    ensures { result ≡ list_all (λ x. has_lock s.now x LockedLock) (sections_beside route.now) }
+    ensures { result ≡ list_all (λ x. has_lock s.now x LockedLock)
+        (sections_beside_path route.now) }
 {
     all_locked(s, &route.overlap) && all_points_locked(s, &route.protecting_points)
 }
 
-// Whether the sections of a route that holds sections have their locks.
 fn has_its_locks(s: &State, route: &Route, now: RouteState) -> bool
-    ensures { result ≡ has_its_locks s.now route.now now }
+    ensures { result ≡ has_required_locks s.now route.now now }
 {
     path_has_its_locks(s, route, now) && all_beside_locked(s, route)
 }
 
-// Whether the sections that a route holds have their locks.
 fn held_have_their_locks(s: &State, route: &Route, now: RouteState) -> bool
-    ensures { result ≡ (if holds_sections now then has_its_locks s.now route.now now else true) }
+    ensures { result ≡ (if holds_sections now then has_required_locks s.now route.now
+        now else true) }
 {
     !holds_sections(now) || has_its_locks(s, route, now)
 }
 
-// Whether the sections that each route holds have their locks.
+// Returns whether the sections that each route holds have their locks.
 pub(crate) fn keeps_v3(plant: &Plant, s: &State) -> bool
     requires { HasShape plant.now s.now }
     ensures { result ≡ keeps_v3 plant.now s.now }
@@ -116,7 +110,6 @@ pub(crate) fn keeps_v3(plant: &Plant, s: &State) -> bool
     (0..plant.routes()).all(|r| held_have_their_locks(s, plant.route(r), *s.routes.at(r as u64)))
 }
 
-// Whether the path of a route is vacant, where it is Allocating.
 fn is_vacant_while_allocating(s: &State, route: &Route, now: RouteState) -> bool
     ensures { result
         ≡
@@ -126,7 +119,7 @@ fn is_vacant_while_allocating(s: &State, route: &Route, now: RouteState) -> bool
     now.mode != Mode::Allocating || all_vacant(s, route.path.as_slice())
 }
 
-// Whether the path of each Allocating route is vacant.
+// Returns whether the path of each Allocating route is vacant.
 pub(crate) fn keeps_v4(plant: &Plant, s: &State) -> bool
     requires { HasShape plant.now s.now }
     ensures { result ≡ keeps_v4 plant.now s.now }
@@ -136,7 +129,6 @@ pub(crate) fn keeps_v4(plant: &Plant, s: &State) -> bool
     })
 }
 
-// Whether a route lets board `m` be Open: `m` is its source, it is Locked, and its path is vacant.
 fn lets_open(s: &State, m: u32, route: &Route, now: RouteState) -> bool
     ensures { result
         ≡
@@ -146,22 +138,20 @@ fn lets_open(s: &State, m: u32, route: &Route, now: RouteState) -> bool
     route.source == m && now.mode == Mode::Locked && all_vacant(s, route.path.as_slice())
 }
 
-// Whether some route lets board `m` be Open.
 fn may_be_open(plant: &Plant, s: &State, m: u32) -> bool
     requires { HasShape plant.now s.now }
     ensures { result
-        ≡ some_route plant.now s.now
+        ≡ any_route_passes plant.now s.now
         (λ route now. (route.source == m) && same_mode now.mode Locked
         && list_all (is_vacant s.now) route.path) }
 {
     (0..plant.routes()).any(|r| lets_open(s, m, plant.route(r), *s.routes.at(r as u64)))
 }
 
-// Whether some route lets board `m` be Open, where it is.
 fn is_rightly_open(plant: &Plant, s: &State, m: u32) -> bool
     requires { HasShape plant.now s.now }
     ensures { result ≡ (if has_aspect s.now m Open
-        then some_route plant.now s.now
+        then any_route_passes plant.now s.now
         (λ route now. (route.source == m) && same_mode now.mode Locked
         && list_all (is_vacant s.now) route.path)
         else true) }
@@ -169,7 +159,7 @@ fn is_rightly_open(plant: &Plant, s: &State, m: u32) -> bool
     !has_aspect(s, m, Aspect::Open) || may_be_open(plant, s, m)
 }
 
-// Whether some route lets each Open board be so.
+// Returns whether each Open board is the source of a Locked route with a vacant path.
 pub(crate) fn keeps_v5(plant: &Plant, s: &State) -> bool
     requires { HasShape plant.now s.now }
     ensures { result ≡ keeps_v5 plant.now s.now }
@@ -177,11 +167,11 @@ pub(crate) fn keeps_v5(plant: &Plant, s: &State) -> bool
     (0..plant.boards()).all(|m| is_rightly_open(plant, s, m))
 }
 
-// Whether a listed point is commanded to its listed position.
+// Returns whether a listed point is commanded to its listed position.
 fn is_commanded_as_listed(plant: &Plant, s: &State, listed: &Listed) -> bool
     ensures { result ≡ is_commanded_as_listed plant.now s.now listed.now }
 {
-    match point_on(plant, listed.point) {
+    match point_number_at(plant, listed.point) {
         Some(n) => match s.points.as_slice().get(n as usize) {
             Some(point) => point.to == listed.at,
             None => false,
@@ -190,8 +180,6 @@ fn is_commanded_as_listed(plant: &Plant, s: &State, listed: &Listed) -> bool
     }
 }
 
-// Whether a point that a route lists is commanded, where it is on the path of the route and that
-// is Allocating.
 fn is_commanded_for(
     plant: &Plant,
     s: &State,
@@ -208,31 +196,28 @@ fn is_commanded_for(
     }
 }
 
-// Whether a point that a route lists is commanded and lies there, where the route is Locked or
-// Occupied and holds it on its path.
 fn lies_for(plant: &Plant, s: &State, route: &Route, now: RouteState, listed: &Listed) -> bool
-    ensures { result ≡ lies_for plant.now s.now route.now now listed.now }
+    ensures { result ≡ is_detected_for plant.now s.now route.now now listed.now }
 {
     if is_locked_or_occupied(now) && is_kept_on_path(route, now, listed.point) {
-        is_commanded_as_listed(plant, s, listed) && lies_as_listed(plant, s, listed)
+        is_commanded_as_listed(plant, s, listed) && is_detected_as_listed(plant, s, listed)
     } else {
         true
     }
 }
 
-// Whether the points that a route lists are as its mode wants them.
 fn points_fit_mode(plant: &Plant, s: &State, route: &Route, now: RouteState) -> bool
     ensures { result
         ≡ list_all
         (λ listed. is_commanded_for plant.now s.now route.now now listed
-        && lies_for plant.now s.now route.now now listed) route.now.points }
+        && is_detected_for plant.now s.now route.now now listed) route.now.points }
 {
     route.points.as_slice().iter().all(|listed| {
         is_commanded_for(plant, s, route, now, listed) && lies_for(plant, s, route, now, listed)
     })
 }
 
-// Whether the points that each route lists are as its mode wants them.
+// Returns whether each route's listed points are as its mode requires.
 pub(crate) fn keeps_v6(plant: &Plant, s: &State) -> bool
     requires { HasShape plant.now s.now }
     ensures { result ≡ keeps_v6 plant.now s.now }
@@ -242,7 +227,6 @@ pub(crate) fn keeps_v6(plant: &Plant, s: &State) -> bool
     })
 }
 
-// Whether each protecting board of a route is Closed, where it is Locked.
 fn is_protected(s: &State, route: &Route, now: RouteState) -> bool
     ensures { result
         ≡
@@ -253,7 +237,7 @@ fn is_protected(s: &State, route: &Route, now: RouteState) -> bool
     now.mode != Mode::Locked || all_closed(s, &route.protecting_boards)
 }
 
-// Whether each protecting board of a Locked route is Closed.
+// Returns whether each protecting board of a Locked route is Closed.
 pub(crate) fn keeps_v9(plant: &Plant, s: &State) -> bool
     requires { HasShape plant.now s.now }
     ensures { result ≡ keeps_v9 plant.now s.now }

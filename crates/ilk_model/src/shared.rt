@@ -1,21 +1,21 @@
 ghost use Rattle.std.specs.Prelude.{ℕ, ◌≡◌, ◌==◌, ◌||◌, ◌+◌, ◌<◌, if◌then◌else◌};
 ghost use Rattle.std.specs.Int.{bit_at};
 ghost use Rattle.ilk_plant.specs.Network.{has_section};
-ghost use Rattle.ilk_model.specs.Hazard.{is_two};
+ghost use Rattle.ilk_model.specs.Hazard.{has_two_trains};
 ghost use Rattle.ilk_model.specs.Shared.{is_shared};
 
 use ilk_plant::State;
 
-/// The sections that two or more have, trains in their bodies or routes that hold them, as bits:
-/// bit `x` of `low` for section `x`, below 128, and bit `x` of `high` for section 128 + `x`, below
-/// 256.
+/// The sections that two or more trains occupy, or that two or more routes hold, as bits. Bit `x`
+/// of `low` is for section `x`; bit `x` of `high` is for section 128 + `x`.
 #[derive(Clone, Copy)]
 pub(crate) struct SharedSections {
     pub(crate) low: u128,
     pub(crate) high: u128,
 }
 
-// The place of section `y` among the 128 sections from `from` on, or 128 where it is none of them.
+// Returns the index of section `y` among the 128 sections from `from`, or 128 if it is none of
+// them.
 fn place_of(y: u32, from: u32) -> u32
     ensures { (x : ℕ) → x < 128 → (result == x) ≡ (y == from + x) }
 {
@@ -26,7 +26,7 @@ fn place_of(y: u32, from: u32) -> u32
     if place < 128 { place } else { 128 }
 }
 
-/// These bits, and that of section `y`: bit `x` for section `from` + `x`, for `x` below 128.
+/// Returns the bits with that of section `y` set: bit `x`, below 128, for section `from` + `x`.
 pub(crate) fn with_section(bits: u128, y: u32, from: u32) -> u128
     ensures { (x : ℕ) → x < 128 →
         bit_at result x ≡ (if bit_at bits x == 1 || y == from + x then 1 else 0) }
@@ -35,7 +35,7 @@ pub(crate) fn with_section(bits: u128, y: u32, from: u32) -> u128
     if place < 128 { bits | 1 << place } else { bits }
 }
 
-/// The sections of a list, as bits: bit `x` for section `from` + `x`, for `x` below 128.
+/// Returns the sections of a list as bits: bit `x`, below 128, for section `from` + `x`.
 pub(crate) fn sections_of(sections: &[u32], from: u32) -> u128
     ensures { (x : ℕ) → x < 128 →
         bit_at result x ≡ (if has_section (from + x) sections.now then 1 else 0) }
@@ -47,10 +47,9 @@ pub(crate) fn sections_of(sections: &[u32], from: u32) -> u128
     bits
 }
 
-// The sections that two or more trains have in their bodies, as bits: bit `x` for section
-// `from` + `x`, for `x` below 128.
 fn shared_from(s: &State, from: u32) -> u128
-    ensures { (x : ℕ) → x < 128 → bit_at result x ≡ (if is_two s.now (from + x) then 1 else 0) }
+    ensures { (x : ℕ) → x < 128 → bit_at result x
+        ≡ (if has_two_trains s.now (from + x) then 1 else 0) }
 {
     let mut seen: u128 = 0;
     let mut shared: u128 = 0;
@@ -62,9 +61,9 @@ fn shared_from(s: &State, from: u32) -> u128
     shared
 }
 
-/// The sections below 256 that two or more trains have in their bodies.
+/// Returns the sections below 256 that two or more trains occupy.
 pub(crate) fn shared_sections(s: &State) -> SharedSections
-    ensures { (x : ℕ) → x < 256 → is_shared result x ≡ is_two s.now x }
+    ensures { (x : ℕ) → x < 256 → is_shared result x ≡ has_two_trains s.now x }
 {
     SharedSections {
         low: shared_from(s, 0),
@@ -72,14 +71,13 @@ pub(crate) fn shared_sections(s: &State) -> SharedSections
     }
 }
 
-// Whether bit `x` is set.
 fn has_bit(bits: u128, x: u32) -> bool
     ensures { result ≡ (bit_at bits x == 1) }
 {
     x < 128 && (bits >> x) & 1 == 1
 }
 
-/// Whether section `x` is one of these.
+/// Returns whether section `x` is one of these.
 pub(crate) fn is_shared(shared: SharedSections, x: u32) -> bool
     ensures { result ≡ is_shared shared x }
 {

@@ -1,4 +1,4 @@
-//! The families of the invariant that speak of trains: V7 and V8.
+//! The families of the invariant that concern trains: V7 and V8.
 ghost use Rattle.std.specs.Prelude.{◌≡◌, ◌+◌, ◌==◌, ◌&&◌, ◌||◌, true, drop, if◌then◌else◌, nat_le};
 ghost use Rattle.std.specs.List.{list_all};
 ghost use Rattle.ilk_plant.specs.Network.{last_of};
@@ -8,14 +8,13 @@ ghost use Rattle.ilk_plant.specs.declared.state.Aspect.TheVariants.{Closed};
 ghost use Rattle.ilk_plant.specs.declared.state.Mode.TheVariants.{Locked, Occupied};
 ghost use Rattle.ilk_routes.specs.Boards.{has_aspect};
 ghost use Rattle.ilk_routes.specs.Modes.{same_mode};
-ghost use Rattle.ilk_model.specs.Families.{is_kept_for, is_led, keeps_v7, keeps_v8};
-ghost use Rattle.ilk_model.specs.Holding.{is_kept_on_path, is_locked_or_occupied, is_plain, is_vacant, runs_in, some_place};
+ghost use Rattle.ilk_model.specs.Families.{section_is_kept_by_route, head_is_led_by_route, keeps_v7, keeps_v8};
+ghost use Rattle.ilk_model.specs.Holding.{is_unreleased_on_path, is_locked_or_occupied, is_plain_for_direction, is_vacant, route_runs_in, any_path_index_passes};
 
 use crate::holding::{all_vacant, is_kept_on_path, is_locked_or_occupied, is_plain, runs_in};
 use ilk_plant::{Aspect, Dir, Mode, Plant, Route, RouteState, State, Train};
 use ilk_routes::has_aspect;
 
-// Whether a route in this state may lead a train: it is Occupied, or Locked with its source Closed.
 fn may_lead(s: &State, route: &Route, now: RouteState) -> bool
     ensures { result
         ≡
@@ -26,10 +25,9 @@ fn may_lead(s: &State, route: &Route, now: RouteState) -> bool
         || now.mode == Mode::Locked && has_aspect(s, route.source, Aspect::Closed)
 }
 
-// Whether a route leads a train's head at `x` in direction `d`.
 fn leads(plant: &Plant, s: &State, d: Dir, x: u32, route: &Route, now: RouteState) -> bool
-    ensures { result ≡ some_place route.now (λ i y. (y == x)
-        && runs_in plant.now d route.now
+    ensures { result ≡ any_path_index_passes route.now (λ i y. (y == x)
+        && route_runs_in plant.now d route.now
         &&
         (same_mode now.mode Occupied
         || (same_mode now.mode Locked && has_aspect s.now route.now.source Closed))
@@ -50,15 +48,14 @@ fn leads(plant: &Plant, s: &State, d: Dir, x: u32, route: &Route, now: RouteStat
     false
 }
 
-// Whether a train's head at `x` in direction `d` is led by a route.
+// Returns whether some route leads a train's head at `x` in direction `d`.
 fn is_led(plant: &Plant, s: &State, d: Dir, x: u32) -> bool
     requires { HasShape plant.now s.now }
-    ensures { result ≡ is_led plant.now s.now d x }
+    ensures { result ≡ head_is_led_by_route plant.now s.now d x }
 {
     (0..plant.routes()).any(|r| leads(plant, s, d, x, plant.route(r), *s.routes.at(r as u64)))
 }
 
-// The section of a train's head. None where its body is empty.
 #[tactic(auto, using(ilk_base::proofs::Lists::last_item))]
 fn head_of(train: &Train) -> Option<u32>
     ensures { result ≡ last_of train.now.body }
@@ -66,13 +63,12 @@ fn head_of(train: &Train) -> Option<u32>
     train.body.as_slice().last().copied()
 }
 
-// Whether a train's head is led by a route, where its section is plain for it.
 fn head_is_led(plant: &Plant, s: &State, train: &Train) -> bool
     requires { HasShape plant.now s.now }
     ensures { result
         ≡ is_some_and (last_of train.now.body)
-        (λ x. if is_plain plant.now train.now.dir x
-        then is_led plant.now s.now train.now.dir x else true) }
+        (λ x. if is_plain_for_direction plant.now train.now.dir x
+        then head_is_led_by_route plant.now s.now train.now.dir x else true) }
 {
     match head_of(train) {
         Some(x) => !is_plain(plant, train.dir, x) || is_led(plant, s, train.dir, x),
@@ -80,7 +76,7 @@ fn head_is_led(plant: &Plant, s: &State, train: &Train) -> bool
     }
 }
 
-// Whether each train's head at a section that is plain for it is led by a route.
+// Returns whether some route leads each train's head at a section that is plain for it.
 pub(crate) fn keeps_v7(plant: &Plant, s: &State) -> bool
     requires { HasShape plant.now s.now }
     ensures { result ≡ keeps_v7 plant.now s.now }
@@ -91,39 +87,37 @@ pub(crate) fn keeps_v7(plant: &Plant, s: &State) -> bool
         .all(|train| head_is_led(plant, s, train))
 }
 
-// Whether a route keeps section `x` for trains in direction `d`.
 fn keeps_for(plant: &Plant, d: Dir, x: u32, route: &Route, now: RouteState) -> bool
     ensures { result
         ≡
-        (runs_in plant.now d route.now && is_locked_or_occupied now
-        && is_kept_on_path route.now now x) }
+        (route_runs_in plant.now d route.now && is_locked_or_occupied now
+        && is_unreleased_on_path route.now now x) }
 {
     runs_in(plant, d, route) && is_locked_or_occupied(now) && is_kept_on_path(route, now, x)
 }
 
-// Whether section `x` in direction `d` is kept by a route.
+// Returns whether some route keeps section `x` for trains in direction `d`.
 fn is_kept_for(plant: &Plant, s: &State, d: Dir, x: u32) -> bool
     requires { HasShape plant.now s.now }
-    ensures { result ≡ is_kept_for plant.now s.now d x }
+    ensures { result ≡ section_is_kept_by_route plant.now s.now d x }
 {
     (0..plant.routes()).any(|r| keeps_for(plant, d, x, plant.route(r), *s.routes.at(r as u64)))
 }
 
-// Whether section `x` is kept by a route for a train in direction `d`, where it is plain for it.
 fn is_kept_if_plain(plant: &Plant, s: &State, d: Dir, x: u32) -> bool
     requires { HasShape plant.now s.now }
-    ensures { result ≡ (if is_plain plant.now d x then is_kept_for plant.now s.now d x else true) }
+    ensures { result ≡ (if is_plain_for_direction plant.now d x then section_is_kept_by_route
+        plant.now s.now d x else true) }
 {
     !is_plain(plant, d, x) || is_kept_for(plant, s, d, x)
 }
 
-// Whether each section of a train's body that is plain for it is kept by a route.
 fn body_is_kept(plant: &Plant, s: &State, train: &Train) -> bool
     requires { HasShape plant.now s.now }
     ensures { result
         ≡ list_all
-        (λ x. if is_plain plant.now train.now.dir x
-        then is_kept_for plant.now s.now train.now.dir x else true) train.now.body }
+        (λ x. if is_plain_for_direction plant.now train.now.dir x
+        then section_is_kept_by_route plant.now s.now train.now.dir x else true) train.now.body }
 {
     let d = train.dir;
     train
@@ -133,7 +127,7 @@ fn body_is_kept(plant: &Plant, s: &State, train: &Train) -> bool
         .all(|x| is_kept_if_plain(plant, s, d, *x))
 }
 
-// Whether each section of a body that is plain for its train is kept by a route.
+// Returns whether some route keeps each section of a body that is plain for its train.
 pub(crate) fn keeps_v8(plant: &Plant, s: &State) -> bool
     requires { HasShape plant.now s.now }
     ensures { result ≡ keeps_v8 plant.now s.now }

@@ -1,4 +1,4 @@
-//! The words by which run texts name events: one table, by which they are written and read.
+//! The words of events in run texts. The same table is used to write and read them.
 use crate::Event;
 use ilk_base::Worded;
 

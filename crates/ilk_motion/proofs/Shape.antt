@@ -1,12 +1,12 @@
--- No event of a train breaks the shape.
+-- Train events keep the state well-formed.
 use Rattle.std.proofs.Common.{suc, ◌≡◌, ℕ, ◌<◌, true, Option, Some, None, List, [], ◌∷◌, ◌++◌, All, length, slice_get, remove, take, drop, subst, ◌∙◌, position, IsTrue, refl, nat_lt, length-set, arith}
 use Rattle.std.proofs.lemmas.Option.{option_and_then_some, cond_some, same_Some, slice_get_within}
 use Rattle.std.proofs.lemmas.List.Elements.{All-push, All-set, All-append, All-take, All-drop}
 use Rattle.std.proofs.lemmas.Bool.Decides.{nat_tests}
-use Rattle.ilk_plant.specs.Network.{has_section, inward, beside}
+use Rattle.ilk_plant.specs.Network.{has_section, inward, neighbours_on}
 use Rattle.ilk_plant.specs.Plant.{PlantLists, IsPlant, border, next_to, board_of}
-use Rattle.ilk_plant.specs.State.{lie_of}
-use Rattle.ilk_plant.specs.Shape.{HasShape, is_body, leads_on}
+use Rattle.ilk_plant.specs.State.{detected_position}
+use Rattle.ilk_plant.specs.Shape.{HasShape, has_valid_body, is_connected}
 use Rattle.ilk_plant.specs.declared.network.Dir.{Dir}
 use Rattle.ilk_plant.specs.declared.network.Dir.TheVariants.{Up, Down}
 use Rattle.ilk_plant.specs.declared.network.Section.{Section}
@@ -16,31 +16,27 @@ use Rattle.ilk_plant.specs.declared.state.Lie.{Lie}
 use Rattle.ilk_plant.specs.declared.state.Lie.TheVariants.{Plus, Minus, Moving}
 use Rattle.ilk_plant.specs.declared.state.State.{State}
 use Rattle.ilk_plant.specs.declared.state.Train.{Train}
-use Rattle.ilk_motion.specs.Ahead.{ahead, leads_to}
-use Rattle.ilk_motion.specs.Body.{train_on, has_head, stands_on, with_new_head, without_tail, is_first_of_several, is_last, has_tail_before_head}
+use Rattle.ilk_motion.specs.Ahead.{ahead, section_led_to}
+use Rattle.ilk_motion.specs.Body.{new_train_on, has_head, occupies_only, with_new_head, without_tail, is_first_of_several, is_last_section, has_tail_before_head}
 use Rattle.ilk_motion.specs.Trains.{after_enter, after_head, after_tail, after_leave, with_board_closed}
 use Rattle.ilk_base.proofs.Positions.{position-at}
 use Rattle.ilk_base.proofs.Tested.{All-tested, list_all-from_All, list_all-slice_get}
 use Rattle.std.proofs.lemmas.Bool.{and_from, and_parts}
 
--- a train has a body
 abbrev HasBody : PlantLists → Train → Type 0
-HasBody p train = is_body p train ≡ true
+HasBody p train = has_valid_body p train ≡ true
 
--- each train of a state with the shape has one
 bodies : (p : PlantLists) (s : State) → HasShape p s → All (HasBody p) s.trains
-bodies p s shape = All-tested (is_body p) (HasBody p) (λ train h. h) s.trains shape.bodies
+bodies p s shape = All-tested (has_valid_body p) (HasBody p) (λ train h. h) s.trains shape.bodies
 
--- the shape stays where the trains alone change
+-- The state stays well-formed if only the trains change.
 with_trains : (p : PlantLists) (s : State) (trains : List Train) → HasShape p s → All (HasBody p) trains → HasShape p (record s { trains = trains })
-with_trains p s trains shape each = record { routes = shape.routes; points = shape.points; boards = shape.boards; locks = shape.locks; counts = shape.counts; bodies = list_all-from_All (is_body p) trains each }
+with_trains p s trains shape each = record { routes = shape.routes; points = shape.points; boards = shape.boards; locks = shape.locks; counts = shape.counts; bodies = list_all-from_All (has_valid_body p) trains each }
 
--- a border is a section
 pub border-known : (p : PlantLists) (x : ℕ) (d : Dir) → border p x ≡ Some d → x < length p.sections
 border-known p x d e = option_and_then_some inward (slice_get p.sections x) d e (λ k at e'. slice_get_within p.sections x k at)
 
--- a train that stands on one section of the plant has a body
-alone : (p : PlantLists) (x : ℕ) (d : Dir) → x < length p.sections → HasBody p (train_on x d)
+alone : (p : PlantLists) (x : ℕ) (d : Dir) → x < length p.sections → HasBody p (new_train_on x d)
 alone p x d within = let known : nat_lt x (length p.sections) ≡ true = grind (arith, nat_tests) in and_from _ _ known refl
 
 pub after_enter-shape : (p : PlantLists) (s t : State) (x : ℕ) → HasShape p s → after_enter p s x ≡ Some t → HasShape p t
@@ -49,50 +45,44 @@ after_enter-shape p s t x shape e =
     let r = cond_some _ _ t e1 in
     subst (HasShape p) r.1 (with_trains p s _ shape (All-push (HasBody p) s.trains _ (bodies p s shape) (alone p x d (border-known p x d at)))))
 
--- what a section leads to lies beside it
-leads_to-beside : (k : Section) (d : Dir) (lie : Option Lie) (y : ℕ) → leads_to k d lie ≡ Some y → IsTrue (has_section y (beside k d))
-leads_to-beside (Linear down up b c) Down lie y e = rw e (grind (arith, nat_tests))
-leads_to-beside (Linear down up b c) Up lie y e = rw e (grind (arith, nat_tests))
-leads_to-beside (Point stem plus minus Up) Up (Some Plus) y e = grind (arith, nat_tests)
-leads_to-beside (Point stem plus minus Up) Up (Some Minus) y e = grind (arith, nat_tests)
-leads_to-beside (Point stem plus minus Up) Up (Some Moving) y e = cc
-leads_to-beside (Point stem plus minus Up) Up None y e = cc
-leads_to-beside (Point stem plus minus Up) Down lie y e = grind (arith, nat_tests)
-leads_to-beside (Point stem plus minus Down) Down (Some Plus) y e = grind (arith, nat_tests)
-leads_to-beside (Point stem plus minus Down) Down (Some Minus) y e = grind (arith, nat_tests)
-leads_to-beside (Point stem plus minus Down) Down (Some Moving) y e = cc
-leads_to-beside (Point stem plus minus Down) Down None y e = cc
-leads_to-beside (Point stem plus minus Down) Up lie y e = grind (arith, nat_tests)
+section_led_to-neighbours_on : (k : Section) (d : Dir) (lie : Option Lie) (y : ℕ) → section_led_to k d lie ≡ Some y → IsTrue (has_section y (neighbours_on k d))
+section_led_to-neighbours_on (Linear down up b c) Down lie y e = rw e (grind (arith, nat_tests))
+section_led_to-neighbours_on (Linear down up b c) Up lie y e = rw e (grind (arith, nat_tests))
+section_led_to-neighbours_on (Point stem plus minus Up) Up (Some Plus) y e = grind (arith, nat_tests)
+section_led_to-neighbours_on (Point stem plus minus Up) Up (Some Minus) y e = grind (arith, nat_tests)
+section_led_to-neighbours_on (Point stem plus minus Up) Up (Some Moving) y e = cc
+section_led_to-neighbours_on (Point stem plus minus Up) Up None y e = cc
+section_led_to-neighbours_on (Point stem plus minus Up) Down lie y e = grind (arith, nat_tests)
+section_led_to-neighbours_on (Point stem plus minus Down) Down (Some Plus) y e = grind (arith, nat_tests)
+section_led_to-neighbours_on (Point stem plus minus Down) Down (Some Minus) y e = grind (arith, nat_tests)
+section_led_to-neighbours_on (Point stem plus minus Down) Down (Some Moving) y e = cc
+section_led_to-neighbours_on (Point stem plus minus Down) Down None y e = cc
+section_led_to-neighbours_on (Point stem plus minus Down) Up lie y e = grind (arith, nat_tests)
 
--- what lies ahead is a neighbour
 pub ahead-next_to : (p : PlantLists) (s : State) (x y : ℕ) (d : Dir) → ahead p s x d ≡ Some y → IsTrue (has_section y (next_to p x d))
 ahead-next_to p s x y d e =
-    option_and_then_some (λ k. leads_to k d (lie_of p s x)) (slice_get p.sections x) y e (λ k at e1. rw at (leads_to-beside k d _ y e1))
+    option_and_then_some (λ k. section_led_to k d (detected_position p s x)) (slice_get p.sections x) y e (λ k at e1. rw at (section_led_to-neighbours_on k d _ y e1))
 
--- one more section ahead of the last
-leads_on-push : (p : PlantLists) (d : Dir) (z : ℕ) (rest : List ℕ) (x y : ℕ) → leads_on p d z rest ≡ true → is_last x (z ∷ rest) ≡ true → IsTrue (has_section y (next_to p x d)) → leads_on p d z (rest ++ y ∷ []) ≡ true
-leads_on-push p d z [] x y h e n =
+is_connected-push : (p : PlantLists) (d : Dir) (z : ℕ) (rest : List ℕ) (x y : ℕ) → is_connected p d z rest ≡ true → is_last_section x (z ∷ rest) ≡ true → IsTrue (has_section y (next_to p x d)) → is_connected p d z (rest ++ y ∷ []) ≡ true
+is_connected-push p d z [] x y h e n =
     let same : z ≡ x = grind (arith, nat_tests) in and_from (has_section y (next_to p z d)) true (rw same n) refl
-leads_on-push p d z (w ∷ rest) x y h e n =
-    let parts = and_parts (has_section w (next_to p z d)) (leads_on p d w rest) h in
-    and_from _ _ parts.0 (leads_on-push p d w rest x y parts.1 e n)
+is_connected-push p d z (w ∷ rest) x y h e n =
+    let parts = and_parts (has_section w (next_to p z d)) (is_connected p d w rest) h in
+    and_from _ _ parts.0 (is_connected-push p d w rest x y parts.1 e n)
 
--- one more section at the head of a body
 body-push : (p : PlantLists) (train : Train) (x y : ℕ) → HasBody p train → has_head x train ≡ true → IsTrue (has_section y (next_to p x train.dir)) → HasBody p (with_new_head y train)
 body-push p train x y h e n = push train.body h e
   where
-    push : (body : List ℕ) → HasBody p (record train { body = body }) → is_last x body ≡ true → HasBody p (record train { body = body ++ y ∷ [] })
+    push : (body : List ℕ) → HasBody p (record train { body = body }) → is_last_section x body ≡ true → HasBody p (record train { body = body ++ y ∷ [] })
     push [] h e = cc
     push (z ∷ rest) h e =
-        let parts = and_parts (nat_lt z (length p.sections)) (leads_on p train.dir z rest) h in
-        and_from _ _ parts.0 (leads_on-push p train.dir z rest x y parts.1 e n)
+        let parts = and_parts (nat_lt z (length p.sections)) (is_connected p train.dir z rest) h in
+        and_from _ _ parts.0 (is_connected-push p train.dir z rest x y parts.1 e n)
 
--- the body of a train of a state with the shape
 body_at : (p : PlantLists) (s : State) (i : ℕ) (train : Train) → HasShape p s → slice_get s.trains i ≡ Some train → HasBody p train
 body_at p s i train shape at =
-    list_all-slice_get (is_body p) s.trains i train shape.bodies at
+    list_all-slice_get (has_valid_body p) s.trains i train shape.bodies at
 
--- closing a board keeps the shape
 with_board_closed-shape : (p : PlantLists) (board : Option ℕ) (s : State) → HasShape p s → HasShape p (with_board_closed board s)
 with_board_closed-shape p None s shape = shape
 with_board_closed-shape p (Some m) s shape =
@@ -107,7 +97,6 @@ after_head-shape p s t x shape e =
     let kept = with_trains p s _ shape (All-set (HasBody p) s.trains i (with_new_head y train) longer (bodies p s shape)) in
     subst (HasShape p) (cond_some _ _ t e3).1 (with_board_closed-shape p (board_of p x train.dir) _ kept))))
 
--- a body that has lost its tail
 body-rest : (p : PlantLists) (x : ℕ) (train : Train) → IsPlant p → has_tail_before_head x train ≡ true → HasBody p train → HasBody p (without_tail train)
 body-rest p x train plant e h = rest train.body e h
   where
@@ -115,8 +104,8 @@ body-rest p x train plant e h = rest train.body e h
     rest [] e h = cc
     rest (y ∷ []) e h = cc
     rest (y ∷ z ∷ zs) e h =
-        let parts = and_parts (nat_lt y (length p.sections)) (leads_on p train.dir y (z ∷ zs)) h in
-        let goes = and_parts (has_section z (next_to p y train.dir)) (leads_on p train.dir z zs) parts.1 in
+        let parts = and_parts (nat_lt y (length p.sections)) (is_connected p train.dir y (z ∷ zs)) h in
+        let goes = and_parts (has_section z (next_to p y train.dir)) (is_connected p train.dir z zs) parts.1 in
         let within = plant.neighbours y z train.dir goes.0 in
         let known : nat_lt z (length p.sections) ≡ true = grind (arith, nat_tests) in
         and_from _ _ known goes.1
@@ -133,7 +122,7 @@ after_tail-shape p s t x plant shape e =
 pub after_leave-shape : (p : PlantLists) (s t : State) (x : ℕ) → HasShape p s → after_leave p s x ≡ Some t → HasShape p t
 after_leave-shape p s t x shape e =
     option_and_then_some _ (slice_get p.sections x) t e (λ section known e0.
-    option_and_then_some _ (position (stands_on x) s.trains) t e0 (λ i first e1.
+    option_and_then_some _ (position (occupies_only x) s.trains) t e0 (λ i first e1.
     option_and_then_some _ (slice_get s.trains i) t e1 (λ train at e2.
     let r = cond_some _ _ t e2 in
     let fewer = All-append (HasBody p) (take i s.trains) (drop (suc i) s.trains) (All-take (HasBody p) i s.trains (bodies p s shape)) (All-drop (HasBody p) (suc i) s.trains (bodies p s shape)) in

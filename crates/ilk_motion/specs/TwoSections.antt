@@ -1,5 +1,5 @@
--- A worked plant, cited by private contracts alone: a line of two linear sections, a and then b, with no board and
--- no route.
+-- An example plant for private contracts: a line of two linear sections, a then b, without boards
+-- and routes.
 use Rattle.std.specs.Prelude.{ℕ, Option, Some, None, List, [], ◌∷◌, map}
 use Rattle.ilk_base.specs.Option.{◌>>=◌}
 use Rattle.ilk_plant.specs.Plant.{PlantLists}
@@ -18,29 +18,29 @@ two_sections = record {
   route_names = [];
 }
 
--- the bodies of the trains
+-- The bodies of the trains.
 abbrev pub bodies : State → List (List ℕ)
 bodies s = map (λ train. train.body) s.trains
 
--- one train has entered at a, and then another at b
+-- One train has entered at a, then another at b.
 abbrev pub both_entered : Option State
 both_entered = do
   s ← after_enter two_sections (start two_sections) 0
   after_enter two_sections s 1
 
--- then the one at a has moved its head on to b
+-- Then the head of the train at a moves to b.
 abbrev pub first_moved_on : Option State
 first_moved_on = do
   s ← both_entered
   after_head two_sections s 0
 
--- then a third train would enter at a
+-- Instead, a third train tries to enter at a.
 abbrev pub third_entered : Option State
 third_entered = do
   s ← both_entered
   after_enter two_sections s 0
 
--- a train enters at a, moves its head on to b, then its tail, and leaves
+-- A train enters at a, its head and then its tail move to b, and it leaves.
 abbrev pub one_crossed : Option State
 one_crossed = do
   at_a ← after_enter two_sections (start two_sections) 0

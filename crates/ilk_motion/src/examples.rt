@@ -2,17 +2,17 @@ ghost use Rattle.std.specs.Prelude.{◌≡◌, Some, None, [], ◌∷◌, option
 ghost use Rattle.ilk_plant.specs.Start.{start};
 ghost use Rattle.ilk_motion.specs.TwoSections.{bodies, first_moved_on, one_crossed, third_entered, two_sections};
 
-// The first of two trains that entered at both ends moves on to where the other stands.
+// Two trains enter at both ends; the first moves into the other's section.
 fn two_trains_meet()
     ensures { option_map bodies first_moved_on ≡ Some ((0 ∷ 1 ∷ []) ∷ (1 ∷ []) ∷ []) }
 {}
 
-// No train enters where one stands.
+// No train enters an occupied section.
 fn occupied_border_refuses()
     ensures { third_entered ≡ None }
 {}
 
-// A train that crosses the line leaves it as it was.
+// After a train has crossed the line, the state is the initial one.
 fn one_train_crosses()
     ensures { one_crossed ≡ Some (start two_sections) }
 {}

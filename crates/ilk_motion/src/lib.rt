@@ -1,9 +1,9 @@
-//! The four events of trains: one enters at a border, its head moves on, its tail follows, and it
+//! The four train events: a train enters at a border, its head moves on, its tail follows, and it
 //! leaves the network.
 //!
-//! `ahead` tells where a train's head may move. Each `step_..` asks whether its event is enabled,
-//! and changes the state as its row of the table of events says (`specs/Trains.antt`), or leaves it
-//! unchanged. `ilk_model` calls them by `apply`.
+//! `ahead` returns the section to which a train's head may move. Each `step_..` tests whether its
+//! event is enabled. If so, it changes the state as the table of events says (`specs/Trains.antt`);
+//! otherwise the state doesn't change. `ilk_model` calls them in `apply`.
 #![tactic(auto)]
 
 mod examples;

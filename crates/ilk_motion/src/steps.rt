@@ -4,11 +4,10 @@ ghost use Rattle.ilk_motion.specs.Body.{without_tail};
 ghost use Rattle.ilk_motion.specs.Trains.{after_enter, after_head, after_leave, after_tail, with_board_closed, may_pass};
 
 use crate::ahead;
-use crate::trains::{standing_on, with_head, with_tail};
+use crate::trains::{find_train_only_on, find_train_with_head, find_train_with_tail};
 use ilk_plant::{Aspect, Plant, Row, State, Train, is_clear};
 use std::alloc::{AllocError, Global};
 
-// A train enters at section `x`, where that is enabled.
 fn enter(alloc: Global, plant: &Plant, s: &mut State, x: u32) -> Result<bool, AllocError>
     requires { HasShape plant.now s.old }
     ensures answer { IfOk result (λ b. b ≡ is_some (after_enter plant.now s.old x)) }
@@ -30,7 +29,6 @@ fn enter(alloc: Global, plant: &Plant, s: &mut State, x: u32) -> Result<bool, Al
     Ok(true)
 }
 
-// Whether a train may pass the board: there is none, or it is open.
 fn may_pass(s: &State, board: Option<u32>) -> bool
     ensures { result ≡ may_pass s.now board }
 {
@@ -40,7 +38,6 @@ fn may_pass(s: &State, board: Option<u32>) -> bool
     }
 }
 
-// Closes the board, if there is one.
 fn close(s: &mut State, board: Option<u32>)
     requires { IfSome board (λ m. m < length s.old.boards) }
     ensures { s.new ≡ with_board_closed board s.old }
@@ -50,7 +47,6 @@ fn close(s: &mut State, board: Option<u32>)
     }
 }
 
-// The first train with its head at `x` moves on, where that is enabled.
 #[tactic(auto, using(ilk_base::proofs::Lists::set_same))]
 fn move_head(plant: &Plant, s: &mut State, x: u32) -> Result<bool, AllocError>
     requires { HasShape plant.now s.old }
@@ -58,7 +54,7 @@ fn move_head(plant: &Plant, s: &mut State, x: u32) -> Result<bool, AllocError>
     ensures next { OnOk result (s.new ≡ unwrap_or (after_head plant.now s.old x) s.old) }
     ensures err { OnErr result (s.new ≡ s.old) }
 {
-    let Some(i) = with_head(&s.trains, x) else {
+    let Some(i) = find_train_with_head(&s.trains, x) else {
         return Ok(false);
     };
     let dir = s.trains.at(i as u64).dir;
@@ -74,7 +70,6 @@ fn move_head(plant: &Plant, s: &mut State, x: u32) -> Result<bool, AllocError>
     Ok(true)
 }
 
-// Takes the first section out of the train's body.
 fn leave_first(train: &mut Train)
     requires { 0 < length train.old.body }
     ensures { train.new ≡ without_tail train.old }
@@ -82,7 +77,6 @@ fn leave_first(train: &mut Train)
     train.body.remove(0);
 }
 
-// The first train of two or more sections with its tail at `x` leaves it.
 fn move_tail(plant: &Plant, s: &mut State, x: u32) -> bool
     ensures answer { result ≡ is_some (after_tail plant.now s.old x) }
     ensures next { s.new ≡ unwrap_or (after_tail plant.now s.old x) s.old }
@@ -90,14 +84,13 @@ fn move_tail(plant: &Plant, s: &mut State, x: u32) -> bool
     if x >= plant.sections() {
         return false;
     }
-    let Some(i) = with_tail(&s.trains, x) else {
+    let Some(i) = find_train_with_tail(&s.trains, x) else {
         return false;
     };
     leave_first(s.trains.at_mut(i as u64));
     true
 }
 
-// The first train that stands on `x` alone leaves the network, where that is enabled.
 fn leave(plant: &Plant, s: &mut State, x: u32) -> bool
     ensures answer { result ≡ is_some (after_leave plant.now s.old x) }
     ensures next { s.new ≡ unwrap_or (after_leave plant.now s.old x) s.old }
@@ -105,7 +98,7 @@ fn leave(plant: &Plant, s: &mut State, x: u32) -> bool
     if x >= plant.sections() {
         return false;
     }
-    let Some(i) = standing_on(&s.trains, x) else {
+    let Some(i) = find_train_only_on(&s.trains, x) else {
         return false;
     };
     let dir = s.trains.at(i as u64).dir;
@@ -116,9 +109,9 @@ fn leave(plant: &Plant, s: &mut State, x: u32) -> bool
     true
 }
 
-/// A train enters at section `x`, in its inward direction, and joins the list of trains at its end.
-/// True exactly where `x` is a border, vacant and with lock Free; else false, also where `x` is no
-/// section, and nothing changes. Where memory is wanting nothing changes.
+/// Lets a train enter at section `x`, in its inward direction, and adds it at the end of the list
+/// of trains. Returns `true` if and only if `x` is a border, vacant and with lock Free. Otherwise,
+/// or if memory runs out, nothing changes.
 pub fn step_enter(alloc: Global, plant: &Plant, s: &mut State, x: u32) -> Result<bool, AllocError>
     requires { HasShape plant.now s.old }
     ensures answer { IfOk result (λ b. b ≡ is_some (after_enter plant.now s.old x)) }
@@ -129,10 +122,10 @@ pub fn step_enter(alloc: Global, plant: &Plant, s: &mut State, x: u32) -> Result
     enter(alloc, plant, s, x)
 }
 
-/// The first train with its head at section `x` moves its head to the section ahead, and closes
-/// the board that it passes. True exactly where there is such a train, a section lies ahead of it,
-/// and `x` has no board in its direction or that board is open; else false, also where `x` is no
-/// section, and nothing changes. Where memory is wanting nothing changes.
+/// Moves the head of the first train with its head at section `x` to the section ahead, and closes
+/// the board that it passes. Returns `true` if and only if there is such a train, a section is
+/// ahead of it, and `x` has no board in its direction or that board is open. Otherwise, or if
+/// memory runs out, nothing changes.
 pub fn step_head(_alloc: Global, plant: &Plant, s: &mut State, x: u32) -> Result<bool, AllocError>
     requires { HasShape plant.now s.old }
     ensures answer { IfOk result (λ b. b ≡ is_some (after_head plant.now s.old x)) }
@@ -143,8 +136,8 @@ pub fn step_head(_alloc: Global, plant: &Plant, s: &mut State, x: u32) -> Result
     move_head(plant, s, x)
 }
 
-/// The first train of two or more sections with its tail at section `x` leaves `x`. True exactly
-/// where there is such a train; else false, also where `x` is no section, and nothing changes.
+/// Takes section `x` from the first train of two or more sections with its tail at `x`. Returns
+/// `true` if and only if there is such a train. Otherwise nothing changes.
 pub fn step_tail(plant: &Plant, s: &mut State, x: u32) -> bool
     requires { HasShape plant.now s.old }
     ensures answer { result ≡ is_some (after_tail plant.now s.old x) }
@@ -155,9 +148,9 @@ pub fn step_tail(plant: &Plant, s: &mut State, x: u32) -> bool
     move_tail(plant, s, x)
 }
 
-/// The first train that stands on section `x` alone leaves the network, and the others keep their
-/// order. True exactly where there is such a train and `x` has no neighbour in its direction; else
-/// false, also where `x` is no section, and nothing changes.
+/// Removes the first train whose only section is `x` from the network; the others keep their order.
+/// Returns `true` if and only if there is such a train and `x` has no neighbour in its direction.
+/// Otherwise nothing changes.
 pub fn step_leave(plant: &Plant, s: &mut State, x: u32) -> bool
     requires { HasShape plant.now s.old }
     ensures answer { result ≡ is_some (after_leave plant.now s.old x) }

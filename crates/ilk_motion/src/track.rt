@@ -1,11 +1,11 @@
 ghost use Rattle.std.specs.Prelude.{◌≡◌};
 ghost use Rattle.ilk_motion.specs.Ahead.{ahead};
 
-use ilk_plant::{Dir, Lie, Plant, Section, State, lie_of};
+use ilk_plant::{Dir, Lie, Plant, Section, State, detected_position};
 
-/// The section ahead of section `x` in direction `d`: for a linear section its neighbour, for a
-/// point that faces `d` the leg at which it lies, for a point that faces the other way the stem.
-/// None exactly where there is none, the point moves, or `x` is no section.
+/// Returns the section ahead of section `x` in direction `d`. A linear section leads to its
+/// neighbour. A point that faces `d` leads to the leg in whose position it is, another point to its
+/// stem. Returns `None` if there is none, the point is moving, or `x` is not a section.
 pub fn ahead(plant: &Plant, s: &State, x: u32, d: Dir) -> Option<u32>
     ensures { result ≡ ahead plant.now s.now x d }
 {
@@ -26,7 +26,7 @@ pub fn ahead(plant: &Plant, s: &State, x: u32, d: Dir) -> Option<u32>
             if faces != d {
                 return Some(stem);
             }
-            match lie_of(plant, s, x)? {
+            match detected_position(plant, s, x)? {
                 Lie::Plus => Some(plus),
                 Lie::Minus => Some(minus),
                 Lie::Moving => None,

@@ -1,4 +1,4 @@
--- Flags as bits: one more flag, and the flags of two.
+-- Flags as bits: setting a flag, and the union of two.
 use Rattle.std.proofs.Common.{◌≡◌, ◌≢◌, ℕ, zero, suc, ◌-◌, ◌*◌, ◌%◌, ◌^◌, ◌<◌, ◌≤◌, Bool, true, false, ◌==◌, ◌||◌, cond, max, nat_lt, refl, sym, ap, ◌∙◌, arith, subst}
 use Rattle.std.specs.Int.{bit_at, w128}
 use Rattle.std.specs.Int.Bits.{bit_or}
@@ -8,7 +8,6 @@ use Rattle.std.proofs.lemmas.Nat.Bits.{bit_at-lt, bit_at_or, bit_at_set_other, b
 use Rattle.ilk_base.proofs.Truth.{or-true}
 use Rattle.ilk_net_check.specs.Numbers.{has_flag}
 
--- one more bit
 pub one_more : (bits y x : ℕ) → y < 128 → (bit_at (bit_or bits (1 * 2 ^ y % 2 ^ 128)) x == 1) ≡ ((bit_at bits x == 1) || (y == x))
 one_more bits y x below = by_test (y == x) refl
   where
@@ -28,12 +27,10 @@ greater_is_one (suc zero) (suc zero) lu lv = refl
 greater_is_one (suc (suc u)) v lu lv = absurd (omega (arith, lu))
 greater_is_one u (suc (suc v)) lu lv = absurd (omega (arith, lv))
 
--- the bits of two numbers
 pub of_either : (bits others x : ℕ) → (bit_at (bit_or bits others) x == 1) ≡ ((bit_at bits x == 1) || (bit_at others x == 1))
 of_either bits others x =
     ap (λ b. b == 1) (bit_at_or bits others x) ∙ greater_is_one (bit_at bits x) (bit_at others x) (bit_at-lt bits x) (bit_at-lt others x)
 
--- one more flag, among the low bits or among the high ones
 pub flag_past : (low high new y x : ℕ) → 128 ≤ y → ((z : ℕ) → (bit_at new z == 1) ≡ ((bit_at high z == 1) || (y - 128 == z))) → has_flag (record { low = low; high = new }) x ≡ (has_flag (record { low = low; high = high }) x || (y == x))
 flag_past low high new y x past bit = by_test (nat_lt x 128) refl
   where

@@ -1,12 +1,12 @@
--- The broken rules of a network have N7 exactly where a walk up returns.
+-- N7 is listed if and only if a walk up returns.
 use Rattle.std.proofs.Common.{◌≡◌, ℕ, zero, suc, Bool, true, false, cond, Some, None, List, [], ◌∷◌, length, map, slice_get, inl, inr, ◌↔◌, refl, sym, ◌∙◌, ap, subst, arith}
 use Rattle.std.specs.List.{Contains, filter, range_with_len}
 use Rattle.std.proofs.lemmas.List.Elements.{Contains-append_cases, Contains-append_right}
 use Rattle.ilk_base.proofs.FlatMaps.{Contains-flat_map, Contains-flat_map_of, Contains-none}
 use Rattle.ilk_base.proofs.Ranges.{below_or_past, range-at}
-use Rattle.ilk_plant.proofs.Leads.{returns-walks}
+use Rattle.ilk_plant.proofs.Leads.{walk_returns-walks}
 use Rattle.ilk_plant.specs.Broken.{broken_at, places_of}
-use Rattle.ilk_plant.specs.NetworkRules.{Returns, breaks_network, count_in_network, network_rules, network_rules_broken, returns}
+use Rattle.ilk_plant.specs.NetworkRules.{WalkReturns, breaks_network, count_in_network, network_rules, network_rules_broken, walk_returns}
 use Rattle.ilk_plant.specs.declared.broken.Broken.{Broken}
 use Rattle.ilk_plant.specs.declared.broken.Rule.{Rule}
 use Rattle.ilk_plant.specs.declared.broken.Rule.TheVariants.{N7}
@@ -17,7 +17,6 @@ only-in : {X : Type 0} (x y : X) → Contains (x ∷ []) y → x ≡ y
 only-in x y (zero, below, e) = e
 only-in x y (suc k, below, e) = absurd (omega (arith, below))
 
--- what is listed of the numbers that pass comes of one that passes, and back
 listed-of : {X : Type 0} (f : ℕ → X) (test : ℕ → Bool) (xs : List ℕ) (y : X) → Contains (map f (filter test xs)) y → (i : ℕ) × (test i ≡ true) × (f i ≡ y)
 listed-of f test [] y c = absurd (Contains-none y c)
 listed-of {X = X} f test (x ∷ xs) y c = by_test (listed-of f test xs y) (test x) refl c
@@ -48,8 +47,8 @@ module _ (net : NetDraft) (x : ℕ) where
   abbrev pub entry : Rule → ℕ → Broken
   entry rule i = record { rule = rule; first = i; second = None }
 
-  listed-returns : Contains (network_rules_broken net) (entry N7 x) → returns net x ≡ true
-  listed-returns c =
+  listed-walk_returns : Contains (network_rules_broken net) (entry N7 x) → walk_returns net x ≡ true
+  listed-walk_returns c =
       let one = Contains-flat_map at_rule network_rules (entry N7 x) c in
       let rule : Rule = one.1 in
       let place = listed-of (entry rule) (breaks_network net rule) (range_with_len 0 (count_in_network net (places_of rule))) (entry N7 x) one.3 in
@@ -57,15 +56,15 @@ module _ (net : NetDraft) (x : ℕ) where
       let places : place.0 ≡ x = ap (λ e. e.first) place.2 in
       sym (λ i. breaks_network net (rules i) (places i)) ∙ place.1
 
-  returns-listed : returns net x ≡ true → Contains (network_rules_broken net) (entry N7 x)
-  returns-listed h =
+  walk_returns-listed : walk_returns net x ≡ true → Contains (network_rules_broken net) (entry N7 x)
+  walk_returns-listed h =
       elim (below_or_past x (length net.sections)) [
-        | inl below ↦ Contains-flat_map_of at_rule network_rules 6 N7 (entry N7 x) refl (of-listed (entry N7) (returns net) (range_with_len 0 (length net.sections)) x x (range-at (length net.sections) x below) h)
-        | inr past ↦ (let none : returns net x ≡ false = no_lead net (length net.sections) x x past in absurd (cc))
+        | inl below ↦ Contains-flat_map_of at_rule network_rules 6 N7 (entry N7 x) refl (of-listed (entry N7) (walk_returns net) (range_with_len 0 (length net.sections)) x x (range-at (length net.sections) x below) h)
+        | inr past ↦ (let none : walk_returns net x ≡ false = no_lead net (length net.sections) x x past in absurd (cc))
       ]
 
-  pub listed-walks : (broken : List Broken) → broken ≡ network_rules_broken net → Contains broken (entry N7 x) ↔ Returns net x
+  pub listed-walks : (broken : List Broken) → broken ≡ network_rules_broken net → Contains broken (entry N7 x) ↔ WalkReturns net x
   listed-walks broken e =
-      let walks = returns-walks net x in
+      let walks = walk_returns-walks net x in
       let P : List Broken → Type 0 = λ found. Contains found (entry N7 x) in
-      (λ c. walks.0 (listed-returns (subst P e c)), λ r. subst P (sym e) (returns-listed (walks.1 r)))
+      (λ c. walks.0 (listed-walk_returns (subst P e c)), λ r. subst P (sym e) (walk_returns-listed (walks.1 r)))

@@ -8,16 +8,15 @@ use Rattle.std.proofs.lemmas.List.Folds.{list_any-append}
 use Rattle.std.proofs.lemmas.Option.{slice_get_past}
 use Rattle.ilk_base.proofs.Lists.{slice_get-set_other, slice_get-set_same}
 use Rattle.ilk_plant.specs.NetworkRules.{leads_by}
-use Rattle.ilk_net_check.specs.Numbers.{IsTable, entry, has_flag, joined}
+use Rattle.ilk_net_check.specs.Numbers.{IsTableOfTest, table_entry, has_flag, is_joined_by_way_of}
 use Rattle.ilk_net_check.specs.declared.bits.Flags.{Flags}
 
--- a table that has one more row
-entry_before : (t : List Flags) (row : Flags) (x y : ℕ) → x < length t → entry (t ++ row ∷ []) x y ≡ entry t x y
+entry_before : (t : List Flags) (row : Flags) (x y : ℕ) → x < length t → table_entry (t ++ row ∷ []) x y ≡ table_entry t x y
 entry_before [] row x y below = absurd (omega (arith, below))
 entry_before (r ∷ t) row zero y below = refl
 entry_before (r ∷ t) row (suc x) y below = entry_before t row x y (omega (arith, below))
 
-entry_last : (t : List Flags) (row : Flags) (y : ℕ) → entry (t ++ row ∷ []) (length t) y ≡ has_flag row y
+entry_last : (t : List Flags) (row : Flags) (y : ℕ) → table_entry (t ++ row ∷ []) (length t) y ≡ has_flag row y
 entry_last [] row y = refl
 entry_last (r ∷ t) row y = entry_last t row y
 
@@ -25,57 +24,55 @@ length_more : (t : List Flags) (row : Flags) → length (t ++ row ∷ []) ≡ le
 length_more [] row = refl
 length_more (r ∷ t) row = let more = length_more t row in omega (arith, more)
 
-pub table_more : (t new : List Flags) (row : Flags) (n : ℕ) (test : ℕ → ℕ → Bool) → IsTable t n test → new ≡ t ++ row ∷ [] → ((y : ℕ) → y < 256 → has_flag row y ≡ test n y) → IsTable new (n + 1) test
+pub table_more : (t new : List Flags) (row : Flags) (n : ℕ) (test : ℕ → ℕ → Bool) → IsTableOfTest t n test → new ≡ t ++ row ∷ [] → ((y : ℕ) → y < 256 → has_flag row y ≡ test n y) → IsTableOfTest new (n + 1) test
 table_more t new row n test before is own = record {
   rows = ap length is ∙ length_more t row ∙ ap (λ m. m + 1) before.rows;
-  entries = λ x y below small. ap (λ s. entry s x y) is ∙ by_place x y small (eq-or-lt_of_le (omega (arith, below)));
+  entries = λ x y below small. ap (λ s. table_entry s x y) is ∙ by_place x y small (eq-or-lt_of_le (omega (arith, below)));
 }
   where
-    by_place : (x y : ℕ) → y < 256 → (x ≡ n) ⊎ (x < n) → entry (t ++ row ∷ []) x y ≡ test x y
+    by_place : (x y : ℕ) → y < 256 → (x ≡ n) ⊎ (x < n) → table_entry (t ++ row ∷ []) x y ≡ test x y
     by_place x y small (inr lower) = entry_before t row x y (omega (arith, lower, before.rows)) ∙ before.entries x y lower small
     by_place x y small (inl last) =
         let place : x ≡ length t = last ∙ sym before.rows in
-        ap (λ z. entry (t ++ row ∷ []) z y) place ∙ entry_last t row y ∙ own y small ∙ ap (λ z. test z y) (sym last)
+        ap (λ z. table_entry (t ++ row ∷ []) z y) place ∙ entry_last t row y ∙ own y small ∙ ap (λ z. test z y) (sym last)
 
--- a table of which one row is another
-pub entry-set : (t : List Flags) (row : Flags) (x y : ℕ) → x < length t → entry (set t x row) x y ≡ has_flag row y
-entry-set t row x y within = rw (slice_get-set_same t x row within) refl
+pub table_entry-set : (t : List Flags) (row : Flags) (x y : ℕ) → x < length t → table_entry (set t x row) x y ≡ has_flag row y
+table_entry-set t row x y within = rw (slice_get-set_same t x row within) refl
 
-pub entry-kept : (t : List Flags) (row : Flags) (x z y : ℕ) → (x ≡ z → ⊥) → entry (set t x row) z y ≡ entry t z y
-entry-kept t row x z y other = rw (slice_get-set_other t x z row other) refl
+pub table_entry-kept : (t : List Flags) (row : Flags) (x z y : ℕ) → (x ≡ z → ⊥) → table_entry (set t x row) z y ≡ table_entry t z y
+table_entry-kept t row x z y other = rw (slice_get-set_other t x z row other) refl
 
--- the rows below i are joined by way of k, and the others are as before
+-- The rows below i also allow walks through k; the others are unchanged.
 pub record IsJoinedBelow (before t : List Flags) (k i n : ℕ) : Type 0 where
   pub rows : length t ≡ n
-  pub done : (x y : ℕ) → x < i → entry t x y ≡ joined before k x y
-  pub left : (x y : ℕ) → i ≤ x → entry t x y ≡ entry before x y
+  pub done : (x y : ℕ) → x < i → table_entry t x y ≡ is_joined_by_way_of before k x y
+  pub left : (x y : ℕ) → i ≤ x → table_entry t x y ≡ table_entry before x y
 
--- row i is joined too, where onward is row k
+-- Updates row i; onward is row k.
 pub join_next : (before t : List Flags) (row onward : Flags) (k i n : ℕ) → i < n →
-    IsJoinedBelow before t k i n → ((y : ℕ) → has_flag onward y ≡ entry before k y) →
-    ((y : ℕ) → has_flag row y ≡ (entry t i y || (entry t i k && has_flag onward y))) →
+    IsJoinedBelow before t k i n → ((y : ℕ) → has_flag onward y ≡ table_entry before k y) →
+    ((y : ℕ) → has_flag row y ≡ (table_entry t i y || (table_entry t i k && has_flag onward y))) →
     IsJoinedBelow before (set t i row) k (i + 1) n
 join_next before t row onward k i n within sofar on is = record {
   rows = length-set t i row ∙ sofar.rows;
   done = λ x y below. by_place x y (eq-or-lt_of_le (omega (arith, below)));
-  left = λ x y after. entry-kept t row i x y (λ same. absurd (omega (arith, same, after))) ∙ sofar.left x y (omega (arith, after));
+  left = λ x y after. table_entry-kept t row i x y (λ same. absurd (omega (arith, same, after))) ∙ sofar.left x y (omega (arith, after));
 }
   where
-    by_place : (x y : ℕ) → (x ≡ i) ⊎ (x < i) → entry (set t i row) x y ≡ joined before k x y
+    by_place : (x y : ℕ) → (x ≡ i) ⊎ (x < i) → table_entry (set t i row) x y ≡ is_joined_by_way_of before k x y
     by_place x y (inr lower) =
-        entry-kept t row i x y (λ same. absurd (omega (arith, same, lower))) ∙ sofar.done x y lower
+        table_entry-kept t row i x y (λ same. absurd (omega (arith, same, lower))) ∙ sofar.done x y lower
     by_place x y (inl same) =
-        ap (λ z. entry (set t i row) z y) same ∙ entry-set t row i y (omega (arith, within, sofar.rows)) ∙ is y
-        ∙ (λ j. sofar.left i y (omega arith) j || (sofar.left i k (omega arith) j && on y j)) ∙ ap (λ z. joined before k z y) (sym same)
+        ap (λ z. table_entry (set t i row) z y) same ∙ table_entry-set t row i y (omega (arith, within, sofar.rows)) ∙ is y
+        ∙ (λ j. sofar.left i y (omega arith) j || (sofar.left i k (omega arith) j && on y j)) ∙ ap (λ z. is_joined_by_way_of before k z y) (sym same)
 
--- one more item passes, or doesn't
 pub any_more : {X : Type 0} (p : X → Bool) (xs : List X) (i : ℕ) (d : X) (before now : Bool) → i < length xs → before ≡ list_any p (take i xs) → now ≡ (before || p (get_or xs i d)) → now ≡ list_any p (take (i + 1) xs)
 any_more p xs i d before now within sofar is =
     is ∙ ap (λ b. b || p (get_or xs i d)) sofar ∙ ap (λ b. list_any p (take i xs) || b) (sym (or-false (p (get_or xs i d))))
     ∙ sym (ap (list_any p) (take_more xs i d within) ∙ list_any-append p (take i xs) (get_or xs i d ∷ []))
 
--- a table after one more number to go by
-pub next_table : (n k : ℕ) (step : ℕ → ℕ → Bool) (leads new : List Flags) → k < n → n ≤ 256 → IsTable leads n (leads_by step k) → IsTable new n (joined leads k) → IsTable new n (leads_by step (k + 1))
+-- The table after walks may also pass through k.
+pub next_table : (n k : ℕ) (step : ℕ → ℕ → Bool) (leads new : List Flags) → k < n → n ≤ 256 → IsTableOfTest leads n (leads_by step k) → IsTableOfTest new n (is_joined_by_way_of leads k) → IsTableOfTest new n (leads_by step (k + 1))
 next_table n k step leads new below few before after = record {
   rows = after.rows;
   entries = λ x y lx ly.
@@ -88,6 +85,5 @@ next_table n k step leads new below few before after = record {
       ∙ ap (λ m. leads_by step m x y) e;
 }
 
--- nothing past its last row
-pub entry_past : (t : List Flags) (x y : ℕ) → length t ≤ x → entry t x y ≡ false
+pub entry_past : (t : List Flags) (x y : ℕ) → length t ≤ x → table_entry t x y ≡ false
 entry_past t x y past = rw (slice_get_past t x past) refl

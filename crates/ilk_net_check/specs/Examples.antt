@@ -1,5 +1,5 @@
--- Worked networks, cited by private contracts alone: a plain line of two sections, the same with a neighbour left out,
--- rings, and lines that divide in two.
+-- Example networks for private contracts: a plain line of two sections, a line with a neighbour
+-- missing, rings and forks.
 use Rattle.std.specs.Prelude.{ℕ, Option, Some, None, [], ◌∷◌}
 use Rattle.ilk_plant.specs.Name.{Name}
 use Rattle.ilk_plant.specs.declared.broken.Broken.{Broken}
@@ -21,53 +21,53 @@ c = 99 ∷ []
 abbrev pub p : Name
 p = 112 ∷ []
 
--- a linear section with no board
+-- A linear section without boards.
 abbrev pub plain : Name → Option Name → Option Name → SectionDraft
 plain name down up = record { name = name; kind = LinearDraft down up None None }
 
--- section a, with a board for trains that run up
+-- Section a, with a board for up trains.
 abbrev pub first : Option Name → SectionDraft
 first up = record { name = a; kind = LinearDraft None up None (Some (109 ∷ [])) }
 
--- section b, with a board for trains that run down
+-- Section b, with a board for down trains.
 abbrev pub last : SectionDraft
 last = record { name = b; kind = LinearDraft (Some a) None (Some (110 ∷ [])) None }
 
 abbrev pub line_of_two : NetDraft
 line_of_two = record { sections = first (Some b) ∷ last ∷ [] }
 
--- a doesn't name b
+-- Section a doesn't name b.
 abbrev pub line_cut : NetDraft
 line_cut = record { sections = first None ∷ last ∷ [] }
 
--- the same, and a third section with the name of the second
+-- The cut line, with a third section that has the name of the second.
 abbrev pub line_cut_with_repeat : NetDraft
 line_cut_with_repeat = record { sections = first None ∷ last ∷ plain b None None ∷ [] }
 
--- each of three sections is next up of another
+-- Three sections in a ring.
 abbrev pub ring_of_three : NetDraft
 ring_of_three = record { sections = plain a (Some c) (Some b) ∷ plain b (Some a) (Some c) ∷ plain c (Some b) (Some a) ∷ [] }
 
--- a section that names itself on both sides
+-- A section that names itself on both sides.
 abbrev pub loop_of_one : NetDraft
 loop_of_one = record { sections = plain a (Some a) (Some a) ∷ [] }
 
--- a point that faces up, from a to b and c
+-- A point that faces up, from a to b and c.
 abbrev pub point : SectionDraft
 point = record { name = p; kind = PointDraft a b c Up }
 
--- a line that divides in two
+-- A line that divides in two.
 abbrev pub fork : NetDraft
 fork = record { sections = plain a None (Some p) ∷ point ∷ plain b (Some p) None ∷ plain c (Some p) None ∷ [] }
 
--- the same, where the section on the minus leg names the point on its up side
+-- The fork, but the section on the minus leg names the point on its up side.
 abbrev pub fork_turned : NetDraft
 fork_turned = record { sections = plain a None (Some p) ∷ point ∷ plain b (Some p) None ∷ plain c None (Some p) ∷ [] }
 
--- the same, where the section on the minus leg leads back to a
+-- The fork, but the section on the minus leg leads back to a.
 abbrev pub fork_with_ring : NetDraft
 fork_with_ring = record { sections = plain a (Some c) (Some p) ∷ point ∷ plain b (Some p) None ∷ plain c (Some p) (Some a) ∷ [] }
 
--- a rule broken at one place
+-- A rule violated at one location.
 abbrev pub at : Rule → ℕ → Broken
 at rule i = record { rule = rule; first = i; second = None }

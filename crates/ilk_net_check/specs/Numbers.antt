@@ -1,12 +1,12 @@
--- Cited by private contracts alone: a network in numbers, with the ends of its sections, and tables of flags over
--- pairs of sections.
+-- A network with numbers for names, and tables of flags over pairs of sections. Used only by
+-- private contracts.
 use Rattle.std.specs.Prelude.{ℕ, ◌<◌, ◌≤◌, ◌-◌, Bool, not, ◌&&◌, ◌||◌, ◌==◌, Option, List, [], length, map, count_by, slice_get, slice_index_or, ◌≡◌, if◌then◌else◌, nat_lt}
 use Rattle.std.specs.Int.{bit_at}
 use Rattle.std.specs.List.{list_any}
-use Rattle.ilk_plant.specs.NetNames.{IsNamedAs}
+use Rattle.ilk_plant.specs.NetNames.{HasNamesOf}
 use Rattle.ilk_plant.specs.Name.{Name}
 use Rattle.ilk_plant.specs.Network.{same_direction}
-use Rattle.ilk_plant.specs.NetworkRules.{ends, leads_by, opposite_direction, section_named, End as NamedEnd}
+use Rattle.ilk_plant.specs.NetworkRules.{ends_of_kind, leads_by, opposite_direction, section_named, End as NamedEnd}
 use Rattle.ilk_base.specs.Option.{is_some_and}
 use Rattle.ilk_plant.specs.declared.draft.KindDraft.{KindDraft}
 use Rattle.ilk_plant.specs.declared.limits.TheConstants.{MAX_SECTIONS}
@@ -16,63 +16,66 @@ use Rattle.ilk_net_check.specs.declared.ends.End.{End}
 use Rattle.ilk_net_check.specs.declared.bits.Flags.{Flags}
 use Rattle.ilk_net_check.specs.declared.rules.Network.{Network}
 
--- an end with a number for its name
+-- The end with a number for its name.
 abbrev pub numbered_end : (Name → Option ℕ) → NamedEnd → End
 numbered_end number end = record { side = end.side; section = number end.name }
 
--- the ends of a section with numbers for names
+-- The ends of a section with numbers for names.
 abbrev pub numbered_ends : (Name → Option ℕ) → KindDraft → List End
-numbered_ends number kind = map (numbered_end number) (ends kind)
+numbered_ends number kind = map (numbered_end number) (ends_of_kind kind)
 
--- whether an end is on the up side and names section y
-abbrev pub leads_up_to : ℕ → End → Bool
-leads_up_to y end = same_direction end.side Up && is_some_and end.section (λ z. z == y)
+-- Returns whether an end is on the up side and names section y.
+abbrev pub is_up_end_to : ℕ → End → Bool
+is_up_end_to y end = same_direction end.side Up && is_some_and end.section (λ z. z == y)
 
--- the ends of section x; none where x is no section
+-- The ends of section x, none if x is not a section.
 abbrev pub ends_by_number : List (List End) → ℕ → List End
 ends_by_number all x = slice_index_or all x []
 
--- whether section y is next to section x on its up side
+-- Returns whether section y is next to section x on its up side.
 abbrev pub is_next : List (List End) → ℕ → ℕ → Bool
-is_next all x y = list_any (leads_up_to y) (ends_by_number all x)
+is_next all x y = list_any (is_up_end_to y) (ends_by_number all x)
 
--- whether number y has its flag: among the low bits below 128, and among the high ones from there on
+-- Returns whether the flag of y is set. The low bits are for numbers below 128, the high bits for
+-- the others.
 abbrev pub has_flag : Flags → ℕ → Bool
 has_flag flags y = if nat_lt y 128 then bit_at flags.low y == 1 else bit_at flags.high (y - 128) == 1
 
--- what a table has for x and y; false where it has no row x
-abbrev pub entry : List Flags → ℕ → ℕ → Bool
-entry t x y = is_some_and (slice_get t x) (λ row. has_flag row y)
+-- The entry of a table for x and y, false if there is no row x.
+abbrev pub table_entry : List Flags → ℕ → ℕ → Bool
+table_entry t x y = is_some_and (slice_get t x) (λ row. has_flag row y)
 
--- a table with n rows, each with a flag for each number below 256 that passes the test
-pub record IsTable (t : List Flags) (n : ℕ) (test : ℕ → ℕ → Bool) : Type 0 where
+-- Holds if the table has n rows, and the entries of each row for numbers below 256 are those of the
+-- test.
+pub record IsTableOfTest (t : List Flags) (n : ℕ) (test : ℕ → ℕ → Bool) : Type 0 where
   pub rows : length t ≡ n
-  pub entries : (x y : ℕ) → x < n → y < 256 → entry t x y ≡ test x y
+  pub entries : (x y : ℕ) → x < n → y < 256 → table_entry t x y ≡ test x y
 
--- whether a table has x and y, or both x and k and k and y
-abbrev pub joined : List Flags → ℕ → ℕ → ℕ → Bool
-joined t k x y = entry t x y || (entry t x k && entry t k y)
+-- Returns whether the table has x and y, or both x and k, and k and y.
+abbrev pub is_joined_by_way_of : List Flags → ℕ → ℕ → ℕ → Bool
+is_joined_by_way_of t k x y = table_entry t x y || (table_entry t x k && table_entry t k y)
 
--- whether an end names section x
+-- Returns whether an end names section x.
 abbrev pub names : ℕ → End → Bool
 names x end = is_some_and end.section (λ y. y == x)
 
--- whether an end names no section other than x
+-- Returns whether an end doesn't name a section other than x.
 abbrev pub names_no_other : ℕ → End → Bool
 names_no_other x end = not (is_some_and end.section (λ y. not (y == x)))
 
--- whether exactly one of these ends names section x, and that end is on side d
+-- Returns whether exactly one of these ends names section x, and that end is on side d.
 abbrev pub is_named_once : ℕ → Dir → List End → Bool
 is_named_once x d ends = count_by (names x) ends == 1 && list_any (λ end. names x end && same_direction end.side d) ends
 
--- whether an end of section x names a section other than x that doesn't name x back once, on the opposite side
-abbrev pub is_one_sided : List (List End) → ℕ → End → Bool
-is_one_sided all x end =
+-- Returns whether an end of section x names another section that doesn't name x back exactly once,
+-- on the opposite side.
+abbrev pub is_not_named_back_by : List (List End) → ℕ → End → Bool
+is_not_named_back_by all x end =
     is_some_and end.section (λ y. not (y == x) && not (is_named_once x (opposite_direction end.side) (ends_by_number all y)))
 
--- a network in numbers has what its draft says
-pub record IsNumbered (network : Network) : Type 0 where
-  pub names : IsNamedAs network.names.now network.net.now
+-- Holds if the network with numbers agrees with its draft.
+pub record AgreesWithDraft (network : Network) : Type 0 where
+  pub names : HasNamesOf network.names.now network.net.now
   pub ends : network.ends ≡ map (λ section. numbered_ends (section_named network.net.now) section.kind) network.net.now.sections
   pub few : length network.net.now.sections ≤ MAX_SECTIONS
-  pub leads : IsTable network.leads (length network.net.now.sections) (leads_by (is_next network.ends) (length network.net.now.sections))
+  pub leads : IsTableOfTest network.leads (length network.net.now.sections) (leads_by (is_next network.ends) (length network.net.now.sections))

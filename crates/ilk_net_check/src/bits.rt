@@ -2,22 +2,20 @@ ghost use Rattle.std.specs.Prelude.{ℕ, ◌≡◌, ◌==◌, ◌||◌, ◌<◌,
 ghost use Rattle.std.specs.Int.{bit_at};
 ghost use Rattle.ilk_net_check.specs.Numbers.{has_flag};
 
-/// A flag for each number below 256, as bits: bit `y` of `low` for the number `y`, below 128, and
-/// bit `y` of `high` for the number 128 + `y`.
+/// A flag for each number below 256. Bit `y` of `low` is the flag of `y`; bit `y` of `high` is the
+/// flag of 128 + `y`.
 #[derive(Clone, Copy)]
 pub struct Flags {
     low: u128,
     high: u128,
 }
 
-// Whether bit `y` is set.
 fn is_set(bits: u128, y: u32) -> bool
     ensures { result ≡ (bit_at bits y == 1) }
 {
     y < 128 && (bits >> y) & 1 == 1
 }
 
-// The bits, and bit `y`.
 fn with_bit(bits: u128, y: u32) -> u128
     requires { y < 128 }
     ensures { (x : ℕ) → (bit_at result x == 1) ≡ ((bit_at bits x == 1) || (y == x)) }
@@ -25,7 +23,6 @@ fn with_bit(bits: u128, y: u32) -> u128
     bits | 1 << y
 }
 
-// The bits that are set in one of two numbers.
 fn either_bits(bits: u128, others: u128) -> u128
     ensures { (x : ℕ) → (bit_at result x == 1) ≡ ((bit_at bits x == 1) || (bit_at others x == 1)) }
 {
@@ -33,14 +30,14 @@ fn either_bits(bits: u128, others: u128) -> u128
 }
 
 impl Flags {
-    /// No flag.
-    pub fn none() -> Flags
+    /// Creates flags of which none is set.
+    pub fn empty() -> Flags
         ensures { (y : ℕ) → has_flag result y ≡ false }
     {
         Flags { low: 0, high: 0 }
     }
 
-    /// Whether the number `y` has its flag.
+    /// Returns whether the flag of `y` is set.
     pub fn has(self, y: u32) -> bool
         ensures { result ≡ has_flag self y }
     {
@@ -51,8 +48,8 @@ impl Flags {
         }
     }
 
-    /// These flags, and that of the number `y`.
-    pub fn with(self, y: u32) -> Flags
+    /// Returns these flags with the flag of `y` set.
+    pub fn with_number(self, y: u32) -> Flags
         requires { y < 256 }
         ensures { (x : ℕ) → has_flag result x ≡ (has_flag self x || (y == x)) }
     {
@@ -69,8 +66,8 @@ impl Flags {
         }
     }
 
-    /// The flags of both.
-    pub fn or(self, other: Flags) -> Flags
+    /// Returns the flags that are set in either.
+    pub fn union(self, other: Flags) -> Flags
         ensures { (y : ℕ) → has_flag result y ≡ (has_flag self y || has_flag other y) }
     {
         Flags {

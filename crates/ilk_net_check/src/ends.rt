@@ -1,14 +1,14 @@
 ghost use Rattle.std.specs.Prelude.{◌≡◌, ◌==◌, ◌++◌, not, IfOk, OnOk, map};
 ghost use Rattle.ilk_plant.specs.NetworkRules.{end_with, opposite_direction as opposite_of};
 ghost use Rattle.ilk_base.specs.Option.{is_some_and};
-ghost use Rattle.ilk_plant.specs.Plant.{first_named};
+ghost use Rattle.ilk_plant.specs.Plant.{first_number_named};
 ghost use Rattle.ilk_net_check.specs.Numbers.{numbered_end, numbered_ends, ends_by_number};
 
 use ilk_plant::{Dir, KindDraft, Names, Row, SectionDraft, Text};
 use std::alloc::{AllocError, Global};
 
-/// An end of a section at which a neighbour is given: its side, and the number of the section for
-/// which the neighbour's name stands. None where no section has the name.
+/// An end of a section that has a neighbour: its side, and the number of the section with the
+/// neighbour's name. `section` is `None` if no section has that name.
 #[derive(Clone, Copy, PartialEq, Eq, Debug)]
 pub struct End {
     pub side: Dir,
@@ -16,7 +16,7 @@ pub struct End {
 }
 
 impl End {
-    /// Whether the name at this end stands for section `x`.
+    /// Returns whether the name at this end is that of section `x`.
     pub fn names(&self, x: u32) -> bool
         ensures { result ≡ is_some_and self.now.section (λ y. y == x) }
     {
@@ -26,7 +26,7 @@ impl End {
         }
     }
 
-    /// Whether the name at this end stands for a section other than `x`.
+    /// Returns whether the name at this end is that of a section other than `x`.
     pub fn names_another(&self, x: u32) -> bool
         ensures { result ≡ is_some_and self.now.section (λ y. not (y == x)) }
     {
@@ -37,7 +37,7 @@ impl End {
     }
 }
 
-/// The direction against `dir`.
+/// Returns the opposite of `dir`.
 pub fn opposite(dir: Dir) -> Dir
     ensures { result ≡ opposite_of dir }
 {
@@ -47,9 +47,8 @@ pub fn opposite(dir: Dir) -> Dir
     }
 }
 
-// The end on side `side`, where a neighbour has this name.
 fn end_of(names: &Names, side: Dir, name: &Text) -> End
-    ensures { result ≡ record { side = side; section = first_named names.now name.now } }
+    ensures { result ≡ record { side = side; section = first_number_named names.now name.now } }
 {
     End {
         side,
@@ -57,7 +56,6 @@ fn end_of(names: &Names, side: Dir, name: &Text) -> End
     }
 }
 
-// Adds the end on side `side`, if a neighbour is given there.
 fn push_end(
     names: &Names,
     ends: &mut Row<End>,
@@ -66,7 +64,7 @@ fn push_end(
 ) -> Result<(), AllocError>
     ensures { OnOk result
         (ends.new ≡ ends.old
-        ++ map (numbered_end (first_named names.now)) (end_with side name.now)) }
+        ++ map (numbered_end (first_number_named names.now)) (end_with side name.now)) }
 {
     if let Some(name) = name {
         ends.push(end_of(names, side, name))?;
@@ -74,10 +72,9 @@ fn push_end(
     Ok(())
 }
 
-// The ends of a section, with numbers for names.
 fn numbered_ends(alloc: Global, names: &Names, kind: &KindDraft) -> Result<Row<End>, AllocError>
     ensures { IfOk result
-        (λ made. made ≡ numbered_ends (first_named names.now) kind.now) }
+        (λ made. made ≡ numbered_ends (first_number_named names.now) kind.now) }
 {
     let mut ends = Row::new(alloc);
     match kind {
@@ -99,7 +96,7 @@ fn numbered_ends(alloc: Global, names: &Names, kind: &KindDraft) -> Result<Row<E
     Ok(ends)
 }
 
-/// The ends of each section, with the numbers that the names of the neighbours stand for.
+/// Returns the ends of each section, with the numbers of their neighbours.
 pub fn all_ends(
     alloc: Global,
     names: &Names,
@@ -107,7 +104,7 @@ pub fn all_ends(
 ) -> Result<Row<Row<End>>, AllocError>
     ensures { IfOk result
         (λ made. made
-        ≡ map (λ section. numbered_ends (first_named names.now) section.kind) sections.now) }
+        ≡ map (λ section. numbered_ends (first_number_named names.now) section.kind) sections.now) }
 {
     let mut made = Row::new(alloc);
     for section in sections {
@@ -116,7 +113,7 @@ pub fn all_ends(
     Ok(made)
 }
 
-/// The ends of section `x`; none where `x` is no section.
+/// Returns the ends of section `x`. Returns an empty slice if there is no section `x`.
 pub fn ends_by_number(all: &Row<Row<End>>, x: u32) -> &[End]
     ensures { result.now ≡ ends_by_number all.now x }
 {

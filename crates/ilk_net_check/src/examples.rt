@@ -3,39 +3,37 @@ ghost use Rattle.ilk_plant.specs.NetworkRules.{network_rules_broken};
 ghost use Rattle.ilk_plant.specs.declared.broken.Rule.TheVariants.{N1, N3, N4, N5, N6, N7, N8};
 ghost use Rattle.ilk_net_check.specs.Examples.{at, fork, fork_turned, fork_with_ring, line_cut, line_cut_with_repeat, line_of_two, loop_of_one, ring_of_three};
 
-// A plain line breaks no rule.
 fn line_is_clean()
     ensures { network_rules_broken line_of_two ≡ [] }
 {}
 
-// Where a neighbour is left out, the other isn't named back, and the section stands alone.
+// If a neighbour is left out, the other section isn't named back, and the first has no neighbour.
 fn cut_line_is_refused()
     ensures { network_rules_broken line_cut ≡ at N5 1 ∷ at N6 0 ∷ at N8 0 ∷ [] }
 {}
 
-// A name stands for the first section that has it.
+// A name refers to the first section that has it.
 fn repeated_name_is_refused()
     ensures { network_rules_broken line_cut_with_repeat
         ≡ at N1 2 ∷ at N5 1 ∷ at N6 0 ∷ at N6 2 ∷ at N8 0 ∷ [] }
 {}
 
-// In a ring every section comes back to itself.
+// In a ring a walk up returns to every section.
 fn ring_is_refused()
     ensures { network_rules_broken ring_of_three ≡ at N7 0 ∷ at N7 1 ∷ at N7 2 ∷ [] }
 {}
 
-// A section that names itself is no other section, and comes back to itself.
+// A section that names itself doesn't name another section, and a walk up returns to it.
 fn loop_is_refused()
     ensures { network_rules_broken loop_of_one ≡ at N3 0 ∷ at N4 0 ∷ at N7 0 ∷ [] }
 {}
 
-// A line that divides in two breaks no rule.
 fn fork_is_clean()
     ensures { network_rules_broken fork ≡ [] }
 {}
 
-// The name at an end is the neighbour's, but the end isn't on the opposite side; and from there
-// every walk up comes back by the minus leg.
+// The end names the neighbour, but isn't on the opposite side. A walk up then returns through the
+// minus leg.
 fn turned_leg_is_refused()
     ensures { network_rules_broken fork_turned ≡ at N5 1 ∷ at N5 3 ∷ at N7 1 ∷ at N7 3 ∷ [] }
 {}

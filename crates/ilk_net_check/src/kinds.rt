@@ -1,19 +1,18 @@
 ghost use Rattle.std.specs.Prelude.{◌≡◌, bytes_eq, map, not};
-ghost use Rattle.ilk_plant.specs.NetworkRules.{ends, has_board_to_nowhere, has_no_neighbour};
-ghost use Rattle.ilk_plant.specs.Once.{all_differ};
+ghost use Rattle.ilk_plant.specs.NetworkRules.{ends_of_kind, has_board_to_nowhere, has_no_neighbour};
+ghost use Rattle.ilk_plant.specs.Once.{names_differ};
 
 use ilk_plant::{KindDraft, Text};
 
-// Whether two names are one.
 fn same_name(name: &Text, other: &Text) -> bool
     ensures { result ≡ bytes_eq name.now other.now }
 {
     name.as_str() == other.as_str()
 }
 
-/// Whether two neighbours of a section have the same name.
+/// Returns whether two neighbours of a section have the same name.
 pub fn repeats_neighbour(kind: &KindDraft) -> bool
-    ensures { result ≡ not (all_differ (map (λ end. end.name) (ends kind.now))) }
+    ensures { result ≡ not (names_differ (map (λ end. end.name) (ends_of_kind kind.now))) }
 {
     match kind {
         KindDraft::Linear {
@@ -31,7 +30,7 @@ pub fn repeats_neighbour(kind: &KindDraft) -> bool
     }
 }
 
-/// Whether a section is linear and has no neighbour.
+/// Returns whether a section is linear and has no neighbour.
 pub fn has_no_neighbour(kind: &KindDraft) -> bool
     ensures { result ≡ has_no_neighbour kind.now }
 {
@@ -41,7 +40,7 @@ pub fn has_no_neighbour(kind: &KindDraft) -> bool
     }
 }
 
-/// Whether a section is linear and has a board in a direction in which it has no neighbour.
+/// Returns whether a section is linear and has a board in a direction in which it has no neighbour.
 pub fn has_board_to_nowhere(kind: &KindDraft) -> bool
     ensures { result ≡ has_board_to_nowhere kind.now }
 {

@@ -1,10 +1,10 @@
-//! The rules of the network (N), asked of its draft: `check_network` gives the whole list of
-//! those that are broken, each at every place, in order. `check_named_network` takes the network's
-//! names, where they are made already.
+//! Checks the rules of the network (N) on its draft. `check_network` returns every violated rule
+//! with its location, in order. `check_named_network` does the same with existing names of the
+//! network.
 //!
-//! The definitions speak of names and of walks of any length. The checks number the names once, and
-//! find where walks lead by a table of bits that grows by one section at a time, which is proved to be
-//! the same.
+//! The definitions use names, and walks of any length. The checks use numbers for names, and
+//! compute reachability as a table of bits that grows by one section at a time. The two are proved
+//! equal.
 #![tactic(auto)]
 
 mod bits;
@@ -17,4 +17,4 @@ mod rules;
 mod walks;
 
 pub use rules::{check_named_network, check_network};
-pub use walks::returning_walks;
+pub use walks::walk_test_is_exact;

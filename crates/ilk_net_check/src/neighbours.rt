@@ -1,42 +1,38 @@
 ghost use Rattle.std.specs.Prelude.{◌≡◌, ◌&&◌, count_by};
 ghost use Rattle.std.specs.List.{list_any};
 ghost use Rattle.ilk_plant.specs.Network.{same_direction};
-ghost use Rattle.ilk_net_check.specs.Numbers.{names, names_no_other, ends_by_number as ends_there, is_one_sided, is_named_once};
+ghost use Rattle.ilk_net_check.specs.Numbers.{names, names_no_other, ends_by_number as ends_there, is_not_named_back_by, is_named_once};
 
 use crate::ends::{End, ends_by_number, opposite};
 use ilk_plant::{Dir, Row};
 
-/// Whether one of the ends of section `x` doesn't name a section other than `x`.
-pub fn names_no_other(ends: &[End], x: u32) -> bool
+/// Returns whether some end of section `x` doesn't name a section other than `x`.
+pub fn has_wrong_end(ends: &[End], x: u32) -> bool
     ensures { result ≡ list_any (names_no_other x) ends.now }
 {
     ends.iter().any(|end| !end.names_another(x))
 }
 
-// How many of the ends name section `x`.
 fn count_naming(ends: &[End], x: u32) -> usize
     ensures { result ≡ count_by (names x) ends.now }
 {
     ends.iter().filter(|end| end.names(x)).count()
 }
 
-// Whether one of the ends names section `x` and is on side `side`.
 fn names_from(ends: &[End], x: u32, side: Dir) -> bool
     ensures { result ≡ list_any (λ end. names x end && same_direction end.side side) ends.now }
 {
     ends.iter().any(|end| end.names(x) && end.side == side)
 }
 
-// Whether exactly one of the ends names section `x`, and that end is on side `side`.
 fn is_named_once(ends: &[End], x: u32, side: Dir) -> bool
     ensures { result ≡ is_named_once x side ends.now }
 {
     count_naming(ends, x) == 1 && names_from(ends, x, side)
 }
 
-// Whether an end of section `x` names another section that doesn't name `x` back.
 fn is_one_sided(all: &Row<Row<End>>, x: u32, end: &End) -> bool
-    ensures { result ≡ is_one_sided all.now x end.now }
+    ensures { result ≡ is_not_named_back_by all.now x end.now }
 {
     match end.section {
         Some(y) => y != x && !is_named_once(ends_by_number(all, y), x, opposite(end.side)),
@@ -44,10 +40,10 @@ fn is_one_sided(all: &Row<Row<End>>, x: u32, end: &End) -> bool
     }
 }
 
-/// Whether a neighbour of section `x`, other than `x`, doesn't name `x` at exactly one of its ends,
-/// on the opposite side.
+/// Returns whether section `x` has a neighbour, other than `x`, that doesn't name `x` at exactly
+/// one of its ends, on the opposite side.
 pub fn is_not_named_back(all: &Row<Row<End>>, x: u32) -> bool
-    ensures { result ≡ list_any (is_one_sided all.now x) (ends_there all.now x) }
+    ensures { result ≡ list_any (is_not_named_back_by all.now x) (ends_there all.now x) }
 {
     ends_by_number(all, x)
         .iter()

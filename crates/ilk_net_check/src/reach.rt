@@ -1,7 +1,7 @@
 ghost use Rattle.std.specs.Prelude.{ℕ, ◌≡◌, ◌≤◌, ◌<◌, ◌&&◌, ◌||◌, IfOk, length};
 ghost use Rattle.std.specs.List.{list_any};
 ghost use Rattle.ilk_plant.specs.NetworkRules.{leads_by};
-ghost use Rattle.ilk_net_check.specs.Numbers.{IsTable, entry, has_flag, is_next, joined, leads_up_to};
+ghost use Rattle.ilk_net_check.specs.Numbers.{IsTableOfTest, table_entry, has_flag, is_next, is_joined_by_way_of, is_up_end_to};
 ghost use Rattle.ilk_plant.specs.declared.limits.TheConstants.{MAX_SECTIONS};
 
 use crate::bits::Flags;
@@ -9,31 +9,30 @@ use crate::ends::{End, ends_by_number};
 use ilk_plant::{Dir, Row};
 use std::alloc::{AllocError, Global};
 
-// Row `x`; no flag where there is none.
 fn row_at(table: &Row<Flags>, x: u32) -> Flags
-    ensures { (y : ℕ) → has_flag result y ≡ entry table.now x y }
+    ensures { (y : ℕ) → has_flag result y ≡ table_entry table.now x y }
 {
     match table.as_slice().get(x as usize) {
         Some(row) => *row,
-        None => Flags::none(),
+        None => Flags::empty(),
     }
 }
 
-/// What a table has for `x` and `y`; false outside of it.
-pub fn entry(table: &Row<Flags>, x: u32, y: u32) -> bool
-    ensures { result ≡ entry table.now x y }
+/// Returns the entry of the table for `x` and `y`, `false` if it is outside the table.
+pub fn table_entry(table: &Row<Flags>, x: u32, y: u32) -> bool
+    ensures { result ≡ table_entry table.now x y }
 {
     row_at(table, x).has(y)
 }
 
-// These flags, and that of the section that an end names, if it is on the up side.
+// Returns the flags with that of the section that `end` names, if the end is on the up side.
 fn with_end(flags: Flags, end: &End) -> Flags
-    ensures { (y : ℕ) → y < 256 → has_flag result y ≡ (has_flag flags y || leads_up_to y end.now) }
+    ensures { (y : ℕ) → y < 256 → has_flag result y ≡ (has_flag flags y || is_up_end_to y end.now) }
 {
     match end.section {
         Some(z) => {
             if end.side == Dir::Up && z < 256 {
-                flags.with(z)
+                flags.with_number(z)
             } else {
                 flags
             }
@@ -42,20 +41,18 @@ fn with_end(flags: Flags, end: &End) -> Flags
     }
 }
 
-// A flag for each section that one of these ends on the up side names.
 fn next_of(ends: &[End]) -> Flags
-    ensures { (y : ℕ) → y < 256 → has_flag result y ≡ list_any (leads_up_to y) ends.now }
+    ensures { (y : ℕ) → y < 256 → has_flag result y ≡ list_any (is_up_end_to y) ends.now }
 {
-    let mut next = Flags::none();
+    let mut next = Flags::empty();
     for end in ends {
         next = with_end(next, end);
     }
     next
 }
 
-// For each section below `count`, those that are next to it on its up side.
 fn steps_up(alloc: Global, ends: &Row<Row<End>>, count: u32) -> Result<Row<Flags>, AllocError>
-    ensures { IfOk result (λ made. IsTable made count (is_next ends.now)) }
+    ensures { IfOk result (λ made. IsTableOfTest made count (is_next ends.now)) }
 {
     let mut made = Row::new(alloc);
     for x in 0..count {
@@ -64,21 +61,22 @@ fn steps_up(alloc: Global, ends: &Row<Row<End>>, count: u32) -> Result<Row<Flags
     Ok(made)
 }
 
-// Where steps lead from section `x` if they may also go by way of section `k`, from where they lead
-// as `onward` has it.
+// Returns the sections that are reachable from `x` if walks may also pass through `k`. `onward` has
+// those reachable from `k`.
 fn row_by_way_of(leads: &Row<Flags>, onward: Flags, k: u32, x: u32) -> Flags
     ensures { (y : ℕ) →
-        has_flag result y ≡ (entry leads.now x y || (entry leads.now x k && has_flag onward y)) }
+        has_flag result y ≡ (table_entry leads.now x y
+        || (table_entry leads.now x k && has_flag onward y)) }
 {
     let row = row_at(leads, x);
-    if row.has(k) { row.or(onward) } else { row }
+    if row.has(k) { row.union(onward) } else { row }
 }
 
-// Lets steps also go by way of section `k`. Its own row stays as it is, so that each row may be
-// changed where it stands.
+// Lets walks also pass through section `k`. Row `k` itself doesn't change, so the rows can be
+// updated in place.
 fn go_by_way_of(leads: &mut Row<Flags>, k: u32, count: u32)
     requires { length leads.old ≡ count }
-    ensures { IsTable leads.new count (joined leads.old k) }
+    ensures { IsTableOfTest leads.new count (is_joined_by_way_of leads.old k) }
 {
     let onward = row_at(leads, k);
     for x in 0..count {
@@ -87,11 +85,15 @@ fn go_by_way_of(leads: &mut Row<Flags>, k: u32, count: u32)
     }
 }
 
-/// For each pair of sections below `count`, whether a walk up of one or more steps leads from the
-/// first to the second by way of sections below `count`.
-pub fn walks_up(alloc: Global, ends: &Row<Row<End>>, count: u32) -> Result<Row<Flags>, AllocError>
+/// Returns, for each pair of sections below `count`, whether a walk up of one or more steps leads
+/// from the first to the second. The walk passes only through sections below `count`.
+pub fn reachable_by_walks_up(
+    alloc: Global,
+    ends: &Row<Row<End>>,
+    count: u32,
+) -> Result<Row<Flags>, AllocError>
     requires { count ≤ MAX_SECTIONS }
-    ensures { IfOk result (λ made. IsTable made count (leads_by (is_next ends.now) count)) }
+    ensures { IfOk result (λ made. IsTableOfTest made count (leads_by (is_next ends.now) count)) }
 {
     let mut leads = steps_up(alloc, ends, count)?;
     for k in 0..count {

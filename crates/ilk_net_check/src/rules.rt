@@ -2,21 +2,20 @@ ghost use Rattle.std.specs.Prelude.{◌≡◌, ◌≤◌, ◌++◌, ◌↔◌, I
 ghost use Rattle.std.specs.List.{Contains};
 ghost use Rattle.std.specs.Option.{option_copied};
 ghost use Rattle.ilk_plant.specs.Broken.{broken_at, places_of};
-ghost use Rattle.ilk_plant.specs.NetNames.{IsNamedAs};
-ghost use Rattle.ilk_plant.specs.NetworkRules.{Returns, breaks_network, count_in_network, has_board_at_end, has_wrong_neighbour, is_not_named_back as is_not_named_back_of, network_rules_broken, repeats_neighbour as repeats_neighbour_of, returns, stands_alone};
-ghost use Rattle.ilk_net_check.specs.Numbers.{IsNumbered};
+ghost use Rattle.ilk_plant.specs.NetNames.{HasNamesOf};
+ghost use Rattle.ilk_plant.specs.NetworkRules.{WalkReturns, breaks_network, count_in_network, has_board_at_end, has_wrong_neighbour, is_not_named_back as is_not_named_back_of, network_rules_broken, repeats_neighbour as repeats_neighbour_of, walk_returns, is_isolated};
+ghost use Rattle.ilk_net_check.specs.Numbers.{AgreesWithDraft};
 ghost use Rattle.ilk_plant.specs.declared.broken.Rule.TheVariants.{N7};
 ghost use Rattle.ilk_plant.specs.declared.limits.TheConstants.{MAX_SECTIONS};
 
 use crate::bits::Flags;
 use crate::ends::{End, all_ends, ends_by_number};
 use crate::kinds::{has_board_to_nowhere, has_no_neighbour, repeats_neighbour};
-use crate::neighbours::{is_not_named_back, names_no_other};
-use crate::reach::{entry, walks_up};
-use ilk_plant::{Broken, KindDraft, NetDraft, NetNames, Places, Row, Rule, push_if};
+use crate::neighbours::{has_wrong_end, is_not_named_back};
+use crate::reach::{reachable_by_walks_up, table_entry};
+use ilk_plant::{Broken, KindDraft, NetDraft, NetNames, PlaceKind, Row, Rule, push_broken_if};
 use std::alloc::{AllocError, Global};
 
-// The rules of the network, in order.
 const NETWORK_RULES: [Rule; 8] = [
     Rule::N1,
     Rule::N2,
@@ -28,8 +27,8 @@ const NETWORK_RULES: [Rule; 8] = [
     Rule::N8,
 ];
 
-// A network with numbers for names: its draft and its names, the ends of each section, and from
-// which section walks up lead to which.
+// A network with numbers for names: its draft, its names, the ends of each section, and
+// reachability by walks up.
 #[derive(Drop)]
 struct Network<'a> {
     net: &'a NetDraft,
@@ -39,15 +38,14 @@ struct Network<'a> {
 }
 
 impl<'a> Network<'a> {
-    // The network of this draft.
     fn of(alloc: Global, net: &'a NetDraft, names: &'a NetNames) -> Result<Network<'a>, AllocError>
         requires few { length net.now.sections ≤ MAX_SECTIONS }
-        requires named { IsNamedAs names.now net.now }
+        requires named { HasNamesOf names.now net.now }
         ensures net { IfOk result (λ network. network.net.now ≡ net.now) }
-        ensures numbered { IfOk result IsNumbered }
+        ensures numbered { IfOk result AgreesWithDraft }
     {
         let ends = all_ends(alloc, &names.section_names, net.sections.as_slice())?;
-        let leads = walks_up(alloc, &ends, net.sections.len() as u32)?;
+        let leads = reachable_by_walks_up(alloc, &ends, net.sections.len() as u32)?;
         Ok(Network {
             net,
             names,
@@ -58,7 +56,6 @@ impl<'a> Network<'a> {
 }
 
 impl Network<'_> {
-    // What section `x` is. None where there is no such section.
     fn kind(&self, x: u32) -> Option<&KindDraft>
         ensures { option_copied result
             ≡ option_map (λ section. section.kind) (slice_get self.now.net.now.sections x) }
@@ -69,7 +66,6 @@ impl Network<'_> {
         }
     }
 
-    // Whether two neighbours of section `x` have the same name.
     fn repeats_neighbour(&self, x: u32) -> bool
         ensures { result ≡ repeats_neighbour_of self.now.net.now x }
     {
@@ -79,9 +75,8 @@ impl Network<'_> {
         }
     }
 
-    // Whether section `x` is linear and has no neighbour.
     fn stands_alone(&self, x: u32) -> bool
-        ensures { result ≡ stands_alone self.now.net.now x }
+        ensures { result ≡ is_isolated self.now.net.now x }
     {
         match self.kind(x) {
             Some(kind) => has_no_neighbour(kind),
@@ -89,7 +84,6 @@ impl Network<'_> {
         }
     }
 
-    // Whether section `x` is linear and has a board in a direction in which it has no neighbour.
     fn has_board_at_end(&self, x: u32) -> bool
         ensures { result ≡ has_board_at_end self.now.net.now x }
     {
@@ -99,52 +93,48 @@ impl Network<'_> {
         }
     }
 
-    // Whether a neighbour of section `x` isn't the name of another section.
+    // Returns whether some neighbour of `x` isn't the name of another section.
     fn has_wrong_neighbour(&self, x: u32) -> bool
-        requires { IsNumbered self.now }
+        requires { AgreesWithDraft self.now }
         ensures { result ≡ has_wrong_neighbour self.now.net.now x }
     {
-        names_no_other(ends_by_number(&self.ends, x), x)
+        has_wrong_end(ends_by_number(&self.ends, x), x)
     }
 
-    // Whether a neighbour of section `x`, other than `x`, doesn't name `x` at exactly one of its
-    // ends, on the opposite side.
     fn is_not_named_back(&self, x: u32) -> bool
-        requires { IsNumbered self.now }
+        requires { AgreesWithDraft self.now }
         ensures { result ≡ is_not_named_back_of self.now.net.now x }
     {
         is_not_named_back(&self.ends, x)
     }
 
-    // Whether a walk up returns to section `x`.
+    // Returns whether a walk up returns to section `x`.
     fn returns(&self, x: u32) -> bool
-        requires { IsNumbered self.now }
-        ensures { result ≡ returns self.now.net.now x }
+        requires { AgreesWithDraft self.now }
+        ensures { result ≡ walk_returns self.now.net.now x }
     {
-        entry(&self.leads, x, x)
+        table_entry(&self.leads, x, x)
     }
 
-    // How many places of a kind the network has.
-    fn count(&self, places: Places) -> u32
+    fn count(&self, places: PlaceKind) -> u32
         requires few { length self.now.net.now.sections ≤ MAX_SECTIONS }
-        requires numbered { IsNumbered self.now }
+        requires numbered { AgreesWithDraft self.now }
         ensures { result ≡ count_in_network self.now.net.now places }
     {
         match places {
-            Places::Sections => self.net.sections.len() as u32,
-            Places::Boards => self.names.board_names.len(),
-            Places::Routes | Places::RoutePairs => 0,
+            PlaceKind::Sections => self.net.sections.len() as u32,
+            PlaceKind::Boards => self.names.board_names.len(),
+            PlaceKind::Routes | PlaceKind::RoutePairs => 0,
         }
     }
 
-    // Whether the network breaks a rule at its place `x`.
     fn breaks(&self, rule: Rule, x: u32) -> bool
-        requires { IsNumbered self.now }
+        requires { AgreesWithDraft self.now }
         ensures { result ≡ breaks_network self.now.net.now rule x }
     {
         match rule {
-            Rule::N1 => self.names.section_names.is_named_before(x),
-            Rule::N2 => self.names.board_names.is_named_before(x),
+            Rule::N1 => self.names.section_names.is_duplicate(x),
+            Rule::N2 => self.names.board_names.is_duplicate(x),
             Rule::N3 => self.has_wrong_neighbour(x),
             Rule::N4 => self.repeats_neighbour(x),
             Rule::N5 => self.is_not_named_back(x),
@@ -156,10 +146,10 @@ impl Network<'_> {
     }
 }
 
-// Adds the rule for each of its places at which the network breaks it.
+// Adds `rule` for each location at which the network violates it.
 fn push_broken(broken: &mut Row<Broken>, network: &Network, rule: Rule) -> Result<(), AllocError>
     requires few { length network.now.net.now.sections ≤ MAX_SECTIONS }
-    requires numbered { IsNumbered network.now }
+    requires numbered { AgreesWithDraft network.now }
     ensures { OnOk result (broken.new ≡ broken.old
         ++ broken_at rule (count_in_network network.now.net.now (places_of rule))
         (breaks_network network.now.net.now rule)) }
@@ -170,38 +160,36 @@ fn push_broken(broken: &mut Row<Broken>, network: &Network, rule: Rule) -> Resul
             first: x,
             second: None,
         };
-        push_if(broken, network.breaks(rule, x), entry)?;
+        push_broken_if(broken, network.breaks(rule, x), entry)?;
     }
     Ok(())
 }
 
-/// Every rule of the network, N1 to N8, that a draft within the limits breaks, at every place,
-/// in the order of the rules and then of the numbers of the places. The place of N2 is the number
-/// of a board, that of the others the number of a section.
-///
-/// The only refusal is want of memory. The draft stays as it is.
+/// Returns every rule of the network, N1 to N8, that a draft violates, with its location. The draft
+/// must be within the limits. The order is by rule, then by location. A location is a board number
+/// for N2, otherwise a section number. The draft doesn't change. Fails only if memory runs out.
 pub fn check_network(alloc: Global, net: &NetDraft) -> Result<Row<Broken>, AllocError>
     requires { length net.now.sections ≤ MAX_SECTIONS }
     ensures rules { IfOk result (λ broken. broken ≡ network_rules_broken net.now) }
-    // N7 is there at section x exactly where a walk up of one or more steps, of any length, returns to x
+    // N7 is listed at section x if and only if a walk up of one or more steps returns to x.
     ensures walks { IfOk result (λ broken. (x : ℕ) →
-        Contains broken (record { rule = N7; first = x; second = None }) ↔ Returns net.now x) }
+        Contains broken (record { rule = N7; first = x; second = None }) ↔ WalkReturns net.now x) }
 {
-    let names = NetNames::of(alloc, net)?;
+    let names = NetNames::from_network(alloc, net)?;
     check_named_network(alloc, net, &names)
 }
 
-/// The same, where the names of the network are made already.
+/// Returns the same as `check_network`, from existing names of the network.
 pub fn check_named_network(
     alloc: Global,
     net: &NetDraft,
     names: &NetNames,
 ) -> Result<Row<Broken>, AllocError>
     requires few { length net.now.sections ≤ MAX_SECTIONS }
-    requires named { IsNamedAs names.now net.now }
+    requires named { HasNamesOf names.now net.now }
     ensures rules { IfOk result (λ broken. broken ≡ network_rules_broken net.now) }
     ensures walks { IfOk result (λ broken. (x : ℕ) →
-        Contains broken (record { rule = N7; first = x; second = None }) ↔ Returns net.now x) }
+        Contains broken (record { rule = N7; first = x; second = None }) ↔ WalkReturns net.now x) }
 {
     let network = Network::of(alloc, net, names)?;
     let mut broken = Row::new(alloc);

@@ -1,10 +1,10 @@
 ghost use Rattle.std.specs.Prelude.{IsTrue, ◌↔◌};
-ghost use Rattle.ilk_plant.specs.NetworkRules.{Returns, returns};
+ghost use Rattle.ilk_plant.specs.NetworkRules.{WalkReturns, walk_returns};
 
 use ilk_plant::NetDraft;
 
-/// The test of rule N7 passes at a section exactly where a walk up of one or more steps, of any
-/// length, returns to it. The call does nothing, and tells a proof.
-pub fn returning_walks(net: &NetDraft, x: u32)
-    ensures { IsTrue (returns net.now x) ↔ Returns net.now x }
+/// By the test `walk_returns`, section `x` violates rule N7 if and only if a walk up of one or more
+/// steps, of any length, returns to it. Proof only; no run-time effect.
+pub fn walk_test_is_exact(net: &NetDraft, x: u32)
+    ensures { IsTrue (walk_returns net.now x) ↔ WalkReturns net.now x }
 {}

@@ -5,6 +5,5 @@ use Rattle.serde_json.specs.declared.value.Value.{Value}
 use Rattle.ilk_base.proofs.Lists.{drop_at}
 use Rattle.ilk_net_read.specs.Member.{entries_of}
 
--- the entries that are left begin with the one at the index
 pub entries-left : (vs : List Value) (i : ℕ) (v : Value) → i < length vs → v ≡ get_or vs i v → entries_of (items_view (drop i vs)) ≡ view v ∷ entries_of (items_view (drop (i + 1) vs))
 entries-left vs i v below at = ap (λ (ws : List Value). entries_of (items_view ws)) (drop_at vs i v below at)

@@ -1,28 +1,28 @@
--- The members of a document, as their data.
+-- The members of a document, as data.
 use Rattle.std.specs.Prelude.{◌≤◌}
 use Rattle.serde_json.specs.Events.{items_len}
 use Rattle.serde_json.specs.View.{items_view}
 use Rattle.ilk_plant.specs.declared.limits.TheConstants.{MAX_ROUTES, MAX_SECTIONS}
-use Rattle.ilk_net_read.specs.Document.{Parts, Written}
+use Rattle.ilk_net_read.specs.Document.{DocumentParts, DocumentMembers}
 use Rattle.ilk_net_read.specs.declared.document.Document.{Document}
 use Rattle.ilk_net_read.specs.declared.document.Members.{Members}
 
-abbrev pub seen_members : Members → Written
+abbrev pub seen_members : Members → DocumentMembers
 seen_members members = record {
   version = members.version;
   sections = items_view members.sections.now;
   routes = items_view members.routes.now;
 }
 
-abbrev pub seen : Document → Parts
-seen document = record {
+abbrev pub as_parts : Document → DocumentParts
+as_parts document = record {
   version = document.version;
   sections = items_view document.sections.now;
   routes = items_view document.routes.now;
 }
 
--- there are some sections, and no more sections and routes than are allowed
-pub record HasAllowedCounts (document : Parts) : Type 0 where
+-- Holds if there is at least one section, and no more sections and routes than allowed.
+pub record HasAllowedCounts (document : DocumentParts) : Type 0 where
   pub some : 1 ≤ items_len document.sections
   pub few : items_len document.sections ≤ MAX_SECTIONS
   pub routes : items_len document.routes ≤ MAX_ROUTES

@@ -1,8 +1,8 @@
--- The versions of the form of a configuration.
+-- The versions of a configuration's form.
 use Rattle.std.specs.Prelude.{ℕ, Option, Some, None, ◌==◌, if◌then◌else◌}
 use Rattle.ilk_net_read.specs.declared.version.Version.{Version}
 use Rattle.ilk_net_read.specs.declared.version.Version.TheVariants.{First, Second}
 
--- the version with this number: there are 1 and 2
+-- The version with this number: 1 or 2.
 abbrev pub version_numbered : ℕ → Option Version
 version_numbered n = if n == 1 then Some First else (if n == 2 then Some Second else None)

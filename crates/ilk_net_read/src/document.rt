@@ -1,21 +1,21 @@
-//! The document: its version, and the arrays of its sections and its routes.
+//! The document: its version, and the arrays of its sections and routes.
 
 ghost use Rattle.std.specs.Prelude.{◌≡◌, ◌&&◌, option_map, true, IfOk};
 ghost use Rattle.serde_json.specs.View.{view};
 ghost use Rattle.ilk_plant.specs.Limits as limits;
 ghost use Rattle.ilk_net_read.specs.Document as parts;
-ghost use Rattle.ilk_net_read.specs.Fault.{GivesBy};
+ghost use Rattle.ilk_net_read.specs.Fault.{IsReadResultBy};
 ghost use Rattle.ilk_net_read.specs.Network as network;
-ghost use Rattle.ilk_net_read.specs.Seen.{seen, seen_members, HasAllowedCounts};
+ghost use Rattle.ilk_net_read.specs.Seen.{as_parts, seen_members, HasAllowedCounts};
 
-use crate::fault::broken;
-use crate::member::{array_at, has_members, whole_number_at};
-use crate::name::lies_within;
+use crate::fault::form_error;
+use crate::member::{array_member, has_members, number_member};
+use crate::name::is_between;
 use crate::{Form, FormError, Place, Version};
 use ilk_plant::{MAX_ROUTES, MAX_SECTIONS};
 use serde_json::Value;
 
-// The members of a document, as they are written.
+// The members of a document as written.
 #[derive(Drop)]
 struct Members<'v> {
     version: u64,
@@ -23,7 +23,7 @@ struct Members<'v> {
     routes: &'v [Value],
 }
 
-/// A document of one of the versions, with its sections and its routes.
+/// A document of a known version, with its sections and routes.
 #[derive(Drop)]
 pub struct Document<'v> {
     pub version: Version,
@@ -34,9 +34,9 @@ pub struct Document<'v> {
 fn written(value: &Value) -> Option<Members<'_>>
     ensures { option_map seen_members result ≡ parts.as_document (view value.now) }
 {
-    let version = whole_number_at(value, "version")?;
-    let sections = array_at(value, "sections")?;
-    let routes = array_at(value, "routes")?;
+    let version = number_member(value, "version")?;
+    let sections = array_member(value, "sections")?;
+    let routes = array_member(value, "routes")?;
     if !has_members(value, 3) {
         return None;
     }
@@ -48,9 +48,9 @@ fn written(value: &Value) -> Option<Members<'_>>
 }
 
 fn in_version<'v>(members: &Members<'v>) -> Option<Document<'v>>
-    ensures { option_map seen result ≡ parts.in_version (seen_members members.now) }
+    ensures { option_map as_parts result ≡ parts.if_known_version (seen_members members.now) }
 {
-    let version = Version::numbered(members.version)?;
+    let version = Version::from_number(members.version)?;
     Some(Document {
         version,
         sections: members.sections,
@@ -61,30 +61,31 @@ fn in_version<'v>(members: &Members<'v>) -> Option<Document<'v>>
 fn counts_are_allowed(sections: usize, routes: usize) -> bool
     ensures { result ≡ limits.counts_are_allowed sections routes }
 {
-    lies_within(1, MAX_SECTIONS as usize, sections) && routes <= MAX_ROUTES as usize
+    is_between(1, MAX_SECTIONS as usize, sections) && routes <= MAX_ROUTES as usize
 }
 
 fn has_allowed_counts(document: &Document<'_>) -> bool
-    ensures exact { result ≡ parts.has_allowed_counts (seen document.now) }
-    ensures limits { result ≡ true → HasAllowedCounts (seen document.now) }
+    ensures exact { result ≡ parts.has_allowed_counts (as_parts document.now) }
+    ensures limits { result ≡ true → HasAllowedCounts (as_parts document.now) }
 {
     counts_are_allowed(document.sections.len(), document.routes.len())
 }
 
-/// The document: rule F3 is broken where the value isn't one, then F4 where its version is neither
-/// 1 nor 2, and then F6 where it has no section, or more sections or routes than are allowed.
-pub fn document_of(value: &Value) -> Result<Document<'_>, FormError>
-    ensures exact { GivesBy seen result (network.document_of (view value.now)) }
-    ensures limits { IfOk result (λ document. HasAllowedCounts (seen document)) }
+/// Reads the document. Rule F3 is violated if the value isn't one. Then F4 is violated if the
+/// version is neither 1 nor 2. Then F6 is violated if there is no section, or more sections or
+/// routes than allowed.
+pub fn read_document(value: &Value) -> Result<Document<'_>, FormError>
+    ensures exact { IsReadResultBy as_parts result (network.read_document (view value.now)) }
+    ensures limits { IfOk result (λ document. HasAllowedCounts (as_parts document)) }
 {
     let Some(members) = written(value) else {
-        return Err(broken(Form::F3, Place::Document));
+        return Err(form_error(Form::F3, Place::Document));
     };
     let Some(document) = in_version(&members) else {
-        return Err(broken(Form::F4, Place::Document));
+        return Err(form_error(Form::F4, Place::Document));
     };
     if !has_allowed_counts(&document) {
-        return Err(broken(Form::F6, Place::Document));
+        return Err(form_error(Form::F6, Place::Document));
     }
     Ok(document)
 }

@@ -1,9 +1,10 @@
-//! Reads the network of a configuration, and refuses the first rule of its form that is broken.
+//! Reads the network of a configuration, and reports the first violated rule of its form (the JSON
+//! schema).
 //!
-//! The form is asked in one order, which the definition of the reading has too, so that a
-//! configuration has one first fault. `read_value` reads the bytes as JSON, `document_of` the document,
-//! and `network_in` its sections; `read_network` is both of these. What reads a document, and what
-//! reads the members of objects, is handed on to the reader of the table of routes.
+//! The rules are checked in one order, the same as in the definition, so a configuration has one
+//! first fault. `read_value` reads the bytes as JSON, `read_document` the document, and
+//! `network_from_document` its sections; `read_network` does the last two. The crate re-exports its
+//! readers of documents and members for the reader of the interlocking table.
 #![tactic(auto)]
 
 mod document;
@@ -15,12 +16,13 @@ mod section;
 mod text;
 mod version;
 
-pub use document::{Document, document_of};
-pub use fault::{Form, FormError, FormFault, KindError, Place, broken};
+pub use document::{Document, read_document};
+pub use fault::{Form, FormError, FormFault, KindError, Place, form_error};
 pub use member::{
-    array_at, has_members, optional_text_at, str_at, text_at, texts_at, whole_number_at,
+    array_member, has_members, number_member, optional_text_member, string_member, text_member,
+    texts_member,
 };
-pub use name::{is_name, is_name_if_given, lies_within};
-pub use network::{network_in, read_network};
+pub use name::{is_between, is_name, is_name_if_given};
+pub use network::{network_from_document, read_network};
 pub use text::read_value;
 pub use version::Version;

@@ -3,7 +3,7 @@
 ghost use Rattle.std.specs.Prelude.{◌≡◌, option_map, Option};
 ghost use Rattle.serde_json.specs.Find.{as_str};
 ghost use Rattle.serde_json.specs.View.{view, items_view};
-ghost use Rattle.ilk_net_read.specs.Fault.{Reads};
+ghost use Rattle.ilk_net_read.specs.Fault.{IsKindRead};
 ghost use Rattle.ilk_net_read.specs.Member as member;
 
 use crate::KindError;
@@ -11,7 +11,7 @@ use ilk_plant::{Row, Text};
 use serde_json::Value;
 use std::alloc::Global;
 
-/// Whether the value is an object of `count` members.
+/// Returns whether the value is an object of `count` members.
 pub fn has_members(value: &Value, count: usize) -> bool
     ensures { result ≡ member.has_members count (view value.now) }
 {
@@ -21,42 +21,42 @@ pub fn has_members(value: &Value, count: usize) -> bool
     }
 }
 
-/// The member of this name, where it is a whole number that isn't negative.
-pub fn whole_number_at(value: &Value, name: &str) -> Option<u64>
-    ensures { result ≡ member.whole_number_at name.now (view value.now) }
+/// Returns the member `name`, if it is a non-negative whole number.
+pub fn number_member(value: &Value, name: &str) -> Option<u64>
+    ensures { result ≡ member.number_member name.now (view value.now) }
 {
     value.get(name).and_then(Value::as_u64)
 }
 
-/// The member of this name, where it is an array.
-pub fn array_at<'v>(value: &'v Value, name: &str) -> Option<&'v [Value]>
+/// Returns the member `name`, if it is an array.
+pub fn array_member<'v>(value: &'v Value, name: &str) -> Option<&'v [Value]>
     ensures { option_map (λ items. items_view items.now) result
-        ≡ member.array_at name.now (view value.now) }
+        ≡ member.array_member name.now (view value.now) }
 {
     let items = value.get(name)?.as_array()?;
     Some(items.as_slice())
 }
 
-/// The member of this name, where it is a text.
-pub fn str_at<'v>(value: &'v Value, name: &str) -> Option<&'v str>
-    ensures { option_map (λ text. text.now) result ≡ member.text_at name.now (view value.now) }
+/// Returns the member `name`, if it is a text.
+pub fn string_member<'v>(value: &'v Value, name: &str) -> Option<&'v str>
+    ensures { option_map (λ text. text.now) result ≡ member.text_member name.now (view value.now) }
 {
     value.get(name).and_then(Value::as_str)
 }
 
-/// A copy of the member of this name, which must be a text.
-pub fn text_at(alloc: Global, value: &Value, name: &str) -> Result<Text, KindError>
-    ensures { Reads result (member.text_at name.now (view value.now)) }
+/// Returns a copy of the member `name`, which must be a text.
+pub fn text_member(alloc: Global, value: &Value, name: &str) -> Result<Text, KindError>
+    ensures { IsKindRead result (member.text_member name.now (view value.now)) }
 {
-    match str_at(value, name) {
+    match string_member(value, name) {
         Some(text) => Ok(Text::of(String::from_str(alloc, text)?)),
         None => Err(KindError::WrongKind),
     }
 }
 
-/// A copy of a text, or nothing for null; the value must be one of the two.
+/// Returns a copy of a text, or `None` for null; the value must be one of the two.
 fn optional_text(alloc: Global, value: &Value) -> Result<Option<Text>, KindError>
-    ensures { Reads result (member.as_optional_text (view value.now)) }
+    ensures { IsKindRead result (member.as_optional_text (view value.now)) }
 {
     match value {
         Value::Null => Ok(None),
@@ -65,9 +65,13 @@ fn optional_text(alloc: Global, value: &Value) -> Result<Option<Text>, KindError
     }
 }
 
-/// A copy of the member of this name, which must be a text or null.
-pub fn optional_text_at(alloc: Global, value: &Value, name: &str) -> Result<Option<Text>, KindError>
-    ensures { Reads result (member.optional_text_at name.now (view value.now)) }
+/// Returns a copy of the member `name`, which must be a text or null.
+pub fn optional_text_member(
+    alloc: Global,
+    value: &Value,
+    name: &str,
+) -> Result<Option<Text>, KindError>
+    ensures { IsKindRead result (member.optional_text_member name.now (view value.now)) }
 {
     match value.get(name) {
         Some(found) => optional_text(alloc, found),
@@ -75,9 +79,8 @@ pub fn optional_text_at(alloc: Global, value: &Value, name: &str) -> Result<Opti
     }
 }
 
-/// A copy of a text.
 fn text(alloc: Global, value: &Value) -> Result<Text, KindError>
-    ensures { Reads result (as_str (view value.now)) }
+    ensures { IsKindRead result (as_str (view value.now)) }
 {
     match value.as_str() {
         Some(text) => Ok(Text::of(String::from_str(alloc, text)?)),
@@ -86,7 +89,7 @@ fn text(alloc: Global, value: &Value) -> Result<Text, KindError>
 }
 
 fn texts(alloc: Global, values: &[Value]) -> Result<Row<Text>, KindError>
-    ensures { Reads result (member.each_as as_str (items_view values.now)) }
+    ensures { IsKindRead result (member.all_entries_as as_str (items_view values.now)) }
 {
     let mut texts = Row::with_capacity(alloc, values.len() as u64)?;
     for value in values {
@@ -96,11 +99,11 @@ fn texts(alloc: Global, values: &[Value]) -> Result<Row<Text>, KindError>
     Ok(texts)
 }
 
-/// A copy of the member of this name, which must be an array of texts.
-pub fn texts_at(alloc: Global, value: &Value, name: &str) -> Result<Row<Text>, KindError>
-    ensures { Reads result (member.texts_at name.now (view value.now)) }
+/// Returns a copy of the member `name`, which must be an array of texts.
+pub fn texts_member(alloc: Global, value: &Value, name: &str) -> Result<Row<Text>, KindError>
+    ensures { IsKindRead result (member.texts_member name.now (view value.now)) }
 {
-    match array_at(value, name) {
+    match array_member(value, name) {
         Some(values) => texts(alloc, values),
         None => Err(KindError::WrongKind),
     }

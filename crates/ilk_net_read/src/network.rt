@@ -4,14 +4,14 @@ ghost use Rattle.std.specs.Prelude.{◌≡◌, ◌≤◌, length, true, IfOk};
 ghost use Rattle.std.specs.List.{list_all};
 ghost use Rattle.serde_json.specs.View.{view, items_view};
 ghost use Rattle.ilk_plant.specs.Limits.{NetworkHasLimits, section_has_names};
-ghost use Rattle.ilk_net_read.specs.Fault.{Gives};
-ghost use Rattle.ilk_base.specs.Result.{in_order};
+ghost use Rattle.ilk_net_read.specs.Fault.{IsReadResult};
+ghost use Rattle.ilk_base.specs.Result.{try_map_numbered};
 ghost use Rattle.ilk_net_read.specs.Member.{entries_of};
-ghost use Rattle.ilk_net_read.specs.Network.{network_in, network_of, section_of};
-ghost use Rattle.ilk_net_read.specs.Seen.{HasAllowedCounts, seen};
+ghost use Rattle.ilk_net_read.specs.Network.{network_from_document, network_of, section_of};
+ghost use Rattle.ilk_net_read.specs.Seen.{HasAllowedCounts, as_parts};
 
 use crate::FormError;
-use crate::document::{Document, document_of};
+use crate::document::{Document, read_document};
 use crate::section::section_of;
 use ilk_plant::{MAX_SECTIONS, NetDraft, Row, SectionDraft};
 use serde_json::Value;
@@ -19,7 +19,8 @@ use std::alloc::Global;
 
 fn sections(alloc: Global, values: &[Value]) -> Result<Row<SectionDraft>, FormError>
     requires { length values.now ≤ MAX_SECTIONS }
-    ensures exact { Gives result (in_order section_of 0 (entries_of (items_view values.now))) }
+    ensures exact { IsReadResult result
+        (try_map_numbered section_of 0 (entries_of (items_view values.now))) }
     ensures count { IfOk result (λ sections. length sections ≡ length values.now) }
     ensures named { IfOk result (λ sections. list_all section_has_names sections ≡ true) }
 {
@@ -31,25 +32,25 @@ fn sections(alloc: Global, values: &[Value]) -> Result<Row<SectionDraft>, FormEr
     Ok(sections)
 }
 
-/// The network of a document, or the first rule of the form that is broken in its sections in order
-/// (F3, then F5, of each).
-pub fn network_in(alloc: Global, document: &Document<'_>) -> Result<NetDraft, FormError>
-    requires { HasAllowedCounts (seen document.now) }
-    ensures exact { Gives result (network_in (seen document.now)) }
-    // some sections, no more than are allowed, whose texts are names
+/// Returns the network of a document, or the first violated rule of its sections in order (F3, then
+/// F5, of each).
+pub fn network_from_document(alloc: Global, document: &Document<'_>) -> Result<NetDraft, FormError>
+    requires { HasAllowedCounts (as_parts document.now) }
+    ensures exact { IsReadResult result (network_from_document (as_parts document.now)) }
+    // At least one section, no more than allowed, and all texts are names.
     ensures limits { IfOk result NetworkHasLimits }
 {
     let sections = sections(alloc, document.sections)?;
     Ok(NetDraft { sections })
 }
 
-/// The network of a configuration, or the first rule of the form that is broken in the document
-/// (F3, F4, F6) or else in its sections in order (F3, then F5, of each).
+/// Returns the network of a configuration, or the first violated rule. It checks the document (F3,
+/// F4, F6), then its sections in order (F3, then F5, of each).
 pub fn read_network(alloc: Global, value: &Value) -> Result<NetDraft, FormError>
-    ensures exact { Gives result (network_of (view value.now)) }
-    // some sections, no more than are allowed, whose texts are names
+    ensures exact { IsReadResult result (network_of (view value.now)) }
+    // At least one section, no more than allowed, and all texts are names.
     ensures limits { IfOk result NetworkHasLimits }
 {
-    let document = document_of(value)?;
-    network_in(alloc, &document)
+    let document = read_document(value)?;
+    network_from_document(alloc, &document)
 }

@@ -3,12 +3,12 @@
 ghost use Rattle.std.specs.Prelude.{◌≡◌, true, IfOk};
 ghost use Rattle.serde_json.specs.View.{view};
 ghost use Rattle.ilk_plant.specs.Limits.{kind_has_names, section_has_names};
-ghost use Rattle.ilk_net_read.specs.Fault.{Gives, Reads};
+ghost use Rattle.ilk_net_read.specs.Fault.{IsReadResult, IsKindRead};
 ghost use Rattle.ilk_net_read.specs.Network as network;
 ghost use Rattle.ilk_net_read.specs.Section as section;
 
-use crate::fault::broken;
-use crate::member::{has_members, optional_text_at, str_at, text_at};
+use crate::fault::form_error;
+use crate::member::{has_members, optional_text_member, string_member, text_member};
 use crate::name::{is_name, is_name_if_given};
 use crate::{Form, FormError, KindError, Place};
 use ilk_plant::{Dir, KindDraft, SectionDraft};
@@ -16,13 +16,13 @@ use serde_json::Value;
 use std::alloc::Global;
 
 fn linear(alloc: Global, value: &Value) -> Result<SectionDraft, KindError>
-    ensures { Reads result (section.as_linear (view value.now)) }
+    ensures { IsKindRead result (section.as_linear (view value.now)) }
 {
-    let name = text_at(alloc, value, "name")?;
-    let down = optional_text_at(alloc, value, "down")?;
-    let up = optional_text_at(alloc, value, "up")?;
-    let board_down = optional_text_at(alloc, value, "board_down")?;
-    let board_up = optional_text_at(alloc, value, "board_up")?;
+    let name = text_member(alloc, value, "name")?;
+    let down = optional_text_member(alloc, value, "down")?;
+    let up = optional_text_member(alloc, value, "up")?;
+    let board_down = optional_text_member(alloc, value, "board_down")?;
+    let board_up = optional_text_member(alloc, value, "board_up")?;
     if !has_members(value, 6) {
         return Err(KindError::WrongKind);
     }
@@ -38,16 +38,16 @@ fn linear(alloc: Global, value: &Value) -> Result<SectionDraft, KindError>
 fn faces(value: &Value) -> Option<Dir>
     ensures { result ≡ section.faces_of (view value.now) }
 {
-    Dir::of_word(str_at(value, "faces")?.as_bytes())
+    Dir::from_word(string_member(value, "faces")?.as_bytes())
 }
 
 fn point(alloc: Global, value: &Value) -> Result<SectionDraft, KindError>
-    ensures { Reads result (section.as_point (view value.now)) }
+    ensures { IsKindRead result (section.as_point (view value.now)) }
 {
-    let name = text_at(alloc, value, "name")?;
-    let stem = text_at(alloc, value, "stem")?;
-    let plus = text_at(alloc, value, "plus")?;
-    let minus = text_at(alloc, value, "minus")?;
+    let name = text_member(alloc, value, "name")?;
+    let stem = text_member(alloc, value, "stem")?;
+    let plus = text_member(alloc, value, "plus")?;
+    let minus = text_member(alloc, value, "minus")?;
     let Some(faces) = faces(value) else {
         return Err(KindError::WrongKind);
     };
@@ -64,9 +64,9 @@ fn point(alloc: Global, value: &Value) -> Result<SectionDraft, KindError>
 }
 
 fn section(alloc: Global, value: &Value) -> Result<SectionDraft, KindError>
-    ensures { Reads result (section.as_section (view value.now)) }
+    ensures { IsKindRead result (section.as_section (view value.now)) }
 {
-    match str_at(value, "kind") {
+    match string_member(value, "kind") {
         Some("linear") => linear(alloc, value),
         Some("point") => point(alloc, value),
         _ => Err(KindError::WrongKind),
@@ -97,22 +97,22 @@ fn has_names(kind: &KindDraft) -> bool
     }
 }
 
-/// The section of this number, from its value.
+/// Returns section `number`, from its value.
 pub(crate) fn section_of(
     alloc: Global,
     number: u32,
     value: &Value,
 ) -> Result<SectionDraft, FormError>
-    ensures exact { Gives result (network.section_of number (view value.now)) }
+    ensures exact { IsReadResult result (network.section_of number (view value.now)) }
     ensures named { IfOk result (λ draft. section_has_names draft ≡ true) }
 {
     let place = Place::Section(number);
     let draft = match section(alloc, value) {
         Ok(draft) => draft,
-        Err(error) => return Err(error.at(place)),
+        Err(error) => return Err(error.at_place(place)),
     };
     if !is_name(&draft.name) || !has_names(&draft.kind) {
-        return Err(broken(Form::F5, place));
+        return Err(form_error(Form::F5, place));
     }
     Ok(draft)
 }

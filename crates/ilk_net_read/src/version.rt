@@ -1,9 +1,9 @@
-//! The versions of the form of a configuration.
+//! The versions of a configuration's form.
 
 ghost use Rattle.std.specs.Prelude.{◌≡◌};
 ghost use Rattle.ilk_net_read.specs.Version.{version_numbered};
 
-/// A version of the form of a configuration.
+/// A version of a configuration's form.
 #[derive(Clone, Copy, PartialEq, Eq, Debug)]
 pub enum Version {
     /// Version 1, in which a route has no lists of protecting points and boards.
@@ -13,8 +13,8 @@ pub enum Version {
 }
 
 impl Version {
-    /// The version with this number. None where there is none.
-    pub fn numbered(number: u64) -> Option<Version>
+    /// Returns the version with this number. Returns `None` if there is none.
+    pub fn from_number(number: u64) -> Option<Version>
         ensures { result ≡ version_numbered number }
     {
         match number {

@@ -1,4 +1,4 @@
--- Tests that two directions are one.
+-- Tests of equal directions.
 use Rattle.std.proofs.Common.{◌≡◌, true, refl}
 use Rattle.ilk_plant.specs.Network.{same_direction}
 use Rattle.ilk_plant.specs.declared.network.Dir.{Dir}

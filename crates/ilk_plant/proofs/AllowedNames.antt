@@ -1,4 +1,4 @@
--- The names of a plant are of the allowed characters, where each text of its drafts is a name.
+-- The names of a plant have only allowed characters if each text of its drafts is a name.
 use Rattle.std.proofs.Common.{◌≡◌, ℕ, ◌+◌, true, Option, Some, None, List, [], ◌∷◌, All, refl, ap, ◌∙◌}
 use Rattle.std.specs.List.{list_all}
 use Rattle.std.proofs.lemmas.List.{map-append}
@@ -16,7 +16,6 @@ use Rattle.ilk_plant.proofs.FewBoards.{names_in}
 use Rattle.ilk_base.proofs.Tested.{All-tested, list_all-weaken}
 use Rattle.std.proofs.lemmas.Bool.{and_parts}
 
--- names that all pass the test are names
 each-name : (names : List Name) → list_all is_name names ≡ true → All IsName names
 each-name names h = All-tested is_name IsName (λ name e. e) names h
 
@@ -28,7 +27,6 @@ section_names-allowed sections h =
     (λ section e. (and_parts (is_name section.name) (kind_has_names section.kind) e).0) sections
     h)
 
--- the first of the texts of a route is its name
 route-name : (route : RouteDraft) → route_has_names route ≡ true → is_name route.name ≡ true
 route-name route h =
     let eight = and_parts _ _ h in
@@ -44,7 +42,6 @@ pub route_names-allowed : (routes : List RouteDraft) → list_all route_has_name
 route_names-allowed routes h =
     each-name (names_of_routes routes) (list_all-map is_name (λ route. route.name) routes ∙ list_all-weaken route_has_names (λ route. is_name route.name) route-name routes h)
 
--- the names of boards
 one-board : (x : ℕ) (d : Dir) (name : Option Name) → is_name_if_given name ≡ true → list_all is_name (names_in (board_if_named x d name)) ≡ true
 one-board x d None h = refl
 one-board x d (Some name) h = rw h refl

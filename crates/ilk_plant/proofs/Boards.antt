@@ -1,14 +1,14 @@
--- The boards of a plant: how many there are, and that each section's boards are among them.
+-- The boards of a plant: their number, and that each section's boards are among them.
 use Rattle.std.proofs.Common.{◌≡◌, ℕ, zero, suc, ◌<◌, ◌+◌, Bool, true, false, ◌&&◌, not, Option, Some, None, List, [], ◌∷◌, length, map, slice_get, option_map, option_to_list, is_none, ◌↔◌, inl, inr, refl, sym, ◌∙◌, subst, arith, ap}
 use Rattle.std.proofs.lemmas.List.{length-map}
 use Rattle.std.proofs.lemmas.Option.{same_Some, slice_get-map, slice_get_within, option_and_then_some}
 use Rattle.ilk_plant.proofs.NamesDiffer.{number_of-own}
 use Rattle.ilk_plant.proofs.Rules.{KeepsNetworkRules}
 use Rattle.ilk_plant.proofs.KnownNames.{board_on-known, boards_known}
-use Rattle.ilk_plant.specs.Draft.{NamedBoard, boards_from, boards_on, names_of_boards, names_of_sections, number_of, numbered, numbered_section, board_if_named}
+use Rattle.ilk_plant.specs.Draft.{NamedBoard, boards_from, boards_on, names_of_boards, names_of_sections, number_of, plant_from_drafts, numbered_section, board_if_named}
 use Rattle.ilk_plant.specs.Name.{Name}
 use Rattle.ilk_plant.specs.declared.broken.Rule.TheVariants.{N8}
-use Rattle.ilk_plant.specs.Network.{beside, board_on}
+use Rattle.ilk_plant.specs.Network.{neighbours_on, board_on}
 use Rattle.ilk_plant.specs.NetworkRules.{has_board_at_end, has_neighbour_if_board}
 use Rattle.ilk_plant.specs.Plant.{board_of, next_to}
 use Rattle.ilk_base.proofs.Once.{EachOnce}
@@ -26,12 +26,11 @@ use Rattle.ilk_base.proofs.Tested.{list_all-slice_get}
 use Rattle.std.proofs.lemmas.Bool.{and_parts}
 use Rattle.ilk_plant.proofs.FewBoards.{boards_from-known}
 
--- the numbered section at x, from the draft
-numbered-at : {P : Type 0} (sections : List SectionDraft) (names boards : List Name) (x : ℕ) (k : Section) →
+plant_from_drafts-at : {P : Type 0} (sections : List SectionDraft) (names boards : List Name) (x : ℕ) (k : Section) →
     slice_get (map (λ section. numbered_section names boards section.kind) sections) x ≡ Some k →
     ((section : SectionDraft) → slice_get sections x ≡ Some section →
     k ≡ numbered_section names boards section.kind → P) → P
-numbered-at sections names boards x k e f =
+plant_from_drafts-at sections names boards x k e f =
     by_draft sections names boards x k (slice_get sections x) refl (sym (slice_get-map (λ section. numbered_section names boards section.kind) sections x) ∙ e) f
   where
     by_draft :
@@ -45,28 +44,24 @@ numbered-at sections names boards x k e f =
     by_draft sections names boards x k (Some section) at e f =
         let same : Some (numbered_section names boards section.kind) ≡ Some k = rw at at e in f section at cc
 
--- each board of a section is a board of the plant
-pub boards-numbered : (net : NetDraft) (table : TableDraft) (x m : ℕ) (d : Dir) → board_of (numbered net table) x d ≡ Some m → m < length (numbered net table).boards
-boards-numbered net table x m d e =
+pub boards-plant_from_drafts : (net : NetDraft) (table : TableDraft) (x m : ℕ) (d : Dir) → board_of (plant_from_drafts net table) x d ≡ Some m → m < length (plant_from_drafts net table).boards
+boards-plant_from_drafts net table x m d e =
     rw (length-map (boards_from 0 net.sections) (λ named. named.board), ← length-map (boards_from 0 net.sections) (λ named. named.name))
-    (option_and_then_some (λ k. board_on k d) (slice_get (numbered net table).sections x) m e (λ k at e1.
-    numbered-at net.sections (names_of_sections net.sections) (names_of_boards net.sections) x k at (λ section there same.
+    (option_and_then_some (λ k. board_on k d) (slice_get (plant_from_drafts net table).sections x) m e (λ k at e1.
+    plant_from_drafts-at net.sections (names_of_sections net.sections) (names_of_boards net.sections) x k at (λ section there same.
     let on_numbered : board_on (numbered_section (names_of_sections net.sections) (names_of_boards net.sections) section.kind) d ≡ Some m = rw same at e1 in
     board_on-known (names_of_sections net.sections) (names_of_boards net.sections) section.kind d m
     (list_all-slice_get (λ s. boards_known (names_of_boards net.sections) s.kind) net.sections x section
     (boards_from-known 0 net.sections) there) on_numbered)))
 
--- the name that a section gives its board for direction d
 abbrev board_drafted : KindDraft → Dir → Option Name
 board_drafted (LinearDraft down up board_down board_up) Down = board_down
 board_drafted (LinearDraft down up board_down board_up) Up = board_up
 board_drafted (PointDraft stem plus minus faces) d = None
 
--- the board of this name that stands on section x for direction d
 abbrev named_on : ℕ → Dir → Name → NamedBoard
 named_on x d name = record { name = name; board = record { section = x; dir = d } }
 
--- a board that a section names is on it
 named-listed : (x : ℕ) (kind : KindDraft) (d : Dir) (name : Name) → board_drafted kind d ≡ Some name → (k : ℕ) × (slice_get (boards_on x kind) k ≡ Some (named_on x d name))
 named-listed x (LinearDraft down up board_down board_up) Down name e =
     (zero, at-before (board_if_named x Down board_down) (board_if_named x Up board_up) zero (named_on x Down name) (named-at x Down board_down name e))
@@ -80,7 +75,6 @@ named-listed x (LinearDraft down up board_down board_up) Up name e =
     named-at x d o name e = rw e refl
 named-listed x (PointDraft stem plus minus faces) d name e = cc
 
--- a board on a section is one that the section names
 named-drafted : (x : ℕ) (kind : KindDraft) (k : ℕ) (named : NamedBoard) → slice_get (boards_on x kind) k ≡ Some named → (named.board.section ≡ x) × (board_drafted kind named.board.dir ≡ Some named.name)
 named-drafted x (LinearDraft down up board_down board_up) k named e =
     elim (at-either (board_if_named x Down board_down) (board_if_named x Up board_up) k named e) [
@@ -98,7 +92,6 @@ named-drafted x (LinearDraft down up board_down board_up) k named e =
     named-of x d (Some name) (suc k) named e = cc
 named-drafted x (PointDraft stem plus minus faces) k named e = cc
 
--- the boards that the sections name are listed, each on its section
 drafts-listed :
     (first : ℕ) (sections : List SectionDraft) (x i : ℕ) (section : SectionDraft) (d : Dir) (name : Name) →
     x ≡ first + i → slice_get sections i ≡ Some section → board_drafted section.kind d ≡ Some name →
@@ -115,7 +108,6 @@ drafts-listed first (section ∷ rest) x (suc i) other d name n at e =
     let there = drafts-listed (first + 1) rest x i other d name (omega (arith, n)) at e in
     (length (boards_on first section.kind) + there.0, at-past (boards_on first section.kind) (boards_from (first + 1) rest) there.0 (named_on x d name) there.1)
 
--- and each that is listed is named by its section
 listed-drafts : (first : ℕ) (sections : List SectionDraft) (k : ℕ) (named : NamedBoard) →
     slice_get (boards_from first sections) k ≡ Some named →
     (i : ℕ) × (section : SectionDraft) × (slice_get sections i ≡ Some section) ×
@@ -129,37 +121,35 @@ listed-drafts first (section ∷ rest) k named e =
           (suc there.0, there.1, there.2, there.3 ∙ omega arith, there.4)
     ]
 
--- the board of a numbered section is the number of the name that it gives
 board_on-drafted : (names boards : List Name) (kind : KindDraft) (d : Dir) → board_on (numbered_section names boards kind) d ≡ option_map (number_of boards) (board_drafted kind d)
 board_on-drafted names boards (LinearDraft down up board_down board_up) Down = refl
 board_on-drafted names boards (LinearDraft down up board_down board_up) Up = refl
 board_on-drafted names boards (PointDraft stem plus minus faces) d = refl
 
--- the section that names the board m of the plant's section x for direction d
 board-drafted : (net : NetDraft) (table : TableDraft) (x m : ℕ) (d : Dir) →
-    board_of (numbered net table) x d ≡ Some m →
+    board_of (plant_from_drafts net table) x d ≡ Some m →
     (section : SectionDraft) × (name : Name) × (slice_get net.sections x ≡ Some section) ×
     (board_drafted section.kind d ≡ Some name) × (number_of (names_of_boards net.sections) name ≡ m)
 board-drafted net table x m d e =
-    option_and_then_some (λ k. board_on k d) (slice_get (numbered net table).sections x) m e (λ k at on.
-    numbered-at net.sections (names_of_sections net.sections) (names_of_boards net.sections) x k at (λ section there same.
+    option_and_then_some (λ k. board_on k d) (slice_get (plant_from_drafts net table).sections x) m e (λ k at on.
+    plant_from_drafts-at net.sections (names_of_sections net.sections) (names_of_boards net.sections) x k at (λ section there same.
     let on_numbered : board_on (numbered_section (names_of_sections net.sections) (names_of_boards net.sections) section.kind) d ≡ Some m = rw same at on in
     let named = mapped-Some (number_of (names_of_boards net.sections)) (board_drafted section.kind d) m (sym (board_on-drafted (names_of_sections net.sections) (names_of_boards net.sections) section.kind d) ∙ on_numbered) in
     (section, named.0, there, named.1, named.2)))
 
--- the board of a section stands in the list of boards
-board-listed : (net : NetDraft) (table : TableDraft) → EachOnce (names_of_boards net.sections) → (x m : ℕ) (d : Dir) → board_of (numbered net table) x d ≡ Some m → slice_get (numbered net table).boards m ≡ Some (record { section = x; dir = d })
+board-listed : (net : NetDraft) (table : TableDraft) → EachOnce (names_of_boards net.sections) → (x m : ℕ) (d : Dir) → board_of (plant_from_drafts net table) x d ≡ Some m
+    → slice_get (plant_from_drafts net table).boards m ≡ Some (record { section = x; dir = d })
 board-listed net table once x m d e =
     let drafted = board-drafted net table x m d e in
     let name : Name = drafted.1 in
     let listed = drafts-listed 0 net.sections x x drafted.0 d name (omega arith) drafted.2 drafted.3 in
     let named : slice_get (names_of_boards net.sections) listed.0 ≡ Some name = slice_get-map (λ n. n.name) (boards_from 0 net.sections) listed.0 ∙ ap (option_map (λ n. n.name)) listed.1 in
     let same : listed.0 ≡ m = sym (number_of-own (names_of_boards net.sections) name listed.0 once named) ∙ drafted.4 in
-    let there : slice_get (numbered net table).boards listed.0 ≡ Some (record { section = x; dir = d }) = slice_get-map (λ n. n.board) (boards_from 0 net.sections) listed.0 ∙ ap (option_map (λ n. n.board)) listed.1 in
+    let there : slice_get (plant_from_drafts net table).boards listed.0 ≡ Some (record { section = x; dir = d }) = slice_get-map (λ n. n.board) (boards_from 0 net.sections) listed.0 ∙ ap (option_map (λ n. n.board)) listed.1 in
     rw same at there
 
--- a listed board is that of its section
-listed-board : (net : NetDraft) (table : TableDraft) → EachOnce (names_of_boards net.sections) → (x m : ℕ) (d : Dir) → slice_get (numbered net table).boards m ≡ Some (record { section = x; dir = d }) → board_of (numbered net table) x d ≡ Some m
+listed-board : (net : NetDraft) (table : TableDraft) → EachOnce (names_of_boards net.sections) → (x m : ℕ) (d : Dir) → slice_get (plant_from_drafts net table).boards m ≡ Some (record { section = x; dir = d })
+    → board_of (plant_from_drafts net table) x d ≡ Some m
 listed-board net table once x m d e =
     let listed = map-at (λ n. n.board) (boards_from 0 net.sections) m (record { section = x; dir = d }) e in
     let drafted = listed-drafts 0 net.sections m listed.0 listed.1 in
@@ -169,7 +159,7 @@ listed-board net table once x m d e =
     let given : board_drafted drafted.1.kind d ≡ Some listed.0.name = rw direction at drafted.4 in
     let named : slice_get (names_of_boards net.sections) m ≡ Some listed.0.name = slice_get-map (λ n. n.name) (boards_from 0 net.sections) m ∙ ap (option_map (λ n. n.name)) listed.1 in
     let number : number_of (names_of_boards net.sections) listed.0.name ≡ m = number_of-own (names_of_boards net.sections) listed.0.name m once named in
-    let numbered_there : slice_get (numbered net table).sections x
+    let numbered_there : slice_get (plant_from_drafts net table).sections x
     ≡ Some
     (numbered_section (names_of_sections net.sections) (names_of_boards net.sections) drafted.1.kind) =
     slice_get-map
@@ -187,19 +177,17 @@ listed-board net table once x m d e =
     ∙ ap (option_map (number_of (names_of_boards net.sections))) given ∙ ap Some number in
     rw numbered_there on
 
--- the boards of the sections are those that are listed
 pub boards-agree : (net : NetDraft) (table : TableDraft) → EachOnce (names_of_boards net.sections) →
     (x m : ℕ) (d : Dir) →
-    (board_of (numbered net table) x d ≡ Some m) ↔
-    (slice_get (numbered net table).boards m ≡ Some (record { section = x; dir = d }))
+    (board_of (plant_from_drafts net table) x d ≡ Some m) ↔
+    (slice_get (plant_from_drafts net table).boards m ≡ Some (record { section = x; dir = d }))
 boards-agree net table once x m d = (board-listed net table once x m d, listed-board net table once x m d)
 
--- a section with a board has a neighbour in the board's direction
-pub boards-lead : (net : NetDraft) (table : TableDraft) → KeepsNetworkRules net → (x m : ℕ) (d : Dir) → board_of (numbered net table) x d ≡ Some m → 0 < length (next_to (numbered net table) x d)
+pub boards-lead : (net : NetDraft) (table : TableDraft) → KeepsNetworkRules net → (x m : ℕ) (d : Dir) → board_of (plant_from_drafts net table) x d ≡ Some m → 0 < length (next_to (plant_from_drafts net table) x d)
 boards-lead net table rules x m d e =
     let drafted = board-drafted net table x m d e in
     let kept = rules 7 N8 refl x (slice_get_within net.sections x drafted.0 drafted.2) in
-    let there : slice_get (numbered net table).sections x
+    let there : slice_get (plant_from_drafts net table).sections x
     ≡ Some
     (numbered_section (names_of_sections net.sections) (names_of_boards net.sections) drafted.0.kind) =
     slice_get-map
@@ -224,7 +212,7 @@ boards-lead net table rules x m d e =
         board_drafted kind d ≡ Some name →
         0
         < length
-        (beside
+        (neighbours_on
         (numbered_section (names_of_sections net.sections) (names_of_boards net.sections) kind) d)
     by_kind section (LinearDraft down up board_down board_up) Down name at is h given =
         let kept : not (has_neighbour_if_board down board_down && has_neighbour_if_board up board_up) ≡ false = rw (at, is) at h in

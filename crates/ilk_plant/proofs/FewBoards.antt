@@ -1,4 +1,4 @@
--- A plant has at most twice as many boards as sections, and each has a known name.
+-- A plant has at most twice as many boards as sections, each with a known name.
 use Rattle.std.proofs.Common.{◌≡◌, ℕ, ◌≤◌, ◌+◌, ◌*◌, true, Option, Some, None, List, [], ◌∷◌, ◌++◌, length, map, bytes_eq, refl, sym, subst, arith, length-append}
 use Rattle.std.specs.List.{list_all}
 use Rattle.std.proofs.lemmas.List.{length-map, map-append}
@@ -17,11 +17,9 @@ use Rattle.ilk_base.proofs.Tested.{list_all-weaken}
 use Rattle.ilk_base.proofs.Truth.{or-true}
 use Rattle.std.proofs.lemmas.Bool.{and_parts}
 
--- a board that stands in a list of named boards has a known name
 abbrev pub names_in : List NamedBoard → List Name
 names_in boards = map (λ named. named.name) boards
 
--- what is known among some names is known among more
 known-after : (front names : List Name) (name : Option Name) → is_known names name ≡ true → is_known (front ++ names) name ≡ true
 known-after front names None h = refl
 known-after front names (Some name) h = rw (list_any-append (bytes_eq name) front names, h) (or-true _)
@@ -56,7 +54,6 @@ boards-after front names (LinearDraft down up board_down board_up) h =
     let parts = and_parts _ _ h in rw (known-after front names board_down parts.0, known-after front names board_up parts.1) refl
 boards-after front names (PointDraft stem plus minus faces) h = refl
 
--- the boards of all sections have known names
 pub boards_from-known : (x : ℕ) (sections : List SectionDraft) → list_all (λ section. boards_known (names_in (boards_from x sections)) section.kind) sections ≡ true
 boards_from-known x [] = refl
 boards_from-known x (section ∷ rest) =
@@ -67,7 +64,6 @@ boards_from-known x (section ∷ rest) =
     (rw (boards-before front back section.kind (boards-own x section.kind))
     (list_all-weaken (λ s. boards_known back s.kind) (λ s. boards_known (front ++ back) s.kind) (λ s known. boards-after front back s.kind known) rest (boards_from-known (x + 1) rest)))
 
--- a section has at most two boards
 length-boards_on : (x : ℕ) (kind : KindDraft) → length (boards_on x kind) ≤ 2
 length-boards_on x (LinearDraft down up None None) = omega arith
 length-boards_on x (LinearDraft down up None (Some b)) = omega arith
@@ -80,7 +76,6 @@ length-boards_from x [] = omega arith
 length-boards_from x (section ∷ rest) =
     omega (arith, length-append (boards_on x section.kind) (boards_from (x + 1) rest), length-boards_on x section.kind, length-boards_from (x + 1) rest)
 
--- so there are at most twice as many boards as sections
 pub few-boards : (sections : List SectionDraft) → length sections ≤ MAX_SECTIONS → length (names_of_boards sections) ≤ MAX_BOARDS
 few-boards sections few =
     rw (length-map (boards_from 0 sections) (λ named. named.name)) (omega (arith, length-boards_from 0 sections))

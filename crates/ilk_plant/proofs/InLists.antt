@@ -1,4 +1,4 @@
--- A list has a section exactly where that stands in it somewhere.
+-- A list has a section if and only if some item equals it.
 use Rattle.std.proofs.Common.{◌≡◌, ℕ, true, false, ◌==◌, Some, List, [], ◌∷◌, ◌++◌, ◌∙◌, inl, inr, remove, slice_get, ap, refl}
 use Rattle.std.proofs.lemmas.Bool.{eq-eqb, eqb-true, or_right}
 use Rattle.std.proofs.lemmas.List.Folds.{list_any-append}
@@ -14,15 +14,12 @@ section-at x xs h =
 pub section-from : (xs : List ℕ) (j x : ℕ) → slice_get xs j ≡ Some x → has_section x xs ≡ true
 section-from xs j x at = list_any-from (λ y. y == x) xs j x at (eq-eqb x x refl)
 
--- the only one of a list is the one that it has
 pub only-one : (x y : ℕ) → has_section x (y ∷ []) ≡ true → y ≡ x
 only-one x y h = elim (either (y == x) false h) [ inl e ↦ eqb-true y x e | inr e ↦ cc ]
 
--- what the second of two lists has, both together have
 pub section-behind : (x : ℕ) (xs ys : List ℕ) → has_section x ys ≡ true → has_section x (xs ++ ys) ≡ true
 section-behind x xs ys h = list_any-append (λ y. y == x) xs ys ∙ or_right (has_section x xs) (has_section x ys) h
 
--- what a list without its first has, it has
 pub rest-has : (x : ℕ) (xs : List ℕ) → has_section x (remove xs 0) ≡ true → has_section x xs ≡ true
 rest-has x [] h = h
 rest-has x (y ∷ rest) h = or_right (y == x) (has_section x rest) h

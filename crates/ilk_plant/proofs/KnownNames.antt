@@ -1,4 +1,4 @@
--- What numbering makes of names that are among the names.
+-- Numbers of known names.
 use Rattle.std.proofs.Common.{◌≡◌, ℕ, ◌<◌, Bool, true, ◌&&◌, Option, Some, None, List, length, bytes_eq, option_map, arith}
 use Rattle.std.specs.List.{list_any}
 use Rattle.std.proofs.lemmas.Bool.Decides.{nat_tests}
@@ -12,28 +12,23 @@ use Rattle.ilk_plant.specs.declared.draft.KindDraft.TheVariants.{Linear as Linea
 use Rattle.ilk_base.proofs.Tested.{prefix-within}
 use Rattle.std.proofs.lemmas.Bool.{and_parts}
 
--- a name among the names has a number below their count
 pub number_of-known : (names : List Name) (name : Name) → list_any (bytes_eq name) names ≡ true → number_of names name < length names
 number_of-known names name h =
     let within = prefix-within (bytes_eq name) names h in grind (arith, nat_tests, within)
 
--- whether a name, if there is one, is among the names
 abbrev pub is_known : List Name → Option Name → Bool
 is_known names None = true
 is_known names (Some name) = list_any (bytes_eq name) names
 
--- whether the boards that a section names are among the names
 abbrev pub boards_known : List Name → KindDraft → Bool
 boards_known names (LinearDraft down up board_down board_up) = is_known names board_down && is_known names board_up
 boards_known names (PointDraft stem plus minus faces) = true
 
--- a number that a known name gives
 number-if : (names : List Name) (name : Option Name) (n : ℕ) → is_known names name ≡ true → option_map (number_of names) name ≡ Some n → n < length names
 number-if names None n h e = cc
 number-if names (Some name) n h e =
     let same : number_of names name ≡ n = cc in rw same at (number_of-known names name h)
 
--- the board on a section that names known boards
 pub board_on-known : (names boards : List Name) (kind : KindDraft) (d : Dir) (m : ℕ) → boards_known boards kind ≡ true → board_on (numbered_section names boards kind) d ≡ Some m → m < length boards
 board_on-known names boards (LinearDraft down up board_down board_up) Down m h e = number-if boards board_down m (and_parts _ _ h).0 e
 board_on-known names boards (LinearDraft down up board_down board_up) Up m h e = number-if boards board_up m (and_parts _ _ h).1 e

@@ -1,4 +1,4 @@
--- Steps lead from one section to another exactly where a walk of any length does.
+-- Steps lead from one section to another if and only if a walk of any length does.
 use Rattle.std.proofs.Common.{◌≡◌, ℕ, zero, suc, ◌<◌, Bool, true, false, ◌&&◌, ◌==◌, Option, Some, None, List, [], ◌∷◌, ◌++◌, length, bytes_eq, IsTrue, ◌⊎◌, inl, inr, refl, subst, arith}
 use Rattle.std.specs.Prelude.{◌↔◌}
 use Rattle.std.specs.List.{list_any, last_or}
@@ -8,7 +8,7 @@ use Rattle.std.proofs.lemmas.Bool.Decides.{nat_tests}
 use Rattle.ilk_plant.specs.Draft.{names_of_sections}
 use Rattle.ilk_plant.specs.Name.{Name}
 use Rattle.ilk_base.specs.Option.{is_some_and}
-use Rattle.ilk_plant.specs.NetworkRules.{End, IsWalkUp, LeadsUp, Returns, ends_of, is_next_up, leads_by, names_section, returns, section_named}
+use Rattle.ilk_plant.specs.NetworkRules.{End, IsWalkUp, LeadsUp, WalkReturns, ends_of, is_next_up, leads_by, names_section, walk_returns, section_named}
 use Rattle.ilk_plant.specs.Network.{same_direction}
 use Rattle.ilk_plant.specs.declared.draft.NetDraft.{NetDraft}
 use Rattle.ilk_plant.specs.declared.network.Dir.TheVariants.{Up}
@@ -16,12 +16,10 @@ use Rattle.ilk_base.proofs.Truth.{either, right}
 use Rattle.std.proofs.lemmas.Bool.{and_parts, or_left}
 
 module _ (step : ℕ → ℕ → Bool) where
-  -- what leads by fewer numbers leads by more
   pub leads-step : (n x y : ℕ) → step x y ≡ true → leads_by step n x y ≡ true
   leads-step zero x y h = h
   leads-step (suc n) x y h = or_left _ _ (leads-step n x y h)
 
-  -- to the last number, or from it, leads by way of those below it
   to_last : (n x : ℕ) → leads_by step (suc n) x n ≡ true → leads_by step n x n ≡ true
   to_last n x h = elim (either _ _ h) [ inl e ↦ e | inr e ↦ (and_parts _ _ e).0 ]
 
@@ -35,7 +33,6 @@ module _ (step : ℕ → ℕ → Bool) where
       by_test true e = inr (grind (arith, nat_tests))
       by_test false e = inl (grind (arith, nat_tests))
 
-  -- by way of a number below n
   pub leads-through : (n z x y : ℕ) → z < n → leads_by step n x z ≡ true → leads_by step n z y ≡ true → leads_by step n x y ≡ true
   leads-through zero z x y lt a b = absurd (omega arith)
   leads-through (suc n) z x y lt a b =
@@ -60,7 +57,6 @@ module _ (step : ℕ → ℕ → Bool) where
           right (leads_by step n x y) (leads_by step n x n) (leads_by step n n y) (and_parts (leads_by step n x n) (leads_by step n n z) p).0 (ih z n y below (and_parts (leads_by step n x n) (leads_by step n n z) p).1 q)
       in_between ih below (inr p) (inr q) = right (leads_by step n x y) (leads_by step n x n) (leads_by step n n y) (and_parts (leads_by step n x n) (leads_by step n n z) p).0 (and_parts (leads_by step n z n) (leads_by step n n y) q).1
 
--- the number for which a name stands is that of a section
 pub section_named-below : (net : NetDraft) (name : Name) (y : ℕ) → section_named net name ≡ Some y → y < length net.sections
 section_named-below net name y e =
     let found = position-Some (bytes_eq name) (names_of_sections net.sections) y [] e in
@@ -74,7 +70,6 @@ names_section-below net y end h = by_name (section_named net end.name) refl h
     by_name (Some z) e h =
         let below = section_named-below net end.name z e in grind (arith, nat_tests, below)
 
--- a neighbour on the up side is a section
 pub is_next_up-below : (net : NetDraft) (x y : ℕ) → is_next_up net x y ≡ true → y < length net.sections
 is_next_up-below net x y h = among (ends_of net x) h
   where
@@ -87,7 +82,6 @@ is_next_up-below net x y h = among (ends_of net x) h
         ]
 
 module _ (net : NetDraft) where
-  -- a walk leads where it ends
   pub leads-from_walk : (walk : List ℕ) (x y : ℕ) → IsWalkUp net x walk → last_or None walk ≡ Some y → leads_by (is_next_up net) (length net.sections) x y ≡ true
   leads-from_walk [] x y w e = cc
   leads-from_walk (z ∷ []) x y w e =
@@ -97,7 +91,6 @@ module _ (net : NetDraft) where
   leads-from_walk (z ∷ v ∷ rest) x y w e =
       leads-through (is_next_up net) (length net.sections) z x y (is_next_up-below net x z w.0) (leads-step (is_next_up net) (length net.sections) x z w.0) (leads-from_walk (v ∷ rest) z y w.1 e)
 
-  -- a walk that goes on from where another ends
   walk-append : (front back : List ℕ) (x z y : ℕ) → IsWalkUp net x front → last_or None front ≡ Some z → IsWalkUp net z back → last_or None back ≡ Some y → IsWalkUp net x (front ++ back) × (last_or None (front ++ back) ≡ Some y)
   walk-append [] back x z y w e v f = cc
   walk-append (u ∷ []) [] x z y w e v f = cc
@@ -118,5 +111,5 @@ module _ (net : NetDraft) where
       joined : LeadsUp net x n → LeadsUp net n y → LeadsUp net x y
       joined p q = (p.0 ++ q.0, walk-append p.0 q.0 x n y p.1.0 p.1.1 q.1.0 q.1.1)
 
-  pub returns-walks : (x : ℕ) → IsTrue (returns net x) ↔ Returns net x
-  returns-walks x = (λ h. walk-from_leads (length net.sections) x x h, λ r. leads-from_walk r.0 x x r.1.0 r.1.1)
+  pub walk_returns-walks : (x : ℕ) → IsTrue (walk_returns net x) ↔ WalkReturns net x
+  walk_returns-walks x = (λ h. walk-from_leads (length net.sections) x x h, λ r. leads-from_walk r.0 x x r.1.0 r.1.1)

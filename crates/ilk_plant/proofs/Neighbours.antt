@@ -1,20 +1,20 @@
--- The sections next to a section of the plant, by the ends of its draft.
+-- The neighbours of a section of the plant, by the ends of its draft.
 use Rattle.std.proofs.Common.{◌≡◌, ℕ, zero, suc, ◌<◌, Bool, true, false, ◌&&◌, ◌==◌, not, Option, Some, None, List, [], ◌∷◌, ◌++◌, length, map, slice_get, count_by, bytes_eq, option_map, refl, sym, ◌∙◌, ap, arith}
 use Rattle.std.specs.List.{list_any}
 use Rattle.std.proofs.lemmas.Bool.{eqb-true, eq-eqb, and_parts, false_from_ne_true}
 use Rattle.std.specs.Cmp.Derive.{both_true}
 use Rattle.std.proofs.lemmas.Option.{same_Some, slice_get-map, slice_get_within}
 use Rattle.std.proofs.lemmas.Slice.Eq.{bytes_eq-Decides}
-use Rattle.ilk_plant.proofs.NamesDiffer.{first_named-at, known-at, number_of-at, number_of-first}
-use Rattle.ilk_plant.proofs.Once.{none_twice-turned}
+use Rattle.ilk_plant.proofs.NamesDiffer.{first_number_named-at, known-at, number_of-at, number_of-first}
+use Rattle.ilk_plant.proofs.Once.{numbers_differ-turned}
 use Rattle.ilk_plant.proofs.Rules.{KeepsNetworkRules}
-use Rattle.ilk_plant.specs.Draft.{names_of_boards, names_of_sections, number_of, numbered, numbered_section}
+use Rattle.ilk_plant.specs.Draft.{names_of_boards, names_of_sections, number_of, plant_from_drafts, numbered_section}
 use Rattle.ilk_plant.specs.Name.{Name}
-use Rattle.ilk_plant.specs.Network.{beside, has_section, same_direction}
+use Rattle.ilk_plant.specs.Network.{neighbours_on, has_section, same_direction}
 use Rattle.ilk_base.specs.Option.{is_some_and}
-use Rattle.ilk_plant.specs.NetworkRules.{End, ends, ends_of, has_no_neighbour, names_another, names_once, names_section, opposite_direction, section_named, stands_alone}
-use Rattle.ilk_plant.specs.Once.{all_differ, none_twice}
-use Rattle.ilk_plant.specs.Plant.{first_named, next_to}
+use Rattle.ilk_plant.specs.NetworkRules.{End, ends_of_kind, ends_of, has_no_neighbour, names_another, names_back_once, names_section, opposite_direction, section_named, is_isolated}
+use Rattle.ilk_plant.specs.Once.{names_differ, numbers_differ}
+use Rattle.ilk_plant.specs.Plant.{first_number_named, next_to}
 use Rattle.ilk_plant.specs.declared.broken.Rule.TheVariants.{N3, N4, N5, N6}
 use Rattle.ilk_plant.specs.declared.network.Dir.{Dir}
 use Rattle.ilk_plant.specs.declared.network.Dir.TheVariants.{Up, Down}
@@ -28,32 +28,30 @@ use Rattle.ilk_base.proofs.Lists.{map-at}
 use Rattle.ilk_base.proofs.Options.{some-and}
 use Rattle.ilk_base.proofs.Tested.{list_any-at, list_any-from, list_any-none}
 
--- whether an end is on side d, and its name stands for number y
+-- Returns whether an end is on side `d` and names number `y`.
 abbrev pub end_leads_to : List Name → Dir → ℕ → End → Bool
 end_leads_to names d y end = same_direction end.side d && (number_of names end.name == y)
 
--- what is beside a numbered section is what its ends name
-beside-ends : (names boards : List Name) (kind : KindDraft) (d : Dir) (y : ℕ) → has_section y (beside (numbered_section names boards kind) d) ≡ list_any (end_leads_to names d y) (ends kind)
-beside-ends names boards (LinearDraft None None board_down board_up) Down y = refl
-beside-ends names boards (LinearDraft None None board_down board_up) Up y = refl
-beside-ends names boards (LinearDraft None (Some up) board_down board_up) Down y = refl
-beside-ends names boards (LinearDraft None (Some up) board_down board_up) Up y = refl
-beside-ends names boards (LinearDraft (Some down) None board_down board_up) Down y = refl
-beside-ends names boards (LinearDraft (Some down) None board_down board_up) Up y = refl
-beside-ends names boards (LinearDraft (Some down) (Some up) board_down board_up) Down y = refl
-beside-ends names boards (LinearDraft (Some down) (Some up) board_down board_up) Up y = refl
-beside-ends names boards (PointDraft stem plus minus Up) Up y = refl
-beside-ends names boards (PointDraft stem plus minus Up) Down y = refl
-beside-ends names boards (PointDraft stem plus minus Down) Up y = refl
-beside-ends names boards (PointDraft stem plus minus Down) Down y = refl
+neighbours_on-ends_of_kind : (names boards : List Name) (kind : KindDraft) (d : Dir) (y : ℕ) → has_section y (neighbours_on (numbered_section names boards kind) d) ≡ list_any (end_leads_to names d y) (ends_of_kind kind)
+neighbours_on-ends_of_kind names boards (LinearDraft None None board_down board_up) Down y = refl
+neighbours_on-ends_of_kind names boards (LinearDraft None None board_down board_up) Up y = refl
+neighbours_on-ends_of_kind names boards (LinearDraft None (Some up) board_down board_up) Down y = refl
+neighbours_on-ends_of_kind names boards (LinearDraft None (Some up) board_down board_up) Up y = refl
+neighbours_on-ends_of_kind names boards (LinearDraft (Some down) None board_down board_up) Down y = refl
+neighbours_on-ends_of_kind names boards (LinearDraft (Some down) None board_down board_up) Up y = refl
+neighbours_on-ends_of_kind names boards (LinearDraft (Some down) (Some up) board_down board_up) Down y = refl
+neighbours_on-ends_of_kind names boards (LinearDraft (Some down) (Some up) board_down board_up) Up y = refl
+neighbours_on-ends_of_kind names boards (PointDraft stem plus minus Up) Up y = refl
+neighbours_on-ends_of_kind names boards (PointDraft stem plus minus Up) Down y = refl
+neighbours_on-ends_of_kind names boards (PointDraft stem plus minus Down) Up y = refl
+neighbours_on-ends_of_kind names boards (PointDraft stem plus minus Down) Down y = refl
 
--- what is next to a section of the plant is what its ends name
-pub next_to-ends : (net : NetDraft) (table : TableDraft) (x : ℕ) (d : Dir) (y : ℕ) → has_section y (next_to (numbered net table) x d) ≡ list_any (end_leads_to (names_of_sections net.sections) d y) (ends_of net x)
-next_to-ends net table x d y = by_section (slice_get net.sections x) refl
+pub next_to-ends_of_kind : (net : NetDraft) (table : TableDraft) (x : ℕ) (d : Dir) (y : ℕ) → has_section y (next_to (plant_from_drafts net table) x d) ≡ list_any (end_leads_to (names_of_sections net.sections) d y) (ends_of net x)
+next_to-ends_of_kind net table x d y = by_section (slice_get net.sections x) refl
   where
-    by_section : (o : Option SectionDraft) → slice_get net.sections x ≡ o → has_section y (next_to (numbered net table) x d) ≡ list_any (end_leads_to (names_of_sections net.sections) d y) (ends_of net x)
+    by_section : (o : Option SectionDraft) → slice_get net.sections x ≡ o → has_section y (next_to (plant_from_drafts net table) x d) ≡ list_any (end_leads_to (names_of_sections net.sections) d y) (ends_of net x)
     by_section None at =
-        let none : slice_get (numbered net table).sections x ≡ None =
+        let none : slice_get (plant_from_drafts net table).sections x ≡ None =
         slice_get-map
         (λ section. numbered_section (names_of_sections net.sections) (names_of_boards net.sections)
         section.kind) net.sections x
@@ -63,7 +61,7 @@ next_to-ends net table x d y = by_section (slice_get net.sections x) refl
         (names_of_boards net.sections) section.kind)) at in
         rw (none, at) refl
     by_section (Some section) at =
-        let there : slice_get (numbered net table).sections x
+        let there : slice_get (plant_from_drafts net table).sections x
         ≡ Some
         (numbered_section (names_of_sections net.sections) (names_of_boards net.sections)
         section.kind) =
@@ -74,75 +72,70 @@ next_to-ends net table x d y = by_section (slice_get net.sections x) refl
         (option_map
         (λ section. numbered_section (names_of_sections net.sections)
         (names_of_boards net.sections) section.kind)) at in
-        rw (there, at) (beside-ends (names_of_sections net.sections) (names_of_boards net.sections) section.kind d y)
+        rw (there, at) (neighbours_on-ends_of_kind (names_of_sections net.sections) (names_of_boards net.sections) section.kind d y)
 
--- what has an end is a section
-pub ends-within : (net : NetDraft) (x k : ℕ) (end : End) → slice_get (ends_of net x) k ≡ Some end → x < length net.sections
-ends-within net x k end e = by_section (slice_get net.sections x) refl
+pub ends_of_kind-within : (net : NetDraft) (x k : ℕ) (end : End) → slice_get (ends_of net x) k ≡ Some end → x < length net.sections
+ends_of_kind-within net x k end e = by_section (slice_get net.sections x) refl
   where
     by_section : (o : Option SectionDraft) → slice_get net.sections x ≡ o → x < length net.sections
     by_section None at = let bad : slice_get {X = End} [] k ≡ Some end = rw at at e in cc
     by_section (Some section) at = slice_get_within net.sections x section at
 
--- each end of a section names another section
 pub end-names : (net : NetDraft) → KeepsNetworkRules net → (x k : ℕ) (end : End) → slice_get (ends_of net x) k ≡ Some end → names_another net x end ≡ true
 end-names net rules x k end at =
-    let kept = list_any-none (λ e. not (names_another net x e)) (ends_of net x) k end (rules 2 N3 refl x (ends-within net x k end at)) at in
+    let kept = list_any-none (λ e. not (names_another net x e)) (ends_of net x) k end (rules 2 N3 refl x (ends_of_kind-within net x k end at)) at in
     not-not (names_another net x end) kept
   where
     not-not : (b : Bool) → not b ≡ false → b ≡ true
     not-not true h = refl
     not-not false h = cc
 
--- the end by which a section of the plant is next to another
 pub next-end : (net : NetDraft) (table : TableDraft) (x y : ℕ) (d : Dir) →
-    has_section y (next_to (numbered net table) x d) ≡ true →
+    has_section y (next_to (plant_from_drafts net table) x d) ≡ true →
     (k : ℕ) × (end : End) × (slice_get (ends_of net x) k ≡ Some end) ×
     (end_leads_to (names_of_sections net.sections) d y end ≡ true)
 next-end net table x y d h =
-    list_any-at (end_leads_to (names_of_sections net.sections) d y) (ends_of net x) (sym (next_to-ends net table x d y) ∙ h)
+    list_any-at (end_leads_to (names_of_sections net.sections) d y) (ends_of net x) (sym (next_to-ends_of_kind net table x d y) ∙ h)
 
--- the number for which the name at an end stands is that of a section, and of another one
 pub end-number : (net : NetDraft) → KeepsNetworkRules net → (x k y : ℕ) (end : End) →
     slice_get (ends_of net x) k ≡ Some end → number_of (names_of_sections net.sections) end.name ≡ y →
-    (first_named (names_of_sections net.sections) end.name ≡ Some y) ×
+    (first_number_named (names_of_sections net.sections) end.name ≡ Some y) ×
     (y < length (names_of_sections net.sections)) × ((y == x) ≡ false)
 end-number net rules x k y end at number =
-    let named : (z : ℕ) × (first_named (names_of_sections net.sections) end.name ≡ Some z) × (not (z == x) ≡ true) = some-and (first_named (names_of_sections net.sections) end.name) (λ z. not (z == x)) (end-names net rules x k end at) in
+    let named : (z : ℕ) × (first_number_named (names_of_sections net.sections) end.name ≡ Some z) × (not (z == x) ≡ true) =
+    some-and (first_number_named (names_of_sections net.sections) end.name) (λ z. not (z == x)) (end-names net rules x k end at) in
     let same : named.0 ≡ y = sym (number_of-first (names_of_sections net.sections) end.name named.0 named.1) ∙ number in
-    let first : first_named (names_of_sections net.sections) end.name ≡ Some y = named.1 ∙ ap Some same in
-    (first, (first_named-at (names_of_sections net.sections) end.name y first).0, not-yes (y == x) (rw same at named.2))
+    let first : first_number_named (names_of_sections net.sections) end.name ≡ Some y = named.1 ∙ ap Some same in
+    (first, (first_number_named-at (names_of_sections net.sections) end.name y first).0, not-yes (y == x) (rw same at named.2))
   where
     not-yes : (b : Bool) → not b ≡ true → b ≡ false
     not-yes true h = cc
     not-yes false h = refl
 
--- a section next to another is a section, and not that other one
-pub next-known : (net : NetDraft) (table : TableDraft) → KeepsNetworkRules net → (x y : ℕ) (d : Dir) → has_section y (next_to (numbered net table) x d) ≡ true → (y < length (names_of_sections net.sections)) × ((y == x) ≡ false)
+pub next-known : (net : NetDraft) (table : TableDraft) → KeepsNetworkRules net → (x y : ℕ) (d : Dir) → has_section y (next_to (plant_from_drafts net table) x d) ≡ true → (y < length (names_of_sections net.sections)) × ((y == x) ≡ false)
 next-known net table rules x y d h =
     let found : (k : ℕ) × (end : End) × (slice_get (ends_of net x) k ≡ Some end) × (end_leads_to (names_of_sections net.sections) d y end ≡ true) = next-end net table x y d h in
     let leads = and_parts (same_direction found.1.side d) (number_of (names_of_sections net.sections) found.1.name == y) found.3 in
     let facts = end-number net rules x found.0 y found.1 found.2 (eqb-true _ _ leads.1) in
     (facts.1, facts.2)
 
--- no section is next to itself
-pub next-other : (net : NetDraft) (table : TableDraft) → KeepsNetworkRules net → (x : ℕ) (d : Dir) → has_section x (next_to (numbered net table) x d) ≡ false
+pub next-other : (net : NetDraft) (table : TableDraft) → KeepsNetworkRules net → (x : ℕ) (d : Dir) → has_section x (next_to (plant_from_drafts net table) x d) ≡ false
 next-other net table rules x d =
-    false_from_ne_true (has_section x (next_to (numbered net table) x d)) (λ h.
+    false_from_ne_true (has_section x (next_to (plant_from_drafts net table) x d)) (λ h.
     let other : (x == x) ≡ false = (next-known net table rules x x d h).1 in
     let own : (x == x) ≡ true = eq-eqb x x refl in
     cc)
 
--- an end of the section next to x that names x
 back-end : (net : NetDraft) → KeepsNetworkRules net → (x k y : ℕ) (end : End) →
     slice_get (ends_of net x) k ≡ Some end → number_of (names_of_sections net.sections) end.name ≡ y →
     list_any (λ other. names_section net x other && same_direction other.side (opposite_direction end.side))
     (ends_of net y) ≡ true
 back-end net rules x k y end at number =
     let known = end-number net rules x k y end at number in
-    let kept = list_any-none (λ e. is_some_and (section_named net e.name) (λ z. not (z == x) && not (names_once net x (opposite_direction e.side) (ends_of net z)))) (ends_of net x) k end (rules 4 N5 refl x (ends-within net x k end at)) at in
-    let at_y : (not (y == x) && not (names_once net x (opposite_direction end.side) (ends_of net y))) ≡ false = rw known.0 at kept in
-    let once = by-tests (y == x) (names_once net x (opposite_direction end.side) (ends_of net y)) known.2 at_y in
+    let kept = list_any-none (λ e. is_some_and (section_named net e.name) (λ z. not (z == x) && not (names_back_once net x (opposite_direction e.side) (ends_of net z)))) (ends_of net x) k end (rules 4 N5 refl x (ends_of_kind-within net x k end at))
+    at in
+    let at_y : (not (y == x) && not (names_back_once net x (opposite_direction end.side) (ends_of net y))) ≡ false = rw known.0 at kept in
+    let once = by-tests (y == x) (names_back_once net x (opposite_direction end.side) (ends_of net y)) known.2 at_y in
     (and_parts (count_by (names_section net x) (ends_of net y) == 1) (list_any (λ other. names_section net x other && same_direction other.side (opposite_direction end.side)) (ends_of net y)) once).1
   where
     by-tests : (a b : Bool) → a ≡ false → (not a && not b) ≡ false → b ≡ true
@@ -150,8 +143,8 @@ back-end net rules x k y end at number =
     by-tests false true e h = refl
     by-tests false false e h = cc
 
--- a section next to another in direction d has that other one next to it in the opposite direction
-pub next-back : (net : NetDraft) (table : TableDraft) → KeepsNetworkRules net → (x y : ℕ) (d : Dir) → has_section y (next_to (numbered net table) x d) ≡ true → has_section x (next_to (numbered net table) y (opposite_direction d)) ≡ true
+pub next-back : (net : NetDraft) (table : TableDraft) → KeepsNetworkRules net → (x y : ℕ) (d : Dir) → has_section y (next_to (plant_from_drafts net table) x d) ≡ true
+    → has_section x (next_to (plant_from_drafts net table) y (opposite_direction d)) ≡ true
 next-back net table rules x y d h =
     let names : List Name = names_of_sections net.sections in
     let found : (k : ℕ) × (end : End) × (slice_get (ends_of net x) k ≡ Some end) × (end_leads_to names d y end ≡ true) = next-end net table x y d h in
@@ -166,21 +159,20 @@ next-back net table rules x y d h =
     let parts = and_parts (names_section net x back.1) (same_direction back.1.side (opposite_direction found.1.side)) back.3 in
     let number = names-number net x back.1 parts.0 in
     let turned : same_direction back.1.side (opposite_direction d) ≡ true = ap (λ e. same_direction back.1.side (opposite_direction e)) (sym side) ∙ parts.1 in
-    next_to-ends net table y (opposite_direction d) x ∙ list_any-from (end_leads_to names (opposite_direction d) x) (ends_of net y) back.0 back.1 back.2 (both_true turned (eq-eqb _ _ number))
+    next_to-ends_of_kind net table y (opposite_direction d) x ∙ list_any-from (end_leads_to names (opposite_direction d) x) (ends_of net y) back.0 back.1 back.2 (both_true turned (eq-eqb _ _ number))
   where
     names-number : (net : NetDraft) (x : ℕ) (end : End) → names_section net x end ≡ true → number_of (names_of_sections net.sections) end.name ≡ x
     names-number net x end h =
-        let named : (z : ℕ) × (first_named (names_of_sections net.sections) end.name ≡ Some z) × ((z == x) ≡ true) = some-and (first_named (names_of_sections net.sections) end.name) (λ z. z == x) h in
+        let named : (z : ℕ) × (first_number_named (names_of_sections net.sections) end.name ≡ Some z) × ((z == x) ≡ true) = some-and (first_number_named (names_of_sections net.sections) end.name) (λ z. z == x) h in
         number_of-first (names_of_sections net.sections) end.name named.0 named.1 ∙ eqb-true named.0 x named.2
 
--- ends with names that differ and are known have numbers that differ
 numbers-once : (names : List Name) (ends : List End) →
     ((k : ℕ) (end : End) → slice_get ends k ≡ Some end → list_any (bytes_eq end.name) names ≡ true) →
-    all_differ (map (λ end. end.name) ends) ≡ true →
-    none_twice (map (λ end. number_of names end.name) ends) ≡ true
+    names_differ (map (λ end. end.name) ends) ≡ true →
+    numbers_differ (map (λ end. number_of names end.name) ends) ≡ true
 numbers-once names [] known h = refl
 numbers-once names (end ∷ rest) known h =
-    let parts = and_parts (not (list_any (bytes_eq end.name) (map (λ end. end.name) rest))) (all_differ (map (λ end. end.name) rest)) h in
+    let parts = and_parts (not (list_any (bytes_eq end.name) (map (λ end. end.name) rest))) (names_differ (map (λ end. end.name) rest)) h in
     let none = false_from_ne_true (list_any (λ y. y == number_of names end.name) (map (λ end. number_of names end.name) rest)) (λ twice.
     let found : (k : ℕ) × (y : ℕ) × (slice_get (map (λ end. number_of names end.name) rest) k ≡ Some y) ×
     ((y == number_of names end.name) ≡ true) =
@@ -199,31 +191,29 @@ numbers-once names (end ∷ rest) known h =
     not-both true e f = cc
     not-both false e f = cc
 
--- what is beside a section on and_parts sides, in the order of its ends or turned
-beside-once : (names boards : List Name) (kind : KindDraft) →
-    none_twice (map (λ end. number_of names end.name) (ends kind)) ≡ true →
-    none_twice
-    (beside (numbered_section names boards kind) Down ++ beside (numbered_section names boards kind) Up)
+neighbours_on-once : (names boards : List Name) (kind : KindDraft) →
+    numbers_differ (map (λ end. number_of names end.name) (ends_of_kind kind)) ≡ true →
+    numbers_differ
+    (neighbours_on (numbered_section names boards kind) Down ++ neighbours_on (numbered_section names boards kind) Up)
     ≡ true
-beside-once names boards (LinearDraft None None board_down board_up) h = h
-beside-once names boards (LinearDraft None (Some up) board_down board_up) h = h
-beside-once names boards (LinearDraft (Some down) None board_down board_up) h = h
-beside-once names boards (LinearDraft (Some down) (Some up) board_down board_up) h = h
-beside-once names boards (PointDraft stem plus minus Up) h = h
-beside-once names boards (PointDraft stem plus minus Down) h =
-    none_twice-turned (number_of names stem) (number_of names plus) (number_of names minus) h
+neighbours_on-once names boards (LinearDraft None None board_down board_up) h = h
+neighbours_on-once names boards (LinearDraft None (Some up) board_down board_up) h = h
+neighbours_on-once names boards (LinearDraft (Some down) None board_down board_up) h = h
+neighbours_on-once names boards (LinearDraft (Some down) (Some up) board_down board_up) h = h
+neighbours_on-once names boards (PointDraft stem plus minus Up) h = h
+neighbours_on-once names boards (PointDraft stem plus minus Down) h =
+    numbers_differ-turned (number_of names stem) (number_of names plus) (number_of names minus) h
 
--- no section is next to another twice
-pub next-once : (net : NetDraft) (table : TableDraft) → KeepsNetworkRules net → (x : ℕ) → none_twice (next_to (numbered net table) x Down ++ next_to (numbered net table) x Up) ≡ true
+pub next-once : (net : NetDraft) (table : TableDraft) → KeepsNetworkRules net → (x : ℕ) → numbers_differ (next_to (plant_from_drafts net table) x Down ++ next_to (plant_from_drafts net table) x Up) ≡ true
 next-once net table rules x = by_section (slice_get net.sections x) refl
   where
     not-not : (b : Bool) → not b ≡ false → b ≡ true
     not-not true h = refl
     not-not false h = cc
 
-    by_section : (o : Option SectionDraft) → slice_get net.sections x ≡ o → none_twice (next_to (numbered net table) x Down ++ next_to (numbered net table) x Up) ≡ true
+    by_section : (o : Option SectionDraft) → slice_get net.sections x ≡ o → numbers_differ (next_to (plant_from_drafts net table) x Down ++ next_to (plant_from_drafts net table) x Up) ≡ true
     by_section None at =
-        let none : slice_get (numbered net table).sections x ≡ None =
+        let none : slice_get (plant_from_drafts net table).sections x ≡ None =
         slice_get-map
         (λ section. numbered_section (names_of_sections net.sections) (names_of_boards net.sections)
         section.kind) net.sections x
@@ -233,7 +223,7 @@ next-once net table rules x = by_section (slice_get net.sections x) refl
         (names_of_boards net.sections) section.kind)) at in
         rw none refl
     by_section (Some section) at =
-        let there : slice_get (numbered net table).sections x
+        let there : slice_get (plant_from_drafts net table).sections x
         ≡ Some
         (numbered_section (names_of_sections net.sections) (names_of_boards net.sections)
         section.kind) =
@@ -244,27 +234,26 @@ next-once net table rules x = by_section (slice_get net.sections x) refl
         (option_map
         (λ section. numbered_section (names_of_sections net.sections)
         (names_of_boards net.sections) section.kind)) at in
-        let kept : not (all_differ (map (λ end. end.name) (ends section.kind))) ≡ false = rw at at (rules 3 N4 refl x (slice_get_within net.sections x section at)) in
-        let known : (k : ℕ) (end : End) → slice_get (ends section.kind) k ≡ Some end → list_any (bytes_eq end.name) (names_of_sections net.sections) ≡ true = λ k end e. end-known k end (rw at e) in
-        rw there (beside-once (names_of_sections net.sections) (names_of_boards net.sections) section.kind (numbers-once (names_of_sections net.sections) (ends section.kind) known (not-not _ kept)))
+        let kept : not (names_differ (map (λ end. end.name) (ends_of_kind section.kind))) ≡ false = rw at at (rules 3 N4 refl x (slice_get_within net.sections x section at)) in
+        let known : (k : ℕ) (end : End) → slice_get (ends_of_kind section.kind) k ≡ Some end → list_any (bytes_eq end.name) (names_of_sections net.sections) ≡ true = λ k end e. end-known k end (rw at e) in
+        rw there (neighbours_on-once (names_of_sections net.sections) (names_of_boards net.sections) section.kind (numbers-once (names_of_sections net.sections) (ends_of_kind section.kind) known (not-not _ kept)))
       where
         end-known : (k : ℕ) (end : End) → slice_get (ends_of net x) k ≡ Some end → list_any (bytes_eq end.name) (names_of_sections net.sections) ≡ true
         end-known k end e =
             let number = end-number net rules x k (number_of (names_of_sections net.sections) end.name) end e refl in
-            known-at (names_of_sections net.sections) end.name _ (first_named-at (names_of_sections net.sections) end.name _ number.0).1
+            known-at (names_of_sections net.sections) end.name _ (first_number_named-at (names_of_sections net.sections) end.name _ number.0).1
 
--- each section has a neighbour
-pub next-some : (net : NetDraft) (table : TableDraft) → KeepsNetworkRules net → (x : ℕ) → x < length net.sections → 0 < length (next_to (numbered net table) x Down ++ next_to (numbered net table) x Up)
+pub next-some : (net : NetDraft) (table : TableDraft) → KeepsNetworkRules net → (x : ℕ) → x < length net.sections → 0 < length (next_to (plant_from_drafts net table) x Down ++ next_to (plant_from_drafts net table) x Up)
 next-some net table rules x within = by_section (slice_get net.sections x) refl
   where
     by_kind : (section : SectionDraft) (kind : KindDraft) → slice_get net.sections x ≡ Some section →
-        section.kind ≡ kind → stands_alone net x ≡ false →
+        section.kind ≡ kind → is_isolated net x ≡ false →
         0
         < length
-        (beside
+        (neighbours_on
         (numbered_section (names_of_sections net.sections) (names_of_boards net.sections) kind)
         Down
-        ++ beside
+        ++ neighbours_on
         (numbered_section (names_of_sections net.sections) (names_of_boards net.sections)
         kind) Up)
     by_kind section (LinearDraft None None board_down board_up) at is h =
@@ -275,7 +264,7 @@ next-some net table rules x within = by_section (slice_get net.sections x) refl
     by_kind section (PointDraft stem plus minus Up) at is h = omega arith
     by_kind section (PointDraft stem plus minus Down) at is h = omega arith
 
-    by_section : (o : Option SectionDraft) → slice_get net.sections x ≡ o → 0 < length (next_to (numbered net table) x Down ++ next_to (numbered net table) x Up)
+    by_section : (o : Option SectionDraft) → slice_get net.sections x ≡ o → 0 < length (next_to (plant_from_drafts net table) x Down ++ next_to (plant_from_drafts net table) x Up)
     by_section None at = let there = at-within net.sections x within in let bad : None ≡ Some there.0 = sym at ∙ there.1 in cc
       where
         at-within : (sections : List SectionDraft) (x : ℕ) → x < length sections → (section : SectionDraft) × (slice_get sections x ≡ Some section)
@@ -283,7 +272,7 @@ next-some net table rules x within = by_section (slice_get net.sections x) refl
         at-within (section ∷ rest) zero h = (section, refl)
         at-within (section ∷ rest) (suc x) h = at-within rest x (omega arith)
     by_section (Some section) at =
-        let there : slice_get (numbered net table).sections x
+        let there : slice_get (plant_from_drafts net table).sections x
         ≡ Some
         (numbered_section (names_of_sections net.sections) (names_of_boards net.sections)
         section.kind) =

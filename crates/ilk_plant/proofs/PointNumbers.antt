@@ -1,4 +1,4 @@
--- The numbers of the points of the first sections, when one more section is looked at.
+-- Point numbers of the first sections, extended by one section.
 use Rattle.std.proofs.Common.{◌≡◌, ℕ, zero, suc, cond, refl, ◌+◌, ◌<◌, Bool, true, false, Option, Some, None, IfSome, List, [], ◌∷◌, ◌++◌, count_by, get_or, length, map, slice_get, take, sym, ap, ◌∙◌, arith}
 use Rattle.std.specs.List.{range_with_len}
 use Rattle.std.proofs.lemmas.List.FromFn.{length-map-range_with_len, map-range_with_len_more}
@@ -27,30 +27,24 @@ module _ (p : PlantLists) (x : ℕ) (d : Section) (within : x < length p.section
       now ∙ ap (λ l. l ++ number ∷ []) so_far ∙ ap (λ o. map (point_number p) (range_with_len 0 x) ++ o ∷ []) same
       ∙ sym (map-range_with_len_more (point_number p) 0 x x (omega arith))
 
-  -- the section is a point
   pub point_more : is_point (get_or p.sections x d) ≡ true → new ≡ numbers ++ Some points ∷ [] → (new ≡ map (point_number p) (range_with_len 0 (x + 1))) × (points + 1 ≡ count_by is_point (take (x + 1) p.sections))
   point_more e now =
       (with (Some points) (ap Some count ∙ sym (here true e)) now, ap (λ n. n + 1) count ∙ sym (count_by_more_yes is_point p.sections x d within e))
 
-  -- the section is no point
   pub point_same : is_point (get_or p.sections x d) ≡ false → new ≡ numbers ++ None ∷ [] → (new ≡ map (point_number p) (range_with_len 0 (x + 1))) × (points ≡ count_by is_point (take (x + 1) p.sections))
   point_same e now = (with None (sym (here false e)) now, count ∙ sym (count_by_more_no is_point p.sections x d within e))
 
--- the number of the point on section x, by the index
 point_numbers-at : (p : PlantLists) (x : ℕ) → x < length p.sections → slice_get (point_numbers p) x ≡ Some (point_number p x)
 point_numbers-at p x within =
     slice_get-map (point_number p) (range_with_len 0 (length p.sections)) x ∙ ap (λ (o : Option ℕ). o >>= (λ y. Some (point_number p y))) (range-at (length p.sections) x within)
 
--- the index has an entry for each section
 pub length-point_numbers : (p : PlantLists) → length (point_numbers p) ≡ length p.sections
 length-point_numbers p = length-map-range_with_len (point_number p) 0 (length p.sections)
 
--- an entry of the index at section x is the number of its point
 pub indexed-number : (p : PlantLists) (numbers : List (Option ℕ)) (x : ℕ) (number : Option ℕ) → numbers ≡ point_numbers p → x < length p.sections → slice_get numbers x ≡ Some number → number ≡ point_number p x
 indexed-number p numbers x number index within at =
     same_Some number (point_number p x) (sym at ∙ ap (λ l. slice_get l x) index ∙ point_numbers-at p x within)
 
--- a point's number is below the count of points
 pub point_number-below : (p : PlantLists) (x : ℕ) → IfSome (point_number p x) (λ n. n < point_count p)
 point_number-below p x = IfSome-from (point_number p x) (λ n. n < point_count p) below
   where
@@ -61,7 +55,6 @@ point_number-below p x = IfSome-from (point_number p x) (λ n. n < point_count p
         let less = count_by-take-lt is_point p.sections x section at numbered.0 in
         omega (arith, less, numbered.1))
 
--- points are numbered apart
 same-count : (xs : List Section) (i j : ℕ) (a b : Section) → slice_get xs i ≡ Some a → slice_get xs j ≡ Some b → is_point a ≡ true → is_point b ≡ true → count_by is_point (take i xs) ≡ count_by is_point (take j xs) → i ≡ j
 same-count [] i j a b at also pa pb e = cc
 same-count (z ∷ xs) zero zero a b at also pa pb e = refl
@@ -78,7 +71,6 @@ same-count (z ∷ xs) (suc i) (suc j) a b at also pa pb e =
     let two = sum_by-cons (λ v. cond (is_point v) 1 0) z (take j xs) in
     ap suc (same-count xs i j a b at also pa pb (omega (arith, one, two, e)))
 
--- the section of a point's number
 pub numbered-section : (p : PlantLists) (x n : ℕ) → point_number p x ≡ Some n → (section : Section) × (slice_get p.sections x ≡ Some section) × (is_point section ≡ true) × (count_by is_point (take x p.sections) ≡ n)
 numbered-section p x n e =
     let section = bind_some (slice_get p.sections x) _ n e in

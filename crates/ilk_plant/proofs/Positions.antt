@@ -1,16 +1,15 @@
--- The first position at which a test passes, when one more item is looked at.
+-- The first position at which a test passes, extended by one item.
 use Rattle.std.proofs.Common.{◌≡◌, ℕ, ◌<◌, ◌+◌, Bool, true, false, cond, Option, Some, None, is_some, List, [], ◌∷◌, ◌++◌, length, take, slice_get, position, bytes_eq, refl, sym, ◌∙◌, ap, subst, arith, nat_lt, length-take}
 use Rattle.std.specs.List.{list_any}
 use Rattle.std.proofs.lemmas.Slice.Eq.{bytes_eq-Decides}
 use Rattle.std.proofs.lemmas.List.{take_more}
 use Rattle.std.proofs.lemmas.Option.{get_or_from_slice_get}
 use Rattle.ilk_plant.specs.Name.{Name}
-use Rattle.ilk_plant.specs.Plant.{first_named}
-use Rattle.ilk_plant.specs.Draft.{is_named_before}
+use Rattle.ilk_plant.specs.Plant.{first_number_named}
+use Rattle.ilk_plant.specs.Draft.{is_duplicate}
 use Rattle.ilk_base.specs.Option.{is_some_and}
 use Rattle.ilk_base.proofs.Positions.{position-below, position-push}
 
--- a name that an earlier one has changes no number
 pub number-known : (names : List Name) (name : Name) → is_some (position (bytes_eq name) names) ≡ true → (q : Name) → position (bytes_eq q) (names ++ name ∷ []) ≡ position (bytes_eq q) names
 number-known names name known q =
     rw (position-push (bytes_eq q) names name) (by_name (bytes_eq q name) refl)
@@ -30,7 +29,6 @@ number-known names name known q =
         kept (position (bytes_eq q) names) (Some (length names)) (subst P (sym same) known)
     by_name false e = none (position (bytes_eq q) names)
 
--- a new name has the next number
 pub number-new : (names : List Name) (name : Name) → is_some (position (bytes_eq name) names) ≡ false → (q : Name) → cond (bytes_eq name q) (Some (length names)) (position (bytes_eq q) names) ≡ position (bytes_eq q) (names ++ name ∷ [])
 number-new names name new q =
     rw (position-push (bytes_eq q) names name) (by_names (bytes_eq name q) (bytes_eq q name) refl refl)
@@ -62,13 +60,11 @@ module _ (names : List Name) (i : ℕ) (name : Name) (lt : i < length names) (at
   one_more : take (i + 1) names ≡ take i names ++ name ∷ []
   one_more = rw (take_more names i name lt, get_or_from_slice_get names i name name at) refl
 
-  -- the numbers after a name that an earlier one has
   pub after-known : is_some (get name) ≡ true → (q : Name) → get q ≡ position (bytes_eq q) (take (i + 1) names)
   after-known known q =
       let known_before : is_some (position (bytes_eq name) (take i names)) ≡ true = rw before at known in
       rw one_more (before q ∙ sym (number-known (take i names) name known_before q))
 
-  -- the numbers after a new name
   pub after-new : is_some (get name) ≡ false → (next : Name → Option ℕ) → ((q : Name) → next q ≡ cond (bytes_eq name q) (Some i) (get q)) → (q : Name) → next q ≡ position (bytes_eq q) (take (i + 1) names)
   after-new new next now q =
       let new_before : is_some (position (bytes_eq name) (take i names)) ≡ false = rw before at new in
@@ -78,8 +74,7 @@ module _ (names : List Name) (i : ℕ) (name : Name) (lt : i < length names) (at
       let P : ℕ → Type 0 = λ m. cond (bytes_eq name q) (Some m) (position (bytes_eq q) (take i names)) ≡ position (bytes_eq q) (take i names ++ name ∷ []) in subst P taken known in
       rw one_more (now q ∙ ap (cond (bytes_eq name q) (Some i)) (before q) ∙ known_at)
 
--- whether name i stands earlier too, by the first number that has it
-pub named_before : (names : List Name) (i : ℕ) (name : Name) (first : Option ℕ) → slice_get names i ≡ Some name → first ≡ first_named names name → is_some_and first (λ k. nat_lt k i) ≡ is_named_before names i
+pub named_before : (names : List Name) (i : ℕ) (name : Name) (first : Option ℕ) → slice_get names i ≡ Some name → first ≡ first_number_named names name → is_some_and first (λ k. nat_lt k i) ≡ is_duplicate names i
 named_before names i name first at is =
-    let P : Option Name → Type 0 = λ o. is_some_and o (λ n. list_any (bytes_eq n) (take i names)) ≡ is_named_before names i in
+    let P : Option Name → Type 0 = λ o. is_some_and o (λ n. list_any (bytes_eq n) (take i names)) ≡ is_duplicate names i in
     ap (λ o. is_some_and o (λ k. nat_lt k i)) is ∙ position-below (bytes_eq name) names i ∙ subst P at refl

@@ -1,4 +1,4 @@
--- The routes of the plant, where no rule of the table is broken.
+-- The routes of a plant that violates no rule of the table.
 use Rattle.std.proofs.Common.{◌≡◌, ◌≢◌, ℕ, ◌<◌, ◌≤◌, ◌==◌, Bool, true, false, ◌&&◌, not, Option, Some, None, IsSome, IsTrue, All, length, nat_le, slice_get, refl, sym, ◌∙◌, ap, arith}
 use Rattle.std.specs.List.{list_all}
 use Rattle.std.proofs.lemmas.Bool.Decides.{nat_tests}
@@ -7,7 +7,7 @@ use Rattle.std.proofs.lemmas.List.Folds.{list_all-append, list_all-map}
 use Rattle.std.proofs.lemmas.Option.{slice_get_within}
 use Rattle.ilk_base.proofs.Ranges.{below}
 use Rattle.ilk_plant.proofs.Rules.{KeepsTableRules}
-use Rattle.ilk_plant.specs.Draft.{names_of_boards, names_of_routes, names_of_sections, number_of, numbered, numbered_point, numbered_route}
+use Rattle.ilk_plant.specs.Draft.{names_of_boards, names_of_routes, names_of_sections, number_of, plant_from_drafts, numbered_point, numbered_route}
 use Rattle.ilk_plant.specs.Limits.{route_has_limits}
 use Rattle.ilk_plant.specs.declared.broken.Rule.TheVariants.{R2, R3, R4, R5, R6, R7, R8}
 use Rattle.ilk_plant.specs.declared.limits.TheConstants.{MAX_CONFLICTS, MAX_OVERLAP, MAX_PATH, MAX_POINTS, MAX_PROTECTING_BOARDS, MAX_PROTECTING_POINTS}
@@ -15,7 +15,7 @@ use Rattle.ilk_plant.specs.Network.{has_section, is_point}
 use Rattle.ilk_base.specs.Option.{is_some_and}
 use Rattle.ilk_plant.specs.Plant.{IsRouteOf, PlantLists, point_number, is_point_section}
 use Rattle.ilk_plant.specs.TableRules.{has_conflicts_once, has_destination_or_none, has_points_once, has_protecting_boards_once, has_protecting_points_once, has_sections_once, has_source, is_board, is_other_route, is_section, points_of, protecting_points_of, route_fails, sections_of}
-use Rattle.ilk_plant.specs.Once.{none_twice}
+use Rattle.ilk_plant.specs.Once.{numbers_differ}
 use Rattle.ilk_plant.specs.declared.draft.NetDraft.{NetDraft}
 use Rattle.ilk_plant.specs.declared.draft.RouteDraft.{RouteDraft}
 use Rattle.ilk_plant.specs.declared.draft.TableDraft.{TableDraft}
@@ -25,7 +25,6 @@ use Rattle.ilk_base.proofs.Lists.{map-at}
 use Rattle.ilk_base.proofs.Tested.{All-tested, list_all-slice_get}
 use Rattle.std.proofs.lemmas.Bool.{and_parts, leb-true}
 
--- a route that doesn't fail a test passes it
 pub route-passes : (p : PlantLists) (test : Route → Bool) (r : ℕ) (route : Route) → route_fails p test r ≡ false → slice_get p.routes r ≡ Some route → test route ≡ true
 route-passes p test r route h at =
     let kept : not (test route) ≡ false = rw at at h in not-not (test route) kept
@@ -34,7 +33,6 @@ route-passes p test r route h at =
     not-not true h = refl
     not-not false h = cc
 
--- a point section is a section
 point-within : (p : PlantLists) (x : ℕ) → is_point_section p x ≡ true → x < length p.sections
 point-within p x h = by_section (slice_get p.sections x) refl
   where
@@ -42,39 +40,33 @@ point-within p x h = by_section (slice_get p.sections x) refl
     by_section None at = let bad : is_some_and None is_point ≡ true = rw at at h in cc
     by_section (Some section) at = slice_get_within p.sections x section at
 
--- a route of the plant is a numbered draft
 pub route-at : (net : NetDraft) (table : TableDraft) (r : ℕ) (route : Route) →
-    slice_get (numbered net table).routes r ≡ Some route →
+    slice_get (plant_from_drafts net table).routes r ≡ Some route →
     (draft : RouteDraft) × (slice_get table.routes r ≡ Some draft) ×
     (numbered_route (names_of_sections net.sections) (names_of_boards net.sections)
     (names_of_routes table.routes) draft ≡ route)
 route-at net table r route e =
     map-at (numbered_route (names_of_sections net.sections) (names_of_boards net.sections) (names_of_routes table.routes)) table.routes r route e
 
--- a point section has a number among the points
-point-numbered : (p : PlantLists) (x : ℕ) → is_point_section p x ≡ true → IsSome (point_number p x)
-point-numbered p x h = by_section (slice_get p.sections x) refl
+point-plant_from_drafts : (p : PlantLists) (x : ℕ) → is_point_section p x ≡ true → IsSome (point_number p x)
+point-plant_from_drafts p x h = by_section (slice_get p.sections x) refl
   where
     by_section : (o : Option Section) → slice_get p.sections x ≡ o → IsSome (point_number p x)
     by_section None at = let bad : is_some_and None is_point ≡ true = rw at at h in cc
     by_section (Some section) at = let yes : is_point section ≡ true = rw at at h in rw (at, yes) refl
 
--- a number that is tested to be that of another route
 other : (p : PlantLists) (r q : ℕ) → is_other_route p r q ≡ true → q ≢ r
 other p r q h = grind (arith, nat_tests)
 
--- a number that is tested to be that of a board other than m
 other-board : (p : PlantLists) (m n : ℕ) → (is_board p n && not (n == m)) ≡ true → (n < length p.boards) × (n ≢ m)
 other-board p m n h = (below n (length p.boards) (and_parts _ _ h).0, grind (arith, nat_tests))
 
--- what is tested to be a point section apart from others is apart from them
 apart : (b c : Bool) → (b && not c) ≡ true → c ≡ false
 apart true false h = refl
 apart true true h = cc
 apart false false h = cc
 apart false true h = cc
 
--- what the limits of a route say of its lists
 limits-kept : (route : RouteDraft) → route_has_limits route ≡ true →
     (1 ≤ length route.path) × (length route.path ≤ MAX_PATH) × (length route.overlap ≤ MAX_OVERLAP) ×
     (length route.points ≤ MAX_POINTS) × (length route.conflicts ≤ MAX_CONFLICTS) ×
@@ -89,9 +81,8 @@ limits-kept route h =
     let path = and_parts (nat_le 1 (length route.path)) (nat_le (length route.path) MAX_PATH) one.0 in
     (leb-true _ _ path.0, leb-true _ _ path.1, leb-true _ _ one.1, leb-true _ _ two.1, leb-true _ _ three.1, leb-true _ _ four.1, leb-true _ _ five.1)
 
--- a route of the plant has the limits of its draft
 route-limits : (net : NetDraft) (table : TableDraft) (r : ℕ) (route : Route) →
-    list_all route_has_limits table.routes ≡ true → slice_get (numbered net table).routes r ≡ Some route →
+    list_all route_has_limits table.routes ≡ true → slice_get (plant_from_drafts net table).routes r ≡ Some route →
     (1 ≤ length route.path) × (length route.path ≤ MAX_PATH) × (length route.overlap ≤ MAX_OVERLAP) ×
     (length route.points ≤ MAX_POINTS) × (length route.conflicts ≤ MAX_CONFLICTS) ×
     (length route.protecting_points ≤ MAX_PROTECTING_POINTS) ×
@@ -114,17 +105,16 @@ route-limits net table r route each e =
       omega (arith, protecting_boards, limits.6),
     )
 
--- a route of the plant speaks of what there is
-pub route-known : (net : NetDraft) (table : TableDraft) → KeepsTableRules (numbered net table) →
+pub route-known : (net : NetDraft) (table : TableDraft) → KeepsTableRules (plant_from_drafts net table) →
     list_all route_has_limits table.routes ≡ true → (r : ℕ) (route : Route) →
-    slice_get (numbered net table).routes r ≡ Some route → IsRouteOf (numbered net table) route
+    slice_get (plant_from_drafts net table).routes r ≡ Some route → IsRouteOf (plant_from_drafts net table) route
 route-known net table rules each r route e =
-    let p : PlantLists = numbered net table in
+    let p : PlantLists = plant_from_drafts net table in
     let within : r < length p.routes = slice_get_within p.routes r route e in
     let source = route-passes p (has_source p) r route (rules 1 R2 refl r within) e in
-    let sections = and_parts (list_all (is_section p) (sections_of route)) (none_twice (sections_of route)) (route-passes p (has_sections_once p) r route (rules 2 R3 refl r within) e) in
+    let sections = and_parts (list_all (is_section p) (sections_of route)) (numbers_differ (sections_of route)) (route-passes p (has_sections_once p) r route (rules 2 R3 refl r within) e) in
     let each_section = and_parts (list_all (is_section p) route.path) (list_all (is_section p) route.overlap) (sym (list_all-append (is_section p) route.path route.overlap) ∙ sections.0) in
-    let points = and_parts (list_all (λ x. is_point_section p x && has_section x (sections_of route)) (points_of route)) (none_twice (points_of route)) (route-passes p (has_points_once p) r route (rules 3 R4 refl r within) e) in
+    let points = and_parts (list_all (λ x. is_point_section p x && has_section x (sections_of route)) (points_of route)) (numbers_differ (points_of route)) (route-passes p (has_points_once p) r route (rules 3 R4 refl r within) e) in
     let each_point :
     list_all (λ listed. is_point_section p listed.point && has_section listed.point (sections_of route))
     route.points ≡ true =
@@ -132,11 +122,11 @@ route-known net table rules each r route e =
     (list_all-map (λ x. is_point_section p x && has_section x (sections_of route))
     (λ listed. listed.point) route.points) ∙ points.0 in
     let destination = route-passes p (λ a. has_destination_or_none p a.destination) r route (rules 4 R5 refl r within) e in
-    let conflicts = and_parts (list_all (is_other_route p r) route.conflicts) (none_twice route.conflicts) (route-passes p (has_conflicts_once p r) r route (rules 5 R6 refl r within) e) in
+    let conflicts = and_parts (list_all (is_other_route p r) route.conflicts) (numbers_differ route.conflicts) (route-passes p (has_conflicts_once p r) r route (rules 5 R6 refl r within) e) in
     let protecting = and_parts
     (list_all (λ x. is_point_section p x && not (has_section x (sections_of route)))
     (protecting_points_of route))
-    (none_twice (protecting_points_of route))
+    (numbers_differ (protecting_points_of route))
     (route-passes p (has_protecting_points_once p) r route (rules 6 R7 refl r within) e) in
     let each_protecting :
     list_all
@@ -146,7 +136,7 @@ route-known net table rules each r route e =
     (list_all-map (λ x. is_point_section p x && not (has_section x (sections_of route)))
     (λ listed. listed.point) route.protecting_points)
     ∙ protecting.0 in
-    let boards = and_parts (list_all (λ m. is_board p m && not (m == route.source)) route.protecting_boards) (none_twice route.protecting_boards) (route-passes p (has_protecting_boards_once p) r route (rules 7 R8 refl r within) e) in
+    let boards = and_parts (list_all (λ m. is_board p m && not (m == route.source)) route.protecting_boards) (numbers_differ route.protecting_boards) (route-passes p (has_protecting_boards_once p) r route (rules 7 R8 refl r within) e) in
     let lengths = route-limits net table r route each e in
     record {
       destination = λ m is. let known : is_board p m ≡ true = rw is at destination in below m (length p.boards) known;
@@ -154,7 +144,7 @@ route-known net table rules each r route e =
       points_are_points = All-tested
           (λ listed. is_point_section p listed.point && has_section listed.point (sections_of route))
           (λ listed. IsSome (point_number p listed.point))
-          (λ listed h. point-numbered p listed.point (and_parts _ _ h).0) route.points each_point;
+          (λ listed h. point-plant_from_drafts p listed.point (and_parts _ _ h).0) route.points each_point;
       points_passed = All-tested (λ listed. is_point_section p listed.point && has_section listed.point (sections_of route)) (λ listed. IsTrue (has_section listed.point (sections_of route))) (λ listed h. (and_parts _ _ h).1) route.points each_point;
       points_once = points.1;
       conflicts_once = conflicts.1;
@@ -166,7 +156,7 @@ route-known net table rules each r route e =
       protecting_points_are_points = All-tested
           (λ listed. is_point_section p listed.point && not (has_section listed.point (sections_of route)))
           (λ listed. IsSome (point_number p listed.point))
-          (λ listed h. point-numbered p listed.point (and_parts _ _ h).0) route.protecting_points
+          (λ listed h. point-plant_from_drafts p listed.point (and_parts _ _ h).0) route.protecting_points
           each_protecting;
       protecting_points_apart = All-tested
           (λ listed. is_point_section p listed.point && not (has_section listed.point (sections_of route)))
@@ -192,8 +182,7 @@ route-known net table rules each r route e =
       path_ends = lengths.1;
     }
 
--- the conflicts of a route of the plant are other routes
 pub conflicts-other : (p : PlantLists) → KeepsTableRules p → (r : ℕ) (route : Route) → slice_get p.routes r ≡ Some route → All (λ q. q ≢ r) route.conflicts
 conflicts-other p rules r route e =
-    let conflicts = and_parts (list_all (is_other_route p r) route.conflicts) (none_twice route.conflicts) (route-passes p (has_conflicts_once p r) r route (rules 5 R6 refl r (slice_get_within p.routes r route e)) e) in
+    let conflicts = and_parts (list_all (is_other_route p r) route.conflicts) (numbers_differ route.conflicts) (route-passes p (has_conflicts_once p r) r route (rules 5 R6 refl r (slice_get_within p.routes r route e)) e) in
     All-tested (is_other_route p r) (λ q. q ≢ r) (λ q h. other p r q h) route.conflicts conflicts.0

@@ -1,46 +1,41 @@
--- What a section of a plant has on its two sides, and what its name stands for.
+-- The two sides of a section, and its name.
 use Rattle.std.proofs.Common.{◌≡◌, ℕ, ◌+◌, true, false, ◌==◌, Some, List, ◌++◌, length, slice_get, sym, ◌∙◌, ap, arith}
 use Rattle.std.proofs.lemmas.Bool.{eqb-true, false_from_ne_true}
 use Rattle.std.proofs.lemmas.Option.{slice_get_within}
-use Rattle.ilk_plant.proofs.NamesDiffer.{first_named-own}
-use Rattle.ilk_plant.proofs.Once.{all_differ-places, none_twice-places}
-use Rattle.ilk_plant.specs.Once.{none_twice}
+use Rattle.ilk_plant.proofs.NamesDiffer.{first_number_named-own}
+use Rattle.ilk_plant.proofs.Once.{names_differ-places, numbers_differ-places}
+use Rattle.ilk_plant.specs.Once.{numbers_differ}
 use Rattle.ilk_plant.specs.Name.{Name}
 use Rattle.ilk_plant.specs.Network.{has_section}
 use Rattle.ilk_plant.specs.NetworkRules.{opposite_direction}
-use Rattle.ilk_plant.specs.Plant.{IsPlant, PlantLists, first_named, next_to}
+use Rattle.ilk_plant.specs.Plant.{IsPlant, PlantLists, first_number_named, next_to}
 use Rattle.ilk_plant.specs.declared.network.Dir.{Dir}
 use Rattle.ilk_plant.specs.declared.network.Dir.TheVariants.{Up, Down}
 use Rattle.ilk_base.proofs.Lists.{at-before, at-past}
 use Rattle.ilk_base.proofs.Tested.{list_any-at}
 
--- what stands in one of two lists doesn't stand in the other, where nothing stands twice in both together
-pub once-apart : (xs ys : List ℕ) (x : ℕ) → none_twice (xs ++ ys) ≡ true → has_section x xs ≡ true → has_section x ys ≡ true → ⊥
+pub once-apart : (xs ys : List ℕ) (x : ℕ) → numbers_differ (xs ++ ys) ≡ true → has_section x xs ≡ true → has_section x ys ≡ true → ⊥
 once-apart xs ys x once first second =
     let here : (k : ℕ) × (y : ℕ) × (slice_get xs k ≡ Some y) × ((y == x) ≡ true) = list_any-at (λ y. y == x) xs first in
     let there : (k : ℕ) × (y : ℕ) × (slice_get ys k ≡ Some y) × ((y == x) ≡ true) = list_any-at (λ y. y == x) ys second in
     let same : there.1 ≡ here.1 = eqb-true there.1 x there.3 ∙ sym (eqb-true here.1 x here.3) in
     let within = slice_get_within xs here.0 here.1 here.2 in
-    let places = none_twice-places (xs ++ ys) once here.0 (length xs + there.0) here.1 (at-before xs ys here.0 here.1 here.2) (at-past xs ys there.0 there.1 there.2 ∙ ap Some same) in
+    let places = numbers_differ-places (xs ++ ys) once here.0 (length xs + there.0) here.1 (at-before xs ys here.0 here.1 here.2) (at-past xs ys there.0 there.1 there.2 ∙ ap Some same) in
     absurd (omega (arith, within, places))
 
--- a section next to another has that one next to it on the opposite side
 pub back-opposite : (p : PlantLists) → IsPlant p → (x y : ℕ) (d : Dir) → has_section y (next_to p x d) ≡ true → has_section x (next_to p y (opposite_direction d)) ≡ true
 back-opposite p plant x y Up h = (plant.neighbours_back x y).0 h
 back-opposite p plant x y Down h = (plant.neighbours_back y x).1 h
 
--- a section next to another on one side isn't next to it on the other
 pub one-side : (p : PlantLists) → IsPlant p → (x y : ℕ) (d : Dir) → has_section y (next_to p x d) ≡ true → has_section y (next_to p x (opposite_direction d)) ≡ false
 one-side p plant x y Up h =
     false_from_ne_true (has_section y (next_to p x Down)) (λ also. once-apart (next_to p x Down) (next_to p x Up) y (plant.neighbours_once x) also h)
 one-side p plant x y Down h =
     false_from_ne_true (has_section y (next_to p x Up)) (λ also. once-apart (next_to p x Down) (next_to p x Up) y (plant.neighbours_once x) h also)
 
--- nor is it, in the same direction, next to what is next to it
 pub not-back : (p : PlantLists) → IsPlant p → (x y : ℕ) (d : Dir) → has_section y (next_to p x d) ≡ true → has_section x (next_to p y d) ≡ false
 not-back p plant x y Up h = one-side p plant y x Down (back-opposite p plant x y Up h)
 not-back p plant x y Down h = one-side p plant y x Up (back-opposite p plant x y Down h)
 
--- the name of board m stands for m
-pub board-own : (p : PlantLists) → IsPlant p → (m : ℕ) (name : Name) → slice_get p.board_names m ≡ Some name → first_named p.board_names name ≡ Some m
-board-own p plant m name at = first_named-own p.board_names name m (all_differ-places p.board_names plant.board_names_differ) at
+pub board-own : (p : PlantLists) → IsPlant p → (m : ℕ) (name : Name) → slice_get p.board_names m ≡ Some name → first_number_named p.board_names name ≡ Some m
+board-own p plant m name at = first_number_named-own p.board_names name m (names_differ-places p.board_names plant.board_names_differ) at

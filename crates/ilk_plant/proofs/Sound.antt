@@ -1,42 +1,41 @@
--- Drafts within the limits that break no rule give a plant.
+-- Drafts within the limits that violate no rule give a plant.
 use Rattle.std.proofs.Common.{◌≡◌, length, refl, sym, ◌∙◌, subst, arith, []}
 use Rattle.std.proofs.lemmas.List.{length-map}
 use Rattle.ilk_plant.proofs.AllowedNames.{board_names-allowed, route_names-allowed, section_names-allowed}
-use Rattle.ilk_plant.proofs.Boards.{boards-agree, boards-lead, boards-numbered}
+use Rattle.ilk_plant.proofs.Boards.{boards-agree, boards-lead, boards-plant_from_drafts}
 use Rattle.ilk_plant.proofs.FewBoards.{few-boards}
 use Rattle.ilk_plant.proofs.Neighbours.{next-back, next-known, next-once, next-other, next-some}
 use Rattle.ilk_plant.proofs.NamesDiffer.{named-once}
-use Rattle.ilk_plant.proofs.Once.{all_differ-from_places}
+use Rattle.ilk_plant.proofs.Once.{names_differ-from_places}
 use Rattle.ilk_plant.proofs.RoutesOf.{conflicts-other, route-known}
 use Rattle.ilk_plant.proofs.Rules.{network_rules-kept, table_rules-kept}
-use Rattle.ilk_plant.proofs.Walks.{never-returns}
-use Rattle.ilk_plant.specs.Draft.{boards_from, names_of_boards, names_of_routes, names_of_sections, numbered, numbered_route, numbered_section}
+use Rattle.ilk_plant.proofs.Walks.{never-walk_returns}
+use Rattle.ilk_plant.specs.Draft.{boards_from, names_of_boards, names_of_routes, names_of_sections, plant_from_drafts, numbered_route, numbered_section}
 use Rattle.ilk_plant.specs.Plant.{IsPlant, PlantLists}
 use Rattle.ilk_base.proofs.Once.{EachOnce}
 use Rattle.ilk_plant.specs.declared.broken.Rule.TheVariants.{N1, N2, R1}
 use Rattle.ilk_plant.specs.declared.network.Dir.TheVariants.{Up, Down}
-use Rattle.ilk_plant.specs.Sound.{AreSound, IsOfDrafts}
+use Rattle.ilk_plant.specs.Sound.{AreSound, IsFromDrafts}
 use Rattle.ilk_plant.specs.Kept.{IsSound}
-use Rattle.ilk_plant.specs.TableRules.{routes_broken}
+use Rattle.ilk_plant.specs.TableRules.{numbered_rules_broken}
 use Rattle.ilk_plant.specs.declared.draft.NetDraft.{NetDraft}
 use Rattle.ilk_plant.specs.declared.draft.TableDraft.{TableDraft}
 
--- the plant of sound drafts has what every plant has
-pub sound-IsPlant : (net : NetDraft) (table : TableDraft) → AreSound net table → IsPlant (numbered net table)
+pub sound-IsPlant : (net : NetDraft) (table : TableDraft) → AreSound net table → IsPlant (plant_from_drafts net table)
 sound-IsPlant net table sound =
     let network = network_rules-kept net sound.network in
-    let routes = table_rules-kept (numbered net table) sound.routes in
-    let count : length (numbered net table).sections ≡ length net.sections = length-map net.sections (λ section. numbered_section (names_of_sections net.sections) (names_of_boards net.sections) section.kind) in
+    let routes = table_rules-kept (plant_from_drafts net table) sound.routes in
+    let count : length (plant_from_drafts net table).sections ≡ length net.sections = length-map net.sections (λ section. numbered_section (names_of_sections net.sections) (names_of_boards net.sections) section.kind) in
     let names : length (names_of_sections net.sections) ≡ length net.sections = length-map net.sections (λ section. section.name) in
-    let boards : length (numbered net table).boards ≡ length (names_of_boards net.sections) = length-map (boards_from 0 net.sections) (λ named. named.board) ∙ sym (length-map (boards_from 0 net.sections) (λ named. named.name)) in
-    let count_routes : length (numbered net table).routes ≡ length table.routes = length-map table.routes (numbered_route (names_of_sections net.sections) (names_of_boards net.sections) (names_of_routes table.routes)) in
+    let boards : length (plant_from_drafts net table).boards ≡ length (names_of_boards net.sections) = length-map (boards_from 0 net.sections) (λ named. named.board) ∙ sym (length-map (boards_from 0 net.sections) (λ named. named.name)) in
+    let count_routes : length (plant_from_drafts net table).routes ≡ length table.routes = length-map table.routes (numbered_route (names_of_sections net.sections) (names_of_boards net.sections) (names_of_routes table.routes)) in
     let board_names : EachOnce (names_of_boards net.sections) = named-once (names_of_boards net.sections) (network 1 N2 refl) in
     let count_names : length (names_of_routes table.routes) ≡ length table.routes = length-map table.routes (λ route. route.name) in
     record {
       some_section = omega (arith, count, sound.limits.of_network.some);
-      section_names_differ = all_differ-from_places _ (named-once (names_of_sections net.sections) (λ i h. network 0 N1 refl i (omega (arith, names))));
-      board_names_differ = all_differ-from_places _ board_names;
-      route_names_differ = all_differ-from_places _ (named-once (names_of_routes table.routes) (λ i h. routes 0 R1 refl i (omega (arith, count_routes, count_names))));
+      section_names_differ = names_differ-from_places _ (named-once (names_of_sections net.sections) (λ i h. network 0 N1 refl i (omega (arith, names))));
+      board_names_differ = names_differ-from_places _ board_names;
+      route_names_differ = names_differ-from_places _ (named-once (names_of_routes table.routes) (λ i h. routes 0 R1 refl i (omega (arith, count_routes, count_names))));
       section_names_allowed = section_names-allowed net.sections sound.limits.of_network.named;
       board_names_allowed = board_names-allowed net.sections sound.limits.of_network.named;
       route_names_allowed = route_names-allowed table.routes sound.limits.of_table.named;
@@ -46,7 +45,7 @@ sound-IsPlant net table sound =
       neighbours_back = λ x y. (next-back net table network x y Up, next-back net table network y x Down);
       boards_listed = boards-agree net table board_names;
       boards_lead_on = boards-lead net table network;
-      conflicts_other = conflicts-other (numbered net table) routes;
+      conflicts_other = conflicts-other (plant_from_drafts net table) routes;
       few_sections = omega (arith, count, sound.limits.of_network.few);
       few_boards = omega (arith, boards, few-boards net.sections sound.limits.of_network.few);
       few_routes = omega (arith, count_routes, sound.limits.of_table.few);
@@ -54,23 +53,20 @@ sound-IsPlant net table sound =
       boards_named = sym boards;
       routes_named = count_names ∙ sym count_routes;
       neighbours = λ x y d h. let known = next-known net table network x y d h in omega (arith, known.0, names, count);
-      boards_known = boards-numbered net table;
+      boards_known = boards-plant_from_drafts net table;
       routes_known = route-known net table routes sound.limits.of_table.each;
     }
 
--- sound drafts give a sound plant
-pub numbered-IsSound : (net : NetDraft) (table : TableDraft) → AreSound net table → IsSound (numbered net table)
-numbered-IsSound net table sound = record {
+pub plant_from_drafts-IsSound : (net : NetDraft) (table : TableDraft) → AreSound net table → IsSound (plant_from_drafts net table)
+plant_from_drafts-IsSound net table sound = record {
   plant = sound-IsPlant net table sound;
-  walks = never-returns net table (network_rules-kept net sound.network);
+  walks = never-walk_returns net table (network_rules-kept net sound.network);
   drafts = record { net = net; table = table; sound = sound; same = refl };
 }
 
--- so does what comes of sound drafts
-pub sound-of_drafts : (p : PlantLists) → IsOfDrafts p → IsSound p
-sound-of_drafts p drafts = subst IsSound (sym drafts.same) (numbered-IsSound drafts.net drafts.table drafts.sound)
+pub sound-of_drafts : (p : PlantLists) → IsFromDrafts p → IsSound p
+sound-of_drafts p drafts = subst IsSound (sym drafts.same) (plant_from_drafts-IsSound drafts.net drafts.table drafts.sound)
 
--- a plant breaks no rule of the table
-pub table-kept : (p : PlantLists) → IsOfDrafts p → routes_broken p ≡ []
+pub table-kept : (p : PlantLists) → IsFromDrafts p → numbered_rules_broken p ≡ []
 table-kept p drafts =
-    let P : PlantLists → Type 0 = λ q. routes_broken q ≡ [] in subst P (sym drafts.same) drafts.sound.routes
+    let P : PlantLists → Type 0 = λ q. numbered_rules_broken q ≡ [] in subst P (sym drafts.same) drafts.sound.routes

@@ -1,15 +1,16 @@
--- The rules: their names and what their places are; and lists of broken rules, in the order of the places.
+-- The rules: their names and the kinds of their locations; and lists of violated rules, ordered by
+-- location.
 use Rattle.std.specs.Prelude.{ℕ, Bool, Some, None, List, codes, map, filter, flat_map}
 use Rattle.std.specs.List.{range_with_len}
 use Rattle.ilk_plant.specs.Name.{Name}
 use Rattle.ilk_plant.specs.declared.broken.Broken.{Broken}
-use Rattle.ilk_plant.specs.declared.broken.Places.{Places}
-use Rattle.ilk_plant.specs.declared.broken.Places.TheVariants.{Sections, Boards, Routes, RoutePairs}
+use Rattle.ilk_plant.specs.declared.broken.PlaceKind.{PlaceKind}
+use Rattle.ilk_plant.specs.declared.broken.PlaceKind.TheVariants.{Sections, Boards, Routes, RoutePairs}
 use Rattle.ilk_plant.specs.declared.broken.Rule.{Rule}
 use Rattle.ilk_plant.specs.declared.broken.Rule.TheVariants.{N1, N2, N3, N4, N5, N6, N7, N8, R1, R2, R3, R4, R5, R6, R7, R8, C1, C2, C3, C4, C5, C6, C7, C8}
 
--- the name of a rule, and what the places are at which it is asked
-abbrev pub name_and_places : Rule → Name × Places
+-- The name of a rule, and the kind of location at which it is checked.
+abbrev pub name_and_places : Rule → Name × PlaceKind
 name_and_places N1 = (codes "N1", Sections)
 name_and_places N2 = (codes "N2", Boards)
 name_and_places N3 = (codes "N3", Sections)
@@ -38,27 +39,29 @@ name_and_places C8 = (codes "C8", RoutePairs)
 abbrev pub rule_word : Rule → Name
 rule_word rule = (name_and_places rule).0
 
-abbrev pub places_of : Rule → Places
+abbrev pub places_of : Rule → PlaceKind
 places_of rule = (name_and_places rule).1
 
--- the word for places; both of a pair of routes are routes
-abbrev pub places_word : Places → Name
+-- The word for locations; both of a pair of routes are routes.
+abbrev pub places_word : PlaceKind → Name
 places_word Sections = codes "sections"
 places_word Boards = codes "boards"
 places_word Routes = codes "routes"
 places_word RoutePairs = codes "routes"
 
--- the rule, at each number below n at which it is broken
+-- The rule, at each number below `n` at which it is violated.
 abbrev pub broken_at : Rule → ℕ → (ℕ → Bool) → List Broken
 broken_at rule n is_broken =
     map (λ i. record { rule = rule; first = i; second = None }) (filter is_broken (range_with_len 0 n))
 
--- each of these rules, at each of its places at which it is broken, where there are so many places of each kind
-abbrev pub each_broken_at : List Rule → (Places → ℕ) → (Rule → ℕ → Bool) → List Broken
-each_broken_at rules count breaks =
+-- Each of these rules, at each of its locations at which it is violated; `count` has the number of
+-- locations of each kind.
+abbrev pub broken_rules_at : List Rule → (PlaceKind → ℕ) → (Rule → ℕ → Bool) → List Broken
+broken_rules_at rules count breaks =
     flat_map (λ rule. broken_at rule (count (places_of rule)) (breaks rule)) rules
 
--- the rule, at each pair of numbers below n at which it is broken, in the order of the first and then of the second
+-- The rule, at each pair of numbers below `n` at which it is violated, ordered by the first number
+-- and then the second.
 abbrev pub broken_at_pairs : Rule → ℕ → (ℕ → ℕ → Bool) → List Broken
 broken_at_pairs rule n is_broken =
     flat_map (λ i. map (λ j. record { rule = rule; first = i; second = Some j }) (filter (is_broken i) (range_with_len 0 n))) (range_with_len 0 n)

@@ -1,5 +1,5 @@
--- The rules of the columns of the table of routes, C1 to C8, over the plant. A route has the direction of its
--- source board, and `next_to` is asked in that direction, for the overlap too.
+-- The rules of the columns of the interlocking table, C1 to C8, over the plant. A route has the
+-- direction of its source board. `next_to` uses this direction, for the overlap too.
 use Rattle.std.specs.Prelude.{ℕ, Bool, true, false, not, Option, Some, None, List, [], ◌∷◌, ◌&&◌, ◌||◌, ◌==◌, ◌-◌, nat_lt, is_none, length, take, slice_get, flat_map}
 use Rattle.std.specs.List.{list_any, list_all}
 use Rattle.ilk_base.specs.Option.{is_some_and}
@@ -7,11 +7,11 @@ use Rattle.ilk_base.specs.Numbers.{has_number}
 use Rattle.ilk_plant.specs.Broken.{broken_at, broken_at_pairs, places_of}
 use Rattle.ilk_plant.specs.Network.{has_section, last_of}
 use Rattle.ilk_plant.specs.Plant.{PlantLists, next_to, board_of, border, is_point_section}
-use Rattle.ilk_plant.specs.Shape.{leads_on}
+use Rattle.ilk_plant.specs.Shape.{is_connected}
 use Rattle.ilk_plant.specs.TableRules.{count_in_plant, points_of, route_fails, sections_locked_for}
 use Rattle.ilk_plant.specs.declared.broken.Broken.{Broken}
-use Rattle.ilk_plant.specs.declared.broken.Places.{Places}
-use Rattle.ilk_plant.specs.declared.broken.Places.TheVariants.{RoutePairs}
+use Rattle.ilk_plant.specs.declared.broken.PlaceKind.{PlaceKind}
+use Rattle.ilk_plant.specs.declared.broken.PlaceKind.TheVariants.{RoutePairs}
 use Rattle.ilk_plant.specs.declared.broken.Rule.{Rule}
 use Rattle.ilk_plant.specs.declared.broken.Rule.TheVariants.{C1, C2, C3, C4, C5, C6, C7, C8}
 use Rattle.ilk_plant.specs.declared.network.Board.{Board}
@@ -23,126 +23,130 @@ use Rattle.ilk_plant.specs.declared.network.Section.TheVariants.{Linear, Point}
 use Rattle.ilk_plant.specs.declared.table.Listed.{Listed}
 use Rattle.ilk_plant.specs.declared.table.Route.{Route}
 
--- whether the board at which a route begins passes the test
+-- Returns whether the board at which a route begins passes the test.
 abbrev pub source_passes : PlantLists → Route → (Board → Bool) → Bool
 source_passes p route test = is_some_and (slice_get p.boards route.source) test
 
--- the sections of a path but the last
+-- The sections of a path except the last.
 abbrev pub all_but_last : List ℕ → List ℕ
 all_but_last path = take (length path - 1) path
 
--- C1: the path leads on from the source's section
-abbrev pub path_leads_on : PlantLists → Route → Bool
-path_leads_on p route = source_passes p route (λ source. leads_on p source.dir source.section route.path)
+-- C1: the path continues from the source's section.
+abbrev pub path_is_connected : PlantLists → Route → Bool
+path_is_connected p route = source_passes p route (λ source. is_connected p source.dir source.section route.path)
 
--- whether section x, where a path in direction d ends, has the destination as its board; without a destination,
--- whether it has no neighbour
-abbrev pub ends_path : PlantLists → Dir → Option ℕ → ℕ → Bool
-ends_path p d (Some m) x = is_some_and (board_of p x d) (λ n. n == m)
-ends_path p d None x = length (next_to p x d) == 0
+-- Returns whether section `x`, the end of a path in direction `d`, has the destination as its
+-- board. Without a destination: whether it has no neighbour.
+abbrev pub ends_at_destination : PlantLists → Dir → Option ℕ → ℕ → Bool
+ends_at_destination p d (Some m) x = is_some_and (board_of p x d) (λ n. n == m)
+ends_at_destination p d None x = length (next_to p x d) == 0
 
--- whether section x has no board for direction d
+-- Returns whether section `x` has no board for direction `d`.
 abbrev pub has_no_board : PlantLists → Dir → ℕ → Bool
 has_no_board p d x = is_none (board_of p x d)
 
--- whether a path in direction d has no board before its last section, and ends at the destination
+-- Returns whether a path in direction `d` has no board before its last section and ends at the
+-- destination.
 abbrev pub is_between_boards : PlantLists → Dir → Option ℕ → List ℕ → Bool
 is_between_boards p d destination path =
-    list_all (has_no_board p d) (all_but_last path) && is_some_and (last_of path) (ends_path p d destination)
+    list_all (has_no_board p d) (all_but_last path) && is_some_and (last_of path) (ends_at_destination p d destination)
 
--- C2: no path section but the last has a board in the route's direction, and the path ends at the destination
+-- C2: no path section except the last has a board in the route's direction, and the path ends at
+-- the destination.
 abbrev pub path_ends_at_board : PlantLists → Route → Bool
 path_ends_at_board p route = source_passes p route (λ source. is_between_boards p source.dir route.destination route.path)
 
--- whether y is the leg of a section at a position
+-- Returns whether `y` is the leg of a section at a position.
 abbrev pub is_leg : Position → ℕ → Section → Bool
 is_leg at y (Linear down up board_down board_up) = false
 is_leg Plus y (Point stem plus minus faces) = plus == y
 is_leg Minus y (Point stem plus minus faces) = minus == y
 
--- whether x is listed at a position whose leg is one of these sections
+-- Returns whether `x` is listed at a position whose leg is one of these sections.
 abbrev pub is_listed_towards : PlantLists → List Listed → List ℕ → ℕ → Bool
 is_listed_towards p points sections x =
     list_any (λ listed. (listed.point == x) && list_any (λ y. is_some_and (slice_get p.sections x) (is_leg listed.at y)) sections) points
 
--- whether each point of these path sections is listed towards the section before it or the one after it
+-- Returns whether each point of these path sections is listed towards the section before or after
+-- it.
 abbrev pub points_lead_along : PlantLists → List Listed → ℕ → List ℕ → Bool
 points_lead_along p points before [] = true
 points_lead_along p points before (x ∷ rest) =
     (not (is_point_section p x) || is_listed_towards p points (before ∷ take 1 rest) x) && points_lead_along p points x rest
 
--- C3: each point of the path is listed towards its path, and each point of the overlap is listed
-abbrev pub points_are_set : PlantLists → Route → Bool
-points_are_set p route =
+-- C3: each point of the path is listed towards its path, and each point of the overlap is listed.
+abbrev pub points_are_listed : PlantLists → Route → Bool
+points_are_listed p route =
     source_passes p route (λ source. points_lead_along p route.points source.section route.path)
     && list_all (λ x. not (is_point_section p x) || has_section x (points_of route)) route.overlap
 
--- C4: the overlap leads on from the last section of the path
-abbrev pub overlap_leads_on : PlantLists → Route → Bool
-overlap_leads_on p route =
-    source_passes p route (λ source. is_some_and (last_of route.path) (λ x. leads_on p source.dir x route.overlap))
+-- C4: the overlap continues from the last section of the path.
+abbrev pub overlap_is_connected : PlantLists → Route → Bool
+overlap_is_connected p route =
+    source_passes p route (λ source. is_some_and (last_of route.path) (λ x. is_connected p source.dir x route.overlap))
 
--- whether route i lists route j as a conflict
-abbrev pub lists : PlantLists → ℕ → ℕ → Bool
-lists p i j = is_some_and (slice_get p.routes i) (λ route. has_number j route.conflicts)
+-- Returns whether route `i` lists route `j` as a conflict.
+abbrev pub lists_conflict : PlantLists → ℕ → ℕ → Bool
+lists_conflict p i j = is_some_and (slice_get p.routes i) (λ route. has_number j route.conflicts)
 
--- C5 is broken: route i lists j, and j doesn't list i
-abbrev pub lists_alone : PlantLists → ℕ → ℕ → Bool
-lists_alone p i j = lists p i j && not (lists p j i)
+-- C5 is violated: route `i` lists `j`, and `j` doesn't list `i`.
+abbrev pub lists_conflict_one_way : PlantLists → ℕ → ℕ → Bool
+lists_conflict_one_way p i j = lists_conflict p i j && not (lists_conflict p j i)
 
--- whether route i has one of these sections in its path, its overlap or its protecting points
-abbrev pub has_one_of : PlantLists → List ℕ → ℕ → Bool
-has_one_of p sections i =
+-- Returns whether route `i` has one of these sections in its path, overlap or protecting points.
+abbrev pub locks_one_of : PlantLists → List ℕ → ℕ → Bool
+locks_one_of p sections i =
     is_some_and (slice_get p.routes i) (λ route. list_any (λ x. has_section x (sections_locked_for route)) sections)
 
--- whether routes i and j have one same section in path, overlap or protecting points
+-- Returns whether routes `i` and `j` share a section of path, overlap or protecting points.
 abbrev pub share_section : PlantLists → ℕ → ℕ → Bool
-share_section p i j = is_some_and (slice_get p.routes j) (λ route. has_one_of p (sections_locked_for route) i)
+share_section p i j = is_some_and (slice_get p.routes j) (λ route. locks_one_of p (sections_locked_for route) i)
 
--- C6 is broken: i is below j, they share a section, and i doesn't list j
+-- C6 is violated: `i` is below `j`, they share a section, and `i` doesn't list `j`.
 abbrev pub share_unlisted : PlantLists → ℕ → ℕ → Bool
-share_unlisted p i j = nat_lt i j && share_section p i j && not (lists p i j)
+share_unlisted p i j = nat_lt i j && share_section p i j && not (lists_conflict p i j)
 
--- C7 is broken: section x is a border, without a board in its inward direction
+-- C7 is violated: section `x` is a border without a board in its inward direction.
 abbrev pub is_border_without_board : PlantLists → ℕ → Bool
 is_border_without_board p x = is_some_and (border p x) (λ inward. has_no_board p inward x)
 
--- whether the source of route j is a protecting board of route i
+-- Returns whether the source of route `j` is a protecting board of route `i`.
 abbrev pub is_kept_closed_by : PlantLists → ℕ → ℕ → Bool
 is_kept_closed_by p i j =
     is_some_and (slice_get p.routes i) (λ route. is_some_and (slice_get p.routes j) (λ other. has_number other.source route.protecting_boards))
 
--- C8 is broken: the source of route j is a protecting board of route i, and i doesn't list j
+-- C8 is violated: the source of route `j` is a protecting board of route `i`, and `i` doesn't list
+-- `j`.
 abbrev pub protects_unlisted : PlantLists → ℕ → ℕ → Bool
-protects_unlisted p i j = is_kept_closed_by p i j && not (lists p i j)
+protects_unlisted p i j = is_kept_closed_by p i j && not (lists_conflict p i j)
 
 abbrev pub column_rules : List Rule
 column_rules = C1 ∷ C2 ∷ C3 ∷ C4 ∷ C5 ∷ C6 ∷ C7 ∷ C8 ∷ []
 
--- whether a rule of the columns is broken at its place i
+-- Returns whether a column rule is violated at its location `i`.
 abbrev pub breaks_columns : PlantLists → Rule → ℕ → Bool
-breaks_columns p C1 = route_fails p (path_leads_on p)
+breaks_columns p C1 = route_fails p (path_is_connected p)
 breaks_columns p C2 = route_fails p (path_ends_at_board p)
-breaks_columns p C3 = route_fails p (points_are_set p)
-breaks_columns p C4 = route_fails p (overlap_leads_on p)
+breaks_columns p C3 = route_fails p (points_are_listed p)
+breaks_columns p C4 = route_fails p (overlap_is_connected p)
 breaks_columns p C7 = is_border_without_board p
 breaks_columns p _ = λ i. false
 
--- whether a rule of the columns is broken at the pair of routes i and j
+-- Returns whether a column rule is violated at the pair of routes `i` and `j`.
 abbrev pub breaks_columns_at_pair : PlantLists → Rule → ℕ → ℕ → Bool
-breaks_columns_at_pair p C5 = lists_alone p
+breaks_columns_at_pair p C5 = lists_conflict_one_way p
 breaks_columns_at_pair p C6 = share_unlisted p
 breaks_columns_at_pair p C8 = protects_unlisted p
 breaks_columns_at_pair p _ = λ i j. false
 
--- a rule of the columns, at each of its places at which it is broken
+-- A column rule, at each of its locations at which it is violated.
 abbrev pub column_rule_broken : PlantLists → Rule → List Broken
 column_rule_broken p rule = at_places (places_of rule)
   where
-    at_places : Places → List Broken
+    at_places : PlaceKind → List Broken
     at_places RoutePairs = broken_at_pairs rule (count_in_plant p RoutePairs) (breaks_columns_at_pair p rule)
     at_places places = broken_at rule (count_in_plant p places) (breaks_columns p rule)
 
--- the broken rules of the columns, in order
+-- The violated column rules, in order.
 abbrev pub column_rules_broken : PlantLists → List Broken
 column_rules_broken p = flat_map (column_rule_broken p) column_rules

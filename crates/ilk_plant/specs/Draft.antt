@@ -1,9 +1,9 @@
--- Drafts: the names in a configuration, and the plant that comes of numbering them.
+-- Drafts: the names in a configuration, and the plant that results from numbering them.
 use Rattle.std.specs.Prelude.{ℕ, ◌+◌, Bool, Option, Some, None, List, [], ◌∷◌, ◌++◌, bytes_eq, length, map, option_map, slice_get, take, unwrap_or}
 use Rattle.std.specs.List.{list_any}
 use Rattle.ilk_base.specs.Option.{is_some_and}
 use Rattle.ilk_plant.specs.Name.{Name}
-use Rattle.ilk_plant.specs.Plant.{PlantLists, first_named}
+use Rattle.ilk_plant.specs.Plant.{PlantLists, first_number_named}
 use Rattle.ilk_plant.specs.declared.draft.KindDraft.{KindDraft}
 use Rattle.ilk_plant.specs.declared.draft.KindDraft.TheVariants.{Linear as LinearDraft, Point as PointDraft}
 use Rattle.ilk_plant.specs.declared.draft.ListedDraft.{ListedDraft}
@@ -22,22 +22,21 @@ use Rattle.ilk_plant.specs.declared.table.Route.{Route}
 abbrev pub names_of_sections : List SectionDraft → List Name
 names_of_sections sections = map (λ section. section.name) sections
 
--- a board with its name
 pub record NamedBoard : Type 0 where
   pub name : Name
   pub board : Board
 
--- the board that stands on section x for direction d, if one is named
+-- The board on section `x` for direction `d`, if one is named.
 abbrev pub board_if_named : ℕ → Dir → Option Name → List NamedBoard
 board_if_named x d None = []
 board_if_named x d (Some name) = record { name = name; board = record { section = x; dir = d } } ∷ []
 
--- the boards on section x, the one for direction down first
+-- The boards on section `x`, first the one for direction down.
 abbrev pub boards_on : ℕ → KindDraft → List NamedBoard
 boards_on x (LinearDraft down up board_down board_up) = board_if_named x Down board_down ++ board_if_named x Up board_up
 boards_on x (PointDraft stem plus minus faces) = []
 
--- boards are numbered in the order of their sections, of which the first has the number x
+-- The boards of these sections, in the order of the sections; the first section has number `x`.
 abbrev pub boards_from : ℕ → List SectionDraft → List NamedBoard
 boards_from x [] = []
 boards_from x (section ∷ rest) = boards_on x section.kind ++ boards_from (x + 1) rest
@@ -48,16 +47,16 @@ names_of_boards sections = map (λ named. named.name) (boards_from 0 sections)
 abbrev pub names_of_routes : List RouteDraft → List Name
 names_of_routes routes = map (λ route. route.name) routes
 
--- the number for which a name stands: that of the first of these names that equals it; a name that
--- nothing has stands for no number, which is written as the count of the names
+-- The number of a name: the first number with this name, or the count of the names if the name is
+-- unknown.
 abbrev pub number_of : List Name → Name → ℕ
-number_of names name = unwrap_or (first_named names name) (length names)
+number_of names name = unwrap_or (first_number_named names name) (length names)
 
--- whether an earlier one has the same name as name i
-abbrev pub is_named_before : List Name → ℕ → Bool
-is_named_before names i = is_some_and (slice_get names i) (λ name. list_any (bytes_eq name) (take i names))
+-- Returns whether an earlier name equals name `i`.
+abbrev pub is_duplicate : List Name → ℕ → Bool
+is_duplicate names i = is_some_and (slice_get names i) (λ name. list_any (bytes_eq name) (take i names))
 
--- a section with numbers for names
+-- A section with numbers in place of names.
 abbrev pub numbered_section : List Name → List Name → KindDraft → Section
 numbered_section sections boards (LinearDraft down up board_down board_up) =
     Linear (option_map (number_of sections) down) (option_map (number_of sections) up) (option_map (number_of boards) board_down) (option_map (number_of boards) board_up)
@@ -67,7 +66,7 @@ numbered_section sections boards (PointDraft stem plus minus faces) =
 abbrev pub numbered_point : List Name → ListedDraft → Listed
 numbered_point sections listed = record { point = number_of sections listed.point; at = listed.at }
 
--- a route with numbers for names
+-- A route with numbers in place of names.
 abbrev pub numbered_route : List Name → List Name → List Name → RouteDraft → Route
 numbered_route sections boards routes route = record {
   source = number_of boards route.source;
@@ -80,9 +79,10 @@ numbered_route sections boards routes route = record {
   protecting_boards = map (number_of boards) route.protecting_boards;
 }
 
--- the plant of a network and a table: their sections, boards and routes in order, with numbers for names
-abbrev pub numbered : NetDraft → TableDraft → PlantLists
-numbered net table = numbered_by (names_of_sections net.sections) (names_of_boards net.sections) (names_of_routes table.routes)
+-- The plant of a network and a table: their sections, boards and routes in order, with numbers in
+-- place of names.
+abbrev pub plant_from_drafts : NetDraft → TableDraft → PlantLists
+plant_from_drafts net table = numbered_by (names_of_sections net.sections) (names_of_boards net.sections) (names_of_routes table.routes)
   where
     numbered_by : List Name → List Name → List Name → PlantLists
     numbered_by sections boards routes = record {

@@ -1,20 +1,20 @@
--- Cited by private contracts alone: what a plant keeps in its fields, with the index of the numbers of its points.
+-- Used only by private contracts: the fields of a plant, with the index of point numbers.
 use Rattle.std.specs.Prelude.{ℕ, ◌≡◌, Option, List, length, map}
 use Rattle.std.specs.List.{range_with_len}
 use Rattle.ilk_plant.specs.Plant.{IsPlant, PlantLists, point_number}
-use Rattle.ilk_plant.specs.Sound.{IsOfDrafts, NeverReturns}
+use Rattle.ilk_plant.specs.Sound.{IsFromDrafts, NoWalkReturns}
 
--- for each section its number among the points, if it is one
+-- For each section its number among the points, if it is one.
 abbrev pub point_numbers : PlantLists → List (Option ℕ)
 point_numbers p = map (point_number p) (range_with_len 0 (length p.sections))
 
--- what holds of every plant: the facts of its numbers, that no walk returns, and that it comes of sound drafts
+-- The facts about every plant: those of its numbers, no walk that returns, and sound drafts as its
+-- origin.
 pub record IsSound (p : PlantLists) : Type 0 where
   pub plant : IsPlant p
-  pub walks : NeverReturns p
-  pub drafts : IsOfDrafts p
+  pub walks : NoWalkReturns p
+  pub drafts : IsFromDrafts p
 
--- a sound plant with the numbers of its points
 pub record IsIndexed (p : PlantLists) (numbers : List (Option ℕ)) : Type 0 where
   pub sound : IsSound p
   pub points : numbers ≡ point_numbers p

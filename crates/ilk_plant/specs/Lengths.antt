@@ -1,9 +1,9 @@
--- Cited by private contracts alone: the lengths that the shape of a state asks for.
+-- Used only by private contracts: the list lengths that a well-formed state has.
 use Rattle.std.specs.Prelude.{◌≡◌, length}
 use Rattle.ilk_plant.specs.Plant.{PlantLists, point_count}
 use Rattle.ilk_plant.specs.declared.state.State.{State}
 
--- the lists of a state have the plant's lengths
+-- Holds if the lists of the state have the plant's lengths.
 pub record HasLengths (p : PlantLists) (s : State) : Type 0 where
   pub routes : length s.routes ≡ length p.routes
   pub points : length s.points ≡ point_count p

@@ -1,7 +1,7 @@
--- The limits of a configuration: how many sections and routes there are, what a route lists, and what a name is.
+-- The limits of a configuration: counts of sections and routes, lists of a route, and names.
 use Rattle.std.specs.Prelude.{ℕ, ◌≤◌, ◌&&◌, Bool, IsTrue, length, nat_le}
 use Rattle.std.specs.List.{list_all}
-use Rattle.ilk_plant.specs.Name.{is_name, is_name_if_given, lies_within}
+use Rattle.ilk_plant.specs.Name.{is_name, is_name_if_given, is_between}
 use Rattle.ilk_plant.specs.declared.limits.TheConstants.{MAX_CONFLICTS, MAX_OVERLAP, MAX_PATH, MAX_POINTS, MAX_PROTECTING_BOARDS, MAX_PROTECTING_POINTS, MAX_ROUTES, MAX_SECTIONS}
 use Rattle.ilk_plant.specs.declared.draft.KindDraft.{KindDraft}
 use Rattle.ilk_plant.specs.declared.draft.KindDraft.TheVariants.{Linear, Point}
@@ -10,17 +10,17 @@ use Rattle.ilk_plant.specs.declared.draft.RouteDraft.{RouteDraft}
 use Rattle.ilk_plant.specs.declared.draft.SectionDraft.{SectionDraft}
 use Rattle.ilk_plant.specs.declared.draft.TableDraft.{TableDraft}
 
--- whether the texts of neighbours and boards are names
+-- Returns whether the texts of neighbours and boards are names.
 abbrev pub kind_has_names : KindDraft → Bool
 kind_has_names (Linear down up board_down board_up) =
     is_name_if_given down && is_name_if_given up && is_name_if_given board_down && is_name_if_given board_up
 kind_has_names (Point stem plus minus faces) = is_name stem && is_name plus && is_name minus
 
--- whether each text of a section is a name
+-- Returns whether each text of a section is a name.
 abbrev pub section_has_names : SectionDraft → Bool
 section_has_names section = is_name section.name && kind_has_names section.kind
 
--- whether each text of a route is a name
+-- Returns whether each text of a route is a name.
 abbrev pub route_has_names : RouteDraft → Bool
 route_has_names route =
     is_name route.name
@@ -33,33 +33,36 @@ route_has_names route =
     && list_all (λ listed. is_name listed.point) route.protecting_points
     && list_all is_name route.protecting_boards
 
--- whether a route has some sections in its path, and its path and what it lists are within their limits
+-- Returns whether a route's path has at least one section, and its path and lists are within their
+-- limits.
 abbrev pub route_has_limits : RouteDraft → Bool
 route_has_limits route =
-    lies_within 1 MAX_PATH (length route.path)
+    is_between 1 MAX_PATH (length route.path)
     && nat_le (length route.overlap) MAX_OVERLAP
     && nat_le (length route.points) MAX_POINTS
     && nat_le (length route.conflicts) MAX_CONFLICTS
     && nat_le (length route.protecting_points) MAX_PROTECTING_POINTS
     && nat_le (length route.protecting_boards) MAX_PROTECTING_BOARDS
 
--- whether a configuration may have so many sections, at least one of them, and so many routes
+-- Returns whether a configuration may have these counts of sections (at least one) and routes.
 abbrev pub counts_are_allowed : ℕ → ℕ → Bool
-counts_are_allowed sections routes = lies_within 1 MAX_SECTIONS sections && nat_le routes MAX_ROUTES
+counts_are_allowed sections routes = is_between 1 MAX_SECTIONS sections && nat_le routes MAX_ROUTES
 
--- a network has some sections, no more than is allowed, and each text in them is a name
+-- Holds if a network has at least one section and no more than allowed, and each of their texts is
+-- a name.
 pub record NetworkHasLimits (net : NetDraft) : Type 0 where
   pub some : 1 ≤ length net.sections
   pub few : length net.sections ≤ MAX_SECTIONS
   pub named : IsTrue (list_all section_has_names net.sections)
 
--- a table has no more routes than is allowed, each within its own limits, and each text in them is a name
+-- Holds if a table has no more routes than allowed, each within its own limits, and each of their
+-- texts is a name.
 pub record TableHasLimits (table : TableDraft) : Type 0 where
   pub few : length table.routes ≤ MAX_ROUTES
   pub each : IsTrue (list_all route_has_limits table.routes)
   pub named : IsTrue (list_all route_has_names table.routes)
 
--- a network and its table are within the limits
+-- Holds if a network and its table are within the limits.
 pub record HasLimits (net : NetDraft) (table : TableDraft) : Type 0 where
   pub of_network : NetworkHasLimits net
   pub of_table : TableHasLimits table

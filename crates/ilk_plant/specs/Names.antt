@@ -1,9 +1,9 @@
--- Cited by private contracts alone: which number the index of names has for each name.
+-- Used only by private contracts: the index of names.
 use Rattle.std.specs.Prelude.{ℕ, ◌≡◌, List, String}
 use Rattle.indexmap.specs.IndexMap.{IndexMap, get_by_text}
 use Rattle.ilk_plant.specs.Name.{Name}
-use Rattle.ilk_plant.specs.Plant.{first_named}
+use Rattle.ilk_plant.specs.Plant.{first_number_named}
 
--- the index has for each name the first number that has it
+-- Holds if the index has for each name the first number with it.
 abbrev pub IsIndexOf : {Y S : Type 0} → List Name → IndexMap (String Y) ℕ S → Type 0
-IsIndexOf names numbers = (q : Name) → get_by_text numbers q ≡ first_named names q
+IsIndexOf names numbers = (q : Name) → get_by_text numbers q ≡ first_number_named names q

@@ -5,8 +5,8 @@ use Rattle.ilk_plant.specs.declared.draft.NetDraft.{NetDraft}
 use Rattle.ilk_plant.specs.declared.limits.TheConstants.{MAX_BOARDS}
 use Rattle.ilk_plant.specs.declared.net_names.NetNames.{NetNames}
 
--- these are the names of the network's sections and boards, and its boards
-pub record IsNamedAs (names : NetNames) (net : NetDraft) : Type 0 where
+-- Holds if these are the boards of the network and the names of its sections and boards.
+pub record HasNamesOf (names : NetNames) (net : NetDraft) : Type 0 where
   pub section_names : names.section_names ≡ names_of_sections net.sections
   pub board_names : names.board_names ≡ names_of_boards net.sections
   pub boards : names.boards ≡ map (λ named. named.board) (boards_from 0 net.sections)

@@ -1,4 +1,4 @@
--- Sections: what lies beside one, which boards stand on it, and which are points and borders.
+-- Sections: their neighbours and boards, points and borders.
 use Rattle.std.specs.Prelude.{ℕ, Bool, true, false, Option, Some, None, List, [], ◌∷◌, option_to_list, if◌then◌else◌}
 use Rattle.std.specs.List.{last_or}
 use Rattle.ilk_plant.specs.declared.network.Dir.{Dir}
@@ -7,20 +7,20 @@ use Rattle.ilk_plant.specs.declared.network.Section.{Section}
 use Rattle.ilk_plant.specs.declared.network.Section.TheVariants.{Linear, Point}
 use Rattle.ilk_base.specs.Numbers.{has_number}
 
--- whether two directions are one
 abbrev pub same_direction : Dir → Dir → Bool
 same_direction Up Up = true
 same_direction Up Down = false
 same_direction Down Up = false
 same_direction Down Down = true
 
--- the sections on side d of a section: of a point that faces d the plus leg, then the minus leg
-abbrev pub beside : Section → Dir → List ℕ
-beside (Linear down up board_down board_up) Down = option_to_list down
-beside (Linear down up board_down board_up) Up = option_to_list up
-beside (Point stem plus minus faces) d = if same_direction faces d then plus ∷ minus ∷ [] else stem ∷ []
+-- The sections on side `d` of a section. For a point that faces `d`: the plus leg, then the minus
+-- leg.
+abbrev pub neighbours_on : Section → Dir → List ℕ
+neighbours_on (Linear down up board_down board_up) Down = option_to_list down
+neighbours_on (Linear down up board_down board_up) Up = option_to_list up
+neighbours_on (Point stem plus minus faces) d = if same_direction faces d then plus ∷ minus ∷ [] else stem ∷ []
 
--- the board on a section for trains that run in direction d
+-- The board on a section for trains in direction `d`.
 abbrev pub board_on : Section → Dir → Option ℕ
 board_on (Linear down up board_down board_up) Down = board_down
 board_on (Linear down up board_down board_up) Up = board_up
@@ -30,7 +30,7 @@ abbrev pub is_point : Section → Bool
 is_point (Linear down up board_down board_up) = false
 is_point (Point stem plus minus faces) = true
 
--- the inward direction of a border, which is a linear section with exactly one neighbour missing
+-- The inward direction of a border, which is a linear section with exactly one neighbour missing.
 abbrev pub inward : Section → Option Dir
 inward (Linear None (Some y) board_down board_up) = Some Up
 inward (Linear (Some y) None board_down board_up) = Some Down
@@ -38,10 +38,10 @@ inward (Linear None None board_down board_up) = None
 inward (Linear (Some y) (Some z) board_down board_up) = None
 inward (Point stem plus minus faces) = None
 
--- whether a list of sections has section x
+-- Returns whether a list of sections contains section `x`.
 abbrev pub has_section : ℕ → List ℕ → Bool
 has_section x sections = has_number x sections
 
--- the last of some sections, where there are any
+-- The last of some sections, if there are any.
 abbrev pub last_of : List ℕ → Option ℕ
 last_of sections = last_or None sections

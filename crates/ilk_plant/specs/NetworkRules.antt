@@ -1,16 +1,16 @@
--- The rules of the network, N1 to N8: the list of those that a draft breaks.
+-- The rules of the network, N1 to N8: the list of those that a draft violates.
 use Rattle.std.specs.Prelude.{ℕ, zero, suc, ◌≡◌, Bool, true, false, not, ◌&&◌, ◌||◌, ◌==◌, Option, Some, None, is_none, List, [], ◌∷◌, ◌++◌, length, map, slice_get, count_by, IsTrue}
 use Rattle.std.specs.List.{list_any}
-use Rattle.ilk_plant.specs.Broken.{each_broken_at}
+use Rattle.ilk_plant.specs.Broken.{broken_rules_at}
 use Rattle.ilk_base.specs.Option.{is_some_and}
-use Rattle.ilk_plant.specs.Draft.{is_named_before, names_of_boards, names_of_sections}
+use Rattle.ilk_plant.specs.Draft.{is_duplicate, names_of_boards, names_of_sections}
 use Rattle.ilk_plant.specs.Name.{Name}
 use Rattle.ilk_plant.specs.Network.{last_of, same_direction}
-use Rattle.ilk_plant.specs.Once.{all_differ}
-use Rattle.ilk_plant.specs.Plant.{first_named}
+use Rattle.ilk_plant.specs.Once.{names_differ}
+use Rattle.ilk_plant.specs.Plant.{first_number_named}
 use Rattle.ilk_plant.specs.declared.broken.Broken.{Broken}
-use Rattle.ilk_plant.specs.declared.broken.Places.{Places}
-use Rattle.ilk_plant.specs.declared.broken.Places.TheVariants.{Sections, Boards, Routes, RoutePairs}
+use Rattle.ilk_plant.specs.declared.broken.PlaceKind.{PlaceKind}
+use Rattle.ilk_plant.specs.declared.broken.PlaceKind.TheVariants.{Sections, Boards, Routes, RoutePairs}
 use Rattle.ilk_plant.specs.declared.broken.Rule.{Rule}
 use Rattle.ilk_plant.specs.declared.broken.Rule.TheVariants.{N1, N2, N3, N4, N5, N6, N7, N8}
 use Rattle.ilk_plant.specs.declared.draft.KindDraft.{KindDraft}
@@ -20,7 +20,7 @@ use Rattle.ilk_plant.specs.declared.draft.SectionDraft.{SectionDraft}
 use Rattle.ilk_plant.specs.declared.network.Dir.{Dir}
 use Rattle.ilk_plant.specs.declared.network.Dir.TheVariants.{Up, Down}
 
--- whether, on one side of a section, there is a neighbour where there is a board
+-- Returns whether one side of a section has no board without a neighbour.
 abbrev pub has_neighbour_if_board : Option Name → Option Name → Bool
 has_neighbour_if_board None board = is_none board
 has_neighbour_if_board (Some neighbour) board = true
@@ -29,111 +29,115 @@ abbrev pub opposite_direction : Dir → Dir
 opposite_direction Up = Down
 opposite_direction Down = Up
 
--- an end of a section at which a neighbour is given: its side, and the name of the neighbour
+-- An end of a section with a neighbour: its side, and the name of the neighbour.
 pub record End : Type 0 where
   pub side : Dir
   pub name : Name
 
--- the end on this side, if a neighbour is given there
+-- The end on this side, if it has a neighbour.
 abbrev pub end_with : Dir → Option Name → List End
 end_with side None = []
 end_with side (Some name) = record { side = side; name = name } ∷ []
 
--- the ends of a section: a point has its legs on the side that it faces, and its stem on the other
-abbrev pub ends : KindDraft → List End
-ends (LinearDraft down up board_down board_up) = end_with Down down ++ end_with Up up
-ends (PointDraft stem plus minus faces) =
+-- The ends of a section. A point has its legs on the side that it faces, and its stem on the other.
+abbrev pub ends_of_kind : KindDraft → List End
+ends_of_kind (LinearDraft down up board_down board_up) = end_with Down down ++ end_with Up up
+ends_of_kind (PointDraft stem plus minus faces) =
     record { side = opposite_direction faces; name = stem } ∷ record { side = faces; name = plus } ∷ record { side = faces; name = minus } ∷ []
 
--- the ends of section x; none where x is no section
+-- The ends of section `x`, or none if `x` is not a section.
 abbrev pub ends_of : NetDraft → ℕ → List End
 ends_of net x = ends_if (slice_get net.sections x)
   where
     ends_if : Option SectionDraft → List End
     ends_if None = []
-    ends_if (Some section) = ends section.kind
+    ends_if (Some section) = ends_of_kind section.kind
 
--- a name stands for the first section that has it
+-- The first section with this name.
 abbrev pub section_named : NetDraft → Name → Option ℕ
-section_named net name = first_named (names_of_sections net.sections) name
+section_named net name = first_number_named (names_of_sections net.sections) name
 
--- whether the name at an end stands for section x
+-- Returns whether an end names section `x`.
 abbrev pub names_section : NetDraft → ℕ → End → Bool
 names_section net x end = is_some_and (section_named net end.name) (λ y. y == x)
 
--- whether the name at an end stands for a section other than x
+-- Returns whether an end names a section other than `x`.
 abbrev pub names_another : NetDraft → ℕ → End → Bool
 names_another net x end = is_some_and (section_named net end.name) (λ y. not (y == x))
 
--- N3: a neighbour of section x isn't the name of a section other than x
+-- N3 is violated: a neighbour of section `x` isn't the name of a section other than `x`.
 abbrev pub has_wrong_neighbour : NetDraft → ℕ → Bool
 has_wrong_neighbour net x = list_any (λ end. not (names_another net x end)) (ends_of net x)
 
--- N4: two neighbours of section x have the same name
+-- N4 is violated: two neighbours of section `x` have the same name.
 abbrev pub repeats_neighbour : NetDraft → ℕ → Bool
-repeats_neighbour net x = not (all_differ (map (λ end. end.name) (ends_of net x)))
+repeats_neighbour net x = not (names_differ (map (λ end. end.name) (ends_of net x)))
 
--- whether exactly one of these ends names section x, and that end is on side d
-abbrev pub names_once : NetDraft → ℕ → Dir → List End → Bool
-names_once net x d ends =
+-- Returns whether exactly one of these ends names section `x`, and that end is on side `d`.
+abbrev pub names_back_once : NetDraft → ℕ → Dir → List End → Bool
+names_back_once net x d ends =
     count_by (names_section net x) ends == 1 && list_any (λ end. names_section net x end && same_direction end.side d) ends
 
--- whether an end of section x names another section, which doesn't name x at exactly one of its ends, on the opposite side
-abbrev pub is_one_way : NetDraft → ℕ → End → Bool
-is_one_way net x end =
-    is_some_and (section_named net end.name) (λ y. not (y == x) && not (names_once net x (opposite_direction end.side) (ends_of net y)))
+-- Returns whether an end of section `x` names another section that doesn't name `x` at exactly one
+-- of its ends, on the opposite side.
+abbrev pub is_not_mutual : NetDraft → ℕ → End → Bool
+is_not_mutual net x end =
+    is_some_and (section_named net end.name) (λ y. not (y == x) && not (names_back_once net x (opposite_direction end.side) (ends_of net y)))
 
--- N5: a neighbour of section x, other than x, doesn't name x at exactly one of its ends, on the opposite side
+-- N5 is violated: a neighbour of section `x`, other than `x`, doesn't name `x` at exactly one of
+-- its ends, on the opposite side.
 abbrev pub is_not_named_back : NetDraft → ℕ → Bool
-is_not_named_back net x = list_any (is_one_way net x) (ends_of net x)
+is_not_named_back net x = list_any (is_not_mutual net x) (ends_of net x)
 
--- whether a section is linear and has no neighbour
+-- Returns whether a section is linear and has no neighbour.
 abbrev pub has_no_neighbour : KindDraft → Bool
 has_no_neighbour (LinearDraft down up board_down board_up) = is_none down && is_none up
 has_no_neighbour (PointDraft stem plus minus faces) = false
 
--- N6: section x is linear, and has no neighbour
-abbrev pub stands_alone : NetDraft → ℕ → Bool
-stands_alone net x = is_some_and (slice_get net.sections x) (λ section. has_no_neighbour section.kind)
+-- N6 is violated: section `x` is linear and has no neighbour.
+abbrev pub is_isolated : NetDraft → ℕ → Bool
+is_isolated net x = is_some_and (slice_get net.sections x) (λ section. has_no_neighbour section.kind)
 
--- whether section y is a known neighbour of section x on its up side
+-- Returns whether section `y` is a known neighbour of section `x` on its up side.
 abbrev pub is_next_up : NetDraft → ℕ → ℕ → Bool
 is_next_up net x y = list_any (λ end. same_direction end.side Up && names_section net y end) (ends_of net x)
 
--- a walk up from section x: each section of the list is a known neighbour on the up side of the one before
+-- Holds if the list is a walk up from section `x`: each section is a known neighbour on the up side
+-- of the one before.
 abbrev pub IsWalkUp : NetDraft → ℕ → List ℕ → Type 0
 IsWalkUp net x [] = Unit {0}
 IsWalkUp net x (y ∷ rest) = IsTrue (is_next_up net x y) × IsWalkUp net y rest
 
--- some walk up of one or more steps, of any length, leads from section x to section y
+-- Holds if some walk up of one or more steps, of any length, leads from section `x` to section `y`.
 abbrev pub LeadsUp : NetDraft → ℕ → ℕ → Type 0
 LeadsUp net x y = (walk : List ℕ) × (IsWalkUp net x walk × (last_of walk ≡ Some y))
 
--- some walk up of one or more steps returns to section x
-abbrev pub Returns : NetDraft → ℕ → Type 0
-Returns net x = LeadsUp net x x
+-- Holds if some walk up of one or more steps returns to section `x`.
+abbrev pub WalkReturns : NetDraft → ℕ → Type 0
+WalkReturns net x = LeadsUp net x x
 
--- whether steps lead from x to y by way of numbers below n alone: directly, or by way of the last of them
+-- Returns whether steps lead from `x` to `y` only through numbers below `n`: directly, or through
+-- the last of them.
 abbrev pub leads_by : (ℕ → ℕ → Bool) → ℕ → ℕ → ℕ → Bool
 leads_by step zero x y = step x y
 leads_by step (suc n) x y = leads_by step n x y || (leads_by step n x n && leads_by step n n y)
 
--- N7: a walk up returns to section x, by way of any sections
-abbrev pub returns : NetDraft → ℕ → Bool
-returns net x = leads_by (is_next_up net) (length net.sections) x x
+-- N7 is violated: a walk up returns to section `x`, through any sections.
+abbrev pub walk_returns : NetDraft → ℕ → Bool
+walk_returns net x = leads_by (is_next_up net) (length net.sections) x x
 
--- whether a section is linear and has a board in a direction in which it has no neighbour
+-- Returns whether a section is linear and has a board in a direction without a neighbour.
 abbrev pub has_board_to_nowhere : KindDraft → Bool
 has_board_to_nowhere (LinearDraft down up board_down board_up) =
     not (has_neighbour_if_board down board_down && has_neighbour_if_board up board_up)
 has_board_to_nowhere (PointDraft stem plus minus faces) = false
 
--- N8: section x is linear, and has a board in a direction in which it has no neighbour
+-- N8 is violated: section `x` is linear and has a board in a direction without a neighbour.
 abbrev pub has_board_at_end : NetDraft → ℕ → Bool
 has_board_at_end net x = is_some_and (slice_get net.sections x) (λ section. has_board_to_nowhere section.kind)
 
--- how many places of a kind a network has
-abbrev pub count_in_network : NetDraft → Places → ℕ
+-- The number of locations of a kind in a network.
+abbrev pub count_in_network : NetDraft → PlaceKind → ℕ
 count_in_network net Sections = length net.sections
 count_in_network net Boards = length (names_of_boards net.sections)
 count_in_network net Routes = 0
@@ -142,18 +146,18 @@ count_in_network net RoutePairs = 0
 abbrev pub network_rules : List Rule
 network_rules = N1 ∷ N2 ∷ N3 ∷ N4 ∷ N5 ∷ N6 ∷ N7 ∷ N8 ∷ []
 
--- whether a rule of the network is broken at its place x
+-- Returns whether a rule of the network is violated at its location `x`.
 abbrev pub breaks_network : NetDraft → Rule → ℕ → Bool
-breaks_network net N1 = is_named_before (names_of_sections net.sections)
-breaks_network net N2 = is_named_before (names_of_boards net.sections)
+breaks_network net N1 = is_duplicate (names_of_sections net.sections)
+breaks_network net N2 = is_duplicate (names_of_boards net.sections)
 breaks_network net N3 = has_wrong_neighbour net
 breaks_network net N4 = repeats_neighbour net
 breaks_network net N5 = is_not_named_back net
-breaks_network net N6 = stands_alone net
-breaks_network net N7 = returns net
+breaks_network net N6 = is_isolated net
+breaks_network net N7 = walk_returns net
 breaks_network net N8 = has_board_at_end net
 breaks_network net _ = λ x. false
 
--- the rules of the network that a draft breaks, each at every place
+-- The rules of the network that a draft violates, each at every location.
 abbrev pub network_rules_broken : NetDraft → List Broken
-network_rules_broken net = each_broken_at network_rules (count_in_network net) (breaks_network net)
+network_rules_broken net = broken_rules_at network_rules (count_in_network net) (breaks_network net)

@@ -1,12 +1,12 @@
--- Lists of numbers, and of names, in which none stands twice.
+-- Lists of numbers and of names without duplicates.
 use Rattle.std.specs.Prelude.{ℕ, Bool, List, ◌==◌, bytes_eq}
-use Rattle.ilk_base.specs.Once.{each_once}
+use Rattle.ilk_base.specs.Once.{has_no_duplicates}
 use Rattle.ilk_plant.specs.Name.{Name}
 
--- whether no number stands twice
-abbrev pub none_twice : List ℕ → Bool
-none_twice numbers = each_once (λ x y. y == x) numbers
+-- Returns whether no number is duplicated.
+abbrev pub numbers_differ : List ℕ → Bool
+numbers_differ numbers = has_no_duplicates (λ x y. y == x) numbers
 
--- whether no name stands twice
-abbrev pub all_differ : List Name → Bool
-all_differ names = each_once bytes_eq names
+-- Returns whether no name is duplicated.
+abbrev pub names_differ : List Name → Bool
+names_differ names = has_no_duplicates bytes_eq names

@@ -1,4 +1,4 @@
--- The state in which every run from the start begins.
+-- The initial state.
 use Rattle.std.specs.Prelude.{[], length, replicate}
 use Rattle.ilk_plant.specs.Plant.{PlantLists, point_count}
 use Rattle.ilk_plant.specs.declared.network.Position.TheVariants.{Plus}
@@ -16,7 +16,8 @@ free_route = record { mode = Free; seen = 0; rel = 0 }
 abbrev pub plus_point : PointState
 plus_point = record { at = LiesPlus; to = Plus }
 
--- no train, every route free, every point at plus and commanded there, every board closed, every lock free
+-- No train, all routes free, all points at plus and commanded there, all boards closed, all locks
+-- free.
 abbrev pub start : PlantLists → State
 start p = record {
   routes = replicate (length p.routes) free_route;

@@ -1,4 +1,4 @@
--- What a state says of sections and points: which are occupied, locked and clear, and where points lie.
+-- Sections and points in a state: occupied, locked and clear sections, and positions of points.
 use Rattle.std.specs.Prelude.{ℕ, ◌&&◌, Bool, true, false, not, Option, Some, slice_get}
 use Rattle.std.specs.List.{list_any}
 use Rattle.ilk_base.specs.Option.{◌>>=◌, is_some_and}
@@ -9,28 +9,27 @@ use Rattle.ilk_plant.specs.declared.state.Hold.TheVariants.{Free, Locked, Used}
 use Rattle.ilk_plant.specs.declared.state.Lie.{Lie}
 use Rattle.ilk_plant.specs.declared.state.State.{State}
 
--- whether some train's body has section x
+-- Returns whether section `x` is in some train's body.
 abbrev pub is_occupied : State → ℕ → Bool
 is_occupied s x = list_any (λ train. has_section x train.body) s.trains
 
--- whether two locks are one
 abbrev pub same_hold : Hold → Hold → Bool
 same_hold Free Free = true
 same_hold Locked Locked = true
 same_hold Used Used = true
 same_hold a b = false
 
--- whether section x has this lock
+-- Returns whether section `x` has this lock.
 abbrev pub has_lock : State → ℕ → Hold → Bool
 has_lock s x hold = is_some_and (slice_get s.locks x) (λ lock. same_hold lock hold)
 
--- whether section x has lock Free and is vacant
+-- Returns whether section `x` has lock Free and is vacant.
 abbrev pub is_clear : State → ℕ → Bool
 is_clear s x = has_lock s x Free && not (is_occupied s x)
 
--- where the point on section x lies; none where x is no point
-abbrev pub lie_of : PlantLists → State → ℕ → Option Lie
-lie_of p s x = do
+-- The detected position of the point on section `x`, or `None` if `x` is not a point.
+abbrev pub detected_position : PlantLists → State → ℕ → Option Lie
+detected_position p s x = do
   n ← point_number p x
   point ← slice_get s.points n
   Some point.at

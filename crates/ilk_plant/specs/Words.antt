@@ -1,5 +1,5 @@
--- The words by which texts name directions, positions, lies, aspects, locks and modes: one table each, by which
--- they are written and read.
+-- The words in texts for directions, positions, lies, aspects, locks and modes. Each has one table,
+-- used for writing and reading.
 use Rattle.std.specs.Prelude.{Option, [], ◌∷◌, codes}
 use Rattle.ilk_base.specs.Words.{value_of_word}
 use Rattle.ilk_plant.specs.Name.{Name}
@@ -45,21 +45,21 @@ mode_word Allocating = codes "allocating"
 mode_word Locked = codes "locked"
 mode_word Occupied = codes "occupied"
 
--- the value that has a word; none where no value has it
-abbrev pub direction_of_word : Name → Option Dir
-direction_of_word = value_of_word direction_word (Up ∷ Down ∷ [])
+-- The value with a word, or `None` if there is none.
+abbrev pub direction_from_word : Name → Option Dir
+direction_from_word = value_of_word direction_word (Up ∷ Down ∷ [])
 
-abbrev pub position_of_word : Name → Option Position
-position_of_word = value_of_word position_word (Plus ∷ Minus ∷ [])
+abbrev pub position_from_word : Name → Option Position
+position_from_word = value_of_word position_word (Plus ∷ Minus ∷ [])
 
-abbrev pub lie_of_word : Name → Option Lie
-lie_of_word = value_of_word lie_word (LiesPlus ∷ LiesMinus ∷ Moving ∷ [])
+abbrev pub lie_from_word : Name → Option Lie
+lie_from_word = value_of_word lie_word (LiesPlus ∷ LiesMinus ∷ Moving ∷ [])
 
-abbrev pub aspect_of_word : Name → Option Aspect
-aspect_of_word = value_of_word aspect_word (Open ∷ Closed ∷ [])
+abbrev pub aspect_from_word : Name → Option Aspect
+aspect_from_word = value_of_word aspect_word (Open ∷ Closed ∷ [])
 
-abbrev pub hold_of_word : Name → Option Hold
-hold_of_word = value_of_word hold_word (FreeLock ∷ LockedLock ∷ Used ∷ [])
+abbrev pub hold_from_word : Name → Option Hold
+hold_from_word = value_of_word hold_word (FreeLock ∷ LockedLock ∷ Used ∷ [])
 
-abbrev pub mode_of_word : Name → Option Mode
-mode_of_word = value_of_word mode_word (Free ∷ Marked ∷ Allocating ∷ Locked ∷ Occupied ∷ [])
+abbrev pub mode_from_word : Name → Option Mode
+mode_from_word = value_of_word mode_word (Free ∷ Marked ∷ Allocating ∷ Locked ∷ Occupied ∷ [])

@@ -5,7 +5,7 @@ use crate::Row;
 use ilk_base::Worded;
 use std::alloc::AllocError;
 
-/// A rule of the network (N), of the table of routes (R) or of its columns (C).
+/// A rule of the network (N), of the interlocking table (R) or of its columns (C).
 #[derive(Clone, Copy, PartialEq, Eq, Debug)]
 pub enum Rule {
     N1,
@@ -34,9 +34,9 @@ pub enum Rule {
     C8,
 }
 
-/// What the places are at which a rule is asked.
+/// The kind of location at which a rule is checked.
 #[derive(Clone, Copy, PartialEq, Eq, Debug)]
-pub enum Places {
+pub enum PlaceKind {
     Sections,
     Boards,
     Routes,
@@ -44,41 +44,40 @@ pub enum Places {
 }
 
 impl Rule {
-    // The name of the rule, and what its places are.
-    fn name_and_places(self) -> (&'static str, Places)
+    fn name_and_places(self) -> (&'static str, PlaceKind)
         ensures name { result.0.now ≡ (name_and_places self).0 }
         ensures places { result.1 ≡ (name_and_places self).1 }
     {
         match self {
-            Rule::N1 => ("N1", Places::Sections),
-            Rule::N2 => ("N2", Places::Boards),
-            Rule::N3 => ("N3", Places::Sections),
-            Rule::N4 => ("N4", Places::Sections),
-            Rule::N5 => ("N5", Places::Sections),
-            Rule::N6 => ("N6", Places::Sections),
-            Rule::N7 => ("N7", Places::Sections),
-            Rule::N8 => ("N8", Places::Sections),
-            Rule::R1 => ("R1", Places::Routes),
-            Rule::R2 => ("R2", Places::Routes),
-            Rule::R3 => ("R3", Places::Routes),
-            Rule::R4 => ("R4", Places::Routes),
-            Rule::R5 => ("R5", Places::Routes),
-            Rule::R6 => ("R6", Places::Routes),
-            Rule::R7 => ("R7", Places::Routes),
-            Rule::R8 => ("R8", Places::Routes),
-            Rule::C1 => ("C1", Places::Routes),
-            Rule::C2 => ("C2", Places::Routes),
-            Rule::C3 => ("C3", Places::Routes),
-            Rule::C4 => ("C4", Places::Routes),
-            Rule::C5 => ("C5", Places::RoutePairs),
-            Rule::C6 => ("C6", Places::RoutePairs),
-            Rule::C7 => ("C7", Places::Sections),
-            Rule::C8 => ("C8", Places::RoutePairs),
+            Rule::N1 => ("N1", PlaceKind::Sections),
+            Rule::N2 => ("N2", PlaceKind::Boards),
+            Rule::N3 => ("N3", PlaceKind::Sections),
+            Rule::N4 => ("N4", PlaceKind::Sections),
+            Rule::N5 => ("N5", PlaceKind::Sections),
+            Rule::N6 => ("N6", PlaceKind::Sections),
+            Rule::N7 => ("N7", PlaceKind::Sections),
+            Rule::N8 => ("N8", PlaceKind::Sections),
+            Rule::R1 => ("R1", PlaceKind::Routes),
+            Rule::R2 => ("R2", PlaceKind::Routes),
+            Rule::R3 => ("R3", PlaceKind::Routes),
+            Rule::R4 => ("R4", PlaceKind::Routes),
+            Rule::R5 => ("R5", PlaceKind::Routes),
+            Rule::R6 => ("R6", PlaceKind::Routes),
+            Rule::R7 => ("R7", PlaceKind::Routes),
+            Rule::R8 => ("R8", PlaceKind::Routes),
+            Rule::C1 => ("C1", PlaceKind::Routes),
+            Rule::C2 => ("C2", PlaceKind::Routes),
+            Rule::C3 => ("C3", PlaceKind::Routes),
+            Rule::C4 => ("C4", PlaceKind::Routes),
+            Rule::C5 => ("C5", PlaceKind::RoutePairs),
+            Rule::C6 => ("C6", PlaceKind::RoutePairs),
+            Rule::C7 => ("C7", PlaceKind::Sections),
+            Rule::C8 => ("C8", PlaceKind::RoutePairs),
         }
     }
 
-    /// What the places are at which the rule is asked.
-    pub fn places(self) -> Places
+    /// Returns the kind of location at which the rule is checked.
+    pub fn places(self) -> PlaceKind
         ensures { result ≡ places_of self }
     {
         self.name_and_places().1
@@ -95,21 +94,21 @@ impl Worded for Rule {
     }
 }
 
-impl Worded for Places {
+impl Worded for PlaceKind {
     ghost use Rattle.ilk_plant.specs.Broken.{places_word};
 
     ghost word_of = { places_word };
 
     fn word(self) -> &'static str {
         match self {
-            Places::Sections => "sections",
-            Places::Boards => "boards",
-            Places::Routes | Places::RoutePairs => "routes",
+            PlaceKind::Sections => "sections",
+            PlaceKind::Boards => "boards",
+            PlaceKind::Routes | PlaceKind::RoutePairs => "routes",
         }
     }
 }
 
-/// A broken rule, with the numbers of the one or two places where it is broken.
+/// A violated rule, with the number of its location or the numbers of its two locations.
 #[derive(Clone, Copy, PartialEq, Eq, Debug)]
 pub struct Broken {
     pub rule: Rule,
@@ -117,9 +116,13 @@ pub struct Broken {
     pub second: Option<u32>,
 }
 
-/// Adds an entry to a list where it is broken. The only refusal is want of memory, after which the
-/// list is as it was.
-pub fn push_if(found: &mut Row<Broken>, is_broken: bool, entry: Broken) -> Result<(), AllocError>
+/// Adds `entry` to `found` if `is_broken`. Fails only if memory runs out; the list is then
+/// unchanged.
+pub fn push_broken_if(
+    found: &mut Row<Broken>,
+    is_broken: bool,
+    entry: Broken,
+) -> Result<(), AllocError>
     ensures ok { OnOk result (found.new ≡ found.old ++ (if is_broken then entry ∷ [] else [])) }
     ensures err { OnErr result (found.new ≡ found.old) }
 {

@@ -1,19 +1,19 @@
 use crate::{Dir, Position, Row, Text};
 
-/// A network as its configuration writes it, by names.
+/// A network as in the configuration, with names.
 #[derive(Drop)]
 pub struct NetDraft {
     pub sections: Row<SectionDraft>,
 }
 
-/// A section as its configuration writes it.
+/// A section as in the configuration.
 #[derive(Drop)]
 pub struct SectionDraft {
     pub name: Text,
     pub kind: KindDraft,
 }
 
-/// What a section is, with the names of its neighbours and of its boards.
+/// The kind of a section, with the names of its neighbours and boards.
 #[derive(Drop)]
 pub enum KindDraft {
     Linear {
@@ -30,20 +30,20 @@ pub enum KindDraft {
     },
 }
 
-/// A table of routes as its configuration writes it, by names.
+/// An interlocking table as in the configuration, with names.
 #[derive(Drop)]
 pub struct TableDraft {
     pub routes: Row<RouteDraft>,
 }
 
-/// A point with the position in which a route wants it.
+/// A point with the position required by a route.
 #[derive(Drop)]
 pub struct ListedDraft {
     pub point: Text,
     pub at: Position,
 }
 
-/// A row of the table of routes as its configuration writes it.
+/// A row of the interlocking table as in the configuration.
 #[derive(Drop)]
 pub struct RouteDraft {
     pub name: Text,

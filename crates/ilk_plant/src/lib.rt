@@ -1,16 +1,19 @@
-//! The plant of a railway line and its state: what every rule, event and text speaks of.
+//! The plant (the interlocking under verification) and its state: the subject of all rules, events
+//! and texts.
 //!
-//! The network and the table of routes are those of an ETCS Level 2 line without lineside
-//! signals, as in Vu, Haxthausen and Peleska, "Formal modelling and verification of interlocking
-//! systems featuring sequential release", Science of Computer Programming 133 (2017).
+//! The network and the interlocking table are those of an ETCS Level 2 line without lineside
+//! signals. The source is Vu, Haxthausen and Peleska, "Formal modelling and verification of
+//! interlocking systems featuring sequential release", Science of Computer Programming 133 (2017).
 //!
-//! A configuration is read into drafts, which have names (`draft`). `NetNames` has the names of a
-//! network by number, `Numbered` the drafts with numbers for names; both are made once and handed
-//! on. `Plant::of_numbered` makes the plant of numbered drafts that break no rule, so that a plant
-//! keeps as facts what the rules ask; `Plant::make` does all three. The definitions of the rules
-//! stand here (`specs/NetworkRules.antt`, `TableRules.antt`, `ColumnRules.antt`), since the plant's
-//! own facts rest on them. A state begins at `start_state`; `has_shape` tells which states are
-//! about a plant. The limits have their names in `limits`, the words of texts in `words`.
+//! A configuration is read into drafts, which use names (`draft`). `NetNames` has the names of a
+//! network by number. `NumberedDrafts` has the drafts with numbers in place of names. Both are
+//! built once and passed on. `Plant::from_numbered` creates the plant of numbered drafts that
+//! violate no rule, so a plant keeps the rules as facts. `Plant::make` does all three steps.
+//!
+//! The definitions of the rules are here (`specs/NetworkRules.antt`, `TableRules.antt`,
+//! `ColumnRules.antt`), because the plant's own facts depend on them. `start_state` returns the
+//! initial state; `has_shape` checks whether a state is well-formed for a plant. `limits` names the
+//! limits, `words` the words of texts.
 #![tactic(auto)]
 
 mod broken;
@@ -32,7 +35,7 @@ mod state;
 mod table;
 mod words;
 
-pub use broken::{Broken, Places, Rule, push_if};
+pub use broken::{Broken, PlaceKind, Rule, push_broken_if};
 pub use draft::{KindDraft, ListedDraft, NetDraft, RouteDraft, SectionDraft, TableDraft};
 pub use ilk_base::{Row, Text, Worded};
 pub use limits::{
@@ -43,10 +46,10 @@ pub use locks::{has_lock, is_clear};
 pub use names::Names;
 pub use net_names::NetNames;
 pub use network::{Board, Dir, Position, Section};
-pub use numbered_drafts::Numbered;
+pub use numbered_drafts::NumberedDrafts;
 pub use occupancy::{has_section, occupied};
 pub use plant::Plant;
-pub use points::{is_leg, lie_of, point_on};
+pub use points::{detected_position, is_leg, point_number_at};
 pub use start::start_state;
 pub use state::{Aspect, Hold, Lie, Mode, PointState, RouteState, State, Train};
 pub use table::{Listed, Route};

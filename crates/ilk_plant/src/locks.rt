@@ -3,7 +3,7 @@ ghost use Rattle.ilk_plant.specs.State.{has_lock, is_clear};
 
 use crate::{Hold, State, occupied};
 
-/// Whether section `x` has this lock. A number that is no section has none.
+/// Returns whether section `x` has lock `hold`. Returns `false` if `x` is not a section.
 pub fn has_lock(s: &State, x: u32, hold: Hold) -> bool
     ensures { result ≡ has_lock s.now x hold }
 {
@@ -13,7 +13,7 @@ pub fn has_lock(s: &State, x: u32, hold: Hold) -> bool
     }
 }
 
-/// Whether section `x` has lock Free and is vacant.
+/// Returns whether section `x` has lock Free and is vacant.
 pub fn is_clear(s: &State, x: u32) -> bool
     ensures { result ≡ is_clear s.now x }
 {

@@ -1,6 +1,6 @@
 ghost use Rattle.std.specs.Prelude.{◌≡◌, ◌<◌, ◌≤◌, IfOk, IfSome, Some, length, option_map, slice_get};
-ghost use Rattle.ilk_plant.specs.Draft.{is_named_before, number_of};
-ghost use Rattle.ilk_plant.specs.Plant.{first_named};
+ghost use Rattle.ilk_plant.specs.Draft.{is_duplicate, number_of};
+ghost use Rattle.ilk_plant.specs.Plant.{first_number_named};
 ghost use Rattle.ilk_plant.specs.Names.{IsIndexOf};
 ghost use Rattle.ilk_plant.specs.declared.limits.TheConstants.{MAX_BOARDS};
 
@@ -9,8 +9,8 @@ use indexmap::IndexMap;
 use std::alloc::{AllocError, Global};
 use std::marker::Model;
 
-/// Names, at most as many as the most boards, which contracts see as their list. An index keeps the
-/// first number of each.
+/// A list of names, at most `MAX_BOARDS`. Contracts see the list. An index has the first number of
+/// each name.
 #[derive(Drop)]
 pub struct Names {
     names: Row<Text>,
@@ -29,7 +29,6 @@ impl Model for Names {
     ghost invariant = { λ n. (length n.names ≤ MAX_BOARDS) × IsIndexOf n.names n.numbers };
 }
 
-// The first number of each name.
 fn first_numbers(alloc: Global, names: &Row<Text>) -> Result<IndexMap<String, u32>, AllocError>
     requires { length names.now ≤ MAX_BOARDS }
     ensures { IfOk result (λ numbers. IsIndexOf names.now numbers) }
@@ -45,8 +44,8 @@ fn first_numbers(alloc: Global, names: &Row<Text>) -> Result<IndexMap<String, u3
 }
 
 impl Names {
-    /// These names. The only refusal is want of memory.
-    pub fn of(alloc: Global, names: Row<Text>) -> Result<Names, AllocError>
+    /// Creates the indexed list of `names`. Fails only if memory runs out.
+    pub fn from_names(alloc: Global, names: Row<Text>) -> Result<Names, AllocError>
         requires { length names ≤ MAX_BOARDS }
         ensures { IfOk result (λ made. made ≡ names) }
     {
@@ -54,7 +53,7 @@ impl Names {
         Ok(Names { names, numbers })
     }
 
-    /// How many names there are.
+    /// Returns the number of names.
     pub fn len(&self) -> u32
         ensures count { result ≡ length self.now }
         ensures few { result ≤ MAX_BOARDS }
@@ -62,7 +61,7 @@ impl Names {
         self.names.len() as u32
     }
 
-    /// Name `i`.
+    /// Returns name `i`.
     pub fn name(&self, i: u32) -> &Text
         requires { i < length self.now }
         ensures { slice_get self.now i ≡ Some result.now }
@@ -70,16 +69,15 @@ impl Names {
         self.names.at(i as u64)
     }
 
-    // The number that the index has for the name.
     fn indexed(&self, name: &str) -> Option<u32>
-        ensures { result ≡ first_named self.now name.now }
+        ensures { result ≡ first_number_named self.now name.now }
     {
         self.numbers.get(name).copied()
     }
 
-    /// The first number that has the name. None where nothing has it.
+    /// Returns the first number with this name. Returns `None` if there is none.
     pub fn number(&self, name: &str) -> Option<u32>
-        ensures number { result ≡ first_named self.now name.now }
+        ensures number { result ≡ first_number_named self.now name.now }
         ensures known { IfSome result (λ n. n < length self.now) }
     {
         match self.indexed(name) {
@@ -88,7 +86,7 @@ impl Names {
         }
     }
 
-    /// The number for which a name stands; the count of the names, where nothing has it.
+    /// Returns the first number with this name, or the count of names if there is none.
     pub fn number_of(&self, name: &Text) -> u32
         ensures { result ≡ number_of self.now name.now }
     {
@@ -98,7 +96,7 @@ impl Names {
         }
     }
 
-    /// The number for which a name stands, if there is a name.
+    /// Returns the number of the name if there is a name.
     pub fn number_if_named(&self, name: &Option<Text>) -> Option<u32>
         ensures { result ≡ option_map (number_of self.now) name.now }
     {
@@ -108,9 +106,9 @@ impl Names {
         }
     }
 
-    /// Whether name `i` stands earlier too; false where there is no name `i`.
-    pub fn is_named_before(&self, i: u32) -> bool
-        ensures { result ≡ is_named_before self.now i }
+    /// Returns whether an earlier name equals name `i`; `false` if there is no name `i`.
+    pub fn is_duplicate(&self, i: u32) -> bool
+        ensures { result ≡ is_duplicate self.now i }
     {
         if i >= self.len() {
             return false;

@@ -1,7 +1,7 @@
 ghost use Rattle.std.specs.Prelude.{◌≡◌, slice_get};
-ghost use Rattle.ilk_plant.specs.Network.{beside, board_on, inward, is_point};
+ghost use Rattle.ilk_plant.specs.Network.{neighbours_on, board_on, inward, is_point};
 
-/// A direction of running, for the whole network.
+/// A running direction, the same for the whole network.
 #[derive(Clone, Copy, PartialEq, Eq, Debug)]
 pub enum Dir {
     Up,
@@ -15,19 +15,19 @@ pub enum Position {
     Minus,
 }
 
-/// A track section, which names its neighbours and its marker boards by number.
+/// A track section. It names its neighbours and marker boards by number.
 #[derive(Clone, Copy, PartialEq, Eq, Debug)]
 pub enum Section {
-    /// A plain stretch of track, with at most one neighbour on each side, and at most one board
-    /// for each direction of running.
+    /// A plain stretch of track, with at most one neighbour on each side and at most one board for
+    /// each direction.
     Linear {
         down: Option<u32>,
         up: Option<u32>,
         board_down: Option<u32>,
         board_up: Option<u32>,
     },
-    /// A point. One that faces up has its stem on its down side and both legs on its up side; one
-    /// that faces down has its stem on its up side and both legs on its down side.
+    /// A point. If it faces up, its stem is on the down side and both legs are on the up side. If
+    /// it faces down, the sides are reversed.
     Point {
         stem: u32,
         plus: u32,
@@ -36,7 +36,7 @@ pub enum Section {
     },
 }
 
-/// A marker board, which stands on a section for trains that run in one direction.
+/// A marker board, on a section, for trains in one direction.
 #[derive(Clone, Copy, PartialEq, Eq, Debug)]
 pub struct Board {
     pub section: u32,
@@ -44,10 +44,10 @@ pub struct Board {
 }
 
 impl Section {
-    /// Entry `i`, from 0, of the sections on side `d`: for a point that faces `d` plus and then
-    /// minus. None where there is no such entry.
-    pub fn beside(&self, d: Dir, i: u32) -> Option<u32>
-        ensures { result ≡ slice_get (beside self.now d) i }
+    /// Returns entry `i`, from 0, of the sections on side `d`. If the section is a point that faces
+    /// `d`, these are plus, then minus. Returns `None` if there is no such entry.
+    pub fn neighbour_on(&self, d: Dir, i: u32) -> Option<u32>
+        ensures { result ≡ slice_get (neighbours_on self.now d) i }
     {
         match (self, i) {
             (Section::Linear { down, up, .. }, 0) => match d {
@@ -68,7 +68,7 @@ impl Section {
         }
     }
 
-    /// The board for trains that run in direction `d`. None where there is none.
+    /// Returns the board for trains in direction `d`, if there is one.
     pub fn board_on(&self, d: Dir) -> Option<u32>
         ensures { result ≡ board_on self.now d }
     {
@@ -79,15 +79,15 @@ impl Section {
         }
     }
 
-    /// Whether the section is a point.
+    /// Returns whether the section is a point.
     pub fn is_point(&self) -> bool
         ensures { result ≡ is_point self.now }
     {
         matches!(self, Section::Point { .. })
     }
 
-    /// The inward direction of a border, a linear section with exactly one neighbour missing: the
-    /// one in which it has a neighbour. None where the section is no border.
+    /// Returns the inward direction of a border, a linear section with exactly one neighbour
+    /// missing: the direction of its neighbour. Returns `None` if the section is not a border.
     pub fn inward(&self) -> Option<Dir>
         ensures { result ≡ inward self.now }
     {

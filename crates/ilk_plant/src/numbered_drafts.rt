@@ -1,21 +1,21 @@
 ghost use Rattle.std.specs.Prelude.{◌≡◌, ◌≤◌, ◌<◌, IfOk, Some, length, map, slice_get};
-ghost use Rattle.ilk_plant.specs.Draft.{is_named_before, names_of_routes, numbered, numbered_route, numbered_section};
+ghost use Rattle.ilk_plant.specs.Draft.{is_duplicate, names_of_routes, plant_from_drafts, numbered_route, numbered_section};
 ghost use Rattle.ilk_plant.specs.TableRules.{count_in_plant, is_board, is_other_route, is_section};
 ghost use Rattle.ilk_plant.specs.Plant.{is_point_section};
 ghost use Rattle.ilk_plant.specs.Kept.{point_numbers};
-ghost use Rattle.ilk_plant.specs.NetNames.{IsNamedAs};
+ghost use Rattle.ilk_plant.specs.NetNames.{HasNamesOf};
 ghost use Rattle.ilk_plant.specs.declared.limits.TheConstants.{MAX_SECTIONS, MAX_ROUTES};
 
 use crate::names::Names;
 use crate::numbering::{numbered_routes, numbered_sections, route_names};
-use crate::{Board, NetDraft, NetNames, Places, Route, Row, Section, TableDraft};
+use crate::{Board, NetDraft, NetNames, PlaceKind, Route, Row, Section, TableDraft};
 use std::alloc::{AllocError, Global};
 use std::marker::Model;
 
-/// A network and a table of routes with numbers for names, as a plant has them, of which no rule is
-/// known to hold. A name that nothing has is numbered with the count.
+/// A network and an interlocking table with numbers in place of names, as in a plant. No rule is
+/// known to hold. An unknown name has the count as its number.
 #[derive(Drop)]
-pub struct Numbered {
+pub struct NumberedDrafts {
     pub(crate) sections: Row<Section>,
     pub(crate) boards: Row<Board>,
     pub(crate) routes: Row<Route>,
@@ -24,7 +24,7 @@ pub struct Numbered {
     pub(crate) route_names: Names,
 }
 
-impl Model for Numbered {
+impl Model for NumberedDrafts {
     ghost use Rattle.std.specs.Prelude.{◌≡◌, ◌≤◌, length};
     ghost use Rattle.ilk_plant.specs.Plant.{PlantLists};
     ghost use Rattle.ilk_plant.specs.declared.limits.TheConstants.{MAX_BOARDS, MAX_ROUTES, MAX_SECTIONS};
@@ -45,7 +45,6 @@ impl Model for Numbered {
         (length p.route_names ≡ length p.routes) };
 }
 
-// The names of a table's routes, and sections and routes with numbers for names.
 #[derive(Drop)]
 struct Lists {
     route_names: Names,
@@ -53,7 +52,6 @@ struct Lists {
     routes: Row<Route>,
 }
 
-// What is made of a table, and of a network whose names are made already.
 fn numbered_lists(
     alloc: Global,
     names: &NetNames,
@@ -92,29 +90,33 @@ fn numbered_lists(
     })
 }
 
-impl Numbered {
-    /// The numbered network and table. The only refusal is want of memory.
-    pub fn of(alloc: Global, net: &NetDraft, table: &TableDraft) -> Result<Numbered, AllocError>
+impl NumberedDrafts {
+    /// Creates the numbered network and table. Fails only if memory runs out.
+    pub fn from_drafts(
+        alloc: Global,
+        net: &NetDraft,
+        table: &TableDraft,
+    ) -> Result<NumberedDrafts, AllocError>
         requires few_sections { length net.now.sections ≤ MAX_SECTIONS }
         requires few_routes { length table.now.routes ≤ MAX_ROUTES }
-        ensures { IfOk result (λ made. made ≡ numbered net.now table.now) }
+        ensures { IfOk result (λ made. made ≡ plant_from_drafts net.now table.now) }
     {
-        let names = NetNames::of(alloc, net)?;
-        Numbered::of_named(alloc, names, net, table)
+        let names = NetNames::from_network(alloc, net)?;
+        NumberedDrafts::from_net_names(alloc, names, net, table)
     }
 
-    /// The numbered network and table, where the names of the network are made already. The only
-    /// refusal is want of memory.
-    pub fn of_named(
+    /// Creates the numbered network and table from existing names of the network. Fails only if
+    /// memory runs out.
+    pub fn from_net_names(
         alloc: Global,
         names: NetNames,
         net: &NetDraft,
         table: &TableDraft,
-    ) -> Result<Numbered, AllocError>
+    ) -> Result<NumberedDrafts, AllocError>
         requires few_sections { length net.now.sections ≤ MAX_SECTIONS }
         requires few_routes { length table.now.routes ≤ MAX_ROUTES }
-        requires named { IsNamedAs names net.now }
-        ensures { IfOk result (λ made. made ≡ numbered net.now table.now) }
+        requires named { HasNamesOf names net.now }
+        ensures { IfOk result (λ made. made ≡ plant_from_drafts net.now table.now) }
     {
         let Lists {
             route_names,
@@ -126,7 +128,7 @@ impl Numbered {
             board_names,
             boards,
         } = names;
-        Ok(Numbered {
+        Ok(NumberedDrafts {
             sections,
             boards,
             routes,
@@ -136,8 +138,8 @@ impl Numbered {
         })
     }
 
-    /// For each section its number among the points, if it is one. The only refusal is want of
-    /// memory.
+    /// Returns for each section its number among the points, if it is one. Fails only if memory
+    /// runs out.
     pub(crate) fn point_numbers(&self, alloc: Global) -> Result<Row<Option<u32>>, AllocError>
         ensures { IfOk result (λ numbers. numbers ≡ point_numbers self.now) }
     {
@@ -154,25 +156,25 @@ impl Numbered {
         Ok(numbers)
     }
 
-    /// The number of routes, at most `MAX_ROUTES`.
+    /// Returns the number of routes, at most `MAX_ROUTES`.
     pub fn routes(&self) -> u32
         ensures { result ≡ length self.now.routes }
     {
         self.routes.len() as u32
     }
 
-    /// How many places of a kind there are; the numbers of a pair are below this too.
-    pub fn count(&self, places: Places) -> u32
+    /// Returns the number of locations of a kind. Both numbers of a pair are below it too.
+    pub fn count(&self, places: PlaceKind) -> u32
         ensures { result ≡ count_in_plant self.now places }
     {
         match places {
-            Places::Sections => self.sections.len() as u32,
-            Places::Boards => self.boards.len() as u32,
-            Places::Routes | Places::RoutePairs => self.routes(),
+            PlaceKind::Sections => self.sections.len() as u32,
+            PlaceKind::Boards => self.boards.len() as u32,
+            PlaceKind::Routes | PlaceKind::RoutePairs => self.routes(),
         }
     }
 
-    /// Route `i`.
+    /// Returns route `i`.
     pub fn route(&self, i: u32) -> &Route
         requires { i < length self.now.routes }
         ensures { slice_get self.now.routes i ≡ Some result.now }
@@ -180,29 +182,30 @@ impl Numbered {
         self.routes.at(i as u64)
     }
 
-    /// Whether an earlier route has the name of route `i`; false where there is no route `i`.
-    pub fn is_named_before(&self, i: u32) -> bool
-        ensures { result ≡ is_named_before self.now.route_names i }
+    /// Returns whether an earlier route has the name of route `i`; `false` if there is no route
+    /// `i`.
+    pub fn is_duplicate(&self, i: u32) -> bool
+        ensures { result ≡ is_duplicate self.now.route_names i }
     {
         let _ = &self.routes;
-        self.route_names.is_named_before(i)
+        self.route_names.is_duplicate(i)
     }
 
-    /// Whether `m` is the number of a board.
+    /// Returns whether `m` is the number of a board.
     pub fn is_board(&self, m: u32) -> bool
         ensures { result ≡ is_board self.now m }
     {
         (m as u64) < self.boards.len()
     }
 
-    /// Whether `x` is the number of a section.
+    /// Returns whether `x` is the number of a section.
     pub fn is_section(&self, x: u32) -> bool
         ensures { result ≡ is_section self.now x }
     {
         (x as u64) < self.sections.len()
     }
 
-    /// Whether `x` is the number of a section that is a point.
+    /// Returns whether `x` is the number of a point section.
     pub fn is_point_section(&self, x: u32) -> bool
         ensures { result ≡ is_point_section self.now x }
     {
@@ -212,7 +215,7 @@ impl Numbered {
         }
     }
 
-    /// Whether `r` is the number of a route other than route `i`.
+    /// Returns whether `r` is the number of a route other than route `i`.
     pub fn is_other_route(&self, i: u32, r: u32) -> bool
         ensures { result ≡ is_other_route self.now i r }
     {

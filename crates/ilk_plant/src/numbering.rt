@@ -8,7 +8,7 @@ use crate::{
 };
 use std::alloc::{AllocError, Global};
 
-/// The names of the sections, in order.
+/// Returns the names of the sections, in order.
 pub fn section_names(alloc: Global, sections: &Row<SectionDraft>) -> Result<Names, AllocError>
     requires { length sections.now ≤ MAX_SECTIONS }
     ensures { IfOk result (λ names. names ≡ names_of_sections sections.now) }
@@ -17,10 +17,10 @@ pub fn section_names(alloc: Global, sections: &Row<SectionDraft>) -> Result<Name
     for section in sections.as_slice() {
         names.push(section.name.copy()?)?;
     }
-    Names::of(alloc, names)
+    Names::from_names(alloc, names)
 }
 
-/// The names of the routes, in order.
+/// Returns the names of the routes, in order.
 pub fn route_names(alloc: Global, routes: &Row<RouteDraft>) -> Result<Names, AllocError>
     requires { length routes.now ≤ MAX_ROUTES }
     ensures { IfOk result (λ names. names ≡ names_of_routes routes.now) }
@@ -29,10 +29,10 @@ pub fn route_names(alloc: Global, routes: &Row<RouteDraft>) -> Result<Names, All
     for route in routes.as_slice() {
         names.push(route.name.copy()?)?;
     }
-    Names::of(alloc, names)
+    Names::from_names(alloc, names)
 }
 
-/// Boards and their names, in the order of their numbers.
+/// Boards and their names, in numerical order.
 #[derive(Drop)]
 pub struct NamedBoards {
     pub names: Row<Text>,
@@ -61,7 +61,7 @@ fn push_board(
     Ok(())
 }
 
-// Adds the boards of section `x`, the one for direction down first.
+// Adds the boards of section `x`, first the one for direction down.
 fn push_boards(
     alloc: Global,
     made: &mut NamedBoards,
@@ -85,7 +85,7 @@ fn push_boards(
     Ok(())
 }
 
-/// The boards of the sections with their names.
+/// Returns the boards of the sections with their names.
 pub fn named_boards(alloc: Global, sections: &Row<SectionDraft>) -> Result<NamedBoards, AllocError>
     requires { length sections.now ≤ MAX_SECTIONS }
     ensures names { IfOk result (λ made. made.names ≡ names_of_boards sections.now) }
@@ -103,7 +103,6 @@ pub fn named_boards(alloc: Global, sections: &Row<SectionDraft>) -> Result<Named
     Ok(made)
 }
 
-// The numbers for which these names stand.
 fn numbers_of(alloc: Global, names: &Names, wanted: &Row<Text>) -> Result<Row<u32>, AllocError>
     ensures { IfOk result (λ numbers. numbers ≡ map (number_of names.now) wanted.now) }
 {
@@ -114,7 +113,6 @@ fn numbers_of(alloc: Global, names: &Names, wanted: &Row<Text>) -> Result<Row<u3
     Ok(numbers)
 }
 
-// A section with numbers for names.
 fn numbered_section(sections: &Names, boards: &Names, kind: &KindDraft) -> Section
     ensures { result ≡ numbered_section sections.now boards.now kind.now }
 {
@@ -144,7 +142,7 @@ fn numbered_section(sections: &Names, boards: &Names, kind: &KindDraft) -> Secti
     }
 }
 
-/// The sections with numbers for names.
+/// Returns the sections with numbers in place of names.
 pub fn numbered_sections(
     alloc: Global,
     section_names: &Names,
@@ -163,7 +161,6 @@ pub fn numbered_sections(
     Ok(made)
 }
 
-// The listed points with numbers for names.
 fn numbered_points(
     alloc: Global,
     section_names: &Names,
@@ -181,7 +178,6 @@ fn numbered_points(
     Ok(made)
 }
 
-// A route with numbers for names.
 fn numbered_route(
     alloc: Global,
     section_names: &Names,
@@ -205,7 +201,7 @@ fn numbered_route(
     })
 }
 
-/// The routes with numbers for names.
+/// Returns the routes with numbers in place of names.
 pub fn numbered_routes(
     alloc: Global,
     section_names: &Names,

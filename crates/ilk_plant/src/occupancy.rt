@@ -5,14 +5,14 @@ ghost use Rattle.ilk_plant.specs.State.{is_occupied};
 use crate::{Row, State};
 use ilk_base::has_number;
 
-/// Whether a list of sections has section `x`.
+/// Returns whether `sections` contains section `x`.
 pub fn has_section(sections: &Row<u32>, x: u32) -> bool
     ensures { result ≡ has_section x sections.now }
 {
     has_number(sections.as_slice(), x)
 }
 
-/// Whether some train's body has section `x`. Where none has, the section is vacant.
+/// Returns whether section `x` is in some train's body. If not, it is vacant.
 pub fn occupied(s: &State, x: u32) -> bool
     ensures { result ≡ is_occupied s.now x }
 {

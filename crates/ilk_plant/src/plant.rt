@@ -1,21 +1,21 @@
 ghost use Rattle.std.specs.Prelude.{◌≡◌, ◌<◌, length, slice_get, Some, IfOk, IfSome};
-ghost use Rattle.ilk_plant.specs.Sound.{IsOfDrafts, NeverReturns};
-ghost use Rattle.ilk_plant.specs.Plant.{IsPlant, IsRouteOf, board_of, border, first_named, next_to, point_count, point_number};
+ghost use Rattle.ilk_plant.specs.Sound.{IsFromDrafts, NoWalkReturns};
+ghost use Rattle.ilk_plant.specs.Plant.{IsPlant, IsRouteOf, board_of, border, first_number_named, next_to, point_count, point_number};
 
-use crate::{Board, Dir, Numbered, Route, Row, Section};
+use crate::{Board, Dir, NumberedDrafts, Route, Row, Section};
 use std::alloc::{AllocError, Global};
 use std::marker::Model;
 
 /// A plant: its sections, boards and routes by number from 0, with their names.
 ///
-/// Sections and routes are numbered as the configuration lists them. Boards are numbered in the
-/// order of their sections, on one section the board for direction down first, and points in the
-/// order of their sections. A plant is within the limits on how many sections and routes there
-/// are, on what a route lists, and on names, and it breaks no rule of the network or of the table of
-/// routes.
+/// Sections and routes are numbered in the order of the configuration. Boards are numbered in the
+/// order of their sections; on one section, the board for direction down comes first. Points are
+/// numbered in the order of their sections. A plant is within the limits for counts of sections and
+/// routes, for the lists of a route, and for names. It violates no rule of the network or of the
+/// interlocking table.
 #[derive(Drop)]
 pub struct Plant {
-    numbered: Numbered,
+    numbered: NumberedDrafts,
     // For each section its number among the points, if it is one.
     point_numbers: Row<Option<u32>>,
 }
@@ -32,10 +32,10 @@ impl Model for Plant {
 }
 
 impl Plant {
-    /// The plant of a numbered network and table, which come from drafts that are within the limits
-    /// and break no rule of the network or of the table. The only refusal is want of memory.
-    pub fn of_numbered(alloc: Global, numbered: Numbered) -> Result<Plant, AllocError>
-        requires { IsOfDrafts numbered }
+    /// Creates the plant of a numbered network and table, from drafts within the limits that
+    /// violate no rule of the network or table. Fails only if memory runs out.
+    pub fn from_numbered(alloc: Global, numbered: NumberedDrafts) -> Result<Plant, AllocError>
+        requires { IsFromDrafts numbered }
         ensures { IfOk result (λ plant. plant ≡ numbered) }
     {
         let point_numbers = numbered.point_numbers(alloc)?;
@@ -45,44 +45,44 @@ impl Plant {
         })
     }
 
-    /// What holds of the numbers of every plant. It does nothing, and tells a proof.
+    /// The numbers of every plant satisfy `IsPlant`. Proof only; no run-time effect.
     pub fn is_sound(&self)
         ensures { IsPlant self.now }
     {
         let _ = &self.numbered;
     }
 
-    /// Where every plant comes from, which are drafts within the limits that break no rule; and
-    /// that no walk in one direction comes to a section twice. It does nothing, and tells a proof.
-    pub fn is_of_drafts(&self)
-        ensures drafts { IsOfDrafts self.now }
-        ensures walks { NeverReturns self.now }
+    /// Every plant comes from drafts within the limits that violate no rule, and no walk in one
+    /// direction visits a section twice. Proof only; no run-time effect.
+    pub fn is_from_drafts(&self)
+        ensures drafts { IsFromDrafts self.now }
+        ensures walks { NoWalkReturns self.now }
     {
         let _ = &self.numbered;
     }
 
-    /// The number of sections, 1 to `MAX_SECTIONS`.
+    /// Returns the number of sections, 1 to `MAX_SECTIONS`.
     pub fn sections(&self) -> u32
         ensures { result ≡ length self.now.sections }
     {
         self.numbered.sections.len() as u32
     }
 
-    /// The number of boards, at most `MAX_BOARDS`.
+    /// Returns the number of boards, at most `MAX_BOARDS`.
     pub fn boards(&self) -> u32
         ensures { result ≡ length self.now.boards }
     {
         self.numbered.boards.len() as u32
     }
 
-    /// The number of routes, at most `MAX_ROUTES`.
+    /// Returns the number of routes, at most `MAX_ROUTES`.
     pub fn routes(&self) -> u32
         ensures { result ≡ length self.now.routes }
     {
         self.numbered.routes()
     }
 
-    /// The number of points, at most as many as sections.
+    /// Returns the number of points, at most that of sections.
     pub fn points(&self) -> u32
         ensures { result ≡ point_count self.now }
     {
@@ -94,14 +94,14 @@ impl Plant {
             .count() as u32
     }
 
-    /// The routes, in the order of their numbers.
+    /// Returns the routes, in numerical order.
     pub(crate) fn routes_as_slice(&self) -> &[Route]
         ensures { result.now ≡ self.now.routes }
     {
         self.numbered.routes.as_slice()
     }
 
-    /// Section `x`.
+    /// Returns section `x`.
     pub fn section(&self, x: u32) -> &Section
         requires { x < length self.now.sections }
         ensures { slice_get self.now.sections x ≡ Some result.now }
@@ -109,7 +109,7 @@ impl Plant {
         self.numbered.sections.at(x as u64)
     }
 
-    /// Board `m`.
+    /// Returns board `m`.
     pub fn board(&self, m: u32) -> &Board
         requires { m < length self.now.boards }
         ensures { slice_get self.now.boards m ≡ Some result.now }
@@ -117,7 +117,7 @@ impl Plant {
         self.numbered.boards.at(m as u64)
     }
 
-    /// Route `r`.
+    /// Returns route `r`.
     pub fn route(&self, r: u32) -> &Route
         requires { r < length self.now.routes }
         ensures route { slice_get self.now.routes r ≡ Some result.now }
@@ -126,7 +126,7 @@ impl Plant {
         self.numbered.route(r)
     }
 
-    /// The board on section `x` for trains that run in direction `d`. None where there is none.
+    /// Returns the board on section `x` for trains in direction `d`, if there is one.
     pub fn board_of(&self, x: u32, d: Dir) -> Option<u32>
         requires { x < length self.now.sections }
         ensures board { result ≡ board_of self.now x d }
@@ -136,17 +136,17 @@ impl Plant {
         self.section(x).board_on(d)
     }
 
-    /// Entry `i`, from 0, of the sections next to section `x` on side `d`. None where there is none.
+    /// Returns entry `i`, from 0, of the sections next to section `x` on side `d`, if there is one.
     pub fn neighbour(&self, x: u32, d: Dir, i: u32) -> Option<u32>
         requires { x < length self.now.sections }
         ensures entry { result ≡ slice_get (next_to self.now x d) i }
         ensures known { IfSome result (λ y. y < length self.now.sections) }
     {
         let _ = &self.numbered;
-        self.section(x).beside(d, i)
+        self.section(x).neighbour_on(d, i)
     }
 
-    /// The number of the point on section `x`. None where the section is no point.
+    /// Returns the number of the point on section `x`. Returns `None` if it is not a point.
     pub fn point_number(&self, x: u32) -> Option<u32>
         requires { x < length self.now.sections }
         ensures number { result ≡ point_number self.now x }
@@ -155,7 +155,8 @@ impl Plant {
         *self.point_numbers.at(x as u64)
     }
 
-    /// The inward direction of section `x`, in which trains enter. None where it is no border.
+    /// Returns the inward direction of section `x`, in which trains enter. Returns `None` if it is
+    /// not a border.
     pub fn border(&self, x: u32) -> Option<Dir>
         requires { x < length self.now.sections }
         ensures { result ≡ border self.now x }
@@ -163,34 +164,34 @@ impl Plant {
         self.section(x).inward()
     }
 
-    /// The number of the section with this name. None exactly where no section has it.
+    /// Returns the number of the section with this name, if there is one.
     pub fn section_named(&self, name: &str) -> Option<u32>
-        ensures number { result ≡ first_named self.now.section_names name.now }
+        ensures number { result ≡ first_number_named self.now.section_names name.now }
         ensures known { IfSome result (λ x. x < length self.now.sections) }
     {
         let _ = &self.numbered;
         self.numbered.section_names.number(name)
     }
 
-    /// The number of the board with this name. None exactly where no board has it.
+    /// Returns the number of the board with this name, if there is one.
     pub fn board_named(&self, name: &str) -> Option<u32>
-        ensures number { result ≡ first_named self.now.board_names name.now }
+        ensures number { result ≡ first_number_named self.now.board_names name.now }
         ensures known { IfSome result (λ m. m < length self.now.boards) }
     {
         let _ = &self.numbered;
         self.numbered.board_names.number(name)
     }
 
-    /// The number of the route with this name. None exactly where no route has it.
+    /// Returns the number of the route with this name, if there is one.
     pub fn route_named(&self, name: &str) -> Option<u32>
-        ensures number { result ≡ first_named self.now.route_names name.now }
+        ensures number { result ≡ first_number_named self.now.route_names name.now }
         ensures known { IfSome result (λ r. r < length self.now.routes) }
     {
         let _ = &self.numbered;
         self.numbered.route_names.number(name)
     }
 
-    /// The name of section `x`.
+    /// Returns the name of section `x`.
     pub fn section_name(&self, x: u32) -> &str
         requires { x < length self.now.sections }
         ensures { slice_get self.now.section_names x ≡ Some result.now }
@@ -199,7 +200,7 @@ impl Plant {
         self.numbered.section_names.name(x).as_str()
     }
 
-    /// The name of board `m`.
+    /// Returns the name of board `m`.
     pub fn board_name(&self, m: u32) -> &str
         requires { m < length self.now.boards }
         ensures { slice_get self.now.board_names m ≡ Some result.now }
@@ -208,7 +209,7 @@ impl Plant {
         self.numbered.board_names.name(m).as_str()
     }
 
-    /// The name of route `r`.
+    /// Returns the name of route `r`.
     pub fn route_name(&self, r: u32) -> &str
         requires { r < length self.now.routes }
         ensures { slice_get self.now.route_names r ≡ Some result.now }

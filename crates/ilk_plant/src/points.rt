@@ -2,12 +2,13 @@ ghost use Rattle.std.specs.Prelude.{◌≡◌, ◌<◌, IfSome, slice_get};
 ghost use Rattle.ilk_base.specs.Option.{is_some_and};
 ghost use Rattle.ilk_plant.specs.ColumnRules.{is_leg};
 ghost use Rattle.ilk_plant.specs.Plant.{point_count, point_number};
-ghost use Rattle.ilk_plant.specs.State.{lie_of};
+ghost use Rattle.ilk_plant.specs.State.{detected_position};
 
 use crate::{Lie, Plant, Position, Section, State};
 
-/// The number of the point on section `x`. None where `x` is no section, or one that is no point.
-pub fn point_on(plant: &Plant, x: u32) -> Option<u32>
+/// Returns the number of the point on section `x`. Returns `None` if `x` is not a section or not a
+/// point.
+pub fn point_number_at(plant: &Plant, x: u32) -> Option<u32>
     ensures number { result ≡ point_number plant.now x }
     ensures known { IfSome result (λ n. n < point_count plant.now) }
 {
@@ -18,17 +19,18 @@ pub fn point_on(plant: &Plant, x: u32) -> Option<u32>
     }
 }
 
-/// Where the point on section `x` lies. None where `x` is no section, or one that is no point.
-pub fn lie_of(plant: &Plant, s: &State, x: u32) -> Option<Lie>
-    ensures { result ≡ lie_of plant.now s.now x }
+/// Returns the detected position of the point on section `x`. Returns `None` if `x` is not a
+/// section or not a point.
+pub fn detected_position(plant: &Plant, s: &State, x: u32) -> Option<Lie>
+    ensures { result ≡ detected_position plant.now s.now x }
 {
-    let n = point_on(plant, x)?;
+    let n = point_number_at(plant, x)?;
     let point = s.points.as_slice().get(n as usize)?;
     Some(point.at)
 }
 
-/// Whether section `y` is the leg of section `x` at a position. No section is the leg of one that is no
-/// point.
+/// Returns whether section `y` is the leg of section `x` at position `at`. Returns `false` if `x`
+/// is not a point.
 pub fn is_leg(plant: &Plant, x: u32, at: Position, y: u32) -> bool
     ensures { result ≡ is_some_and (slice_get plant.now.sections x) (is_leg at y) }
 {

@@ -5,7 +5,6 @@ ghost use Rattle.ilk_plant.specs.Start.{start};
 use crate::{Aspect, Hold, Lie, Mode, Plant, PointState, Position, RouteState, Row, State};
 use std::alloc::{AllocError, Global};
 
-// A row of `n` copies of an item.
 fn copies<T: Copy>(alloc: Global, item: T, n: u32) -> Result<Row<T>, AllocError>
     ensures { IfOk result (λ row. row ≡ replicate n item) }
 {
@@ -16,8 +15,8 @@ fn copies<T: Copy>(alloc: Global, item: T, n: u32) -> Result<Row<T>, AllocError>
     Ok(row)
 }
 
-/// The state at the start: no train, every route free, every point at plus and commanded there,
-/// every board closed and every lock free.
+/// Returns the initial state: no train, all routes free, all points at plus and commanded there,
+/// all boards closed, all locks free.
 pub fn start_state(alloc: Global, plant: &Plant) -> Result<State, AllocError>
     ensures start { IfOk result (λ s. s ≡ start plant.now) }
     ensures shape { IfOk result (HasShape plant.now) }

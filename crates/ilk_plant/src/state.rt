@@ -3,7 +3,7 @@ ghost use Rattle.std.specs.Prelude.{◌≡◌, IfOk};
 use crate::{Dir, Position, Row};
 use std::alloc::AllocError;
 
-/// How far the setting and the use of a route have come.
+/// The progress of a route's setting and use.
 #[derive(Clone, Copy, PartialEq, Eq, Debug)]
 pub enum Mode {
     Free,
@@ -13,8 +13,8 @@ pub enum Mode {
     Occupied,
 }
 
-/// The state of a route: its mode, how many of its path sections trains were seen to take, and how
-/// many were given back behind them.
+/// The state of a route: its mode, the number of its path sections detected as taken by trains, and
+/// the number released behind them.
 #[derive(Clone, Copy, PartialEq, Eq, Debug)]
 pub struct RouteState {
     pub mode: Mode,
@@ -22,7 +22,7 @@ pub struct RouteState {
     pub rel: u32,
 }
 
-/// Where a point lies.
+/// The detected position of a point.
 #[derive(Clone, Copy, PartialEq, Eq, Debug)]
 pub enum Lie {
     Plus,
@@ -30,14 +30,14 @@ pub enum Lie {
     Moving,
 }
 
-/// The state of a point: where it lies, and where it is commanded.
+/// The state of a point: its detected position and its commanded position.
 #[derive(Clone, Copy, PartialEq, Eq, Debug)]
 pub struct PointState {
     pub at: Lie,
     pub to: Position,
 }
 
-/// What the virtual signal of a marker board shows.
+/// The aspect of a marker board's virtual signal.
 #[derive(Clone, Copy, PartialEq, Eq, Debug)]
 pub enum Aspect {
     Open,
@@ -52,14 +52,14 @@ pub enum Hold {
     Used,
 }
 
-/// A train, whose body lists its sections from tail to head.
+/// A train. Its body lists its sections from tail to head.
 #[derive(Drop)]
 pub struct Train {
     pub dir: Dir,
     pub body: Row<u32>,
 }
 
-/// A state of the plant. Routes, points, boards and locks stand in the order of their numbers.
+/// A state of the plant. Routes, points, boards and locks are in numerical order.
 #[derive(Drop)]
 pub struct State {
     pub routes: Row<RouteState>,
@@ -70,7 +70,6 @@ pub struct State {
 }
 
 impl Train {
-    // An equal train.
     fn copy(&self) -> Result<Train, AllocError>
         ensures { IfOk result (λ train. train ≡ self.now) }
     {
@@ -81,7 +80,6 @@ impl Train {
     }
 }
 
-// An equal list of trains.
 fn copy_trains(trains: &Row<Train>) -> Result<Row<Train>, AllocError>
     ensures { IfOk result (λ made. made ≡ trains.now) }
 {
@@ -93,7 +91,7 @@ fn copy_trains(trains: &Row<Train>) -> Result<Row<Train>, AllocError>
 }
 
 impl State {
-    /// An equal state.
+    /// Returns a copy of the state.
     pub fn copy(&self) -> Result<State, AllocError>
         ensures { IfOk result (λ state. state ≡ self.now) }
     {

@@ -1,6 +1,6 @@
 use crate::{Position, Row};
 
-/// A point, by its section, with the position in which a route wants it.
+/// A point, by its section, with the position required by a route.
 #[derive(Clone, Copy, PartialEq, Eq, Debug)]
 pub struct Listed {
     pub point: u32,
@@ -12,17 +12,17 @@ pub struct Listed {
 pub struct Route {
     /// The board at which the route begins.
     pub source: u32,
-    /// The board at which it ends. None where it leads out of the network.
+    /// The board at which it ends, or `None` if it leads out of the network.
     pub destination: Option<u32>,
     /// Its sections, in the order in which a train passes them.
     pub path: Row<u32>,
-    /// The sections behind its end that are kept clear with it.
+    /// The sections beyond its end that are kept clear with it.
     pub overlap: Row<u32>,
-    /// The points that it wants, with their positions.
+    /// The points that it requires, with their positions.
     pub points: Row<Listed>,
     /// The routes that may not be set together with it.
     pub conflicts: Row<u32>,
-    /// The points beside its way that are held while it is set, with their positions, so that no
+    /// The points beside its path that are held while it is set, with their positions, so that no
     /// other train is led into it.
     pub protecting_points: Row<Listed>,
     /// The boards that are kept closed while it is locked, so that no train starts towards it.

@@ -1,5 +1,5 @@
-//! The words by which texts name directions, positions, lies, aspects, locks and modes. Each type
-//! has one table, `word`; `of_word` reads by it.
+//! The words in texts for directions, positions, lies, aspects, locks and modes. Each type has one
+//! table, `word`; `from_word` reads by it.
 
 ghost use Rattle.std.specs.Prelude.{◌≡◌};
 ghost use Rattle.ilk_plant.specs.Words as words;
@@ -21,9 +21,9 @@ impl Worded for Dir {
 }
 
 impl Dir {
-    /// The direction that has this word. None where it is the word of none.
-    pub fn of_word(word: &[u8]) -> Option<Dir>
-        ensures { result ≡ words.direction_of_word word.now }
+    /// Returns the direction with this word, if there is one.
+    pub fn from_word(word: &[u8]) -> Option<Dir>
+        ensures { result ≡ words.direction_from_word word.now }
     {
         value_of_word(&[Dir::Up, Dir::Down], word)
     }
@@ -43,9 +43,9 @@ impl Worded for Position {
 }
 
 impl Position {
-    /// The position that has this word. None where it is the word of none.
-    pub fn of_word(word: &[u8]) -> Option<Position>
-        ensures { result ≡ words.position_of_word word.now }
+    /// Returns the position with this word, if there is one.
+    pub fn from_word(word: &[u8]) -> Option<Position>
+        ensures { result ≡ words.position_from_word word.now }
     {
         value_of_word(&[Position::Plus, Position::Minus], word)
     }
@@ -66,9 +66,9 @@ impl Worded for Lie {
 }
 
 impl Lie {
-    /// The lie of a point that has this word. None where it is the word of none.
-    pub fn of_word(word: &[u8]) -> Option<Lie>
-        ensures { result ≡ words.lie_of_word word.now }
+    /// Returns the lie of a point with this word, if there is one.
+    pub fn from_word(word: &[u8]) -> Option<Lie>
+        ensures { result ≡ words.lie_from_word word.now }
     {
         value_of_word(&[Lie::Plus, Lie::Minus, Lie::Moving], word)
     }
@@ -88,9 +88,9 @@ impl Worded for Aspect {
 }
 
 impl Aspect {
-    /// The aspect that has this word. None where it is the word of none.
-    pub fn of_word(word: &[u8]) -> Option<Aspect>
-        ensures { result ≡ words.aspect_of_word word.now }
+    /// Returns the aspect with this word, if there is one.
+    pub fn from_word(word: &[u8]) -> Option<Aspect>
+        ensures { result ≡ words.aspect_from_word word.now }
     {
         value_of_word(&[Aspect::Open, Aspect::Closed], word)
     }
@@ -111,9 +111,9 @@ impl Worded for Hold {
 }
 
 impl Hold {
-    /// The lock that has this word. None where it is the word of none.
-    pub fn of_word(word: &[u8]) -> Option<Hold>
-        ensures { result ≡ words.hold_of_word word.now }
+    /// Returns the lock with this word, if there is one.
+    pub fn from_word(word: &[u8]) -> Option<Hold>
+        ensures { result ≡ words.hold_from_word word.now }
     {
         value_of_word(&[Hold::Free, Hold::Locked, Hold::Used], word)
     }
@@ -136,9 +136,9 @@ impl Worded for Mode {
 }
 
 impl Mode {
-    /// The mode that has this word. None where it is the word of none.
-    pub fn of_word(word: &[u8]) -> Option<Mode>
-        ensures { result ≡ words.mode_of_word word.now }
+    /// Returns the mode with this word, if there is one.
+    pub fn from_word(word: &[u8]) -> Option<Mode>
+        ensures { result ≡ words.mode_from_word word.now }
     {
         value_of_word(
             &[

@@ -1,10 +1,10 @@
-//! Whether bytes are a certificate of a plant, whoever wrote them: the audit that an assessor relies on
-//! in place of any search, and with no crate of the search below it.
+//! Checks whether bytes are a certificate of a plant, regardless of their origin. An assessor can
+//! rely on this audit instead of any search; none of its dependencies is a search crate.
 //!
-//! A certificate of a plant is one of its finite system (`ilk_behave`) and of what is asked of it, as
-//! forms over its image (`ilk_queries`). `CertAudit` makes the two of the plant once, takes the bytes in
-//! pieces of any lengths (`feed`), and answers `end` for what number they are a certificate, or which
-//! line is the first bad one. All else is that of `ilk_cert_audit`, over them.
+//! A certificate of a plant is a certificate of its finite system (`ilk_behave`) and its goal
+//! (`ilk_queries`). `CertAudit` builds both once and takes the bytes in pieces of any length
+//! (`feed`). `end` returns the number that the certificate is for, or the first bad line.
+//! Everything else is in `ilk_cert_audit`.
 #![tactic(auto)]
 
 mod audit;

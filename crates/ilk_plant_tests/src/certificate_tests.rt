@@ -2,24 +2,26 @@ ghost use Rattle.std.specs.Prelude.{◌<◌};
 
 use crate::plants::plant_of;
 use crate::texts::line;
-use ilk_engine::{CertAudit, CertificateText, Ended, Fed, Found, certificate, certify, decide};
+use ilk_engine::{
+    CertAudit, CertificateText, Ended, Fed, Found, certificate, certificate_in_pieces, decide,
+};
 use ilk_plant::Plant;
 use std::alloc::{AllocError, Global};
 use std::test::Fail;
 
-// The certificate for the verdict on the plant, as `certificate` writes it whole.
+// Returns the certificate as a whole.
 fn written(alloc: Global, plant: &Plant) -> Result<Vec<u8>, AllocError> {
     let found = decide(alloc, plant, 1, 100)?;
     certificate(alloc, &found)
 }
 
-// The same, to be taken in pieces.
+// Returns the certificate in pieces.
 fn certified(alloc: Global, plant: &Plant) -> Result<CertificateText, AllocError> {
     let Found { verdict, asked } = decide(alloc, plant, 1, 100)?;
-    certify(alloc, &verdict, asked)
+    certificate_in_pieces(alloc, &verdict, asked)
 }
 
-// Whether a text that is taken in pieces is this one, to its end.
+// Returns whether the text taken in pieces is `whole`.
 fn is_taken(text: &mut CertificateText, whole: &[u8]) -> bool {
     for piece in whole.chunks(7) {
         let mut taken = [0; 7];
@@ -31,7 +33,8 @@ fn is_taken(text: &mut CertificateText, whole: &[u8]) -> bool {
     text.take(&mut [0]) == 0
 }
 
-// What is answered to a text that comes in pieces of at most this length, with an empty one after each.
+// Returns the end of an audit of a text in pieces of at most `length` bytes, with an empty piece
+// after each.
 fn ended(alloc: Global, plant: &Plant, text: &[u8], length: usize) -> Result<Ended, AllocError>
     requires { 0 < length }
 {
@@ -43,7 +46,7 @@ fn ended(alloc: Global, plant: &Plant, text: &[u8], length: usize) -> Result<End
     Ok(audit.end())
 }
 
-// For what number a text is accepted; 0 where it isn't.
+// Returns the k of an accepted text, or 0.
 fn accepted(ended: Ended) -> u32 {
     match ended {
         Ended::Accepted { k } => k,
@@ -51,7 +54,7 @@ fn accepted(ended: Ended) -> u32 {
     }
 }
 
-// Which line of a text is the first bad one; 0 where none is.
+// Returns the first bad line, or 0 if there is none.
 fn rejected(ended: Ended) -> u64 {
     match ended {
         Ended::Accepted { .. } => 0,
@@ -59,7 +62,6 @@ fn rejected(ended: Ended) -> u64 {
     }
 }
 
-// `certificate` and `certify` give one text.
 #[test]
 fn a_certificate_whole_and_in_pieces(rt: HostRuntime) -> Result<(), Fail> {
     let alloc = rt.alloc();
@@ -73,7 +75,6 @@ fn a_certificate_whole_and_in_pieces(rt: HostRuntime) -> Result<(), Fail> {
     Ok(())
 }
 
-// A certificate is accepted in whatever pieces it comes.
 #[test]
 fn a_certificate_in_pieces_of_any_length(rt: HostRuntime) -> Result<(), Fail> {
     let alloc = rt.alloc();
@@ -86,7 +87,7 @@ fn a_certificate_in_pieces_of_any_length(rt: HostRuntime) -> Result<(), Fail> {
     Ok(())
 }
 
-// So is the first bad line of a text the same: a query that is asked twice, and an end that isn't there.
+// The first bad line, a query that is asked twice, is the same in pieces of any length.
 #[test]
 fn a_bad_line_in_pieces_of_any_length(rt: HostRuntime) -> Result<(), Fail> {
     let alloc = rt.alloc();

@@ -4,12 +4,12 @@ use ilk_plant::{
 };
 use std::alloc::{AllocError, Global};
 
-/// What is other than at the start.
+/// A difference from the initial state.
 #[derive(Clone, Copy)]
 pub enum Change {
     /// A route's mode, and how many of its path sections are seen and released.
     Route(u64, Mode, u32, u32),
-    /// A point, where it lies and where it is commanded.
+    /// A point, its position and its commanded position.
     Point(u64, Lie, Position),
     /// A board that is open.
     Open(u64),
@@ -19,7 +19,6 @@ pub enum Change {
     Train(Dir, &'static [u32]),
 }
 
-// Writes item `i`, if there is one.
 fn write<T: Copy>(row: &mut Row<T>, i: u64, item: T) {
     if i < row.len() {
         *row.at_mut(i) = item;
@@ -55,8 +54,12 @@ fn make_change(alloc: Global, s: &mut State, change: Change) -> Result<(), Alloc
     Ok(())
 }
 
-/// The start with these changes.
-pub fn changed(alloc: Global, plant: &Plant, changes: &[Change]) -> Result<State, AllocError> {
+/// Returns the initial state with these changes.
+pub fn start_with_changes(
+    alloc: Global,
+    plant: &Plant,
+    changes: &[Change],
+) -> Result<State, AllocError> {
     let mut s = start(alloc, plant)?;
     for each in changes {
         make_change(alloc, &mut s, *each)?;

@@ -5,7 +5,6 @@ use ilk_plant::Plant;
 use std::alloc::Global;
 use std::test::Fail;
 
-// A verdict in words.
 fn verdict_name(alloc: Global, verdict: &Verdict) -> Result<String, Fail> {
     Ok(match verdict {
         Verdict::Safe { k } => format!(in alloc; "safe from {k} events on")?,
@@ -25,7 +24,7 @@ fn verdict_name(alloc: Global, verdict: &Verdict) -> Result<String, Fail> {
     })
 }
 
-// What is answered of a plant, with conflicts in plenty.
+// Returns the verdict on a plant in words, with ample conflicts.
 fn answer(alloc: Global, plant: &Plant, depth: u32) -> Result<String, Fail> {
     if depth == 0 || depth > 16 {
         return Err(Fail::new("no depth"));
@@ -34,7 +33,7 @@ fn answer(alloc: Global, plant: &Plant, depth: u32) -> Result<String, Fail> {
     verdict_name(alloc, &found.verdict)
 }
 
-// Compares what is answered with one of two verdicts in words.
+// Fails unless the verdict is one of these two.
 fn compare_answer(
     alloc: Global,
     plant: &Plant,
@@ -50,7 +49,6 @@ fn compare_answer(
     }
 }
 
-// The same of the plant of a configuration.
 fn is_answered(
     alloc: Global,
     text: &str,

@@ -1,7 +1,6 @@
-//! The plants of `examples/` that break no rule, as they stand there, but for those that are a plant of
-//! `texts` or of `stations`. Each stands in a function of its own, as in `texts`.
+//! Plants of `examples/` that break no rule, unchanged. Each is in its own function, as in `texts`.
 
-/// A point and two platforms.
+/// Points and two platforms.
 pub fn platforms() -> &'static str {
     r#"{"version": 1,
  "sections": [

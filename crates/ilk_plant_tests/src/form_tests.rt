@@ -1,6 +1,8 @@
 use crate::changes::Change::{self, Locks, Open, Point, Route, Train};
-use crate::changes::changed;
-use crate::forms::{PlantForms, compare_denied, compare_forms, decoded, forms_of, is_hazardous};
+use crate::changes::start_with_changes;
+use crate::forms::{
+    PlantForms, compare_denied, compare_forms, decode_state, forms_of, is_hazardous,
+};
 use crate::plants::{image_of, plant_of};
 use crate::texts::{bare_line, station};
 use ilk_ir::{Values, holds};
@@ -13,11 +15,11 @@ use ilk_plant::{Plant, State, Train as TrainState};
 use std::alloc::{AllocError, Global};
 use std::test::Fail;
 
-// The sections of the station are b1 0, p1 1, t1 2, t2 3, p2 4 and b2 5. The route r1 0 leads from b1
-// over p1 to t1, r3 2 from t1 over p2 to b2, r7 6 from t1 over p1 to b1. The board of r1 is 0, that of
-// r3 is 2.
+// The sections of the station are b1 0, p1 1, t1 2, t2 3, p2 4 and b2 5. The route r1 0 leads from
+// b1 over p1 to t1, r3 2 from t1 over p2 to b2, r7 6 from t1 over p1 to b1. The board of r1 is 0,
+// that of r3 is 2.
 
-// Compares the forms over the start with these changes, which breaks these families.
+// Compares the forms with the initial state under these changes, which breaks these families.
 fn breaks(alloc: Global, changes: &[Change], families: &[u8]) -> Result<(), Fail> {
     let plant = plant_of(alloc, station())?;
     breaks_on(alloc, &plant, changes, families)
@@ -30,11 +32,10 @@ fn breaks_on(
     families: &[u8],
 ) -> Result<(), Fail> {
     let forms = forms_of(alloc, plant)?;
-    let s = changed(alloc, plant, changes)?;
+    let s = start_with_changes(alloc, plant, changes)?;
     compare_broken(alloc, plant, &forms, &s, families)
 }
 
-// The same of a state.
 fn compare_broken(
     alloc: Global,
     plant: &Plant,
@@ -157,7 +158,7 @@ fn protecting_boards(rt: HostRuntime) -> Result<(), Fail> {
     )
 }
 
-// Compares the forms over the start with these changes, which has a hazard.
+// Compares the forms with the initial state under these changes, which has a hazard.
 fn has_hazard(alloc: Global, changes: &[Change]) -> Result<(), Fail> {
     let plant = plant_of(alloc, station())?;
     has_hazard_on(alloc, &plant, changes)
@@ -165,7 +166,7 @@ fn has_hazard(alloc: Global, changes: &[Change]) -> Result<(), Fail> {
 
 fn has_hazard_on(alloc: Global, plant: &Plant, changes: &[Change]) -> Result<(), Fail> {
     let forms = forms_of(alloc, plant)?;
-    let s = changed(alloc, plant, changes)?;
+    let s = start_with_changes(alloc, plant, changes)?;
     if is_hazardous(plant, &s) {
         compare_forms(alloc, plant, &forms, &s)
     } else {
@@ -173,8 +174,8 @@ fn has_hazard_on(alloc: Global, plant: &Plant, changes: &[Change]) -> Result<(),
     }
 }
 
-// Two trains in one section; a train on a point that moves; a train over the leg where the point
-// doesn't lie.
+// Two trains in one section; a train on moving points; a train over the leg for which the points
+// are not set.
 #[test]
 fn hazards_stand(rt: HostRuntime) -> Result<(), Fail> {
     has_hazard(rt.alloc(), &[Train(Up, &[2]), Train(Down, &[2])])?;
@@ -195,7 +196,6 @@ fn values_of(alloc: Global, numbers: &[u8]) -> Result<Values, AllocError> {
     Ok(values)
 }
 
-// Whether the forms of hazards, of well-formed values and of the start hold.
 fn forms_hold(forms: &PlantForms, values: &Values) -> [bool; 3] {
     [
         holds(&forms.hazard, values),
@@ -204,8 +204,8 @@ fn forms_hold(forms: &PlantForms, values: &Values) -> [bool; 3] {
     ]
 }
 
-// Compares what holds of values of the bare line: the forms of hazards, of well-formed values and of
-// the start, and those of the families but these.
+// Checks which forms hold over values of the bare line: `hold` gives the hazard, well-formed and
+// initial-state forms, and `families` the families whose forms fail.
 fn row(alloc: Global, numbers: &[u8], hold: [bool; 3], families: &[u8]) -> Result<(), Fail> {
     let plant = plant_of(alloc, bare_line())?;
     row_on(alloc, &plant, numbers, hold, families)
@@ -236,7 +236,6 @@ fn values_of_the_bare_line(rt: HostRuntime) -> Result<(), Fail> {
     row(rt.alloc(), &[0, 0, 4, 0], [false, true, false], &[7, 8])
 }
 
-// Compares trains with one of this direction and body.
 fn compare_train(trains: &[TrainState], dir: Dir, body: &[u32]) -> Result<(), Fail> {
     match trains {
         [train] if train.dir == dir && train.body.as_slice() == body => Ok(()),
@@ -244,7 +243,7 @@ fn compare_train(trains: &[TrainState], dir: Dir, body: &[u32]) -> Result<(), Fa
     }
 }
 
-// Reads values of the bare line, and compares the one train of the state.
+// Reads values of the bare line, and compares the only train of the state.
 fn train_read(alloc: Global, numbers: &[u8], dir: Dir, body: &[u32]) -> Result<(), Fail> {
     let plant = plant_of(alloc, bare_line())?;
     train_read_on(alloc, &plant, numbers, dir, body)
@@ -258,7 +257,7 @@ fn train_read_on(
     body: &[u32],
 ) -> Result<(), Fail> {
     let values = values_of(alloc, numbers)?;
-    match decoded(alloc, plant, &values)? {
+    match decode_state(alloc, plant, &values)? {
         None => Err(Fail::new("values of no state")),
         Some(s) => compare_train(s.trains.as_slice(), dir, body),
     }

@@ -21,7 +21,7 @@ pub struct PlantForms {
     pub families: Forms,
 }
 
-/// The forms of a plant.
+/// Creates the forms of a plant.
 pub fn forms_of(alloc: Global, plant: &Plant) -> Result<PlantForms, AllocError> {
     Ok(PlantForms {
         hazard: hazard_form(alloc, plant)?,
@@ -31,7 +31,7 @@ pub fn forms_of(alloc: Global, plant: &Plant) -> Result<PlantForms, AllocError> 
     })
 }
 
-// The numbers of the families, from 1, whose forms don't hold.
+// Returns the numbers of the families, from 1, whose forms don't hold.
 fn denied(alloc: Global, families: &Forms, values: &Values) -> Result<Vec<u8>, AllocError> {
     let mut numbers = Vec::new(alloc);
     for (form, number) in families.as_slice().iter().zip(1..10) {
@@ -42,7 +42,6 @@ fn denied(alloc: Global, families: &Forms, values: &Values) -> Result<Vec<u8>, A
     Ok(numbers)
 }
 
-// Whether there is a value for each range, below it.
 fn are_in_ranges(values: &[u8], ranges: &[u8]) -> bool
     ensures { result ≡ in_ranges values.now ranges.now }
 {
@@ -58,9 +57,13 @@ fn are_in_ranges(values: &[u8], ranges: &[u8]) -> bool
     }
 }
 
-/// The state that has this image. None where the values are out of range, or the well-formed form
+/// Returns the state with this image, or `None` if a value is out of range or the well-formed form
 /// doesn't hold.
-pub fn decoded(alloc: Global, plant: &Plant, values: &Values) -> Result<Option<State>, AllocError> {
+pub fn decode_state(
+    alloc: Global,
+    plant: &Plant,
+    values: &Values,
+) -> Result<Option<State>, AllocError> {
     let ranges = ranges(alloc, plant)?;
     let wellformed = wellformed_form(alloc, plant)?;
     if !are_in_ranges(values.as_slice(), ranges.as_slice()) || !holds(&wellformed, values) {
@@ -69,7 +72,7 @@ pub fn decoded(alloc: Global, plant: &Plant, values: &Values) -> Result<Option<S
     Ok(Some(state_of(alloc, plant, values)?))
 }
 
-// Compares the forms of the families with the least family that a state without hazard breaks.
+// Compares the family forms with the least family that a state without hazard breaks.
 fn compare_families(
     alloc: Global,
     plant: &Plant,
@@ -88,9 +91,8 @@ fn compare_families(
     }
 }
 
-// Compares a state without hazard with the one that its image is read as.
 fn compare_decoded(alloc: Global, plant: &Plant, values: &Values) -> Result<(), Fail> {
-    match decoded(alloc, plant, values)? {
+    match decode_state(alloc, plant, values)? {
         None => Err(Fail::new("an image that isn't well-formed")),
         Some(read) => compare_image(alloc, plant, &read, values),
     }
@@ -106,7 +108,6 @@ pub fn compare_image(alloc: Global, plant: &Plant, s: &State, values: &Values) -
     }
 }
 
-// Compares all forms over the image of a state.
 fn compare_values(
     alloc: Global,
     plant: &Plant,
@@ -128,8 +129,7 @@ fn compare_values(
     compare_decoded(alloc, plant, values)
 }
 
-/// Compares all forms over a state's image with what is said of the state, and reads the state back
-/// where it has no hazard.
+/// Compares all forms over a state's image with the state. Reads it back if it has no hazard.
 pub fn compare_forms(
     alloc: Global,
     plant: &Plant,
@@ -140,7 +140,7 @@ pub fn compare_forms(
     compare_values(alloc, plant, forms, s, &values)
 }
 
-/// Compares the families whose forms don't hold with these.
+/// Fails unless the families whose forms don't hold are these.
 pub fn compare_denied(
     alloc: Global,
     forms: &PlantForms,
@@ -155,7 +155,7 @@ pub fn compare_denied(
     }
 }
 
-/// Whether a state has a hazard.
+/// Returns whether a state has a hazard.
 pub fn is_hazardous(plant: &Plant, s: &State) -> bool {
     plant.has_shape(s) && hazard(plant, s).is_some()
 }

@@ -1,12 +1,10 @@
-//! Tests of the layers between a plant and its verdict, in a crate of their own: a crate with tests
-//! is proved twice.
+//! Tests of the layers between a plant and its verdict, in a separate crate because a crate with
+//! tests is proved twice.
 //!
-//! `walk_tests` goes through many states of a plant, and compares each event with the rules of the
-//! plant's system, and each state with the forms over its image. `form_tests` has states that are made
-//! by hand, and values; `decide_tests` has verdicts, and
-//! `certificate_tests` the certificate of one, whole and in pieces. `name_tests` asks what has a name.
-//! `strict_tests` walks over plants whose tables break
-//! no rule, and asks the invariant after each event.
+//! `walk_tests` visits many states of a plant, and compares each event with the rules of the
+//! plant's system, and each state with the forms over its image. `form_tests` has hand-written
+//! states and values. `strict_tests` walks over plants with strict tables and checks the invariant
+//! after each event.
 #![tactic(auto)]
 
 #[cfg(test)]

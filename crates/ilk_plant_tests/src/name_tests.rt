@@ -2,7 +2,7 @@ use crate::plants::plant_of;
 use crate::texts::line;
 use std::test::Fail;
 
-// Sections, boards and routes are found by their names, each kind among its own.
+// Sections, boards and routes are found by name, each kind separately.
 #[test]
 fn names_of_a_line(rt: HostRuntime) -> Result<(), Fail> {
     let plant = plant_of(rt.alloc(), line())?;

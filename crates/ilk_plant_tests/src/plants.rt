@@ -13,7 +13,6 @@ use ilk_table_read::read_drafts;
 use std::alloc::Global;
 use std::test::Fail;
 
-// Whether no rule is broken.
 fn is_clean(broken: &Row<Broken>) -> bool
     ensures { IsTrue result → broken.now ≡ [] }
 {
@@ -23,7 +22,6 @@ fn is_clean(broken: &Row<Broken>) -> bool
     }
 }
 
-// The plant of drafts that break no rule of the network or of the table.
 fn plant_of_drafts(alloc: Global, net: &NetDraft, table: &TableDraft) -> Result<Plant, Fail>
     requires { HasLimits net.now table.now }
 {
@@ -36,7 +34,7 @@ fn plant_of_drafts(alloc: Global, net: &NetDraft, table: &TableDraft) -> Result<
     }
 }
 
-/// The plant of a configuration.
+/// Returns the plant of a configuration.
 pub fn plant_of(alloc: Global, text: &str) -> Result<Plant, Fail> {
     match read_drafts(alloc, text.as_bytes()) {
         Ok((net, table)) => plant_of_drafts(alloc, &net, &table),
@@ -44,7 +42,7 @@ pub fn plant_of(alloc: Global, text: &str) -> Result<Plant, Fail> {
     }
 }
 
-/// The plant of a configuration that breaks no rule of the columns either.
+/// Returns the plant of a configuration that breaks no column rule either.
 pub fn strict_plant_of(alloc: Global, text: &str) -> Result<Plant, Fail>
     ensures { IfOk result IsStrict }
 {
@@ -58,7 +56,7 @@ pub fn strict_plant_of(alloc: Global, text: &str) -> Result<Plant, Fail>
     }
 }
 
-/// The image of a state.
+/// Returns the image of a state.
 pub fn image_of(alloc: Global, plant: &Plant, s: &State) -> Result<Values, Fail> {
     if !plant.has_shape(s) {
         return Err(Fail::new("a state without shape"));
@@ -66,8 +64,13 @@ pub fn image_of(alloc: Global, plant: &Plant, s: &State) -> Result<Values, Fail>
     Ok(image(alloc, plant, s)?)
 }
 
-/// The state after an event. None where the event isn't enabled.
-pub fn after(alloc: Global, plant: &Plant, s: &State, event: Event) -> Result<Option<State>, Fail> {
+/// Returns the state after an event, or `None` if it isn't enabled.
+pub fn state_after(
+    alloc: Global,
+    plant: &Plant,
+    s: &State,
+    event: Event,
+) -> Result<Option<State>, Fail> {
     if !plant.has_shape(s) {
         return Err(Fail::new("a state without shape"));
     }
@@ -79,7 +82,7 @@ pub fn after(alloc: Global, plant: &Plant, s: &State, event: Event) -> Result<Op
     }
 }
 
-/// The event of a kind, from 0, with the number of its route or section.
+/// Returns the event of a kind, from 0, with the number of its route or section.
 pub fn event(kind: u32, number: u32) -> Event {
     match kind {
         0 => Event::Mark(number),
@@ -98,7 +101,7 @@ pub fn event(kind: u32, number: u32) -> Event {
     }
 }
 
-/// All events with numbers of routes and sections, and of each kind one with a number that names
+/// Returns all events with numbers of routes and sections, and for each kind one whose number names
 /// nothing.
 pub fn events(alloc: Global, plant: &Plant) -> Result<Vec<Event>, Fail> {
     let mut all = Vec::new(alloc);

@@ -1,5 +1,5 @@
 use crate::forms::compare_image;
-use crate::plants::{after, image_of};
+use crate::plants::{image_of, state_after};
 use ilk_behave::event_of;
 use ilk_ir::{System, Values, fire};
 use ilk_model::Event;
@@ -7,7 +7,7 @@ use ilk_plant::{Plant, State};
 use std::alloc::Global;
 use std::test::Fail;
 
-// The values after a rule. None where its guard doesn't hold.
+// Returns the values after a rule, or `None` if its guard doesn't hold.
 fn fired(
     alloc: Global,
     system: &System,
@@ -25,7 +25,6 @@ fn fired(
     }
 }
 
-// Compares values with the image of the state after an event, which is enabled.
 fn compare_next(
     alloc: Global,
     plant: &Plant,
@@ -33,14 +32,14 @@ fn compare_next(
     event: Event,
     values: &Values,
 ) -> Result<(), Fail> {
-    match after(alloc, plant, s, event)? {
+    match state_after(alloc, plant, s, event)? {
         None => Err(Fail::new("a rule of an event that isn't enabled")),
         Some(next) => compare_image(alloc, plant, &next, values),
     }
 }
 
-// Compares a rule with its event: where its guard holds the event is enabled, and the values after
-// the rule are the image of the state after the event. Answers the event where the guard holds.
+// Compares a rule with its event. If its guard holds, the event is enabled and the rule's values
+// are the image of the next state; returns the event.
 fn compare_rule(
     alloc: Global,
     plant: &Plant,
@@ -59,7 +58,7 @@ fn compare_rule(
     }
 }
 
-// Compares each rule of the system with its event, and answers the events of those that fire.
+// Returns the events of the rules that fire, each compared with its rule.
 fn compare_rules(
     alloc: Global,
     plant: &Plant,
@@ -77,13 +76,12 @@ fn compare_rules(
     Ok(enabled)
 }
 
-// Whether an event is enabled.
 fn is_enabled(alloc: Global, plant: &Plant, s: &State, event: Event) -> Result<bool, Fail> {
-    Ok(after(alloc, plant, s, event)?.is_some())
+    Ok(state_after(alloc, plant, s, event)?.is_some())
 }
 
-/// Compares the plant's system with the events in a state without hazard: each event is enabled
-/// exactly where some rule of it fires, and each of these leads to the image of the next state.
+/// Compares the plant's system with its events in a state without hazard. An event is enabled if
+/// and only if a rule of it fires, and each such rule leads to the image of the next state.
 pub fn compare_events(
     alloc: Global,
     plant: &Plant,

@@ -1,12 +1,12 @@
-//! Stations in a row as a configuration: each is a loop of two tracks between two points, and single
-//! lines join them. There are 5 sections and 8 routes for each station, and one section more.
+//! Stations in a row as a configuration. Each is a loop of two tracks between two points; single
+//! lines join them. There are 5 sections and 8 routes for each station, and one more section.
 //!
-//! The text is put together from pieces. In a piece `#` stands for the number of its station, `<` for the
-//! number before it and `>` for the number after it.
+//! The text is built from pieces, in which `#` is the station's number, `<` the number before and
+//! `>` the number after it.
 
 use std::alloc::{AllocError, Global};
 
-// What comes before the first station.
+// The text before the first station.
 const HEAD: &str = r##"{"version":1,"sections":[
  {"name":"l0","kind":"linear","down":null,"up":"p1","board_down":null,"board_up":"l0U"}"##;
 
@@ -32,14 +32,14 @@ const IN_UP: &str = r##"
  {"name":"s#r2","source":"l<U","destination":"u#U","path":["p#","u#"],"overlap":[],
   "points":[{"point":"p#","position":"minus"}],"conflicts":["s#r1","s#r6","s#r7","s#r8"]},"##;
 
-// The routes out of a station up, where another follows.
+// The routes out of a station up, if another follows.
 const OUT_UP: &str = r##"
  {"name":"s#r3","source":"t#U","destination":"l#U","path":["q#","l#"],"overlap":[],
   "points":[{"point":"q#","position":"plus"}],"conflicts":["s#r4","s#r5","s#r6","s>r7","s>r8"]},
  {"name":"s#r4","source":"u#U","destination":"l#U","path":["q#","l#"],"overlap":[],
   "points":[{"point":"q#","position":"minus"}],"conflicts":["s#r3","s#r5","s#r6","s>r7","s>r8"]},"##;
 
-// Those of the last station.
+// The same for the last station.
 const LAST_OUT_UP: &str = r##"
  {"name":"s#r3","source":"t#U","destination":null,"path":["q#","l#"],"overlap":[],
   "points":[{"point":"q#","position":"plus"}],"conflicts":["s#r4","s#r5","s#r6"]},
@@ -53,21 +53,20 @@ const IN_DOWN: &str = r##"
  {"name":"s#r6","source":"l#D","destination":"u#D","path":["q#","u#"],"overlap":[],
   "points":[{"point":"q#","position":"minus"}],"conflicts":["s#r2","s#r3","s#r4","s#r5"]},"##;
 
-// The routes out of a station down, where another stands before it.
+// The routes out of a station down, if another precedes it.
 const OUT_DOWN: &str = r##"
  {"name":"s#r7","source":"t#D","destination":"l<D","path":["p#","l<"],"overlap":[],
   "points":[{"point":"p#","position":"plus"}],"conflicts":["s<r3","s<r4","s#r1","s#r2","s#r8"]},
  {"name":"s#r8","source":"u#D","destination":"l<D","path":["p#","l<"],"overlap":[],
   "points":[{"point":"p#","position":"minus"}],"conflicts":["s<r3","s<r4","s#r1","s#r2","s#r7"]}"##;
 
-// Those of the first station.
+// The same for the first station.
 const FIRST_OUT_DOWN: &str = r##"
  {"name":"s#r7","source":"t#D","destination":null,"path":["p#","l<"],"overlap":[],
   "points":[{"point":"p#","position":"plus"}],"conflicts":["s#r1","s#r2","s#r8"]},
  {"name":"s#r8","source":"u#D","destination":null,"path":["p#","l<"],"overlap":[],
   "points":[{"point":"p#","position":"minus"}],"conflicts":["s#r1","s#r2","s#r7"]}"##;
 
-// Writes a piece for the station of a number.
 fn push_piece(text: &mut String, piece: &str, number: u32) -> Result<(), AllocError> {
     for c in piece.chars() {
         match c {
@@ -80,13 +79,11 @@ fn push_piece(text: &mut String, piece: &str, number: u32) -> Result<(), AllocEr
     Ok(())
 }
 
-// Writes the sections of a station.
 fn push_sections(text: &mut String, number: u32, count: u32) -> Result<(), AllocError> {
     push_piece(text, LOOP, number)?;
     push_piece(text, if number < count { LINE } else { LAST_LINE }, number)
 }
 
-// Writes the routes of a station.
 fn push_routes(text: &mut String, number: u32, count: u32) -> Result<(), AllocError> {
     push_piece(text, IN_UP, number)?;
     push_piece(
@@ -102,7 +99,7 @@ fn push_routes(text: &mut String, number: u32, count: u32) -> Result<(), AllocEr
     )
 }
 
-/// So many stations in a row, at least one.
+/// Returns `count` stations in a row, at least one.
 pub fn stations(alloc: Global, count: u32) -> Result<String, AllocError> {
     let mut text = String::from_str(alloc, HEAD)?;
     for number in 1..=count {

@@ -11,13 +11,12 @@ use ilk_strict::{advance, begin};
 use std::alloc::Global;
 use std::test::Fail;
 
-// Walks over the plant of a configuration that breaks no rule.
 fn walk_over(alloc: Global, text: &str, times: u32, tries: u32) -> Result<Counts, Fail> {
     let plant = strict_plant_of(alloc, text)?;
     walk(alloc, &plant, times, tries)
 }
 
-// The same, where at least so much has to happen.
+// The same, with a lower bound on the events counted.
 fn keeps_invariant(
     alloc: Global,
     text: &str,
@@ -33,7 +32,6 @@ fn keeps_invariant(
     }
 }
 
-// So many events, of which so many of two kinds.
 fn least(events: u32, heads: u32, releases: u32) -> Counts {
     Counts {
         events,
@@ -42,7 +40,7 @@ fn least(events: u32, heads: u32, releases: u32) -> Counts {
     }
 }
 
-// Tries events from the start on: each is enabled or not, as it is said.
+// Tries events from the initial state. Each has to be enabled or not, as given.
 fn answers(alloc: Global, plant: &Plant, events: &[(Event, bool)]) -> Result<(), Fail>
     requires { IsStrict plant.now }
 {
@@ -55,7 +53,7 @@ fn answers(alloc: Global, plant: &Plant, events: &[(Event, bool)]) -> Result<(),
     Ok(())
 }
 
-// A train enters at the first section and runs to the second, into which then no other can come.
+// A train enters the first section and runs to the second, which no other can enter then.
 const ONE_TRAIN: [(Event, bool); 6] = [
     (Event::Enter(0), true),
     (Event::Mark(0), true),
@@ -71,7 +69,7 @@ fn one_train_on_a_line(rt: HostRuntime) -> Result<(), Fail> {
     answers(rt.alloc(), &plant, &ONE_TRAIN)
 }
 
-// Its routes are of one section, which is never released: they end by `finish`.
+// Its routes have one section, which is never released: they end by `finish`.
 #[test]
 fn a_line_keeps_the_invariant(rt: HostRuntime) -> Result<(), Fail> {
     keeps_invariant(rt.alloc(), line(), 400, 250, least(4000, 150, 0))
@@ -98,7 +96,6 @@ fn a_terminus_keeps_the_invariant(rt: HostRuntime) -> Result<(), Fail> {
     keeps_invariant(rt.alloc(), terminus(), 20, 5000, least(2500, 100, 20))
 }
 
-// The same of so many stations in a row.
 fn stations_keep_invariant(
     alloc: Global,
     count: u32,

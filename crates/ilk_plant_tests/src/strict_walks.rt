@@ -1,21 +1,20 @@
-//! Walks over the states of a plant with a strict table. After each event it is asked whether the
-//! state has a hazard, and which family of the invariant it breaks.
+//! Walks over the states of a plant with a strict table. After each event the state must have no
+//! hazard and break no family.
 ghost use Rattle.ilk_plant.specs.Shape.{HasShape};
 ghost use Rattle.ilk_model.specs.Meets.{Meets};
 ghost use Rattle.ilk_strict.specs.IsStrict.{IsStrict};
 
 use crate::plants::event;
-use crate::walks::scrambled;
+use crate::walks::next_random;
 use ilk_model::{Event, broken_family, hazard};
 use ilk_plant::{Plant, State};
 use ilk_strict::{advance, begin};
 use std::alloc::Global;
 use std::test::Fail;
 
-/// How many events were enabled, and how many of two kinds that come late on a train's way.
+/// The number of events that were enabled, and of two kinds that come late in a train's journey.
 #[derive(Clone, Copy, Drop)]
 pub struct Counts {
-    /// All of them.
     pub events: u32,
     /// Those by which a train's head came to a section.
     pub heads: u32,
@@ -24,12 +23,11 @@ pub struct Counts {
 }
 
 impl Counts {
-    /// Whether there are at least as many of each.
+    /// Returns whether no count is less than in `least`.
     pub fn has(&self, least: Counts) -> bool {
         self.events >= least.events && self.heads >= least.heads && self.releases >= least.releases
     }
 
-    // Counts an event.
     fn count(&mut self, event: Event) {
         self.events = self.events.saturating_add(1);
         match event {
@@ -40,7 +38,6 @@ impl Counts {
     }
 }
 
-// Fails where a state has a hazard or breaks a family.
 fn ask(plant: &Plant, s: &State) -> Result<(), Fail>
     requires { HasShape plant.now s.now }
 {
@@ -53,7 +50,7 @@ fn ask(plant: &Plant, s: &State) -> Result<(), Fail>
     Ok(())
 }
 
-// Does an event, if it is enabled, counts it, and asks the state after it.
+// Takes an event, if it is enabled, counts it, and checks the state after it.
 fn try_event(
     alloc: Global,
     plant: &Plant,
@@ -72,11 +69,11 @@ fn try_event(
     Ok(())
 }
 
-// The kinds of events but for `enter` and `cancel`.
+// The kinds of events except `enter` and `cancel`.
 const USUAL: [u32; 11] = [0, 1, 2, 3, 4, 5, 6, 7, 9, 10, 11];
 
-// The kind of an event, by a number: `enter` and `cancel` come seldom, so that trains have room to run
-// on and routes stay set.
+// Returns a kind of event. `enter` and `cancel` are rare, so that trains have room to run and
+// routes stay set.
 fn kind_of_number(number: u64) -> u32 {
     match number % 46 {
         44 => 8,
@@ -85,7 +82,7 @@ fn kind_of_number(number: u64) -> u32 {
     }
 }
 
-// The event that a number which looks random stands for: of any kind, of any route or section.
+// Returns the event for a pseudo-random number: any kind, any route or section.
 fn event_of_number(plant: &Plant, number: u64) -> Event {
     let many = u64::from(plant.routes().max(plant.sections()));
     let high = number >> 33;
@@ -93,7 +90,7 @@ fn event_of_number(plant: &Plant, number: u64) -> Event {
     event(kind_of_number(high), subject as u32)
 }
 
-// Tries so many events from the start on, and answers the number of the last.
+// Tries `tries` events from the initial state. Returns the last number.
 fn walk_from_start(
     alloc: Global,
     plant: &Plant,
@@ -106,14 +103,14 @@ fn walk_from_start(
     let mut s = begin(alloc, plant)?;
     let mut number = first;
     for _ in 0..tries {
-        number = scrambled(number);
+        number = next_random(number);
         try_event(alloc, plant, &mut s, event_of_number(plant, number), counts)?;
     }
     Ok(number)
 }
 
-/// Tries so many events, one after the other, so many times from the start on: after a while trains
-/// stand before each other, and nothing goes on.
+/// Makes `times` walks of `tries` events each, every one from the initial state: after a while
+/// trains block each other, and nothing moves.
 pub fn walk(alloc: Global, plant: &Plant, times: u32, tries: u32) -> Result<Counts, Fail>
     requires { IsStrict plant.now }
 {

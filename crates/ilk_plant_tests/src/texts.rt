@@ -1,5 +1,5 @@
-//! The plants of the tests, as configurations. Each stands in a function of its own, which is proved
-//! once: a long text makes the proof of a function long.
+//! The plants of the tests, as configurations. Each is in its own function and proved once: a long
+//! text makes a function's proof long.
 
 /// Two sections without boards and routes.
 pub fn bare_line() -> &'static str {
@@ -21,7 +21,7 @@ pub fn line() -> &'static str {
   {"name":"r2","source":"m2","destination":null,"path":["a"],"overlap":[],"points":[],"conflicts":[]}]}"#
 }
 
-/// Three sections whose one route ends in the middle, with no board there.
+/// Three sections whose only route ends in the middle, without a board.
 pub fn short_route() -> &'static str {
     r#"{"version":1,
  "sections":[
@@ -32,8 +32,8 @@ pub fn short_route() -> &'static str {
   {"name":"r1","source":"m1","destination":null,"path":["b"],"overlap":[],"points":[],"conflicts":[]}]}"#
 }
 
-/// A passing loop with eight routes, where the board m1 protects the route r3, and the point p2 the
-/// route r8.
+/// A passing loop with eight routes. The board m1 protects the route r3, and the point p2 the route
+/// r8.
 pub fn station() -> &'static str {
     r#"{"version":2,
  "sections":[

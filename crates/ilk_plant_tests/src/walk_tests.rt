@@ -1,8 +1,8 @@
 use crate::changes::Change::{self, Open, Point, Train};
-use crate::changes::changed;
+use crate::changes::start_with_changes;
 use crate::plants::plant_of;
 use crate::texts::{bare_line, line, short_route, station};
-use crate::walks::Compared;
+use crate::walks::Comparison;
 use ilk_plant::Dir::{Down, Up};
 use ilk_plant::Lie::Plus as AtPlus;
 use ilk_plant::Plant;
@@ -10,17 +10,17 @@ use ilk_plant::Position::Minus;
 use std::alloc::Global;
 use std::test::Fail;
 
-// How many states each line has at most.
+// An upper bound on the states of each line.
 const MANY: u32 = 400;
 
-// Compares all states of a line, some of which have a hazard where its table lets trains meet.
+// Compares all states of a line; some have a hazard if its table lets trains meet.
 fn all_states(alloc: Global, text: &str, is_unsafe: bool) -> Result<(), Fail> {
     let plant = plant_of(alloc, text)?;
     all_states_on(alloc, &plant, is_unsafe)
 }
 
 fn all_states_on(alloc: Global, plant: &Plant, is_unsafe: bool) -> Result<(), Fail> {
-    let compared = Compared::of(alloc, plant)?;
+    let compared = Comparison::of(alloc, plant)?;
     let tally = compared.go_breadth_first(alloc, MANY)?;
     if tally.states >= u64::from(MANY) || (tally.hazards > 0) != is_unsafe {
         return Err(Fail::new("how many states there are"));
@@ -35,7 +35,7 @@ fn all_states_of_lines(rt: HostRuntime) -> Result<(), Fail> {
     all_states(rt.alloc(), short_route(), true)
 }
 
-// Compares some states of a station from the start with these changes on.
+// Compares some states, from the initial state with these changes.
 fn some_states(alloc: Global, changes: &[Change], is_unsafe: bool) -> Result<(), Fail> {
     let plant = plant_of(alloc, station())?;
     some_states_on(alloc, &plant, changes, is_unsafe)
@@ -47,16 +47,15 @@ fn some_states_on(
     changes: &[Change],
     is_unsafe: bool,
 ) -> Result<(), Fail> {
-    let compared = Compared::of(alloc, plant)?;
-    let first = changed(alloc, plant, changes)?;
-    let tally = compared.go_at_random(alloc, &first, 100)?;
+    let compared = Comparison::of(alloc, plant)?;
+    let first = start_with_changes(alloc, plant, changes)?;
+    let tally = compared.walk_randomly(alloc, &first, 100)?;
     if (tally.hazards > 0) != is_unsafe {
         return Err(Fail::new("whether there are hazards"));
     }
     Ok(())
 }
 
-// From the start the walk comes to no hazard.
 #[test]
 fn states_of_stations(rt: HostRuntime) -> Result<(), Fail> {
     some_states(rt.alloc(), &[], false)

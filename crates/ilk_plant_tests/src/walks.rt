@@ -1,5 +1,5 @@
 use crate::forms::{PlantForms, compare_forms, forms_of, is_hazardous};
-use crate::plants::{after, events, image_of};
+use crate::plants::{events, image_of, state_after};
 use crate::rules::compare_events;
 use ilk_behave::behaviour;
 use ilk_ir::{System, Values};
@@ -8,26 +8,26 @@ use ilk_plant::{Plant, State};
 use std::alloc::Global;
 use std::test::Fail;
 
-/// A plant with what is compared at each of its states.
+/// A plant, with the parts that are compared at each state.
 #[derive(Drop)]
-pub struct Compared<'a> {
+pub struct Comparison<'a> {
     plant: &'a Plant,
     forms: PlantForms,
     system: System,
     events: Vec<Event>,
 }
 
-/// How many states were compared, and how many of them have a hazard.
+/// The number of states compared, and of those with a hazard.
 #[derive(Clone, Copy, Drop)]
 pub struct Tally {
     pub states: u64,
     pub hazards: u64,
 }
 
-impl<'a> Compared<'a> {
-    /// What is compared of a plant.
-    pub fn of(alloc: Global, plant: &'a Plant) -> Result<Compared<'a>, Fail> {
-        Ok(Compared {
+impl<'a> Comparison<'a> {
+    /// Creates the parts to compare for a plant.
+    pub fn of(alloc: Global, plant: &'a Plant) -> Result<Comparison<'a>, Fail> {
+        Ok(Comparison {
             plant,
             forms: forms_of(alloc, plant)?,
             system: behaviour(alloc, plant)?,
@@ -35,7 +35,7 @@ impl<'a> Compared<'a> {
         })
     }
 
-    // Compares the forms with a state, and where it has no hazard the rules with the events.
+    // Compares the forms with a state and, if it has no hazard, the rules with the events.
     fn compare(&self, alloc: Global, s: &State) -> Result<(), Fail> {
         compare_forms(alloc, self.plant, &self.forms, s)?;
         if is_hazardous(self.plant, s) {
@@ -44,14 +44,14 @@ impl<'a> Compared<'a> {
         compare_events(alloc, self.plant, &self.system, self.events.as_slice(), s)
     }
 
-    // The states after each event that is enabled; none after a hazard.
+    // Returns the states after each enabled event; none after a hazard.
     fn nexts(&self, alloc: Global, s: &State) -> Result<Vec<State>, Fail> {
         let mut nexts = Vec::new(alloc);
         if is_hazardous(self.plant, s) {
             return Ok(nexts);
         }
         for event in self.events.as_slice() {
-            match after(alloc, self.plant, s, *event)? {
+            match state_after(alloc, self.plant, s, *event)? {
                 None => {}
                 Some(next) => nexts.push(next)?,
             }
@@ -59,7 +59,6 @@ impl<'a> Compared<'a> {
         Ok(nexts)
     }
 
-    // Compares a state, and counts it.
     fn tally(&self, alloc: Global, tally: &mut Tally, s: &State) -> Result<(), Fail> {
         self.compare(alloc, s)?;
         tally.states = tally.states.saturating_add(1);
@@ -69,7 +68,7 @@ impl<'a> Compared<'a> {
         Ok(())
     }
 
-    /// Compares the first `bound` states in the order of the number of events to them.
+    /// Compares the first `bound` states, ordered by the number of events to them.
     pub fn go_breadth_first(&self, alloc: Global, bound: u32) -> Result<Tally, Fail> {
         let mut tally = Tally {
             states: 0,
@@ -90,9 +89,9 @@ impl<'a> Compared<'a> {
         Ok(tally)
     }
 
-    /// Compares the states of a walk of so many steps from `first`, each to one of the next states by a
-    /// number that looks random; where there is none it begins again.
-    pub fn go_at_random(&self, alloc: Global, first: &State, steps: u32) -> Result<Tally, Fail> {
+    /// Compares the states of a pseudo-random walk of `steps` steps from `first`. A state without
+    /// successor sends it back to `first`.
+    pub fn walk_randomly(&self, alloc: Global, first: &State, steps: u32) -> Result<Tally, Fail> {
         let mut tally = Tally {
             states: 0,
             hazards: 0,
@@ -101,7 +100,7 @@ impl<'a> Compared<'a> {
         let mut s = first.copy()?;
         for _ in 0..steps {
             self.tally(alloc, &mut tally, &s)?;
-            number = scrambled(number);
+            number = next_random(number);
             s = match chosen(self.nexts(alloc, &s)?, number) {
                 Some(next) => next,
                 None => first.copy()?,
@@ -111,14 +110,13 @@ impl<'a> Compared<'a> {
     }
 }
 
-/// The number after this one in a row of numbers that look random.
-pub fn scrambled(number: u64) -> u64 {
+/// Returns the next pseudo-random number.
+pub fn next_random(number: u64) -> u64 {
     number
         .wrapping_mul(6364136223846793005)
         .wrapping_add(1442695040888963407)
 }
 
-// One of the states, by a number.
 fn chosen(mut states: Vec<State>, number: u64) -> Option<State> {
     let place = (number >> 33).checked_rem(states.len() as u64)? as usize;
     if place < states.len() {
@@ -128,7 +126,7 @@ fn chosen(mut states: Vec<State>, number: u64) -> Option<State> {
     }
 }
 
-// States, no two of which have one image.
+// States with different images.
 #[derive(Drop)]
 struct Found {
     states: Vec<State>,
@@ -143,12 +141,10 @@ impl Found {
         }
     }
 
-    // Whether some state has this image.
     fn has(&self, values: &[u8]) -> bool {
         self.images.iter().any(|image| image.as_slice() == values)
     }
 
-    // Adds a state, unless its image is that of another.
     fn add(&mut self, alloc: Global, plant: &Plant, s: State) -> Result<(), Fail> {
         let values = image_of(alloc, plant, &s)?;
         if !self.has(values.as_slice()) {

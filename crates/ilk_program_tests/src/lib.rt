@@ -1,9 +1,9 @@
-//! Tests of the program and of what it reads with, in a crate of their own: a crate with tests is
-//! proved twice. They say what no clause can: that an answer comes where memory is there.
+//! Tests of the program and of its readers, in a separate crate because a crate with tests is
+//! proved twice. They test what no clause can state: that an answer comes if memory suffices.
 //!
 //! `words_tests` reads command lines; `form_tests` and `draft_tests` read configurations;
-//! `network_tests` and `table_tests` ask the rules of small drafts; `run_tests` has each call of sources
-//! and sinks fail in turn, command by command, by the `runs` of the program.
+//! `network_tests` and `table_tests` check the rules of small drafts. `run_tests` lets each call of
+//! a source or sink fail in turn (`runs`).
 #![tactic(auto)]
 
 #[cfg(test)]

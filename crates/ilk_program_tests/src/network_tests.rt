@@ -1,4 +1,4 @@
-//! The rules of small networks: the check succeeds where memory is there.
+//! The rules of small networks: the check succeeds if memory suffices.
 use crate::parts::text;
 use ilk_net_check::check_network;
 use ilk_plant::{Broken, KindDraft, MAX_SECTIONS, NetDraft, Row, Rule, SectionDraft, Text};
@@ -23,7 +23,8 @@ fn text_if(alloc: Global, name: Option<&'static str>) -> Result<Option<Text>, Al
     }
 }
 
-// The broken rules of a network of linear sections; None where there are too many.
+// Returns the broken rules of a network of linear sections, or `None` if there are too many
+// sections.
 fn check(alloc: Global, lines: &[Linear]) -> Result<Option<Row<Broken>>, AllocError> {
     let mut sections = Row::new(alloc);
     for line in lines {
@@ -52,7 +53,6 @@ fn at(rule: Rule, first: u32) -> Broken {
     }
 }
 
-// a, whose neighbour up is given or not, and b, whose neighbour down is a.
 fn first(up: Option<&'static str>) -> Linear {
     Linear {
         name: "a",

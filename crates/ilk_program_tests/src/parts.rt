@@ -3,14 +3,14 @@ ghost use Rattle.std.specs.Prelude.{◌≡◌, IfOk};
 use ilk_plant::Text;
 use std::alloc::{AllocError, Global};
 
-/// A text of these characters.
+/// Creates a text of these characters.
 pub fn text(alloc: Global, name: &str) -> Result<Text, AllocError>
     ensures { IfOk result (λ text. text ≡ name.now) }
 {
     Ok(Text::of(String::from_str(alloc, name)?))
 }
 
-/// The words of a command line.
+/// Splits a command line into arguments.
 pub fn words(alloc: Global, line: &str) -> Result<Vec<String>, AllocError> {
     let mut words = Vec::new(alloc);
     for word in line.split(' ') {

@@ -1,6 +1,6 @@
-//! The program over sources and sinks that fail: the answers come where memory is there, and each
-//! fault has its status.
-use crate::runs::{Asked, Left, More, Object, left_by};
+//! The program over sources and sinks that fail: an answer comes if memory suffices, and each fault
+//! has its status.
+use crate::runs::{Asked, Object, PieceSizes, RunOutcome, run_with_fault};
 use ilk_top::Status;
 use std::alloc::{AllocError, Global};
 use std::test::Fail;
@@ -15,19 +15,19 @@ const EMPTY_SCENE: &str = "drive 1\nend\n";
 
 const TWO_TRAINS: &str = "run 1\nstart\nenter a\nenter b\nhead a\nend\n";
 
-// So many calls are tried, and no object is called so often.
+// A bound on the calls that are made to fail; no object is called this often.
 const ENOUGH: u64 = 100;
 
-// A whole text is taken in at most so many calls.
+// A whole text is taken in at most this number of calls.
 const CALLS: usize = 16;
 
-// Whether these are the first bytes of the whole text, and not all.
+// Returns whether these are the first bytes of the whole text, and not all.
 fn is_begun(bytes: &[u8], whole: &[u8]) -> bool {
     whole.starts_with(bytes) && bytes.len() < whole.len()
 }
 
-// Whether this is left where a call of the failing object failed.
-fn is_cut_off(left: &Left, whole: &Left, failing: Object) -> bool {
+// Returns whether this is what a failed call of the object leaves.
+fn is_cut_off(left: &RunOutcome, whole: &RunOutcome, failing: Object) -> bool {
     let (out, cert) = (left.out.bytes(), left.cert.bytes());
     match failing {
         Object::Conf | Object::Extra => {
@@ -46,24 +46,23 @@ fn is_cut_off(left: &Left, whole: &Left, failing: Object) -> bool {
     }
 }
 
-// Whether all is left.
-fn is_whole(left: &Left, whole: &Left) -> bool {
+fn is_whole(left: &RunOutcome, whole: &RunOutcome) -> bool {
     left.status == whole.status
         && left.out.bytes() == whole.out.bytes()
         && left.cert.bytes() == whole.cert.bytes()
 }
 
-// Lets the first call of the object fail, then the second, until a run meets no failure: how many
-// failed. None where a run left what it mustn't.
+// Lets the first call of the object fail, then the second, until a run meets no failure. Returns
+// the number of failures, or `None` if a run left something wrong.
 fn failing_calls(
     alloc: Global,
     asked: Asked,
-    whole: &Left,
-    more: More,
+    whole: &RunOutcome,
+    more: PieceSizes,
     failing: Object,
 ) -> Result<Option<u64>, AllocError> {
     for number in 1..ENOUGH {
-        let left = left_by(alloc, asked, more, failing, number)?;
+        let left = run_with_fault(alloc, asked, more, failing, number)?;
         if is_whole(&left, whole) {
             return Ok(Some(number - 1));
         }
@@ -74,8 +73,8 @@ fn failing_calls(
     Ok(None)
 }
 
-// What a command has to answer, and how often it calls its two sources: twice where it reads all, for
-// the bytes and for their end.
+// The expected answer, and the number of calls of the two sources: two if all is read, for the
+// bytes and for their end.
 #[derive(Clone, Copy)]
 struct Wanted<'a> {
     reads: (u64, u64),
@@ -83,16 +82,15 @@ struct Wanted<'a> {
     report: &'a str,
 }
 
-// Whether what is asked is answered as it is wanted, and each call of its sources and sinks, where it
-// fails, leaves what it has to.
+// Returns whether the answer is the expected one, and each failing call leaves what it has to.
 fn each_call_fails(alloc: Global, asked: Asked, wanted: Wanted) -> Result<bool, AllocError> {
-    let at_once = More {
+    let at_once = PieceSizes {
         out: usize::MAX,
         cert: usize::MAX,
     };
-    let whole = left_by(alloc, asked, at_once, Object::Conf, 0)?;
+    let whole = run_with_fault(alloc, asked, at_once, Object::Conf, 0)?;
     let (out, cert) = (whole.out.bytes().len(), whole.cert.bytes().len());
-    let more = More {
+    let more = PieceSizes {
         out: out / CALLS,
         cert: cert / CALLS,
     };
@@ -110,7 +108,6 @@ fn each_call_fails(alloc: Global, asked: Asked, wanted: Wanted) -> Result<bool, 
     )
 }
 
-// Whether each call of a command fails in turn over these sources.
 fn fails_over(
     alloc: Global,
     line: &str,
@@ -129,18 +126,18 @@ fn fails_over(
     each_call_fails(alloc, asked, wanted)
 }
 
-// The same of audit, over the certificate that verify writes.
+// The same for `audit`, over the certificate of `verify`.
 fn audit_fails(alloc: Global, line: &str) -> Result<bool, AllocError> {
     let verify = Asked {
         line: "irv verify --cert c",
         conf: LINE_WITH_BOARDS,
         extra: &[],
     };
-    let at_once = More {
+    let at_once = PieceSizes {
         out: usize::MAX,
         cert: usize::MAX,
     };
-    let verified = left_by(alloc, verify, at_once, Object::Conf, 0)?;
+    let verified = run_with_fault(alloc, verify, at_once, Object::Conf, 0)?;
     fails_over(
         alloc,
         line,
@@ -152,7 +149,7 @@ fn audit_fails(alloc: Global, line: &str) -> Result<bool, AllocError> {
     )
 }
 
-// The same of a command over the line with boards, which reads this besides.
+// The same over the line with boards.
 fn line_fails(
     alloc: Global,
     line: &str,
@@ -198,7 +195,7 @@ fn each_call_fails_in_turn(rt: HostRuntime) -> Result<(), Fail> {
     Ok(())
 }
 
-// Of the commands that read nothing, and of replay over a plant that two trains may enter.
+// Commands that read nothing, and `replay` over a plant that two trains may enter.
 #[test]
 fn each_call_fails_in_turn_elsewhere(rt: HostRuntime) -> Result<(), Fail> {
     let alloc = rt.alloc();

@@ -1,6 +1,6 @@
 //! Runs of the program in which one call of a source or a sink fails.
 ghost use Rattle.std.specs.Prelude.{◌≡◌, ◌<◌, ◌≤◌, Some, IfOk, OnErr, OnOk, length, take};
-ghost use Rattle.ilk_io.specs.Faults.{RoseByOne};
+ghost use Rattle.ilk_io.specs.Faults.{CountedOneFault};
 ghost use Rattle.ilk_io.specs.Sink.{Adds};
 
 use crate::parts::words;
@@ -8,7 +8,7 @@ use ilk_io::{Failed, MemSink, MemSource, Sink};
 use ilk_top::{Status, run};
 use std::alloc::{AllocError, Global};
 
-// A sink that takes few bytes a call: the first, and at most so many more.
+// A sink that takes few bytes a call: one, and at most `more` others.
 #[derive(Drop)]
 struct FewSink {
     sink: MemSink,
@@ -28,7 +28,7 @@ impl Sink for FewSink {
     }
 }
 
-/// What `run` is handed besides the words.
+/// A source or sink of `run`.
 #[derive(Clone, Copy, Debug, PartialEq, Eq)]
 pub enum Object {
     Conf,
@@ -37,7 +37,7 @@ pub enum Object {
     Cert,
 }
 
-/// What is asked: the words of the command line, and what the sources give.
+/// The command line and the bytes of the sources.
 #[derive(Clone, Copy)]
 pub struct Asked<'a> {
     pub line: &'a str,
@@ -45,47 +45,47 @@ pub struct Asked<'a> {
     pub extra: &'a [u8],
 }
 
-/// What a run leaves: its status, its report and its certificate.
+/// The result of a run: its status, report and certificate.
 #[derive(Drop)]
-pub struct Left {
+pub struct RunOutcome {
     pub status: Status,
     pub out: MemSink,
     pub cert: MemSink,
 }
 
-// A source of these bytes, whose call of this number fails.
+// Creates a source whose call number `fails` fails.
 fn source(alloc: Global, bytes: &[u8], fails: u64) -> Result<MemSource, AllocError> {
     let bytes = Vec::from_slice(alloc, bytes)?;
     let fails = Vec::from_slice(alloc, &[fails])?;
     Ok(MemSource::new(bytes, fails))
 }
 
-// A sink with room for so many bytes, whose call of this number fails.
+// Creates a sink with `room` bytes whose call number `fails` fails.
 fn sink(alloc: Global, room: u64, fails: u64) -> Result<MemSink, AllocError> {
     let fails = Vec::from_slice(alloc, &[fails])?;
     MemSink::new(alloc, room, fails)
 }
 
-// The number, where the two objects are one; else 0, which no call has.
+// Returns `number` if the two objects are the same, or else 0, which no call has.
 fn call_of(object: Object, failing: Object, number: u64) -> u64 {
     if object == failing { number } else { 0 }
 }
 
-/// How many bytes the sinks take a call, besides the first: of the report, and of the certificate.
+/// The number of bytes that each sink takes in a call, besides the first.
 #[derive(Clone, Copy)]
-pub struct More {
+pub struct PieceSizes {
     pub out: usize,
     pub cert: usize,
 }
 
-/// Runs the program, where the call of this number of the failing object fails.
-pub fn left_by(
+/// Runs the program; call `number` of the object `failing` fails.
+pub fn run_with_fault(
     alloc: Global,
     asked: Asked,
-    more: More,
+    more: PieceSizes,
     failing: Object,
     number: u64,
-) -> Result<Left, AllocError> {
+) -> Result<RunOutcome, AllocError> {
     let words = words(alloc, asked.line)?;
     let conf = call_of(Object::Conf, failing, number);
     let extra = call_of(Object::Extra, failing, number);
@@ -102,7 +102,7 @@ pub fn left_by(
         more: more.cert,
     };
     let status = run(alloc, &words, &mut conf, &mut extra, &mut out, &mut cert);
-    Ok(Left {
+    Ok(RunOutcome {
         status,
         out: out.sink,
         cert: cert.sink,

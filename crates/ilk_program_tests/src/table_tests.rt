@@ -1,4 +1,4 @@
-//! The rules of small tables: the check succeeds where memory is there.
+//! The rules of small tables: the check succeeds if memory suffices.
 ghost use Rattle.std.specs.Prelude.{◌≡◌, ◌∷◌, [], IfOk, length, true};
 ghost use Rattle.std.specs.List.{list_all};
 ghost use Rattle.ilk_plant.specs.Limits.{route_has_limits, route_has_names, section_has_names};
@@ -12,7 +12,7 @@ use ilk_table_check::check_table;
 use std::alloc::{AllocError, Global};
 use std::test::Fail;
 
-// A linear section without boards, whose texts are names.
+// Creates a linear section without boards.
 fn section(
     alloc: Global,
     name: &str,
@@ -36,7 +36,6 @@ fn section(
     })
 }
 
-// A row of one text.
 fn row_of(alloc: Global, name: &str) -> Result<Row<Text>, AllocError>
     ensures { IfOk result (λ row. row ≡ name.now ∷ []) }
 {
@@ -45,7 +44,7 @@ fn row_of(alloc: Global, name: &str) -> Result<Row<Text>, AllocError>
     Ok(row)
 }
 
-// A route over one section, which lists one conflict.
+// Creates a route over one section, which lists one conflict.
 fn route(
     alloc: Global,
     source: &str,
@@ -71,7 +70,7 @@ fn route(
     })
 }
 
-// The sections a and b, in a line and without boards.
+// Creates the sections a and b, in a line, without boards.
 fn line(alloc: Global) -> Result<NetDraft, AllocError>
     ensures count { IfOk result (λ net. length net.sections ≡ 2) }
     ensures named { IfOk result (λ net. list_all section_has_names net.sections ≡ true) }
@@ -82,7 +81,7 @@ fn line(alloc: Global) -> Result<NetDraft, AllocError>
     Ok(NetDraft { sections })
 }
 
-// What the check finds in a table of one route on the line, which begins at no board.
+// Returns the broken rules of a table with one route on the line, which begins at no board.
 fn found(alloc: Global, section: &str, conflict: &str) -> Result<Row<Broken>, AllocError>
     requires section { is_name section.now ≡ true }
     requires conflict { is_name conflict.now ≡ true }
@@ -94,7 +93,6 @@ fn found(alloc: Global, section: &str, conflict: &str) -> Result<Row<Broken>, Al
     check_table(alloc, &net, &table)
 }
 
-// A rule that is broken at the first route.
 fn at_first(rule: Rule) -> Broken {
     Broken {
         rule,

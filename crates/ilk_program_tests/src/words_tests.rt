@@ -1,13 +1,13 @@
-//! What the words of a command line mean, as `clap` documents it.
+//! The meaning of command-line arguments, as `clap` documents it.
 use crate::parts::words;
 use ilk_base::Text;
-use ilk_words::{Command, names_of, read_words};
+use ilk_words::{Command, names_of, parse_arguments};
 use std::alloc::{AllocError, Global};
 use std::test::Fail;
 
 fn shown(alloc: Global, line: &str) -> Result<String, AllocError> {
     let words = words(alloc, line)?;
-    match read_words(alloc, &words)? {
+    match parse_arguments(alloc, &words)? {
         None => String::from_str(alloc, "usage"),
         Some(command) => shown_command(alloc, command),
     }
@@ -72,8 +72,8 @@ fn shown_name(alloc: Global, name: Option<Text>) -> Result<String, AllocError> {
     }
 }
 
-// The lines are read as the documentation of `clap` 4 says: `ArgAction::Set` refuses a second use,
-// an option may have its value attached by `=`, and after `--` each word is a positional. A number
+// The expectations follow the documentation of `clap` 4. `ArgAction::Set` refuses a second use, an
+// option may have its value attached by `=`, and after `--` each argument is a positional. A number
 // is read as `u64::from_str` reads it, within its range.
 #[test]
 fn reads_lines(rt: HostRuntime) -> Result<(), Fail> {

@@ -1,4 +1,4 @@
--- The forms over small plants, worked by computing.
+-- The forms over small plants, by computation.
 use Rattle.std.proofs.Common.{◌≡◌, ℕ, true, false, Some, None, List, [], ◌∷◌, refl}
 use Rattle.ilk_ir.specs.Tree.{tree_holds}
 use Rattle.ilk_plant.specs.Plant.{PlantLists}
@@ -9,7 +9,7 @@ use Rattle.ilk_props.specs.HazardForm.{hazard_tree}
 use Rattle.ilk_props.specs.StartForm.{start_tree}
 use Rattle.ilk_props.specs.WellformedForm.{wellformed_tree}
 
--- two sections: the values are the two locks and the two occupancies
+-- Two sections: the values are two locks and two occupancies.
 
 over_both : tree_holds (0 ∷ 0 ∷ 3 ∷ 2 ∷ []) (wellformed_tree two_sections) ≡ true
 over_both = refl
@@ -35,8 +35,8 @@ start_is_image = refl
 after_start : tree_holds (0 ∷ 0 ∷ 4 ∷ 0 ∷ []) (start_tree two_sections) ≡ false
 after_start = refl
 
--- a and b lead up to the point c, whose stem leads to d: the values are where the point lies and is commanded, four locks
--- and four occupancies
+-- Sections a and b lead up to the point c, whose stem leads to d. The values are the point's
+-- detected and commanded position, four locks and four occupancies.
 abbrev junction : PlantLists
 junction = record {
   sections = Linear None (Some 2) None None ∷ Linear None (Some 2) None None ∷ Point 3 0 1 Down ∷ Linear (Some 2) None None None ∷ [];
@@ -47,7 +47,7 @@ junction = record {
   route_names = [];
 }
 
--- a train up with its tail at a and its head at c
+-- An up train with its tail at a and its head at c.
 abbrev from_a_where : ℕ → List ℕ
 from_a_where lie = lie ∷ 0 ∷ 0 ∷ 0 ∷ 0 ∷ 0 ∷ 3 ∷ 0 ∷ 2 ∷ 0 ∷ []
 

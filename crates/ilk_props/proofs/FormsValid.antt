@@ -1,4 +1,4 @@
--- The forms are over the plant's variables, and within their ranges.
+-- The forms are valid over the plant's variables and their ranges.
 use Rattle.std.proofs.Common.{◌≡◌, ℕ, zero, suc, ◌+◌, ◌<◌, Bool, true, false, ◌==◌, Option, Some, None, List, [], ◌∷◌, length, map, nat_lt, option_map, slice_get, unwrap_or, if◌then◌else◌, refl, sym, ◌∙◌, ap, arith}
 use Rattle.std.specs.List.{enumerate_from, flat_map, list_all, range_with_len}
 use Rattle.std.proofs.lemmas.Bool.{and_from, and_parts}
@@ -23,11 +23,11 @@ use Rattle.ilk_plant.proofs.InLists.{section-from}
 use Rattle.ilk_layout.specs.Image.{image_of}
 use Rattle.ilk_layout.specs.Variables.{ranges_of_plant}
 use Rattle.ilk_layout.specs.declared.values.Occupancy.TheVariants.{Taken, Crash}
-use Rattle.ilk_conditions.specs.Conditions.{lie_is}
-use Rattle.ilk_conditions.proofs.Valid.{lie_is-valid, occupancy_is-valid, train_at-valid, value-valid}
+use Rattle.ilk_layout.specs.Conditions.{is_detected}
+use Rattle.ilk_layout.proofs.Valid.{is_detected-valid, occupancy_is-valid, train_at-valid, value-valid}
 use Rattle.ilk_props.specs.HazardForm.{crash_at, hazard_tree}
 use Rattle.ilk_props.specs.StartForm.{start_tree}
-use Rattle.ilk_props.specs.WellformedForm.{goes_on_at, joined_by_train, leads_by_lie, section_demands, section_leads, train_is_whole, wellformed_tree}
+use Rattle.ilk_props.specs.WellformedForm.{continues_beyond, joined_by_train, leads_to_neighbour, section_demands, section_leads, train_is_whole, wellformed_tree}
 use Rattle.ilk_props.proofs.StartHolds.{start-in_ranges}
 
 range-at_value : (values ranges : List ℕ) (i c : ℕ) → in_ranges values ranges ≡ true → slice_get values i ≡ Some c → (range : ℕ) × (slice_get ranges i ≡ Some range) × (c < range)
@@ -40,7 +40,6 @@ range-at_value (x ∷ values) (r ∷ ranges) zero c h at =
 range-at_value (x ∷ values) (r ∷ ranges) (suc i) c h at =
     range-at_value values ranges i c (and_parts (nat_lt x r) (in_ranges values ranges) h).1 at
 
--- the same for each section
 each-valid : (p : PlantLists) (f : ℕ → Tree) → ((x : ℕ) → x < length p.sections → tree_valid (ranges_of_plant p) (f x) ≡ true) → list_all (tree_valid (ranges_of_plant p)) (map f (range_with_len 0 (length p.sections))) ≡ true
 each-valid p f valid =
     list_all-map (tree_valid (ranges_of_plant p)) f (range_with_len 0 (length p.sections))
@@ -65,13 +64,13 @@ start-valid p =
         ∙ value-valid (ranges_of_plant p) (0 + i) made.0 range.0 (ap (slice_get (ranges_of_plant p)) here ∙ range.1) range.2
 
 module _ (p : PlantLists) (plant : IsPlant p) where
-  goes_on_at-valid : (x : ℕ) (d side : Dir) → x < length p.sections → tree_valid (ranges_of_plant p) (goes_on_at p x d side) ≡ true
-  goes_on_at-valid x d side within =
+  continues_beyond-valid : (x : ℕ) (d side : Dir) → x < length p.sections → tree_valid (ranges_of_plant p) (continues_beyond p x d side) ≡ true
+  continues_beyond-valid x d side within =
       and_from _ _ (occupancy_is-valid p x (Taken d false false) within)
       (and_from _ _ (occupancy_is-valid p x (if same_direction side d then Taken d true false else Taken d false true) within) refl)
 
-  leads_by_lie-valid : (x : ℕ) (side : Dir) (y : ℕ) → tree_valid (ranges_of_plant p) (leads_by_lie p x side y) ≡ true
-  leads_by_lie-valid x side y = by_section (slice_get p.sections x)
+  leads_to_neighbour-valid : (x : ℕ) (side : Dir) (y : ℕ) → tree_valid (ranges_of_plant p) (leads_to_neighbour p x side y) ≡ true
+  leads_to_neighbour-valid x side y = by_section (slice_get p.sections x)
     where
       by_side : (lies : Tree) (b : Bool) → tree_valid (ranges_of_plant p) lies ≡ true → tree_valid (ranges_of_plant p) (if b then lies else yes) ≡ true
       by_side lies true valid = valid
@@ -81,13 +80,13 @@ module _ (p : PlantLists) (plant : IsPlant p) where
       by_section None = refl
       by_section (Some (Linear down up b c)) = refl
       by_section (Some (Point stem plus minus faces)) =
-          by_side (lie_is p x (if plus == y then Plus else Minus)) (same_direction faces side) (lie_is-valid p x (if plus == y then Plus else Minus))
+          by_side (is_detected p x (if plus == y then Plus else Minus)) (same_direction faces side) (is_detected-valid p x (if plus == y then Plus else Minus))
 
   joined-valid : (x : ℕ) (d side : Dir) (y : ℕ) → y < length p.sections → tree_valid (ranges_of_plant p) (joined_by_train p x d side y) ≡ true
   joined-valid x d side y within =
-      and_from _ _ (leads_by_lie-valid x side y)
-      (and_from _ _ (leads_by_lie-valid y (opposite_direction side) x)
-      (and_from _ _ (goes_on_at-valid y d (opposite_direction side) within) refl))
+      and_from _ _ (leads_to_neighbour-valid x side y)
+      (and_from _ _ (leads_to_neighbour-valid y (opposite_direction side) x)
+      (and_from _ _ (continues_beyond-valid y d (opposite_direction side) within) refl))
 
   next-valid : (x : ℕ) (d side : Dir) → tree_valid (ranges_of_plant p) (any_of (trees (map (joined_by_train p x d side) (next_to p x side)))) ≡ true
   next-valid x d side =
@@ -96,12 +95,12 @@ module _ (p : PlantLists) (plant : IsPlant p) where
       ∙ all-pass (λ y. tree_valid (ranges_of_plant p) (joined_by_train p x d side y)) (next_to p x side) (λ i y at. joined-valid x d side y (plant.neighbours x y side (section-from (next_to p x side) i y at)))
 
   whole-valid : (x : ℕ) (d side : Dir) → x < length p.sections → tree_valid (ranges_of_plant p) (train_is_whole p x d side) ≡ true
-  whole-valid x d side within = and_from _ _ (goes_on_at-valid x d side within) (and_from _ _ (next-valid x d side) refl)
+  whole-valid x d side within = and_from _ _ (continues_beyond-valid x d side within) (and_from _ _ (next-valid x d side) refl)
 
   demands-valid : (x : ℕ) → x < length p.sections → list_all (tree_valid (ranges_of_plant p)) (section_demands p x) ≡ true
   demands-valid x within =
       and_from _ _ (occupancy_is-valid p x Crash within)
-      (and_from _ _ (and_from _ _ (train_at-valid p x within) (and_from _ _ (lie_is-valid p x Moving) refl))
+      (and_from _ _ (and_from _ _ (train_at-valid p x within) (and_from _ _ (is_detected-valid p x Moving) refl))
       (and_from _ _ (whole-valid x Up Up within)
       (and_from _ _ (whole-valid x Up Down within)
       (and_from _ _ (whole-valid x Down Up within)

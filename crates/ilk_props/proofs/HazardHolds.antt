@@ -1,4 +1,4 @@
--- The form of hazards holds of a state's image exactly where the state has a hazard.
+-- The form of hazards holds for a state's image if and only if the state has a hazard.
 use Rattle.std.proofs.Common.{◌≡◌, ℕ, Bool, true, false, ◌==◌, Option, Some, None, List, [], ◌∷◌, find, is_some, length, map, option_map, slice_get, inl, inr, refl, ◌∙◌}
 use Rattle.std.specs.List.{list_any, range_with_len}
 use Rattle.std.proofs.lemmas.Bool.{cases_Bool}
@@ -14,18 +14,17 @@ use Rattle.ilk_plant.specs.declared.network.Dir.TheVariants.{Up, Down}
 use Rattle.ilk_plant.specs.declared.state.State.{State}
 use Rattle.ilk_plant.specs.declared.state.Train.{Train}
 use Rattle.ilk_model.specs.Hazard.{hazard, is_hazardous}
-use Rattle.ilk_motion.specs.Body.{is_last}
+use Rattle.ilk_motion.specs.Body.{is_last_section}
 use Rattle.ilk_layout.specs.Image.{image_of}
 use Rattle.ilk_layout.specs.Occupancy.{is_first, occupancy_of, taken_by_any}
 use Rattle.ilk_layout.specs.Values.{occupancy_value}
 use Rattle.ilk_layout.specs.declared.values.Occupancy.TheVariants.{Taken, Crash}
-use Rattle.ilk_conditions.proofs.Values.{occupancy-holds}
+use Rattle.ilk_layout.proofs.ConditionValues.{occupancy-holds}
 use Rattle.ilk_props.specs.HazardForm.{crash_at, hazard_tree}
 
--- an occupancy by a train, or by none, is no crash
 no_crash : (x : ℕ) (o : Option Train) → (occupancy_value (taken_by_any x o) == 9) ≡ false
 no_crash x None = refl
-no_crash x (Some t) = by_value t.dir (is_first x t.body) (is_last x t.body)
+no_crash x (Some t) = by_value t.dir (is_first x t.body) (is_last_section x t.body)
   where
     by_value : (d : Dir) (tail head : Bool) → (occupancy_value (Taken d tail head) == 9) ≡ false
     by_value Up false false = refl
@@ -44,7 +43,6 @@ crash-test p s x =
       | inr calm ↦ rw calm (no_crash x (find _ s.trains))
     ]
 
--- something is found exactly where something passes
 found-any : (test : ℕ → Bool) (xs : List ℕ) → list_any test xs ≡ is_some (find test xs)
 found-any test [] = refl
 found-any test (x ∷ xs) =

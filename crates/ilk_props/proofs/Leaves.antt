@@ -1,4 +1,4 @@
--- What the parts of the forms ask of any values, by where points lie and how sections are occupied there.
+-- The meaning of each part of the forms for any values, by positions of points and occupancies.
 use Rattle.std.proofs.Common.{◌≡◌, ℕ, zero, suc, Bool, true, false, ◌<◌, ◌≤◌, ◌||◌, ◌==◌, Option, Some, None, List, [], ◌∷◌, find, slice_get, if◌then◌else◌, refl, sym, ◌∙◌, ap, arith}
 use Rattle.std.proofs.lemmas.Bool.{ne_eqb}
 use Rattle.ilk_base.specs.Option.{◌>>=◌, is_some_and}
@@ -9,23 +9,21 @@ use Rattle.ilk_plant.specs.declared.network.Dir.{Dir}
 use Rattle.ilk_plant.specs.declared.network.Dir.TheVariants.{Up, Down}
 use Rattle.ilk_plant.specs.declared.state.Lie.{Lie}
 use Rattle.ilk_plant.specs.declared.state.Lie.TheVariants.{Plus, Minus, Moving}
-use Rattle.ilk_layout.specs.Values.{all_occupancies, lie_of_value, lie_value, occupancy_of_value, occupancy_value}
-use Rattle.ilk_layout.specs.Variables.{at_var, occupancy_var}
-use Rattle.ilk_layout.specs.Wellformed.{has_more_ahead, has_more_behind, lie_by, occupancy_by}
+use Rattle.ilk_layout.specs.Values.{all_occupancies, lie_from_value, lie_value, occupancy_from_value, occupancy_value}
+use Rattle.ilk_layout.specs.Variables.{detected_var, occupancy_var}
+use Rattle.ilk_layout.specs.Wellformed.{has_more_ahead, has_more_behind, lie_from_values, occupancy_from_values}
 use Rattle.ilk_layout.specs.declared.values.Occupancy.{Occupancy}
 use Rattle.ilk_layout.specs.declared.values.Occupancy.TheVariants.{Vacant, Taken, Crash}
-use Rattle.ilk_conditions.specs.Conditions.{lie_is, occupancy_is}
-use Rattle.ilk_conditions.proofs.Valid.{lie-small, occupancy-small}
-use Rattle.ilk_props.specs.WellformedForm.{goes_on_at}
+use Rattle.ilk_layout.specs.Conditions.{is_detected, occupancy_is}
+use Rattle.ilk_layout.proofs.Valid.{lie-small, occupancy-small}
+use Rattle.ilk_props.specs.WellformedForm.{continues_beyond}
 
--- whether two are one, by their numbers
 abbrev pub same_lie : Lie → Lie → Bool
 same_lie l a = lie_value a == lie_value l
 
 abbrev pub same_occupancy : Occupancy → Occupancy → Bool
 same_occupancy o a = occupancy_value a == occupancy_value o
 
--- no value has a number past those of all values
 unfound : {X : Type 0} (f : X → ℕ) (n v : ℕ) → ((a : X) → f a < n) → n ≤ v → (all : List X) → find (λ a. f a == v) all ≡ None
 unfound f n v small past [] = refl
 unfound f n v small past (a ∷ all) =
@@ -33,7 +31,7 @@ unfound f n v small past (a ∷ all) =
     let other : (f a == v) ≡ false = ne_eqb (f a) v (λ same. omega (arith, less, past, same)) in
     rw other (unfound f n v small past all)
 
-lie-number : (v : ℕ) (l : Lie) → (v == lie_value l) ≡ is_some_and (lie_of_value v) (same_lie l)
+lie-number : (v : ℕ) (l : Lie) → (v == lie_value l) ≡ is_some_and (lie_from_value v) (same_lie l)
 lie-number zero l = refl
 lie-number (suc zero) l = refl
 lie-number (suc (suc zero)) l = refl
@@ -42,7 +40,7 @@ lie-number (suc (suc (suc v))) l =
     ne_eqb (suc (suc (suc v))) (lie_value l) (λ same. omega (arith, less, same))
     ∙ sym (ap (λ o. is_some_and o (same_lie l)) (unfound lie_value 3 (suc (suc (suc v))) lie-small (omega arith) (Plus ∷ Minus ∷ Moving ∷ [])))
 
-occupancy-number : (v : ℕ) (o : Occupancy) → (v == occupancy_value o) ≡ is_some_and (occupancy_of_value v) (same_occupancy o)
+occupancy-number : (v : ℕ) (o : Occupancy) → (v == occupancy_value o) ≡ is_some_and (occupancy_from_value v) (same_occupancy o)
 occupancy-number zero o = refl
 occupancy-number (suc zero) o = refl
 occupancy-number (suc (suc zero)) o = refl
@@ -58,29 +56,28 @@ occupancy-number (suc (suc (suc (suc (suc (suc (suc (suc (suc (suc v)))))))))) o
     ne_eqb (suc (suc (suc (suc (suc (suc (suc (suc (suc (suc v)))))))))) (occupancy_value o) (λ same. omega (arith, less, same))
     ∙ sym (ap (λ o_of. is_some_and o_of (same_occupancy o)) (unfound occupancy_value 10 (suc (suc (suc (suc (suc (suc (suc (suc (suc (suc v)))))))))) occupancy-small (omega arith) all_occupancies))
 
-pub lie_is-holds : (p : PlantLists) (values : List ℕ) (x : ℕ) (l : Lie) → tree_holds values (lie_is p x l) ≡ is_some_and (lie_by p values x) (same_lie l)
-lie_is-holds p values x l = by_number (point_number p x) refl
+pub is_detected-holds : (p : PlantLists) (values : List ℕ) (x : ℕ) (l : Lie) → tree_holds values (is_detected p x l) ≡ is_some_and (lie_from_values p values x) (same_lie l)
+is_detected-holds p values x l = by_number (point_number p x) refl
   where
-    by_value : (o : Option ℕ) → is_some_and o (λ v. v == lie_value l) ≡ is_some_and (o >>= (λ v. lie_of_value v)) (same_lie l)
+    by_value : (o : Option ℕ) → is_some_and o (λ v. v == lie_value l) ≡ is_some_and (o >>= (λ v. lie_from_value v)) (same_lie l)
     by_value None = refl
     by_value (Some v) = lie-number v l
 
-    by_number : (o : Option ℕ) → point_number p x ≡ o → tree_holds values (lie_is p x l) ≡ is_some_and (lie_by p values x) (same_lie l)
+    by_number : (o : Option ℕ) → point_number p x ≡ o → tree_holds values (is_detected p x l) ≡ is_some_and (lie_from_values p values x) (same_lie l)
     by_number None e = rw e refl
-    by_number (Some n) e = rw e (by_value (slice_get values (at_var p n)))
+    by_number (Some n) e = rw e (by_value (slice_get values (detected_var p n)))
 
-pub occupancy_is-holds : (p : PlantLists) (values : List ℕ) (x : ℕ) (o : Occupancy) → tree_holds values (occupancy_is p x o) ≡ is_some_and (occupancy_by p values x) (same_occupancy o)
+pub occupancy_is-holds : (p : PlantLists) (values : List ℕ) (x : ℕ) (o : Occupancy) → tree_holds values (occupancy_is p x o) ≡ is_some_and (occupancy_from_values p values x) (same_occupancy o)
 occupancy_is-holds p values x o = by_value (slice_get values (occupancy_var p x))
   where
-    by_value : (r : Option ℕ) → is_some_and r (λ v. v == occupancy_value o) ≡ is_some_and (r >>= (λ v. occupancy_of_value v)) (same_occupancy o)
+    by_value : (r : Option ℕ) → is_some_and r (λ v. v == occupancy_value o) ≡ is_some_and (r >>= (λ v. occupancy_from_value v)) (same_occupancy o)
     by_value None = refl
     by_value (Some v) = occupancy-number v o
 
--- whether a section has a train in direction d that goes on beyond it on this side
+-- Returns whether a section has a train in direction `d` that continues beyond it on this side.
 abbrev pub goes_on : Dir → Dir → Occupancy → Bool
 goes_on d side o = if same_direction side d then has_more_ahead d o else has_more_behind d o
 
--- the two occupancies by such a train
 abbrev ended : Dir → Dir → Occupancy
 ended d side = if same_direction side d then Taken d true false else Taken d false true
 
@@ -127,9 +124,9 @@ goes_on-either Down Down (Some (Taken Down false true)) = refl
 goes_on-either Down Down (Some (Taken Down true false)) = refl
 goes_on-either Down Down (Some (Taken Down true true)) = refl
 
-pub goes_on-holds : (p : PlantLists) (values : List ℕ) (x : ℕ) (d side : Dir) → tree_holds values (goes_on_at p x d side) ≡ is_some_and (occupancy_by p values x) (goes_on d side)
+pub goes_on-holds : (p : PlantLists) (values : List ℕ) (x : ℕ) (d side : Dir) → tree_holds values (continues_beyond p x d side) ≡ is_some_and (occupancy_from_values p values x) (goes_on d side)
 goes_on-holds p values x d side =
     let one = occupancy_is-holds p values x (Taken d false false) in
     let two = occupancy_is-holds p values x (ended d side) in
     ap (λ (b : Bool). b || (tree_holds values (occupancy_is p x (ended d side)) || false)) one
-    ∙ ap (λ (b : Bool). is_some_and (occupancy_by p values x) (same_occupancy (Taken d false false)) || (b || false)) two ∙ goes_on-either d side (occupancy_by p values x)
+    ∙ ap (λ (b : Bool). is_some_and (occupancy_from_values p values x) (same_occupancy (Taken d false false)) || (b || false)) two ∙ goes_on-either d side (occupancy_from_values p values x)

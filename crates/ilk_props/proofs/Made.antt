@@ -1,4 +1,4 @@
--- Lists of forms to which those of one more thing were added.
+-- Lists of forms after forms were added.
 use Rattle.std.proofs.Common.{◌≡◌, ℕ, zero, suc, ◌+◌, ◌≤◌, Some, List, [], ◌∷◌, ◌++◌, drop, length, map, slice_get, refl, sym, ◌∙◌, ap, arith, append_assoc}
 use Rattle.std.specs.List.{enumerate_from, range_with_len}
 use Rattle.std.specs.Option.{option_to_list}
@@ -8,12 +8,10 @@ use Rattle.ilk_ir.specs.Form.{tree_of}
 use Rattle.ilk_ir.specs.Tree.{Tree, is}
 use Rattle.ilk_ir.specs.declared.form.Form.{Form}
 
--- the form of one more number
 pub form_made : (f : ℕ → Tree) (n : ℕ) (now next : List Form) (form : Form) → map tree_of now ≡ map f (range_with_len 0 n) → next ≡ now ++ form ∷ [] → tree_of form ≡ f n → map tree_of next ≡ map f (range_with_len 0 (n + 1))
 form_made f n now next form sofar grown made =
     pushed f n (map tree_of now) (map tree_of next) (tree_of form) (ap (map tree_of) grown ∙ map-append tree_of now (form ∷ [])) sofar made
 
--- the rest of a list, less its first if there is one
 rest_at : (xs : List ℕ) (i : ℕ) → drop i xs ≡ option_to_list (slice_get xs i) ++ drop (suc i) xs
 rest_at [] zero = refl
 rest_at [] (suc i) = refl
@@ -32,12 +30,11 @@ append_none : (ts : List Tree) → ts ++ [] ≡ ts
 append_none [] = refl
 append_none (t ∷ ts) = ap (λ us. t ∷ us) (append_none ts)
 
--- three lists added one after another
 pub three_made : (start one two three a b c : List Tree) → one ≡ start ++ a → two ≡ one ++ b → three ≡ two ++ c → three ≡ start ++ (a ++ (b ++ c))
 three_made start one two three a b c first second third =
     third ∙ ap (λ ts. ts ++ c) (second ∙ ap (λ ts. ts ++ b) first) ∙ append_assoc (start ++ a) b c ∙ append_assoc start a (b ++ c)
 
--- each variable from v on has its value among these
+-- Each variable from `v` on has its value among these.
 abbrev pub each_has : ℕ → List ℕ → List Tree
 each_has v values = map (λ place. is place.0 place.1) (enumerate_from v values)
 

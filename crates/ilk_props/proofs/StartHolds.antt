@@ -1,4 +1,4 @@
--- The form of the start holds exactly where values are the image of the start.
+-- The form of the start holds if and only if the values are the image of the start.
 use Rattle.std.proofs.Common.{◌≡◌, ◌↔◌, ℕ, zero, suc, ◌+◌, ◌^◌, ◌<◌, true, ◌==◌, Some, List, [], ◌∷◌, IsTrue, length, map, slice_get, inl, inr, refl, sym, ◌∙◌, ap, arith}
 use Rattle.std.specs.List.{enumerate_from, list_all}
 use Rattle.std.proofs.lemmas.Bool.{and_parts, eq-eqb, eqb-true}
@@ -21,11 +21,10 @@ use Rattle.ilk_plant.proofs.Shapes.{start-shape}
 use Rattle.ilk_layout.specs.Image.{image_of}
 use Rattle.ilk_layout.specs.Variables.{ranges_of_plant}
 use Rattle.ilk_layout.proofs.Ranged.{image-in_ranges}
-use Rattle.ilk_conditions.proofs.Valid.{length-ranges}
+use Rattle.ilk_layout.proofs.Valid.{length-ranges}
 use Rattle.ilk_props.specs.StartForm.{start_tree}
 use Rattle.ilk_ir.proofs.Ranges.{in_ranges-length}
 
--- each of these values, from variable k on, stands in the whole
 listed-at : (whole list : List ℕ) (k i c : ℕ) → list_all (tree_holds whole) (map (λ place. is place.0 place.1) (enumerate_from k list)) ≡ true → slice_get list i ≡ Some c → slice_get whole (k + i) ≡ Some c
 listed-at whole [] k i c h at = cc
 listed-at whole (x ∷ list) k zero c h at =
@@ -39,7 +38,6 @@ listed-at whole (x ∷ list) k (suc i) c h at =
     let next : k + suc i ≡ k + 1 + i = omega arith in
     ap (slice_get whole) next ∙ listed-at whole list (k + 1) i c rest at
 
--- lists of one length, the first of which has each value of the second
 same-values : (values list : List ℕ) → length values ≡ length list → ((i c : ℕ) → slice_get list i ≡ Some c → slice_get values i ≡ Some c) → values ≡ list
 same-values values list long each =
     same_by_slice_get values list (λ i. elim (below_or_past i (length list)) [
@@ -72,7 +70,7 @@ start-holds p values h = (to, from)
         let value : slice_get values (0 + i) ≡ Some made.0 = ap (slice_get values) here ∙ ap (λ l. slice_get l i) same ∙ made.1 in
         ap (tree_holds values) (sym made.2) ∙ ap (λ o. is_some_and o (λ v. v == made.0)) value ∙ eq-eqb made.0 made.0 refl))
 
--- variables have numbers of 32 bits
+-- Variable numbers fit in 32 bits.
 pub few_variables : (p : PlantLists) (s : State) (values : List ℕ) → IsPlant p → s ≡ start p → values ≡ image_of p s → length values < 2 ^ 32
 few_variables p s values plant begun same =
     let one : length values ≡ length (image_of p (start p)) = ap length (same ∙ ap (image_of p) begun) in

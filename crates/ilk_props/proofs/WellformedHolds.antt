@@ -1,4 +1,4 @@
--- The form of well-formed values holds exactly where they are well-formed.
+-- The form of well-formed values holds if and only if they are well-formed.
 use Rattle.std.proofs.Common.{◌≡◌, ◌↔◌, ℕ, zero, suc, ◌<◌, Bool, true, false, not, ◌&&◌, ◌||◌, ◌==◌, Option, Some, None, List, [], ◌∷◌, IsTrue, length, map, nat_lt, replicate, slice_get, refl, sym, ◌∙◌, ap, arith}
 use Rattle.std.specs.List.{flat_map, list_all, range_with_len}
 use Rattle.std.proofs.lemmas.Bool.{and_parts}
@@ -14,29 +14,28 @@ use Rattle.ilk_ir.specs.Tree.{any_of, tree_holds, trees}
 use Rattle.ilk_ir.proofs.Trees.{all_of-holds}
 use Rattle.ilk_plant.specs.NetworkRules.{opposite_direction}
 use Rattle.ilk_plant.specs.Plant.{IsPlant, PlantLists, next_to, point_count}
-use Rattle.ilk_plant.specs.Sound.{NeverReturns}
+use Rattle.ilk_plant.specs.Sound.{NoWalkReturns}
 use Rattle.ilk_plant.specs.declared.network.Dir.{Dir}
 use Rattle.ilk_plant.specs.declared.network.Dir.TheVariants.{Up, Down}
 use Rattle.ilk_plant.specs.declared.state.Lie.{Lie}
 use Rattle.ilk_plant.specs.declared.state.Lie.TheVariants.{Moving}
 use Rattle.ilk_routes.specs.Lies.{is_moving}
 use Rattle.ilk_layout.specs.Laws.{AreImage}
-use Rattle.ilk_layout.specs.Values.{occupancy_of_value, occupancy_value}
+use Rattle.ilk_layout.specs.Values.{occupancy_from_value, occupancy_value}
 use Rattle.ilk_layout.specs.Variables.{occupancy_var, ranges_of_plant}
-use Rattle.ilk_layout.specs.Wellformed.{is_wellformed, joined_to, lie_by, occupancy_by, section_fits}
+use Rattle.ilk_layout.specs.Wellformed.{is_wellformed, joined_section, lie_from_values, occupancy_from_values, section_fits}
 use Rattle.ilk_layout.specs.declared.values.Occupancy.{Occupancy}
 use Rattle.ilk_layout.specs.declared.values.Occupancy.TheVariants.{Vacant, Taken, Crash}
 use Rattle.ilk_layout.proofs.Parts.{get-fifth}
 use Rattle.ilk_layout.proofs.Ranged.{wellformed-images}
-use Rattle.ilk_conditions.specs.Conditions.{lie_is}
-use Rattle.ilk_conditions.proofs.Valid.{length-points_ranges, length-route_ranges}
-use Rattle.ilk_conditions.proofs.Values.{moving-test}
+use Rattle.ilk_layout.specs.Conditions.{is_detected}
+use Rattle.ilk_layout.proofs.Valid.{length-points_ranges, length-route_ranges}
+use Rattle.ilk_layout.proofs.ConditionValues.{moving-test}
 use Rattle.ilk_props.specs.HazardForm.{crash_at}
 use Rattle.ilk_props.specs.WellformedForm.{is_still, joined_by_train, section_demands, train_is_whole, wellformed_tree}
-use Rattle.ilk_props.proofs.Leaves.{goes_on, goes_on-holds, lie_is-holds, occupancy_is-holds, same_lie, same_occupancy}
+use Rattle.ilk_props.proofs.Leaves.{goes_on, goes_on-holds, is_detected-holds, occupancy_is-holds, same_lie, same_occupancy}
 use Rattle.ilk_props.proofs.Joined.{next-holds}
 
--- the occupancy of a section, by values in range
 in_ranges-at : (values ranges : List ℕ) (v range : ℕ) → in_ranges values ranges ≡ true → slice_get ranges v ≡ Some range → (value : ℕ) × (slice_get values v ≡ Some value) × (value < range)
 in_ranges-at [] [] v range h at = cc
 in_ranges-at [] (r ∷ ranges) v range h at = cc
@@ -48,7 +47,7 @@ in_ranges-at (x ∷ values) (r ∷ ranges) zero range h at =
 in_ranges-at (x ∷ values) (r ∷ ranges) (suc v) range h at =
     in_ranges-at values ranges v range (and_parts (nat_lt x r) (in_ranges values ranges) h).1 at
 
-known-occupancy : (v : ℕ) → v < 10 → (o : Occupancy) × (occupancy_of_value v ≡ Some o)
+known-occupancy : (v : ℕ) → v < 10 → (o : Occupancy) × (occupancy_from_value v ≡ Some o)
 known-occupancy zero h = (Vacant, refl)
 known-occupancy (suc zero) h = (Taken Up false false, refl)
 known-occupancy (suc (suc zero)) h = (Taken Up false true, refl)
@@ -66,14 +65,14 @@ occupancy-range p x within =
     get-fifth _ _ _ _ (replicate (length p.sections) 10) _ _ _ _ (length-route_ranges p.routes) (length-points_ranges (point_count p)) (length-replicate (length p.boards) 2) (length-replicate (length p.sections) 3) x
     ∙ replicate-at (length p.sections) x 10 within
 
-pub occupancy-known : (p : PlantLists) (values : List ℕ) (x : ℕ) → in_ranges values (ranges_of_plant p) ≡ true → x < length p.sections → (o : Occupancy) × (occupancy_by p values x ≡ Some o)
+pub occupancy-known : (p : PlantLists) (values : List ℕ) (x : ℕ) → in_ranges values (ranges_of_plant p) ≡ true → x < length p.sections → (o : Occupancy) × (occupancy_from_values p values x ≡ Some o)
 occupancy-known p values x h within =
     let value = in_ranges-at values (ranges_of_plant p) (occupancy_var p x) 10 h (occupancy-range p x within) in
     let o = known-occupancy value.0 value.2 in
-    (o.0, ap (λ (v : Option ℕ). v >>= (λ n. occupancy_of_value n)) value.1 ∙ o.1)
+    (o.0, ap (λ (v : Option ℕ). v >>= (λ n. occupancy_from_value n)) value.1 ∙ o.1)
 
--- what is asked of a section of this occupancy, where its point moves or not, and a next section has a train in
--- direction d beyond it on a side or not
+-- The conditions on a section with occupancy `o`, if its point moves or not, and if `next` says
+-- whether a neighbour has the rest of the train.
 abbrev asked : Occupancy → Bool → (Dir → Dir → Bool) → Bool
 asked o moves next =
     not (occupancy_value o == 9) && (
@@ -83,7 +82,7 @@ asked o moves next =
     (not (goes_on Down Up o) || (next Down Up || false)) && (
     (not (goes_on Down Down o) || (next Down Down || false)) && true)))))
 
--- the same as its definition has it
+-- The same, as its definition states it.
 abbrev fitting : Occupancy → Bool → (Dir → Dir → Bool) → Bool
 fitting Vacant moves next = true
 fitting Crash moves next = false
@@ -123,41 +122,41 @@ asked-fitting (Taken Down true true) moves next = tidy_turned moves true true
 
 module _ (p : PlantLists) (plant : IsPlant p) (values : List ℕ) where
   abbrev moves : ℕ → Bool
-  moves x = is_some_and (lie_by p values x) is_moving
+  moves x = is_some_and (lie_from_values p values x) is_moving
 
   abbrev next : ℕ → Dir → Dir → Bool
   next x d side =
-      is_some_and (joined_to p (lie_by p values) x side) (λ y. is_some_and (occupancy_by p values y) (goes_on d (opposite_direction side)))
+      is_some_and (joined_section p (lie_from_values p values) x side) (λ y. is_some_and (occupancy_from_values p values y) (goes_on d (opposite_direction side)))
 
-  moves-holds : (x : ℕ) → tree_holds values (lie_is p x Moving) ≡ moves x
-  moves-holds x = lie_is-holds p values x Moving ∙ alike (lie_by p values x)
+  moves-holds : (x : ℕ) → tree_holds values (is_detected p x Moving) ≡ moves x
+  moves-holds x = is_detected-holds p values x Moving ∙ alike (lie_from_values p values x)
     where
       alike : (o : Option Lie) → is_some_and o (same_lie Moving) ≡ is_some_and o is_moving
       alike None = refl
       alike (Some l) = moving-test l
 
-  still-holds : (x : ℕ) (o : Occupancy) → occupancy_by p values x ≡ Some o → tree_holds values (is_still p x) ≡ (not (not (occupancy_value o == 0)) || (not (moves x) || false))
+  still-holds : (x : ℕ) (o : Occupancy) → occupancy_from_values p values x ≡ Some o → tree_holds values (is_still p x) ≡ (not (not (occupancy_value o == 0)) || (not (moves x) || false))
   still-holds x o at =
-      ap (λ (b : Bool). not (not b) || (not (tree_holds values (lie_is p x Moving)) || false)) (occupancy_is-holds p values x Vacant ∙ ap (λ o. is_some_and o (same_occupancy Vacant)) at)
+      ap (λ (b : Bool). not (not b) || (not (tree_holds values (is_detected p x Moving)) || false)) (occupancy_is-holds p values x Vacant ∙ ap (λ o. is_some_and o (same_occupancy Vacant)) at)
       ∙ ap (λ (b : Bool). not (not (occupancy_value o == 0)) || (not b || false)) (moves-holds x)
 
-  whole-holds : (x : ℕ) (d side : Dir) (o : Occupancy) → occupancy_by p values x ≡ Some o → tree_holds values (train_is_whole p x d side) ≡ (not (goes_on d side o) || (next x d side || false))
+  whole-holds : (x : ℕ) (d side : Dir) (o : Occupancy) → occupancy_from_values p values x ≡ Some o → tree_holds values (train_is_whole p x d side) ≡ (not (goes_on d side o) || (next x d side || false))
   whole-holds x d side o at =
       ap (λ (b : Bool). not b || (tree_holds values (any_of (trees (map (joined_by_train p x d side) (next_to p x side)))) || false)) (goes_on-holds p values x d side ∙ ap (λ o. is_some_and o (goes_on d side)) at)
       ∙ ap (λ (b : Bool). not (goes_on d side o) || (b || false)) (next-holds p plant values x d side)
 
-  crash-holds : (x : ℕ) (o : Occupancy) → occupancy_by p values x ≡ Some o → tree_holds values (crash_at p x) ≡ (occupancy_value o == 9)
+  crash-holds : (x : ℕ) (o : Occupancy) → occupancy_from_values p values x ≡ Some o → tree_holds values (crash_at p x) ≡ (occupancy_value o == 9)
   crash-holds x o at = occupancy_is-holds p values x Crash ∙ ap (λ o. is_some_and o (same_occupancy Crash)) at
 
-  -- what is asked of a section holds exactly where its occupancy fits
-  demands-hold : (x : ℕ) (o : Occupancy) → occupancy_by p values x ≡ Some o → list_all (tree_holds values) (section_demands p x) ≡ section_fits p (lie_by p values) (occupancy_by p values) x (occupancy_by p values x)
+  demands-hold : (x : ℕ) (o : Occupancy) → occupancy_from_values p values x ≡ Some o → list_all (tree_holds values) (section_demands p x)
+      ≡ section_fits p (lie_from_values p values) (occupancy_from_values p values) x (occupancy_from_values p values x)
   demands-hold x o at =
       ap (λ (b : Bool). not b && (tree_holds values (is_still p x) && rest)) (crash-holds x o at)
       ∙ ap (λ (b : Bool). not (occupancy_value o == 9) && (b && rest)) (still-holds x o at)
       ∙ ap (λ (b : Bool). not (occupancy_value o == 9) && ((not (not (occupancy_value o == 0)) || (not (moves x) || false)) && b)) rest-holds
       ∙ asked-fitting o (moves x) (next x)
       ∙ fits o
-      ∙ sym (ap (section_fits p (lie_by p values) (occupancy_by p values) x) at)
+      ∙ sym (ap (section_fits p (lie_from_values p values) (occupancy_from_values p values) x) at)
     where
       whole : Dir → Dir → Bool
       whole d side = tree_holds values (train_is_whole p x d side)
@@ -175,7 +174,7 @@ module _ (p : PlantLists) (plant : IsPlant p) (values : List ℕ) where
           ∙ ap (λ (b : Bool). goes Up Up && (goes Up Down && (b && (whole Down Down && true)))) (whole-holds x Down Up o at)
           ∙ ap (λ (b : Bool). goes Up Up && (goes Up Down && (goes Down Up && (b && true)))) (whole-holds x Down Down o at)
 
-      fits : (o : Occupancy) → fitting o (moves x) (next x) ≡ section_fits p (lie_by p values) (occupancy_by p values) x (Some o)
+      fits : (o : Occupancy) → fitting o (moves x) (next x) ≡ section_fits p (lie_from_values p values) (occupancy_from_values p values) x (Some o)
       fits Vacant = refl
       fits Crash = refl
       fits (Taken Up tail head) = refl
@@ -185,12 +184,13 @@ module _ (p : PlantLists) (plant : IsPlant p) (values : List ℕ) where
   wellformed-holds h =
       all_of-holds values (flat_map (section_demands p) (range_with_len 0 (length p.sections)))
       ∙ list_all-flat_map (tree_holds values) (section_demands p) (range_with_len 0 (length p.sections))
-      ∙ list_all-alike (λ x. list_all (tree_holds values) (section_demands p x)) (λ x. section_fits p (lie_by p values) (occupancy_by p values) x (occupancy_by p values x)) (range_with_len 0 (length p.sections)) (λ i x at. (
+      ∙ list_all-alike (λ x. list_all (tree_holds values) (section_demands p x)) (λ x. section_fits p (lie_from_values p values) (occupancy_from_values p values) x (occupancy_from_values p values x)) (range_with_len 0 (length p.sections))
+      (λ i x at. (
       let place = range_within (length p.sections) i x at in
       let o = occupancy-known p values x h place.1 in
       demands-hold x o.0 o.1))
 
-pub holds-at_images : (p : PlantLists) → IsPlant p → NeverReturns p → (values : List ℕ) → IsTrue (in_ranges values (ranges_of_plant p)) → IsTrue (tree_holds values (wellformed_tree p)) ↔ AreImage p values
+pub holds-at_images : (p : PlantLists) → IsPlant p → NoWalkReturns p → (values : List ℕ) → IsTrue (in_ranges values (ranges_of_plant p)) → IsTrue (tree_holds values (wellformed_tree p)) ↔ AreImage p values
 holds-at_images p plant never values h =
     let same = wellformed-holds p plant values h in
     let images = wellformed-images p plant never values h in

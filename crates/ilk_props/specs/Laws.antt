@@ -1,4 +1,4 @@
--- What the forms say.
+-- The meaning of the forms.
 use Rattle.std.specs.Prelude.{◌≡◌, ◌↔◌, ℕ, List, IsTrue, is_some}
 use Rattle.ilk_ir.specs.System.{in_ranges}
 use Rattle.ilk_ir.specs.Tree.{Tree, tree_holds, tree_valid}
@@ -15,25 +15,27 @@ use Rattle.ilk_props.specs.HazardForm.{hazard_tree}
 use Rattle.ilk_props.specs.StartForm.{start_tree}
 use Rattle.ilk_props.specs.WellformedForm.{wellformed_tree}
 
--- a form speaks of the plant's variables, and of values within their ranges
+-- Holds if the form uses only the plant's variables, and values within their ranges.
 abbrev pub IsOverPlant : PlantLists → Tree → Type 0
 IsOverPlant p tree = IsTrue (tree_valid (ranges_of_plant p) tree)
 
--- of the image of a state with shape, the form of hazards holds exactly where the state has a hazard
+-- For the image of a well-formed state, the form of hazards holds if and only if the state has a
+-- hazard.
 abbrev pub HoldsAtHazards : PlantLists → Type 0
 HoldsAtHazards p = (s : State) → HasShape p s → tree_holds (image_of p s) (hazard_tree p) ≡ is_some (hazard p s)
 
--- of values in range, the form of well-formed values holds exactly where they are well-formed
+-- For values in range, the form of well-formed values holds if and only if they are well-formed.
 abbrev pub HoldsWhereWellformed : PlantLists → Type 0
 HoldsWhereWellformed p =
     (values : List ℕ) → IsTrue (in_ranges values (ranges_of_plant p)) → tree_holds values (wellformed_tree p) ≡ is_wellformed p values
 
--- and exactly where they are the image of a state with shape and without hazard
+-- For values in range, the form of well-formed values holds if and only if they are the image of a
+-- well-formed state without hazard.
 abbrev pub HoldsAtImages : PlantLists → Type 0
 HoldsAtImages p =
     (values : List ℕ) → IsTrue (in_ranges values (ranges_of_plant p)) → IsTrue (tree_holds values (wellformed_tree p)) ↔ AreImage p values
 
--- of values in range, the form of the start holds exactly where they are the image of the start
+-- For values in range, the form of the start holds if and only if they are the image of the start.
 abbrev pub HoldsAtStart : PlantLists → Type 0
 HoldsAtStart p =
     (values : List ℕ) → IsTrue (in_ranges values (ranges_of_plant p)) → IsTrue (tree_holds values (start_tree p)) ↔ (values ≡ image_of p (start p))

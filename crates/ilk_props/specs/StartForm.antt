@@ -1,4 +1,4 @@
--- That values are the image of the start, as a form: each variable has the value that it has there.
+-- The form of the start: each variable has its value in the image of the start.
 use Rattle.std.specs.Prelude.{map}
 use Rattle.std.specs.List.{enumerate_from}
 use Rattle.ilk_ir.specs.Tree.{Tree, all_of, is, trees}

@@ -3,13 +3,12 @@ ghost use Rattle.ilk_ir.specs.Form.{tree_of};
 ghost use Rattle.ilk_props.specs.HazardForm as forms;
 ghost use Rattle.ilk_props.specs.Laws.{HoldsAtHazards, IsOverPlant};
 
-use ilk_conditions::occupancy_is;
 use ilk_ir::Form;
-use ilk_layout::Occupancy;
+use ilk_layout::{Occupancy, occupancy_is};
 use ilk_plant::Plant;
 use std::alloc::{AllocError, Global};
 
-/// A hazard stands at section `x`.
+/// Returns the condition that section `x` has a hazard.
 pub(crate) fn crash_at(plant: &Plant, x: u32) -> Form
     requires { x < length plant.now.sections }
     ensures { tree_of result ≡ forms.crash_at plant.now x }
@@ -17,7 +16,6 @@ pub(crate) fn crash_at(plant: &Plant, x: u32) -> Form
     occupancy_is(plant, x, Occupancy::Crash)
 }
 
-// Some section's occupancy is crash.
 fn some_crash(alloc: Global, plant: &Plant) -> Result<Form, AllocError>
     ensures { IfOk result (λ form. tree_of form ≡ forms.hazard_tree plant.now) }
 {
@@ -28,14 +26,14 @@ fn some_crash(alloc: Global, plant: &Plant) -> Result<Form, AllocError>
     Ok(Form::Or(sections))
 }
 
-/// The form of hazards: some section's occupancy is crash. The only refusal is want of memory.
+/// Returns the form of hazards: some section's occupancy is `Crash`. Fails only if memory runs out.
 pub fn hazard_form(alloc: Global, plant: &Plant) -> Result<Form, AllocError>
     ensures form { IfOk result (λ form. tree_of form ≡ forms.hazard_tree plant.now) }
 
-    // It is over the plant's variables and their ranges.
+    // The form is valid over the plant's variables and their ranges.
     ensures valid { IsOverPlant plant.now (forms.hazard_tree plant.now) }
 
-    // Of the image of a state with shape it holds exactly where the state has a hazard.
+    // For the image of a well-formed state, it holds if and only if the state has a hazard.
     ensures holds { HoldsAtHazards plant.now }
 {
     some_crash(alloc, plant)

@@ -1,11 +1,12 @@
-//! What a verification asks of the values of a plant's variables: that a hazard stands somewhere, that
-//! values are the image of a state with shape and without hazard, that they are the image of the
-//! start; each as a form.
+//! Three forms over the values of a plant's variables. They state that some section has a hazard,
+//! that the values are the image of a well-formed state without hazard, or that they are the image
+//! of the start.
 //!
-//! `specs/HazardForm`, `specs/WellformedForm` and `specs/StartForm` have the forms as trees, in the
-//! words of `ilk_conditions`. What each says (`specs/Laws`) is a clause of the call that makes it:
-//! the first holds of the image of a state with shape exactly where the state has a hazard; the others
-//! of values in range exactly where they are such an image.
+//! `specs/HazardForm`, `specs/WellformedForm` and `specs/StartForm` define the forms as trees, from
+//! the conditions of `ilk_layout`. The contract of each call states the meaning of its form
+//! (`specs/Laws`). For the image of a well-formed state, the first form holds if and only if the
+//! state has a hazard. For values in range, the others hold if and only if the values are such an
+//! image.
 #![tactic(auto)]
 
 mod hazard;

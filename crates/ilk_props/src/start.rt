@@ -10,7 +10,6 @@ use ilk_layout::image;
 use ilk_plant::{Plant, start_state};
 use std::alloc::{AllocError, Global};
 
-// Variable `v` has the value.
 fn value_is(v: u64, value: u8) -> Form
     requires { v < 2 ^ 32 }
     ensures { tree_of result ≡ is v value }
@@ -18,7 +17,7 @@ fn value_is(v: u64, value: u8) -> Form
     Form::Is(v as u32, value)
 }
 
-// For each variable, that it has its value among these.
+// Returns the condition on each variable that it has its value among these.
 fn each_is(alloc: Global, values: &Values) -> Result<Vec<Form>, AllocError>
     requires { length values.now < 2 ^ 32 }
     ensures { IfOk result
@@ -32,7 +31,6 @@ fn each_is(alloc: Global, values: &Values) -> Result<Vec<Form>, AllocError>
     Ok(each)
 }
 
-// All variables have their values among these.
 fn all_are(alloc: Global, values: &Values) -> Result<Form, AllocError>
     requires { length values.now < 2 ^ 32 }
     ensures { IfOk result
@@ -42,7 +40,6 @@ fn all_are(alloc: Global, values: &Values) -> Result<Form, AllocError>
     Ok(Form::And(each_is(alloc, values)?))
 }
 
-// Each variable has the value that it has in the image of the start.
 #[tactic(auto, using(crate::proofs::StartHolds::few_variables))]
 fn all_are_as_at_start(alloc: Global, plant: &Plant) -> Result<Form, AllocError>
     ensures { IfOk result (λ form. tree_of form ≡ forms.start_tree plant.now) }
@@ -53,15 +50,15 @@ fn all_are_as_at_start(alloc: Global, plant: &Plant) -> Result<Form, AllocError>
     all_are(alloc, &values)
 }
 
-/// The form of the start: each variable has the value that it has in the image of the start. The only
-/// refusal is want of memory.
+/// Returns the form of the start: each variable has its value in the image of the start. Fails only
+/// if memory runs out.
 pub fn start_form(alloc: Global, plant: &Plant) -> Result<Form, AllocError>
     ensures form { IfOk result (λ form. tree_of form ≡ forms.start_tree plant.now) }
 
-    // It is over the plant's variables and their ranges.
+    // The form is valid over the plant's variables and their ranges.
     ensures valid { IsOverPlant plant.now (forms.start_tree plant.now) }
 
-    // Of values in range it holds exactly where they are the image of the start.
+    // For values in range, it holds if and only if they are the image of the start.
     ensures holds { HoldsAtStart plant.now }
 {
     all_are_as_at_start(alloc, plant)

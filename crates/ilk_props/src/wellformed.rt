@@ -7,9 +7,8 @@ ghost use Rattle.ilk_props.specs.Laws.{HoldsAtImages, HoldsWhereWellformed, IsOv
 ghost use Rattle.ilk_props.specs.WellformedForm as forms;
 
 use crate::hazard::crash_at;
-use ilk_conditions::{lie_is, negated, occupancy_is, train_at};
 use ilk_ir::Form;
-use ilk_layout::Occupancy;
+use ilk_layout::{Occupancy, is_detected, negated, occupancy_is, train_at};
 use ilk_plant::{Dir, Lie, Plant, Section};
 use std::alloc::{AllocError, Global};
 
@@ -22,7 +21,7 @@ fn opposite(d: Dir) -> Dir
     }
 }
 
-// Where the first holds, the second does.
+// Returns the implication from `condition` to `consequence`.
 fn implies(alloc: Global, condition: Form, consequence: Form) -> Result<Form, AllocError>
     ensures { IfOk result
         (λ made. tree_of made ≡ forms.implies (tree_of condition) (tree_of consequence)) }
@@ -33,10 +32,11 @@ fn implies(alloc: Global, condition: Form, consequence: Form) -> Result<Form, Al
     Ok(Form::Or(either))
 }
 
-// A train in direction `d` has section `x` and goes on beyond it on this side.
+// Returns the condition that a train in direction `d` is in section `x` and continues beyond it on
+// this side.
 fn goes_on_at(alloc: Global, plant: &Plant, x: u32, d: Dir, side: Dir) -> Result<Form, AllocError>
     requires { x < length plant.now.sections }
-    ensures { IfOk result (λ made. tree_of made ≡ forms.goes_on_at plant.now x d side) }
+    ensures { IfOk result (λ made. tree_of made ≡ forms.continues_beyond plant.now x d side) }
 {
     let within = Occupancy::Taken {
         dir: d,
@@ -54,16 +54,16 @@ fn goes_on_at(alloc: Global, plant: &Plant, x: u32, d: Dir, side: Dir) -> Result
     Ok(Form::Or(either))
 }
 
-// `x` leads to `y`, a section next to it on this side.
+// Returns the condition that `x` leads to `y`, its neighbour on this side.
 fn leads_by_lie(plant: &Plant, x: u32, side: Dir, y: u32) -> Form
     requires { x < length plant.now.sections }
-    ensures { tree_of result ≡ forms.leads_by_lie plant.now x side y }
+    ensures { tree_of result ≡ forms.leads_to_neighbour plant.now x side y }
 {
     match *plant.section(x) {
         Section::Linear { .. } => Form::Yes,
         Section::Point { plus, faces, .. } => {
             if faces == side {
-                lie_is(plant, x, if plus == y { Lie::Plus } else { Lie::Minus })
+                is_detected(plant, x, if plus == y { Lie::Plus } else { Lie::Minus })
             } else {
                 Form::Yes
             }
@@ -71,8 +71,8 @@ fn leads_by_lie(plant: &Plant, x: u32, side: Dir, y: u32) -> Form
     }
 }
 
-// `x` and `y`, a section next to it on this side, lead to each other, and `y` has a train in direction
-// `d` that goes on to `x`.
+// Returns the condition that `x` and `y`, its neighbour on this side, lead to each other, and `y`
+// has a train in direction `d` that continues to `x`.
 fn joined_by_train(
     alloc: Global,
     plant: &Plant,
@@ -93,8 +93,8 @@ fn joined_by_train(
     Ok(Form::And(each))
 }
 
-// Adds, of entry `i` of the sections next to `x` on this side, that it has the train in direction `d`
-// that `x` has.
+// Adds the condition that neighbour `i` of `x` on this side has the train in direction `d` that is
+// at `x`.
 fn push_neighbour_has_train(
     alloc: Global,
     some: &mut Vec<Form>,
@@ -117,7 +117,8 @@ fn push_neighbour_has_train(
     Ok(())
 }
 
-// Some section next to `x` on this side has the train in direction `d` that `x` has.
+// Returns the condition that some neighbour of `x` on this side has the train in direction `d` that
+// is at `x`.
 fn next_has_train(
     alloc: Global,
     plant: &Plant,
@@ -139,8 +140,8 @@ fn next_has_train(
     Ok(Form::Or(some))
 }
 
-// Where a train in direction `d` goes on beyond `x` on this side, a section next to `x` there has it
-// too.
+// Returns the condition that a train in direction `d` that continues beyond `x` on this side is
+// also in a neighbour there.
 fn train_is_whole(
     alloc: Global,
     plant: &Plant,
@@ -156,17 +157,16 @@ fn train_is_whole(
     implies(alloc, goes_on, next)
 }
 
-// Under a train, the point on section `x` doesn't move.
+// Returns the condition that the point on section `x` is not moving under a train.
 fn is_still(alloc: Global, plant: &Plant, x: u32) -> Result<Form, AllocError>
     requires { x < length plant.now.sections }
     ensures { IfOk result (λ made. tree_of made ≡ forms.is_still plant.now x) }
 {
     let train = train_at(alloc, plant, x)?;
-    let still = negated(alloc, lie_is(plant, x, Lie::Moving))?;
+    let still = negated(alloc, is_detected(plant, x, Lie::Moving))?;
     implies(alloc, train, still)
 }
 
-// Adds that no hazard stands at section `x`, and that under a train no point moves there.
 fn push_own_demands(
     alloc: Global,
     demands: &mut Vec<Form>,
@@ -183,7 +183,6 @@ fn push_own_demands(
     Ok(())
 }
 
-// Adds that a train in direction `d` at section `x` goes on to sections that have it too.
 fn push_train_demands(
     alloc: Global,
     demands: &mut Vec<Form>,
@@ -201,7 +200,6 @@ fn push_train_demands(
     Ok(())
 }
 
-// Adds what is asked of section `x`.
 fn push_section_demands(
     alloc: Global,
     demands: &mut Vec<Form>,
@@ -219,7 +217,6 @@ fn push_section_demands(
     Ok(())
 }
 
-// What is asked of each section.
 fn all_demands(alloc: Global, plant: &Plant) -> Result<Form, AllocError>
     ensures { IfOk result (λ form. tree_of form ≡ forms.wellformed_tree plant.now) }
 {
@@ -230,21 +227,22 @@ fn all_demands(alloc: Global, plant: &Plant) -> Result<Form, AllocError>
     Ok(Form::And(demands))
 }
 
-/// The form of well-formed values: a condition on each section and the sections next to it. The only
-/// refusal is want of memory.
+/// Returns the form of well-formed values: a condition on each section and its neighbours. Fails
+/// only if memory runs out.
 pub fn wellformed_form(alloc: Global, plant: &Plant) -> Result<Form, AllocError>
     ensures form { IfOk result (λ form. tree_of form ≡ forms.wellformed_tree plant.now) }
 
-    // It is over the plant's variables and their ranges.
+    // The form is valid over the plant's variables and their ranges.
     ensures valid { IsOverPlant plant.now (forms.wellformed_tree plant.now) }
 
-    // Of values in range it holds exactly where they are well-formed,
+    // For values in range, it holds if and only if they are well-formed.
     ensures wellformed { HoldsWhereWellformed plant.now }
 
-    // and exactly where they are the image of a state with shape and without hazard.
+    // For values in range, it holds if and only if they are the image of a well-formed state
+    // without hazard.
     ensures images { HoldsAtImages plant.now }
 {
     plant.is_sound();
-    plant.is_of_drafts();
+    plant.is_from_drafts();
     all_demands(alloc, plant)
 }

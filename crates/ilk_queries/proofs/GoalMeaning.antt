@@ -1,4 +1,4 @@
--- The forms of a plant's goal say what they are to, and are valid.
+-- The forms of a plant's goal mean what their names say, and are valid.
 use Rattle.std.proofs.Common.{◌≡◌, ℕ, true, refl}
 use Rattle.std.specs.Prelude.{IsTrue}
 use Rattle.std.specs.List.{list_all}
@@ -7,7 +7,7 @@ use Rattle.ilk_ir.specs.Tree.{tree_holds, tree_valid}
 use Rattle.ilk_plant.specs.Plant.{PlantLists}
 use Rattle.ilk_plant.specs.declared.state.State.{State}
 use Rattle.ilk_layout.specs.Image.{image_of}
-use Rattle.ilk_layout.specs.Laws.{ImagesAreInRange, IsCalm}
+use Rattle.ilk_layout.specs.Laws.{ImagesAreInRange, IsWellFormedAndSafe}
 use Rattle.ilk_layout.specs.Variables.{ranges_of_plant}
 use Rattle.ilk_invs.specs.FamilyTrees.{family_tree, family_trees}
 use Rattle.ilk_invs.specs.Laws.{HoldsAsKept}
@@ -20,7 +20,7 @@ use Rattle.ilk_queries.specs.Goal.{goal_of}
 use Rattle.ilk_queries.specs.Lifting.{IsGoalOf}
 use Rattle.ilk_model.specs.Meets.{keeps_all}
 
-all-kept : (p : PlantLists) → ((j : ℕ) → HoldsAsKept p j (family_tree p j)) → (s : State) → IsCalm p s → list_all (tree_holds (image_of p s)) (family_trees p) ≡ keeps_all p s
+all-kept : (p : PlantLists) → ((j : ℕ) → HoldsAsKept p j (family_tree p j)) → (s : State) → IsWellFormedAndSafe p s → list_all (tree_holds (image_of p s)) (family_trees p) ≡ keeps_all p s
 all-kept p kept s calm =
     rw (kept 1 s calm, kept 2 s calm, kept 3 s calm, kept 4 s calm, kept 5 s calm, kept 6 s calm, kept 7 s calm, kept 8 s calm, kept 9 s calm) refl
 

@@ -1,4 +1,5 @@
--- A run that a query asks for exists over states and events exactly where one exists over values and rules.
+-- A run that a query asks for exists over states and events if and only if one exists over values
+-- and rules.
 use Rattle.std.proofs.Common.{◌≡◌, ℕ, zero, suc, true, Some, List, refl, sym, ap, ◌∙◌}
 use Rattle.std.proofs.lemmas.Bool.{false≢true}
 use Rattle.ilk_plant.specs.Plant.{PlantLists}
@@ -13,18 +14,18 @@ use Rattle.ilk_unroll.specs.Goal.{GoalTree, wanted_valid}
 use Rattle.ilk_unroll.specs.Run.{is_wanted_run}
 use Rattle.ilk_unroll.specs.declared.queries.Wanted.{Wanted}
 use Rattle.ilk_unroll.specs.declared.queries.Wanted.TheVariants.{Hazard, Breach, Step}
-use Rattle.ilk_queries.specs.Asked.{HasEvents, IsRunFor}
-use Rattle.ilk_queries.specs.Lifting.{IsGoalOf, RulesStep, events_by}
+use Rattle.ilk_queries.specs.Asked.{HasQueriedRun, IsRunFor}
+use Rattle.ilk_queries.specs.Lifting.{IsGoalOf, RulesStepLikeEvents, events_by_rules}
 use Rattle.ilk_queries.proofs.Answered.{IsBeginning, first-values, to-asked}
 
-module _ (p : PlantLists) (steps : RulesStep p) (g : GoalTree) (goal : IsGoalOf p g) where
-  -- the state and the events of a run of rules
+module _ (p : PlantLists) (steps : RulesStepLikeEvents p) (g : GoalTree) (goal : IsGoalOf p g) where
+  -- The state and the events of a run of rules.
   pub record IsLifted (q : Wanted) (first rules : List ℕ) : Type 0 where
     pub state : State
     pub shape : HasShape p state
     pub image : image_of p state ≡ first
     pub events : List Event
-    pub by_rules : events_by p rules ≡ Some events
+    pub by_rules : events_by_rules p rules ≡ Some events
     pub run : IsRunFor p q state events
 
   from-state : (q : Wanted) (first rules : List ℕ) (s : State) → HasShape p s → image_of p s ≡ first → IsBeginning p steps g goal q s → is_wanted_run (system_of p) g q first rules ≡ true → IsLifted q first rules
@@ -43,6 +44,6 @@ module _ (p : PlantLists) (steps : RulesStep p) (g : GoalTree) (goal : IsGoalOf 
       let image = first-values p steps g goal (Step (suc n)) first rules wanted in
       from-state (Step (suc n)) first rules image.state image.calm.shape image.image image.calm.shape wanted
 
-  pub has-events : (q : Wanted) (first rules : List ℕ) → wanted_valid q ≡ true → is_wanted_run (system_of p) g q first rules ≡ true → HasEvents p q
+  pub has-events : (q : Wanted) (first rules : List ℕ) → wanted_valid q ≡ true → is_wanted_run (system_of p) g q first rules ≡ true → HasQueriedRun p q
   has-events q first rules valid wanted =
       let l = lifted q first rules valid wanted in record { first = l.state; shape = l.shape; events = l.events; run = l.run }

@@ -1,4 +1,4 @@
--- What a query asks of value lists and rules, it asks of states and events.
+-- A query's demands on values and rules are its demands on states and events.
 use Rattle.std.proofs.Common.{◌≡◌, ℕ, zero, suc, ◌+◌, ◌≤◌, Bool, true, false, not, ◌&&◌, Option, Some, None, List, [], ◌∷◌, ◌++◌, length, map, slice_get, take, refl, sym, subst, ap, ◌∙◌}
 use Rattle.std.specs.Prelude.{is_some, is_none}
 use Rattle.std.specs.List.{flat_map, list_all}
@@ -13,29 +13,27 @@ use Rattle.ilk_plant.specs.declared.state.State.{State}
 use Rattle.ilk_model.specs.Hazard.{hazard}
 use Rattle.ilk_model.specs.declared.hazards.HazardAt.{HazardAt}
 use Rattle.ilk_layout.specs.Image.{image_of}
-use Rattle.ilk_unroll.specs.Goal.{Demanded, GoalTree, demanded, fails_in, holds_below, holds_in}
-use Rattle.ilk_unroll.specs.Run.{met_by}
+use Rattle.ilk_unroll.specs.Goal.{CopyDemand, GoalTree, demands_of, must_fail_in, must_hold_below, must_hold_in}
+use Rattle.ilk_unroll.specs.Run.{is_met_by}
 use Rattle.ilk_unroll.specs.declared.queries.Wanted.TheVariants.{Hazard, Breach, Step}
-use Rattle.ilk_queries.specs.Asked.{leaves_at, meets_invariant}
-use Rattle.ilk_queries.specs.Lifting.{EachShaped, IsGoalOf, RulesStep, has_form, is_safe}
+use Rattle.ilk_queries.specs.Asked.{leaves_invariant_at, meets_invariant}
+use Rattle.ilk_queries.specs.Lifting.{AllHaveShape, IsGoalOf, RulesStepLikeEvents, form_holds, is_hazard_free}
 use Rattle.ilk_queries.proofs.Demands.{all-below-met, all-hold, below-met, fails-met, holds-met, swapped}
 use Rattle.ilk_queries.proofs.Walks.{wellformed-before}
 use Rattle.ilk_model.specs.Meets.{keeps_all}
 
--- the state with a number has the shape
-pub shaped-at : (p : PlantLists) (states : List State) (n : ℕ) (t : State) → EachShaped p states → slice_get states n ≡ Some t → HasShape p t
+pub shaped-at : (p : PlantLists) (states : List State) (n : ℕ) (t : State) → AllHaveShape p states → slice_get states n ≡ Some t → HasShape p t
 shaped-at p [] n t shaped at = cc
 shaped-at p (s ∷ states) zero t shaped at = subst (HasShape p) (same_Some s t at) shaped.0
 shaped-at p (s ∷ states) (suc n) t shaped at = shaped-at p states n t shaped.1 at
 
-module _ (p : PlantLists) (steps : RulesStep p) (g : GoalTree) (goal : IsGoalOf p g) where
-  -- whether value lists meet what each query demands, by the list with number n
-  pub hazard-met : (n : ℕ) (states : List State) (s t : State) → EachShaped p states →
+module _ (p : PlantLists) (steps : RulesStepLikeEvents p) (g : GoalTree) (goal : IsGoalOf p g) where
+  pub hazard-met : (n : ℕ) (states : List State) (s t : State) → AllHaveShape p states →
       slice_get states 0 ≡ Some s → slice_get states n ≡ Some t → n ≤ length states →
-      list_all (met_by (map (image_of p) states)) (demanded g (Hazard n))
+      list_all (is_met_by (map (image_of p) states)) (demands_of g (Hazard n))
       ≡
-      (has_form g.start (image_of p s)
-      && (list_all (is_safe p) (take n states) && is_some (hazard p t)))
+      (form_holds g.start (image_of p s)
+      && (list_all (is_hazard_free p) (take n states) && is_some (hazard p t)))
   hazard-met n states s t shaped first last within =
       let lists : List (List ℕ) = map (image_of p) states in
       let at0 : slice_get lists 0 ≡ Some (image_of p s) = slice_get-map (image_of p) states 0 ∙ rw first refl in
@@ -44,23 +42,22 @@ module _ (p : PlantLists) (steps : RulesStep p) (g : GoalTree) (goal : IsGoalOf 
       let start = holds-met lists 0 (image_of p s) g.start at0 in
       let below = below-met lists g.wellformed n long ∙ wellformed-before p steps g goal n states shaped in
       let end = holds-met lists n (image_of p t) g.hazard atn ∙ goal.hazards t (shaped-at p states n t shaped last) in
-      ap (λ b. b && list_all (met_by lists) (holds_below g.wellformed n ++ holds_in n g.hazard ∷ [])) start
-      ∙ ap (λ b. has_form g.start (image_of p s) && b) (list_all-append (met_by lists) (holds_below g.wellformed n) (holds_in n g.hazard ∷ [])
-      ∙ ap (λ b. b && (met_by lists (holds_in n g.hazard) && true)) below
-      ∙ ap (λ b. list_all (is_safe p) (take n states) && b) (and-true _ ∙ end))
+      ap (λ b. b && list_all (is_met_by lists) (must_hold_below g.wellformed n ++ must_hold_in n g.hazard ∷ [])) start
+      ∙ ap (λ b. form_holds g.start (image_of p s) && b) (list_all-append (is_met_by lists) (must_hold_below g.wellformed n) (must_hold_in n g.hazard ∷ [])
+      ∙ ap (λ b. b && (is_met_by lists (must_hold_in n g.hazard) && true)) below
+      ∙ ap (λ b. list_all (is_hazard_free p) (take n states) && b) (and-true _ ∙ end))
 
-  -- the families' forms hold in the images of safe states exactly where the families are kept
-  families-before : (n : ℕ) (states : List State) → EachShaped p states →
-      (list_all (is_safe p) (take n states)
+  families-before : (n : ℕ) (states : List State) → AllHaveShape p states →
+      (list_all (is_hazard_free p) (take n states)
       && list_all (λ values. list_all (tree_holds values) g.families) (map (image_of p) (take n states)))
       ≡ list_all (meets_invariant p) (take n states)
   families-before zero states shaped = refl
   families-before (suc n) [] shaped = refl
-  families-before (suc n) (s ∷ states) shaped = four (is_safe p s) _ _ _
+  families-before (suc n) (s ∷ states) shaped = four (is_hazard_free p s) _ _ _
       ∙ ap
       (λ b. b
       &&
-      (list_all (is_safe p) (take n states)
+      (list_all (is_hazard_free p) (take n states)
       && list_all (λ values. list_all (tree_holds values) g.families)
       (map (image_of p) (take n states))))
       (here s shaped.0)
@@ -72,15 +69,15 @@ module _ (p : PlantLists) (steps : RulesStep p) (g : GoalTree) (goal : IsGoalOf 
       four true false false d = refl
       four false b c d = refl
 
-      here : (s : State) → HasShape p s → (is_safe p s && list_all (tree_holds (image_of p s)) g.families) ≡ meets_invariant p s
+      here : (s : State) → HasShape p s → (is_hazard_free p s && list_all (tree_holds (image_of p s)) g.families) ≡ meets_invariant p s
       here s shape = by_hazard (hazard p s) refl
         where
           by_hazard : (o : Option HazardAt) → hazard p s ≡ o → (is_none o && list_all (tree_holds (image_of p s)) g.families) ≡ (is_none o && keeps_all p s)
           by_hazard None none = goal.kept s shape none
           by_hazard (Some h) some = refl
 
-  -- the last demand of a step query fails exactly where the invariant isn't met
-  invariant-form : (t : State) → HasShape p t → has_form (all_of (trees (negation g.hazard ∷ g.families))) (image_of p t) ≡ meets_invariant p t
+  -- The last demand of a step query fails if and only if the invariant is violated.
+  invariant-form : (t : State) → HasShape p t → form_holds (all_of (trees (negation g.hazard ∷ g.families))) (image_of p t) ≡ meets_invariant p t
   invariant-form t shape =
       all-hold (image_of p t) (negation g.hazard ∷ g.families)
       ∙ ap (λ b. not b && list_all (tree_holds (image_of p t)) g.families) (goal.hazards t shape) ∙ by_hazard (hazard p t) refl
@@ -89,43 +86,43 @@ module _ (p : PlantLists) (steps : RulesStep p) (g : GoalTree) (goal : IsGoalOf 
       by_hazard None none = goal.kept t shape none
       by_hazard (Some h) some = refl
 
-  pub breach-met : (n : ℕ) (states : List State) (s t : State) → EachShaped p states →
+  pub breach-met : (n : ℕ) (states : List State) (s t : State) → AllHaveShape p states →
       slice_get states 0 ≡ Some s → slice_get states n ≡ Some t → n + 1 ≤ length states →
-      list_all (met_by (map (image_of p) states)) (demanded g (Breach n))
+      list_all (is_met_by (map (image_of p) states)) (demands_of g (Breach n))
       ≡
-      (has_form g.start (image_of p s)
+      (form_holds g.start (image_of p s)
       &&
-      (list_all (is_safe p) (take (n + 1) states)
+      (list_all (is_hazard_free p) (take (n + 1) states)
       && not (list_all (tree_holds (image_of p t)) g.families)))
   breach-met n states s t shaped first last within =
       let lists : List (List ℕ) = map (image_of p) states in
-      let broken : Demanded = fails_in n (all_of (trees g.families)) in
+      let broken : CopyDemand = must_fail_in n (all_of (trees g.families)) in
       let at0 : slice_get lists 0 ≡ Some (image_of p s) = slice_get-map (image_of p) states 0 ∙ rw first refl in
       let atn : slice_get lists n ≡ Some (image_of p t) = slice_get-map (image_of p) states n ∙ rw last refl in
       let long : n + 1 ≤ length lists = subst (λ k. n + 1 ≤ k) (sym (length-map states (image_of p))) within in
       let start = holds-met lists 0 (image_of p s) g.start at0 in
       let below = below-met lists g.wellformed (n + 1) long ∙ wellformed-before p steps g goal (n + 1) states shaped in
       let end = fails-met lists n (image_of p t) (all_of (trees g.families)) atn ∙ ap not (all-hold (image_of p t) g.families) in
-      ap (λ b. b && list_all (met_by lists) (holds_below g.wellformed (n + 1) ++ broken ∷ [])) start
-      ∙ ap (λ b. has_form g.start (image_of p s) && b) (list_all-append (met_by lists) (holds_below g.wellformed (n + 1)) (broken ∷ [])
-      ∙ ap (λ b. b && (met_by lists broken && true)) below
-      ∙ ap (λ b. list_all (is_safe p) (take (n + 1) states) && b) (and-true _ ∙ end))
+      ap (λ b. b && list_all (is_met_by lists) (must_hold_below g.wellformed (n + 1) ++ broken ∷ [])) start
+      ∙ ap (λ b. form_holds g.start (image_of p s) && b) (list_all-append (is_met_by lists) (must_hold_below g.wellformed (n + 1)) (broken ∷ [])
+      ∙ ap (λ b. b && (is_met_by lists broken && true)) below
+      ∙ ap (λ b. list_all (is_hazard_free p) (take (n + 1) states) && b) (and-true _ ∙ end))
 
-  pub step-met : (n : ℕ) (states : List State) (t : State) → EachShaped p states → slice_get states n ≡ Some t → n ≤ length states → list_all (met_by (map (image_of p) states)) (demanded g (Step n)) ≡ leaves_at p n states
+  pub step-met : (n : ℕ) (states : List State) (t : State) → AllHaveShape p states → slice_get states n ≡ Some t → n ≤ length states → list_all (is_met_by (map (image_of p) states)) (demands_of g (Step n)) ≡ leaves_invariant_at p n states
   step-met n states t shaped last within =
       let lists : List (List ℕ) = map (image_of p) states in
-      let left : Demanded = fails_in n (all_of (trees (negation g.hazard ∷ g.families))) in
-      let families : List Demanded = flat_map (λ form. holds_below form n) g.families in
+      let left : CopyDemand = must_fail_in n (all_of (trees (negation g.hazard ∷ g.families))) in
+      let families : List CopyDemand = flat_map (λ form. must_hold_below form n) g.families in
       let atn : slice_get lists n ≡ Some (image_of p t) = slice_get-map (image_of p) states n ∙ rw last refl in
       let long : n ≤ length lists = subst (λ k. n ≤ k) (sym (length-map states (image_of p))) within in
       let below = below-met lists g.wellformed n long ∙ wellformed-before p steps g goal n states shaped in
-      let kept : list_all (met_by lists) families ≡ list_all (λ values. list_all (tree_holds values) g.families) (map (image_of p) (take n states)) =
+      let kept : list_all (is_met_by lists) families ≡ list_all (λ values. list_all (tree_holds values) g.families) (map (image_of p) (take n states)) =
       all-below-met lists g.families n long ∙ swapped (take n lists) g.families ∙ ap (list_all (λ values. list_all (tree_holds values) g.families)) (take-map (image_of p) n states) in
       let end = fails-met lists n (image_of p t) (all_of (trees (negation g.hazard ∷ g.families))) atn ∙ ap not (invariant-form t (shaped-at p states n t shaped last)) in
-      let right : leaves_at p n states ≡ (list_all (meets_invariant p) (take n states) && not (meets_invariant p t)) = rw last refl in
-      list_all-append (met_by lists) (holds_below g.wellformed n ++ families) (left ∷ [])
-      ∙ ap (λ b. b && (met_by lists left && true))
-      (list_all-append (met_by lists) (holds_below g.wellformed n) families
-      ∙ ap (λ b. b && list_all (met_by lists) families) below
-      ∙ ap (λ b. list_all (is_safe p) (take n states) && b) kept ∙ families-before n states shaped)
+      let right : leaves_invariant_at p n states ≡ (list_all (meets_invariant p) (take n states) && not (meets_invariant p t)) = rw last refl in
+      list_all-append (is_met_by lists) (must_hold_below g.wellformed n ++ families) (left ∷ [])
+      ∙ ap (λ b. b && (is_met_by lists left && true))
+      (list_all-append (is_met_by lists) (must_hold_below g.wellformed n) families
+      ∙ ap (λ b. b && list_all (is_met_by lists) families) below
+      ∙ ap (λ b. list_all (is_hazard_free p) (take n states) && b) kept ∙ families-before n states shaped)
       ∙ ap (λ b. list_all (meets_invariant p) (take n states) && b) (and-true _ ∙ end) ∙ sym right

@@ -1,4 +1,4 @@
--- The formula of a query over a plant has a satisfying assignment exactly where the plant has such a run.
+-- The formula of a query is satisfiable if and only if the plant has such a run.
 use Rattle.std.proofs.Common.{◌≡◌, ℕ, Bool, List, length, subst, ap, ◌∙◌}
 use Rattle.std.specs.Prelude.{◌↔◌, IfOk, IsTrue, OnOk, Result, Ok, Err}
 use Rattle.ilk_cnf.specs.Formula.{Formula}
@@ -7,14 +7,14 @@ use Rattle.ilk_layout.specs.Variables.{ranges_of_plant}
 use Rattle.ilk_cnf.specs.Truth.{satisfies}
 use Rattle.ilk_plant.specs.Plant.{IsPlant, PlantLists}
 use Rattle.ilk_behave.specs.Behaviour.{system_of}
-use Rattle.ilk_behave.specs.Steps.{StepsAs}
+use Rattle.ilk_behave.specs.Steps.{StepsLikeEvents}
 use Rattle.ilk_layout.specs.Image.{image_of}
 use Rattle.ilk_unroll.specs.Assignment.{IsWantedRun, run_assignment}
 use Rattle.ilk_unroll.specs.Goal.{GoalTree, goal_valid, wanted_valid}
 use Rattle.ilk_unroll.specs.Query.{query_formula}
 use Rattle.ilk_unroll.specs.Run.{is_wanted_run}
 use Rattle.ilk_unroll.specs.declared.queries.Wanted.{Wanted}
-use Rattle.ilk_queries.specs.Asked.{HasEvents}
+use Rattle.ilk_queries.specs.Asked.{HasQueriedRun}
 use Rattle.ilk_queries.specs.Goal.{goal_of}
 use Rattle.ilk_queries.specs.Lifting.{IsGoalOf}
 use Rattle.ilk_unroll.specs.Satisfied.{IsSatisfiable}
@@ -22,7 +22,7 @@ use Rattle.ilk_queries.proofs.Answered.{to-wanted}
 use Rattle.ilk_queries.proofs.Lifted.{has-events}
 use Rattle.ilk_queries.proofs.Steps.{rules-step}
 
-pub satisfiable_is : (p : PlantLists) (q : Wanted) → IsPlant p → StepsAs p → IsGoalOf p (goal_of p) → IsTrue (wanted_valid q)
+pub satisfiable_is : (p : PlantLists) (q : Wanted) → IsPlant p → StepsLikeEvents p → IsGoalOf p (goal_of p) → IsTrue (wanted_valid q)
     → ((a : List Bool) → length a ≡ (query_formula (system_of p) (goal_of p) q).vars → IsTrue (satisfies a (query_formula (system_of p) (goal_of p) q).clauses) → IsWantedRun (system_of p) (goal_of p) q a)
     →
     ((first rules : List ℕ) → IsTrue (is_wanted_run (system_of p) (goal_of p) q first rules) →
@@ -31,7 +31,7 @@ pub satisfiable_is : (p : PlantLists) (q : Wanted) → IsPlant p → StepsAs p �
     IsTrue
     (satisfies (run_assignment (system_of p) (goal_of p) q first rules)
     (query_formula (system_of p) (goal_of p) q).clauses))
-    → IsSatisfiable (query_formula (system_of p) (goal_of p) q) ↔ HasEvents p q
+    → IsSatisfiable (query_formula (system_of p) (goal_of p) q) ↔ HasQueriedRun p q
 satisfiable_is p q plant steps goal valid sound complete =
     let lead = rules-step p plant steps in (
       λ is. (let run = sound is.assignment is.size is.satisfied in has-events p lead (goal_of p) goal q run.0 run.1 valid run.2),
@@ -46,7 +46,6 @@ valid_system p system same valid = ap system_valid same ∙ valid
 pub valid_goal : (p : PlantLists) (ranges : List ℕ) (goal : GoalTree) → ranges ≡ ranges_of_plant p → goal ≡ goal_of p → IsTrue (goal_valid (ranges_of_plant p) (goal_of p)) → IsTrue (goal_valid ranges goal)
 valid_goal p ranges goal one two valid = ap (λ r. goal_valid r goal) one ∙ ap (goal_valid (ranges_of_plant p)) two ∙ valid
 
--- the formula of a system and a goal that are the plant's
 pub formula_is :
     {E : Type 0} (r : Result Formula E) (p : PlantLists) (q : Wanted) (system : SystemTree) (goal : GoalTree)
     →
@@ -55,7 +54,7 @@ pub formula_is :
 formula_is (Ok cnf) p q system goal one two h = h ∙ ap (λ s. query_formula s goal q) one ∙ ap (λ g. query_formula (system_of p) g q) two
 formula_is (Err e) p q system goal one two h = h
 
--- what `query` says of its formula's assignments, of a system and a goal
+-- The guarantee of `query` about the assignments of its formula.
 abbrev pub IsSound : SystemTree → GoalTree → Wanted → Type 0
 IsSound system goal q = (a : List Bool) → length a ≡ (query_formula system goal q).vars → IsTrue (satisfies a (query_formula system goal q).clauses) → IsWantedRun system goal q a
 
@@ -67,9 +66,9 @@ IsComplete system goal q = (first rules : List ℕ) → IsTrue (is_wanted_run sy
 pub satisfiable_on :
     {E : Type 0} (r : Result Formula E) (p : PlantLists) (q : Wanted) (system : SystemTree) (goal : GoalTree)
     →
-    system ≡ system_of p → goal ≡ goal_of p → IsPlant p → StepsAs p → IsGoalOf p (goal_of p) →
+    system ≡ system_of p → goal ≡ goal_of p → IsPlant p → StepsLikeEvents p → IsGoalOf p (goal_of p) →
     IsTrue (wanted_valid q) → OnOk r (IsSound system goal q) → OnOk r (IsComplete system goal q) →
-    OnOk r (IsSatisfiable (query_formula (system_of p) (goal_of p) q) ↔ HasEvents p q)
+    OnOk r (IsSatisfiable (query_formula (system_of p) (goal_of p) q) ↔ HasQueriedRun p q)
 satisfiable_on (Ok cnf) p q system goal one two plant steps means valid sound complete =
     let sound-here : IsSound (system_of p) (goal_of p) q = subst (λ g. IsSound (system_of p) g q) two (subst (λ s. IsSound s goal q) one sound) in
     let complete-here : IsComplete (system_of p) (goal_of p) q = subst (λ g. IsComplete (system_of p) g q) two (subst (λ s. IsComplete s goal q) one complete) in

@@ -1,4 +1,5 @@
--- What a query asks of a plant: a run of events that ends in a hazard, that breaks a family, or that leaves the invariant.
+-- The runs that a query asks for: runs of events that end in a hazard, break a family or leave the
+-- invariant.
 use Rattle.std.specs.Prelude.{ℕ, ◌≡◌, Bool, true, ◌&&◌, not, List, take, length, slice_get, is_some, is_none}
 use Rattle.std.specs.List.{list_all}
 use Rattle.ilk_base.specs.Option.{is_some_and}
@@ -14,35 +15,39 @@ use Rattle.ilk_unroll.specs.declared.queries.Wanted.{Wanted}
 use Rattle.ilk_unroll.specs.declared.queries.Wanted.TheVariants.{Hazard, Breach, Step}
 use Rattle.ilk_queries.specs.Walk.{states_from}
 
--- whether s, which has the shape, meets the invariant: it has no hazard, and keeps all families
+-- Returns whether the well-formed state `s` meets the invariant: it has no hazard and keeps all
+-- families.
 abbrev pub meets_invariant : PlantLists → State → Bool
 meets_invariant p s = is_none (hazard p s) && keeps_all p s
 
--- whether these events are a run from s that ends in a hazard
+-- Returns whether these events are a run from `s` that ends in a hazard.
 abbrev pub ends_in_hazard : PlantLists → State → List Event → Bool
 ends_in_hazard p s events = is_some_and (run p s events) (λ t. is_some (hazard p t))
 
--- whether these events are a run from s that ends in a state without hazard, which breaks a family
+-- Returns whether these events are a run from `s` that ends without hazard in a state that breaks a
+-- family.
 abbrev pub ends_in_breach : PlantLists → State → List Event → Bool
 ends_in_breach p s events = is_some_and (run p s events) (λ t. is_none (hazard p t) && not (keeps_all p t))
 
--- whether each state before the last meets the invariant, and the last one, which has this number from 0, doesn't
-abbrev pub leaves_at : PlantLists → ℕ → List State → Bool
-leaves_at p n states = list_all (meets_invariant p) (take n states) && is_some_and (slice_get states n) (λ t. not (meets_invariant p t))
+-- Returns whether the first `n` states meet the invariant and state `n`, counted from 0, does not.
+abbrev pub leaves_invariant_at : PlantLists → ℕ → List State → Bool
+leaves_invariant_at p n states = list_all (meets_invariant p) (take n states) && is_some_and (slice_get states n) (λ t. not (meets_invariant p t))
 
--- whether these events lead from s through states that meet the invariant to one that doesn't
+-- Returns whether these events lead from `s` through states that meet the invariant to one that
+-- does not.
 abbrev pub leaves_invariant : PlantLists → State → List Event → Bool
-leaves_invariant p s events = is_some_and (states_from p s events) (leaves_at p (length events))
+leaves_invariant p s events = is_some_and (states_from p s events) (leaves_invariant_at p (length events))
 
--- these events from s are what the query asks for: of so many events, from the start to a hazard or a breach, or from any
--- state out of the invariant
+-- Holds if these events from `s` are a run that the query asks for. They have the query's length.
+-- They lead from the start to a hazard or a breach, or from any well-formed state out of the
+-- invariant.
 abbrev pub IsRunFor : PlantLists → Wanted → State → List Event → Type 0
 IsRunFor p (Hazard n) s events = (s ≡ start p) × (length events ≡ n) × (ends_in_hazard p s events ≡ true)
 IsRunFor p (Breach n) s events = (s ≡ start p) × (length events ≡ n) × (ends_in_breach p s events ≡ true)
 IsRunFor p (Step n) s events = HasShape p s × (length events ≡ n) × (leaves_invariant p s events ≡ true)
 
--- the plant has a run that the query asks for, from some state with shape
-pub record HasEvents (p : PlantLists) (q : Wanted) : Type 0 where
+-- Holds if the plant has a run that the query asks for, from some well-formed state.
+pub record HasQueriedRun (p : PlantLists) (q : Wanted) : Type 0 where
   pub first : State
   pub shape : HasShape p first
   pub events : List Event

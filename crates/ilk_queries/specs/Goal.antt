@@ -1,4 +1,5 @@
--- What is asked of a plant: its start, hazards, well-formed values and families, as forms over its image.
+-- The goal of a plant: its start, hazards, well-formed values and families, as forms over its
+-- image.
 use Rattle.ilk_plant.specs.Plant.{PlantLists}
 use Rattle.ilk_invs.specs.FamilyTrees.{family_trees}
 use Rattle.ilk_props.specs.HazardForm.{hazard_tree}

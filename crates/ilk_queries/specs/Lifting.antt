@@ -1,8 +1,8 @@
--- How rules step as events do, what the forms of a goal say of states, and which events rules are.
+-- Relations between rules and events, and between the forms of a goal and states.
 use Rattle.std.specs.Prelude.{ℕ, ◌≡◌, ◌↔◌, Bool, true, Option, Some, None, List, [], ◌∷◌, is_some, is_none}
 use Rattle.std.specs.List.{list_all}
 use Rattle.ilk_base.specs.Option.{◌>>=◌}
-use Rattle.ilk_ir.specs.System.{fired_at, in_ranges}
+use Rattle.ilk_ir.specs.System.{after_rule_number, in_ranges}
 use Rattle.ilk_ir.specs.Tree.{Tree, tree_holds}
 use Rattle.ilk_plant.specs.Plant.{PlantLists}
 use Rattle.ilk_plant.specs.Shape.{HasShape}
@@ -18,16 +18,17 @@ use Rattle.ilk_behave.specs.Behaviour.{event_of_rule, system_of}
 use Rattle.ilk_unroll.specs.Goal.{GoalTree}
 use Rattle.ilk_model.specs.Meets.{keeps_all}
 
--- from each state with shape and without hazard, the rules step as the events do
-pub record RulesStep (p : PlantLists) : Type 0 where
-  pub enabled : (s t : State) (event : Event) → HasShape p s → hazard p s ≡ None → next p s event ≡ Some t → (i : ℕ) × (event_of_rule p i ≡ Some event) × (fired_at (system_of p) i (image_of p s) ≡ Some (image_of p t))
+-- Holds if rules step as events do, from every well-formed state without hazard, and events keep
+-- states well-formed.
+pub record RulesStepLikeEvents (p : PlantLists) : Type 0 where
+  pub enabled : (s t : State) (event : Event) → HasShape p s → hazard p s ≡ None → next p s event ≡ Some t → (i : ℕ) × (event_of_rule p i ≡ Some event) × (after_rule_number (system_of p) i (image_of p s) ≡ Some (image_of p t))
   pub fired : (s : State) (i : ℕ) (values : List ℕ) → HasShape p s → hazard p s ≡ None →
-      fired_at (system_of p) i (image_of p s) ≡ Some values →
+      after_rule_number (system_of p) i (image_of p s) ≡ Some values →
       (event : Event) × (t : State) × (event_of_rule p i ≡ Some event) × (next p s event ≡ Some t) ×
       (values ≡ image_of p t)
   pub keeps_shape : (s t : State) (event : Event) → HasShape p s → next p s event ≡ Some t → HasShape p t
 
--- the forms of the goal say what they are to
+-- Holds if the forms of the goal mean what their names say.
 pub record IsGoalOf (p : PlantLists) (g : GoalTree) : Type 0 where
   pub begins : (values : List ℕ) → in_ranges values (ranges_of_plant p) ≡ true → (tree_holds values g.start ≡ true) ↔ (values ≡ image_of p (start p))
   pub wellformed : (values : List ℕ) → in_ranges values (ranges_of_plant p) ≡ true → (tree_holds values g.wellformed ≡ true) ↔ AreImage p values
@@ -35,23 +36,23 @@ pub record IsGoalOf (p : PlantLists) (g : GoalTree) : Type 0 where
   pub kept : (s : State) → HasShape p s → hazard p s ≡ None → list_all (tree_holds (image_of p s)) g.families ≡ keeps_all p s
   pub in_range : (s : State) → HasShape p s → in_ranges (image_of p s) (ranges_of_plant p) ≡ true
 
--- the events of rules, one after another
-abbrev pub events_by : PlantLists → List ℕ → Option (List Event)
-events_by p [] = Some []
-events_by p (i ∷ rules) = do
+-- The events of these rules, in order.
+abbrev pub events_by_rules : PlantLists → List ℕ → Option (List Event)
+events_by_rules p [] = Some []
+events_by_rules p (i ∷ rules) = do
   event ← event_of_rule p i
-  rest ← events_by p rules
+  rest ← events_by_rules p rules
   Some (event ∷ rest)
 
--- whether a state has no hazard
-abbrev pub is_safe : PlantLists → State → Bool
-is_safe p s = is_none (hazard p s)
+-- Returns whether a state has no hazard.
+abbrev pub is_hazard_free : PlantLists → State → Bool
+is_hazard_free p s = is_none (hazard p s)
 
--- whether values have the form
-abbrev pub has_form : Tree → List ℕ → Bool
-has_form form values = tree_holds values form
+-- Returns whether the form holds for these values.
+abbrev pub form_holds : Tree → List ℕ → Bool
+form_holds form values = tree_holds values form
 
--- each of these states has the shape
-abbrev pub EachShaped : PlantLists → List State → Type 0
-EachShaped p [] = Unit {0}
-EachShaped p (s ∷ states) = HasShape p s × EachShaped p states
+-- Holds if each of these states is well-formed.
+abbrev pub AllHaveShape : PlantLists → List State → Type 0
+AllHaveShape p [] = Unit {0}
+AllHaveShape p (s ∷ states) = HasShape p s × AllHaveShape p states

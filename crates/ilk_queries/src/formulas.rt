@@ -1,11 +1,11 @@
 ghost use Rattle.std.specs.Prelude.{◌≡◌, ◌↔◌, IfOk, IsTrue, OnOk};
 ghost use Rattle.ilk_behave.specs.Behaviour.{system_of};
-ghost use Rattle.ilk_behave.specs.Steps.{StepsAs};
+ghost use Rattle.ilk_behave.specs.Steps.{StepsLikeEvents};
 ghost use Rattle.ilk_ir.specs.System.{system_tree, system_valid};
 ghost use Rattle.ilk_layout.specs.Variables.{ranges_of_plant};
 ghost use Rattle.ilk_unroll.specs.Goal.{goal_tree, goal_valid, wanted_valid};
 ghost use Rattle.ilk_unroll.specs.Query.{query_formula};
-ghost use Rattle.ilk_queries.specs.Asked.{HasEvents};
+ghost use Rattle.ilk_queries.specs.Asked.{HasQueriedRun};
 ghost use Rattle.ilk_queries.specs.Goal.{goal_of};
 ghost use Rattle.ilk_queries.specs.Lifting.{IsGoalOf};
 ghost use Rattle.ilk_unroll.specs.Satisfied.{IsSatisfiable};
@@ -18,7 +18,7 @@ use ilk_plant::Plant;
 use ilk_unroll::{Goal, Wanted, query};
 use std::alloc::{AllocError, Global};
 
-// The formula of a query over the system and the goal of a plant.
+// Returns the formula of query `q` over a plant's `system` and `goal`.
 #[tactic(auto, using(crate::proofs::Satisfying::valid_system, crate::proofs::Satisfying::valid_goal))]
 fn formula_of(
     alloc: Global,
@@ -30,7 +30,7 @@ fn formula_of(
     requires system { system_tree system.now ≡ system_of plant.now }
     requires goal { goal_tree goal.now ≡ goal_of plant.now }
     requires system_valid { IsTrue (system_valid (system_of plant.now)) }
-    requires steps { StepsAs plant.now }
+    requires steps { StepsLikeEvents plant.now }
     requires goal_valid { IsTrue (goal_valid (ranges_of_plant plant.now) (goal_of plant.now)) }
     requires means { IsGoalOf plant.now (goal_of plant.now) }
     requires wanted { IsTrue (wanted_valid q) }
@@ -38,22 +38,22 @@ fn formula_of(
         (λ cnf. cnf ≡ query_formula (system_of plant.now) (goal_of plant.now) q) }
     ensures satisfiable { OnOk result
         (IsSatisfiable (query_formula (system_of plant.now) (goal_of plant.now) q) ↔
-        HasEvents plant.now q) }
+        HasQueriedRun plant.now q) }
 {
     plant.is_sound();
     query(alloc, system, goal, q)
 }
 
-/// The formula of a query over a plant. It has a satisfying assignment exactly where the plant has a
-/// run that the query asks for. The query has at most 16 steps, and at least one where it is a step
-/// query. The only refusal is want of memory.
+/// Returns the formula of query `q` over a plant. It is satisfiable if and only if the plant has a
+/// run that the query asks for. A query has at most 16 steps, and a step query at least one. Fails
+/// only if memory runs out.
 pub fn formula(alloc: Global, plant: &Plant, q: Wanted) -> Result<Cnf, AllocError>
     requires { IsTrue (wanted_valid q) }
     ensures formula { IfOk result
         (λ cnf. cnf ≡ query_formula (system_of plant.now) (goal_of plant.now) q) }
     ensures satisfiable { OnOk result
         (IsSatisfiable (query_formula (system_of plant.now) (goal_of plant.now) q) ↔
-        HasEvents plant.now q) }
+        HasQueriedRun plant.now q) }
 {
     let system = behaviour(alloc, plant)?;
     let goal = goal(alloc, plant)?;

@@ -12,8 +12,8 @@ use ilk_unroll::Goal;
 use std::alloc::{AllocError, Global};
 
 #[tactic(auto, using(crate::proofs::GoalMeaning::goal_is, crate::proofs::GoalMeaning::goal_fits))]
-/// What is asked of a plant, as forms over its image: the start, hazards, well-formed values and the
-/// nine families. The only refusal is want of memory.
+/// Returns the goal of a plant, as forms over its image: the start, hazards, well-formed values and
+/// the nine families. Fails only if memory runs out.
 pub fn goal(alloc: Global, plant: &Plant) -> Result<Goal, AllocError>
     ensures goal { IfOk result (λ made. goal_tree made ≡ goal_of plant.now) }
     ensures valid { OnOk result

@@ -1,11 +1,13 @@
-//! The queries of a plant: what each asks of its states and events, and its formula.
+//! The queries about a plant: the runs each query asks for, and its formula.
 //!
-//! A query asks for a run of so many events: from the start to a hazard, from the start to a state that
-//! breaks a family, or from any state out of the invariant (`specs/Asked`). The plant's events are rules
-//! over its image (`ilk_behave`), and its start, hazards and families are forms over it (`ilk_props`,
-//! `ilk_invs`), so a run of events is a run of rules, and the other way round (`proofs/Walks`,
-//! `proofs/Answered`). `goal` makes the forms, and `formula` the formula of a query: it has a satisfying
-//! assignment exactly where the plant has a run that the query asks for.
+//! A query asks for a run of a given number of events (`specs/Asked`). The run leads from the start
+//! to a hazard, from the start to a violation of a family, or from any state out of the invariant.
+//! The plant's events are rules over its image (`ilk_behave`). Its start, hazards and families are
+//! forms over the image (`ilk_props`, `ilk_invs`). So runs of events correspond to runs of rules
+//! (`proofs/Walks`, `proofs/Answered`).
+//!
+//! `goal` builds the forms, and `formula` the formula of a query. The formula is satisfiable if and
+//! only if the plant has a run that the query asks for.
 #![tactic(auto)]
 
 mod formulas;

@@ -1,4 +1,4 @@
--- An event that is enabled is about what the plant has, and so are the events of a run.
+-- An enabled event has a subject in the plant, and so have all events of a run.
 use Rattle.std.proofs.Common.{◌≡◌, ℕ, ◌<◌, Bool, true, false, All, Option, Some, List, [], ◌∷◌, length, position, slice_get, refl, ◌∙◌, ap}
 use Rattle.std.specs.Prelude.{IsTrue, option_and_then}
 use Rattle.std.proofs.lemmas.List.Elements.{All-nil, All-cons}
@@ -13,12 +13,11 @@ use Rattle.ilk_plant.specs.declared.state.Train.{Train}
 use Rattle.ilk_motion.specs.Ahead.{ahead}
 use Rattle.ilk_motion.specs.Body.{has_head}
 use Rattle.ilk_model.specs.Event.{next}
-use Rattle.ilk_model.specs.Run.{run, step}
+use Rattle.ilk_model.specs.Run.{run, next_if_no_hazard}
 use Rattle.ilk_model.specs.declared.event.Event.{Event}
 use Rattle.ilk_model.specs.declared.event.Event.TheVariants.{Mark, Allocate, Lock, Sense, Release, Finish, Throw, Settle, Enter, Head, Tail, Leave, Cancel}
-use Rattle.ilk_replay.specs.Writable.{IsAbout}
+use Rattle.ilk_replay.specs.Writable.{HasSubjectOf}
 
--- what begins with the item of a number has no value where the number is that of none
 item-named : {A B : Type 0} (items : List A) (i : ℕ) (f : A → Option B) (y : B) → option_and_then f (slice_get items i) ≡ Some y → i < length items
 item-named items i f y e = let found = bind_some (slice_get items i) f y e in slice_get_within items i found.0 found.1
 
@@ -32,7 +31,7 @@ point-named p x f y e =
     let found = bind_some (slice_get p.sections x) _ numbered.0 numbered.1 in
     ap (λ (o : Option Section). is_some_and o is_point) found.1 ∙ passes (is_point found.0) _ _ found.2
 
-pub enabled-about : (p : PlantLists) (s t : State) (event : Event) → next p s event ≡ Some t → IsAbout p event
+pub enabled-about : (p : PlantLists) (s t : State) (event : Event) → next p s event ≡ Some t → HasSubjectOf p event
 enabled-about p s t (Mark r) e = item-named p.routes r _ t e
 enabled-about p s t (Allocate r) e = item-named p.routes r _ t e
 enabled-about p s t (Lock r) e = item-named p.routes r _ t e
@@ -51,9 +50,9 @@ enabled-about p s t (Tail x) e = item-named p.sections x _ t e
 enabled-about p s t (Leave x) e = item-named p.sections x _ t e
 enabled-about p s t (Cancel r) e = item-named p.routes r _ t e
 
-pub run-about : (p : PlantLists) (s t : State) (events : List Event) → run p s events ≡ Some t → All (IsAbout p) events
-run-about p s t [] e = All-nil (IsAbout p)
+pub run-about : (p : PlantLists) (s t : State) (events : List Event) → run p s events ≡ Some t → All (HasSubjectOf p) events
+run-about p s t [] e = All-nil (HasSubjectOf p)
 run-about p s t (event ∷ rest) e =
-    let led = bind_some (step p s event) (λ u. run p u rest) t e in
+    let led = bind_some (next_if_no_hazard p s event) (λ u. run p u rest) t e in
     let safe = bind_some _ (λ u. next p u event) led.0 led.1 in
-    All-cons (IsAbout p) event rest (enabled-about p safe.0 led.0 event safe.2) (run-about p led.0 t rest led.2)
+    All-cons (HasSubjectOf p) event rest (enabled-about p safe.0 led.0 event safe.2) (run-about p led.0 t rest led.2)

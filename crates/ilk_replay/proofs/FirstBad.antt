@@ -1,11 +1,11 @@
--- A reader of run texts goes line by line, so the line that it names is the first bad one.
+-- Run texts are read line by line, so the reported line is the first bad one.
 use Rattle.std.proofs.Common.{◌≡◌, ℕ, ◌+◌, ◌-◌, ◌<◌, ◌≤◌, Bool, true, false, Some, Result, Ok, Err, List, [], ◌∷◌, ◌++◌, codes, cond, length, slice_get, take, refl, sym, ap, ◌∙◌, arith, append_assoc, subst, suc, zero}
 use Rattle.std.specs.Prelude.{◌↔◌, nat_lt}
 use Rattle.std.specs.Str.{bytes_eq}
 use Rattle.std.proofs.lemmas.Bool.Decides.{nat_tests}
 use Rattle.ilk_plant.specs.Plant.{IsPlant, PlantLists}
 use Rattle.ilk_base.specs.Result.{◌>>=◌}
-use Rattle.ilk_plant.proofs.Shapes.{fits_path-from_counts}
+use Rattle.ilk_plant.proofs.Shapes.{counts_fit_path-from_counts}
 use Rattle.ilk_plant.specs.Start.{free_route, plus_point, start}
 use Rattle.ilk_plant.specs.declared.state.Aspect.{Aspect}
 use Rattle.ilk_plant.specs.declared.state.Aspect.TheVariants.{Closed}
@@ -15,34 +15,33 @@ use Rattle.ilk_plant.specs.declared.state.PointState.{PointState}
 use Rattle.ilk_plant.specs.declared.state.RouteState.{RouteState}
 use Rattle.ilk_plant.specs.declared.state.State.{State}
 use Rattle.ilk_model.specs.declared.event.Event.{Event}
-use Rattle.ilk_replay.specs.EventLine.{event_of}
-use Rattle.ilk_replay.specs.FirstBad.{BeginsSome, IsFirstBad}
+use Rattle.ilk_replay.specs.EventLine.{event_from_line}
+use Rattle.ilk_replay.specs.FirstBad.{BeginsSomeRun, IsFirstBadLineOfRun}
 use Rattle.ilk_lines.specs.Lines.{Bytes, after_lines, lines_of}
-use Rattle.ilk_lines.specs.Reading.{LinesPart, after_line, at_the_end, each_told, leading_part, numbers_of}
+use Rattle.ilk_lines.specs.Reading.{LinesPart, lines_after, expect_end, values_from_lines, leading_part, numbers_of}
 use Rattle.ilk_lines.proofs.ByLine.{FailsAt, Fills, HasLine, IsByLine, Reader, after_by_line, each_by_line, each_then, fails_first, fails_next, leading_by_line, leading_then}
 use Rattle.ilk_base.proofs.Results.{bind-assoc, err_is, ok_no_err}
 use Rattle.ilk_base.proofs.Lists.{item_at}
 use Rattle.ilk_base.proofs.Ranges.{range_within}
 use Rattle.ilk_replay.specs.RunText.{board_line, point_line, route_line, run_lines, run_text, section_line}
-use Rattle.ilk_replay.specs.StateLine.{board_told, lock_told, point_told, route_told, train_told}
-use Rattle.ilk_replay.specs.StateTold.{Beginning, point_sections, state_told}
-use Rattle.ilk_replay.specs.Told.{beginning_told, events_told, tale_of, told}
-use Rattle.ilk_replay.specs.Writable.{IsOfPlant, IsSomeText}
+use Rattle.ilk_replay.specs.StateLine.{board_from_line, lock_from_line, point_from_line, route_from_line, train_from_line}
+use Rattle.ilk_replay.specs.StateTold.{Beginning, point_sections, state_from_lines}
+use Rattle.ilk_replay.specs.Told.{beginning_from_lines, events_from_lines, run_from_text, run_from_lines}
+use Rattle.ilk_replay.specs.Writable.{IsRunOfPlant, IsRunText}
 use Rattle.ilk_replay.specs.declared.told.Tale.{Tale}
 use Rattle.ilk_replay.specs.declared.told.Tale.TheVariants.{Told as IsTold, Bad}
 use Rattle.ilk_replay.specs.declared.told.Told.{Told}
-use Rattle.ilk_replay.proofs.OfPlant.{told-of_plant, told_exactly, written-told}
+use Rattle.ilk_replay.proofs.OfPlant.{run_from_lines-of_plant, told_exactly, written-run_from_lines}
 use Rattle.ilk_replay.proofs.StateBack.{board_back, lock_back, point_back, route_back}
-use Rattle.ilk_replay.proofs.WrittenRun.{answered, made, told-lines}
+use Rattle.ilk_replay.proofs.WrittenRun.{answered, made, run_from_lines-lines}
 use Rattle.ilk_replay.proofs.StateTexts.{point_known}
 
--- the run that begins so, with these events
 abbrev run_of : State → Bool → List Event → Result Told ℕ
 run_of first from_start events = Ok (record { first = first; from_start = from_start; events = events })
 
--- the end of a text
+-- The readers of parts of a text, from the end to the beginning
 abbrev end_read : State → Bool → List Event → ℕ → Reader Told
-end_read first from_start events n lines bytes = at_the_end n lines bytes >>= (λ none. run_of first from_start events)
+end_read first from_start events n lines bytes = expect_end n lines bytes >>= (λ none. run_of first from_start events)
 
 end_by_line : (first : State) (from_start : Bool) (events : List Event) (n : ℕ) → IsByLine n (end_read first from_start events n)
 end_by_line first from_start events n = record { fills = fills; fails = fails }
@@ -55,118 +54,113 @@ end_by_line first from_start events n = record { fills = fills; fails = fails }
     fails [] (b ∷ bytes) m e = fails_first n m (end_read first from_start events n) [] (sym (err_is e)) (λ some. absurd (omega arith)) fills
     fails (line ∷ lines) bytes m e = fails_first n m (end_read first from_start events n) (line ∷ lines) (sym (err_is e)) (λ some more others. ap (λ k. Err k) (err_is e)) fills
 
--- the events, and the end
 abbrev events_read : PlantLists → State → Bool → ℕ → Reader Told
-events_read p first from_start n lines bytes = events_told p n lines bytes >>= run_of first from_start
+events_read p first from_start n lines bytes = events_from_lines p n lines bytes >>= run_of first from_start
 
 events_by_line : (p : PlantLists) (first : State) (from_start : Bool) (n : ℕ) → IsByLine n (events_read p first from_start n)
 events_by_line p first from_start n =
     let next : List Event → ℕ → Reader Told = end_read first from_start in
-    let read : Reader Told = leading_then (event_of p) (codes "end") n next in
+    let read : Reader Told = leading_then (event_from_line p) (codes "end") n next in
     let same : (lines : List Bytes) (bytes : Bytes) → read lines bytes ≡ events_read p first from_start n lines bytes =
-    λ lines bytes. (let events = leading_part (event_of p) n lines in
-    sym (bind-assoc (after_line (codes "end") events.number events.lines) (λ more. at_the_end (events.number + 1) more bytes >>= (λ none. Ok events.values)) (run_of first from_start)
-    ∙ (λ i. after_line (codes "end") events.number events.lines >>= (λ more. bind-assoc (at_the_end (events.number + 1) more bytes) (λ none. Ok events.values) (run_of first from_start) i)))) in
-    subst (IsByLine n) (λ i lines bytes. same lines bytes i) (leading_by_line (event_of p) (codes "end") n next refl (end_by_line first from_start))
+    λ lines bytes. (let events = leading_part (event_from_line p) n lines in
+    sym (bind-assoc (lines_after (codes "end") events.number events.lines) (λ more. expect_end (events.number + 1) more bytes >>= (λ none. Ok events.values)) (run_of first from_start)
+    ∙ (λ i. lines_after (codes "end") events.number events.lines >>= (λ more. bind-assoc (expect_end (events.number + 1) more bytes) (λ none. Ok events.values) (run_of first from_start) i)))) in
+    subst (IsByLine n) (λ i lines bytes. same lines bytes i) (leading_by_line (event_from_line p) (codes "end") n next refl (end_by_line first from_start))
 
--- the events after a beginning
 abbrev with_events : PlantLists → Bytes → Beginning → Result Told ℕ
-with_events p bytes b = events_told p b.number b.lines bytes >>= run_of b.first b.from_start
+with_events p bytes b = events_from_lines p b.number b.lines bytes >>= run_of b.first b.from_start
 
--- the parts of a state, from the last on
 abbrev trains_read : PlantLists → List RouteState → List PointState → List Aspect → LinesPart Hold → Bytes → Result Told ℕ
 trains_read p routes points boards locks bytes =
-    leading_then (train_told p) (codes "events") locks.number (λ trains. events_read p (record { routes = routes; points = points; boards = boards; locks = locks.values; trains = trains }) false) locks.lines bytes
+    leading_then (train_from_line p) (codes "events") locks.number (λ trains. events_read p (record { routes = routes; points = points; boards = boards; locks = locks.values; trains = trains }) false) locks.lines bytes
 
 abbrev locks_read : PlantLists → List RouteState → List PointState → LinesPart Aspect → Bytes → Result Told ℕ
-locks_read p routes points boards bytes = each_then (lock_told p) (numbers_of p.sections) boards.number (trains_read p routes points boards.values) boards.lines bytes
+locks_read p routes points boards bytes = each_then (lock_from_line p) (numbers_of p.sections) boards.number (trains_read p routes points boards.values) boards.lines bytes
 
 abbrev boards_read : PlantLists → List RouteState → LinesPart PointState → Bytes → Result Told ℕ
-boards_read p routes points bytes = each_then (board_told p) (numbers_of p.boards) points.number (locks_read p routes points.values) points.lines bytes
+boards_read p routes points bytes = each_then (board_from_line p) (numbers_of p.boards) points.number (locks_read p routes points.values) points.lines bytes
 
 abbrev points_read : PlantLists → LinesPart RouteState → Bytes → Result Told ℕ
-points_read p routes bytes = each_then (point_told p) (point_sections p) routes.number (boards_read p routes.values) routes.lines bytes
+points_read p routes bytes = each_then (point_from_line p) (point_sections p) routes.number (boards_read p routes.values) routes.lines bytes
 
 abbrev state_read : PlantLists → Reader Told
-state_read p = each_then (route_told p) (numbers_of p.routes) 3 (points_read p)
+state_read p = each_then (route_from_line p) (numbers_of p.routes) 3 (points_read p)
 
--- reading part by part is reading the state and then the events
-state_parts : (p : PlantLists) (lines : List Bytes) (bytes : Bytes) → (state_told p lines >>= with_events p bytes) ≡ state_read p lines bytes
+-- Reading part by part equals reading the state and then the events.
+state_parts : (p : PlantLists) (lines : List Bytes) (bytes : Bytes) → (state_from_lines p lines >>= with_events p bytes) ≡ state_read p lines bytes
 state_parts p lines bytes =
-    bind-assoc (each_told (route_told p) (numbers_of p.routes) 3 lines) _ (with_events p bytes)
-    ∙ (λ i. each_told (route_told p) (numbers_of p.routes) 3 lines >>= (λ routes. points_part routes i))
+    bind-assoc (values_from_lines (route_from_line p) (numbers_of p.routes) 3 lines) _ (with_events p bytes)
+    ∙ (λ i. values_from_lines (route_from_line p) (numbers_of p.routes) 3 lines >>= (λ routes. points_part routes i))
   where
     trains_part : (routes : List RouteState) (points : List PointState) (boards : List Aspect) (locks : LinesPart Hold) → ((do
-      trains ← Ok (leading_part (train_told p) locks.number locks.lines)
-      more ← after_line (codes "events") trains.number trains.lines
+      trains ← Ok (leading_part (train_from_line p) locks.number locks.lines)
+      more ← lines_after (codes "events") trains.number trains.lines
       Ok (made routes points boards locks.values trains.values (trains.number + 1) more)) >>= with_events p bytes) ≡ trains_read p routes points boards locks bytes
     trains_part routes points boards locks =
-        let trains = leading_part (train_told p) locks.number locks.lines in
-        bind-assoc (after_line (codes "events") trains.number trains.lines) (λ more. Ok (made routes points boards locks.values trains.values (trains.number + 1) more)) (with_events p bytes)
+        let trains = leading_part (train_from_line p) locks.number locks.lines in
+        bind-assoc (lines_after (codes "events") trains.number trains.lines) (λ more. Ok (made routes points boards locks.values trains.values (trains.number + 1) more)) (with_events p bytes)
 
     locks_part : (routes : List RouteState) (points : List PointState) (boards : LinesPart Aspect) → ((do
-      locks ← each_told (lock_told p) (numbers_of p.sections) boards.number boards.lines
-      trains ← Ok (leading_part (train_told p) locks.number locks.lines)
-      more ← after_line (codes "events") trains.number trains.lines
+      locks ← values_from_lines (lock_from_line p) (numbers_of p.sections) boards.number boards.lines
+      trains ← Ok (leading_part (train_from_line p) locks.number locks.lines)
+      more ← lines_after (codes "events") trains.number trains.lines
       Ok (made routes points boards.values locks.values trains.values (trains.number + 1) more)) >>= with_events p bytes) ≡ locks_read p routes points boards bytes
     locks_part routes points boards =
-        bind-assoc (each_told (lock_told p) (numbers_of p.sections) boards.number boards.lines) _ (with_events p bytes)
-        ∙ (λ i. each_told (lock_told p) (numbers_of p.sections) boards.number boards.lines >>= (λ locks. trains_part routes points boards.values locks i))
+        bind-assoc (values_from_lines (lock_from_line p) (numbers_of p.sections) boards.number boards.lines) _ (with_events p bytes)
+        ∙ (λ i. values_from_lines (lock_from_line p) (numbers_of p.sections) boards.number boards.lines >>= (λ locks. trains_part routes points boards.values locks i))
 
     boards_part : (routes : List RouteState) (points : LinesPart PointState) → ((do
-      boards ← each_told (board_told p) (numbers_of p.boards) points.number points.lines
-      locks ← each_told (lock_told p) (numbers_of p.sections) boards.number boards.lines
-      trains ← Ok (leading_part (train_told p) locks.number locks.lines)
-      more ← after_line (codes "events") trains.number trains.lines
+      boards ← values_from_lines (board_from_line p) (numbers_of p.boards) points.number points.lines
+      locks ← values_from_lines (lock_from_line p) (numbers_of p.sections) boards.number boards.lines
+      trains ← Ok (leading_part (train_from_line p) locks.number locks.lines)
+      more ← lines_after (codes "events") trains.number trains.lines
       Ok (made routes points.values boards.values locks.values trains.values (trains.number + 1) more)) >>= with_events p bytes) ≡ boards_read p routes points bytes
     boards_part routes points =
-        bind-assoc (each_told (board_told p) (numbers_of p.boards) points.number points.lines) _ (with_events p bytes)
-        ∙ (λ i. each_told (board_told p) (numbers_of p.boards) points.number points.lines >>= (λ boards. locks_part routes points.values boards i))
+        bind-assoc (values_from_lines (board_from_line p) (numbers_of p.boards) points.number points.lines) _ (with_events p bytes)
+        ∙ (λ i. values_from_lines (board_from_line p) (numbers_of p.boards) points.number points.lines >>= (λ boards. locks_part routes points.values boards i))
 
     points_part : (routes : LinesPart RouteState) → ((do
-      points ← each_told (point_told p) (point_sections p) routes.number routes.lines
-      boards ← each_told (board_told p) (numbers_of p.boards) points.number points.lines
-      locks ← each_told (lock_told p) (numbers_of p.sections) boards.number boards.lines
-      trains ← Ok (leading_part (train_told p) locks.number locks.lines)
-      more ← after_line (codes "events") trains.number trains.lines
+      points ← values_from_lines (point_from_line p) (point_sections p) routes.number routes.lines
+      boards ← values_from_lines (board_from_line p) (numbers_of p.boards) points.number points.lines
+      locks ← values_from_lines (lock_from_line p) (numbers_of p.sections) boards.number boards.lines
+      trains ← Ok (leading_part (train_from_line p) locks.number locks.lines)
+      more ← lines_after (codes "events") trains.number trains.lines
       Ok (made routes.values points.values boards.values locks.values trains.values (trains.number + 1) more)) >>= with_events p bytes) ≡ points_read p routes bytes
     points_part routes =
-        bind-assoc (each_told (point_told p) (point_sections p) routes.number routes.lines) _ (with_events p bytes)
-        ∙ (λ i. each_told (point_told p) (point_sections p) routes.number routes.lines >>= (λ points. boards_part routes.values points i))
+        bind-assoc (values_from_lines (point_from_line p) (point_sections p) routes.number routes.lines) _ (with_events p bytes)
+        ∙ (λ i. values_from_lines (point_from_line p) (point_sections p) routes.number routes.lines >>= (λ points. boards_part routes.values points i))
 
--- each thing of the plant has a line that tells how it is at the start
-route_has_line : (p : PlantLists) → IsPlant p → (i x : ℕ) → slice_get (numbers_of p.routes) i ≡ Some x → HasLine (route_told p) x
+-- Each item of the plant has a line for its initial state.
+route_has_line : (p : PlantLists) → IsPlant p → (i x : ℕ) → slice_get (numbers_of p.routes) i ≡ Some x → HasLine (route_from_line p) x
 route_has_line p plant i x at =
     let place = range_within (length p.routes) i x at in
     let route = item_at p.routes x place.1 in
-    (route_line p x free_route, free_route, route_back p plant x route.0 free_route route.1 place.1 (fits_path-from_counts route.0 free_route (omega arith) (omega arith)))
+    (route_line p x free_route, free_route, route_back p plant x route.0 free_route route.1 place.1 (counts_fit_path-from_counts route.0 free_route (omega arith) (omega arith)))
 
-point_has_line : (p : PlantLists) → IsPlant p → (i x : ℕ) → slice_get (point_sections p) i ≡ Some x → HasLine (point_told p) x
+point_has_line : (p : PlantLists) → IsPlant p → (i x : ℕ) → slice_get (point_sections p) i ≡ Some x → HasLine (point_from_line p) x
 point_has_line p plant i x at = (point_line p x plus_point, plus_point, point_back p plant x plus_point (point_known p i x at))
 
-board_has_line : (p : PlantLists) → IsPlant p → (i x : ℕ) → slice_get (numbers_of p.boards) i ≡ Some x → HasLine (board_told p) x
+board_has_line : (p : PlantLists) → IsPlant p → (i x : ℕ) → slice_get (numbers_of p.boards) i ≡ Some x → HasLine (board_from_line p) x
 board_has_line p plant i x at = (board_line p x Closed, Closed, board_back p plant x Closed (range_within (length p.boards) i x at).1)
 
-lock_has_line : (p : PlantLists) → IsPlant p → (i x : ℕ) → slice_get (numbers_of p.sections) i ≡ Some x → HasLine (lock_told p) x
+lock_has_line : (p : PlantLists) → IsPlant p → (i x : ℕ) → slice_get (numbers_of p.sections) i ≡ Some x → HasLine (lock_from_line p) x
 lock_has_line p plant i x at = (section_line p x Free, Free, lock_back p plant x Free (range_within (length p.sections) i x at).1)
 
 state_by_line : (p : PlantLists) → IsPlant p → IsByLine 3 (state_read p)
 state_by_line p plant =
-    each_by_line (route_told p) (numbers_of p.routes) 3 (points_read p) (route_has_line p plant) (λ routes.
-    each_by_line (point_told p) (point_sections p) _ (boards_read p routes) (point_has_line p plant) (λ points.
-    each_by_line (board_told p) (numbers_of p.boards) _ (locks_read p routes points) (board_has_line p plant) (λ boards.
-    each_by_line (lock_told p) (numbers_of p.sections) _ (trains_read p routes points boards) (lock_has_line p plant) (λ locks.
-    leading_by_line (train_told p) (codes "events") _ (λ trains. events_read p (record { routes = routes; points = points; boards = boards; locks = locks; trains = trains }) false) refl (λ trains n.
+    each_by_line (route_from_line p) (numbers_of p.routes) 3 (points_read p) (route_has_line p plant) (λ routes.
+    each_by_line (point_from_line p) (point_sections p) _ (boards_read p routes) (point_has_line p plant) (λ points.
+    each_by_line (board_from_line p) (numbers_of p.boards) _ (locks_read p routes points) (board_has_line p plant) (λ boards.
+    each_by_line (lock_from_line p) (numbers_of p.sections) _ (trains_read p routes points boards) (lock_has_line p plant) (λ locks.
+    leading_by_line (train_from_line p) (codes "events") _ (λ trains. events_read p (record { routes = routes; points = points; boards = boards; locks = locks; trains = trains }) false) refl (λ trains n.
     events_by_line p (record { routes = routes; points = points; boards = boards; locks = locks; trains = trains }) false n)))))
 
--- how a run begins, its events, and the end
 abbrev begin_read : PlantLists → Reader Told
-begin_read p lines bytes = beginning_told p lines >>= with_events p bytes
+begin_read p lines bytes = beginning_from_lines p lines >>= with_events p bytes
 
--- the second line is `start`, or `state`, or bad
 begins : (p : PlantLists) → Bytes → List Bytes → Bytes → Bool → Bool → Result Told ℕ
 begins p line more bytes is_start is_state =
-    cond {A = Result Beginning ℕ} is_start (Ok (record { first = start p; from_start = true; number = 3; lines = more })) (cond {A = Result Beginning ℕ} is_state (state_told p more) (Err 2)) >>= with_events p bytes
+    cond {A = Result Beginning ℕ} is_start (Ok (record { first = start p; from_start = true; number = 3; lines = more })) (cond {A = Result Beginning ℕ} is_state (state_from_lines p more) (Err 2)) >>= with_events p bytes
 
 begin_by_line : (p : PlantLists) → IsPlant p → IsByLine 2 (begin_read p)
 unfolding begins
@@ -203,72 +197,68 @@ begin_by_line p plant = record { fills = fills; fails = fails }
     fails [] bytes m e = fails_first 2 m (begin_read p) [] (sym (err_is e)) (λ some. absurd (omega arith)) fills
     fails (line ∷ lines) bytes m e = by_word line lines bytes m e (bytes_eq line (codes "start")) (bytes_eq line (codes "state")) refl refl
 
--- a run text is read line by line
-told_by_line : (p : PlantLists) → IsPlant p → IsByLine 1 (told p)
+told_by_line : (p : PlantLists) → IsPlant p → IsByLine 1 (run_from_lines p)
 told_by_line p plant = after_by_line (codes "run 1") 1 (begin_read p) (begin_by_line p plant)
 
--- the lines of a run of the plant tell it
-lines_told : (p : PlantLists) → IsPlant p → (t : Told) → IsOfPlant p t → told p (run_lines p t) [] ≡ Ok t
-lines_told p plant t is = by_answer (told p (lines_of (run_text p t)) (after_lines (run_text p t))) refl (written-told p plant t is)
+lines_told : (p : PlantLists) → IsPlant p → (t : Told) → IsRunOfPlant p t → run_from_lines p (run_lines p t) [] ≡ Ok t
+lines_told p plant t is = by_answer (run_from_lines p (lines_of (run_text p t)) (after_lines (run_text p t))) refl (written-run_from_lines p plant t is)
   where
-    by_answer : (r : Result Told ℕ) → told p (lines_of (run_text p t)) (after_lines (run_text p t)) ≡ r → answered r ≡ IsTold t → told p (run_lines p t) [] ≡ Ok t
+    by_answer : (r : Result Told ℕ) → run_from_lines p (lines_of (run_text p t)) (after_lines (run_text p t)) ≡ r → answered r ≡ IsTold t → run_from_lines p (run_lines p t) [] ≡ Ok t
     by_answer (Ok u) this that =
         let same : u ≡ t = cc in
-        let whole = told-lines p plant (lines_of (run_text p t)) (after_lines (run_text p t)) u this in
-        (λ i. told p (run_lines p (sym same i)) []) ∙ (λ i. told p (sym whole.0 i) (sym whole.1 i)) ∙ this ∙ ap (λ (x : Told). Ok x) same
+        let whole = run_from_lines-lines p plant (lines_of (run_text p t)) (after_lines (run_text p t)) u this in
+        (λ i. run_from_lines p (run_lines p (sym same i)) []) ∙ (λ i. run_from_lines p (sym whole.0 i) (sym whole.1 i)) ∙ this ∙ ap (λ (x : Told). Ok x) same
     by_answer (Err n) this that = cc
 
--- lines that begin lines which begin the text of a run
 pub prefix : (n k : ℕ) (lines : List Bytes) → n ≤ k → (rest : List Bytes) × (take k lines ≡ take n lines ++ rest)
 prefix zero k lines h = (take k lines, refl)
 prefix (suc n) zero lines h = absurd (omega arith)
 prefix (suc n) (suc k) [] h = ([], refl)
 prefix (suc n) (suc k) (line ∷ lines) h = let rest = prefix n k lines (omega arith) in (rest.0, ap (λ ls. line ∷ ls) rest.1)
 
-begins_less : (p : PlantLists) (n k : ℕ) (lines : List Bytes) → n ≤ k → BeginsSome p (take k lines) → BeginsSome p (take n lines)
+begins_less : (p : PlantLists) (n k : ℕ) (lines : List Bytes) → n ≤ k → BeginsSomeRun p (take k lines) → BeginsSomeRun p (take n lines)
 begins_less p n k lines h (t, more, is, whole) =
     let rest = prefix n k lines h in
     (t, rest.0 ++ more, is, whole ∙ ap (λ ls. ls ++ more) rest.1 ∙ append_assoc (take n lines) rest.0 more)
 
--- the line that a reader names is the first bad one
-named_first : (p : PlantLists) → IsPlant p → (text : Bytes) (n : ℕ) → tale_of p text ≡ Bad n → IsFirstBad p text n
-named_first p plant text n e = by_answer (told p (lines_of text) (after_lines text)) refl e
+named_first : (p : PlantLists) → IsPlant p → (text : Bytes) (n : ℕ) → run_from_text p text ≡ Bad n → IsFirstBadLineOfRun p text n
+named_first p plant text n e = by_answer (run_from_lines p (lines_of text) (after_lines text)) refl e
   where
-    none : ¬ (IsSomeText p text)
+    none : ¬ (IsRunText p text)
     none some = let tells = (told_exactly p plant text some.0).1 some.1 in cc
 
-    at_line : FailsAt 1 (told p) (lines_of text) n → IsFirstBad p text n
+    at_line : FailsAt 1 (run_from_lines p) (lines_of text) n → IsFirstBadLineOfRun p text n
     at_line fails =
         let one : n - 1 ≡ fails.passed = omega (arith, fails.at) in
         let first : n ≡ suc fails.passed = omega (arith, fails.at) in
-        let written = told-lines p plant (take fails.passed (lines_of text) ++ fails.before.0) [] fails.before.1 fails.before.2 in
-        let here : BeginsSome p (take fails.passed (lines_of text)) =
-        (fails.before.1, fails.before.0, told-of_plant p plant (take fails.passed (lines_of text) ++ fails.before.0) [] fails.before.1 fails.before.2, sym written.0) in
-        let P : ℕ → Type 0 = λ k. BeginsSome p (take k (lines_of text)) in
+        let written = run_from_lines-lines p plant (take fails.passed (lines_of text) ++ fails.before.0) [] fails.before.1 fails.before.2 in
+        let here : BeginsSomeRun p (take fails.passed (lines_of text)) =
+        (fails.before.1, fails.before.0, run_from_lines-of_plant p plant (take fails.passed (lines_of text) ++ fails.before.0) [] fails.before.1 fails.before.2, sym written.0) in
+        let P : ℕ → Type 0 = λ k. BeginsSomeRun p (take k (lines_of text)) in
         record {
           none = none;
           from_one = omega (arith, fails.at);
           within = omega (arith, fails.at, fails.within);
           before = subst P (sym one) here;
           bad = λ there begun.
-              (let Q : ℕ → Type 0 = λ k. BeginsSome p (take k (lines_of text)) in
-              let some : BeginsSome p (take (suc fails.passed) (lines_of text)) = subst Q first begun in
+              (let Q : ℕ → Type 0 = λ k. BeginsSomeRun p (take k (lines_of text)) in
+              let some : BeginsSomeRun p (take (suc fails.passed) (lines_of text)) = subst Q first begun in
               let refused = fails.seen (omega (arith, fails.at)) some.1 [] in
               let tells = lines_told p plant some.0 some.2 in
-              ok_no_err (sym tells ∙ (λ i. told p (some.3 i) []) ∙ refused));
+              ok_no_err (sym tells ∙ (λ i. run_from_lines p (some.3 i) []) ∙ refused));
         }
 
-    by_answer : (r : Result Told ℕ) → told p (lines_of text) (after_lines text) ≡ r → answered r ≡ Bad n → IsFirstBad p text n
+    by_answer : (r : Result Told ℕ) → run_from_lines p (lines_of text) (after_lines text) ≡ r → answered r ≡ Bad n → IsFirstBadLineOfRun p text n
     by_answer (Ok u) this that = cc
     by_answer (Err m) this that =
         let same : m ≡ n = cc in
         at_line ((told_by_line p plant).fails (lines_of text) (after_lines text) n (this ∙ ap (λ k. Err k) same))
 
--- there is one first bad line
-one_first : (p : PlantLists) (text : Bytes) (m n : ℕ) → IsFirstBad p text m → IsFirstBad p text n → m ≡ n
+-- The first bad line is unique.
+one_first : (p : PlantLists) (text : Bytes) (m n : ℕ) → IsFirstBadLineOfRun p text m → IsFirstBadLineOfRun p text n → m ≡ n
 one_first p text m n a b = by_order (nat_lt m n) (nat_lt n m) refl refl
   where
-    later : (j k : ℕ) → j < k → IsFirstBad p text j → IsFirstBad p text k → ⊥
+    later : (j k : ℕ) → j < k → IsFirstBadLineOfRun p text j → IsFirstBadLineOfRun p text k → ⊥
     later j k less x y =
         let within = y.within in
         x.bad (omega arith) (begins_less p j (k - 1) (lines_of text) (omega arith) y.before)
@@ -278,10 +268,9 @@ one_first p text m n a b = by_order (nat_lt m n) (nat_lt n m) refl refl
     by_order false true first second = absurd (later n m (grind (arith, nat_tests)) b a)
     by_order false false first second = grind (arith, nat_tests)
 
--- a reader names a line exactly where it is the first bad one
-pub bad_exactly : (p : PlantLists) → IsPlant p → (text : Bytes) (n : ℕ) → (tale_of p text ≡ Bad n) ↔ IsFirstBad p text n
-bad_exactly p plant text n = (named_first p plant text n, λ first. by_tale (tale_of p text) refl first)
+pub bad_exactly : (p : PlantLists) → IsPlant p → (text : Bytes) (n : ℕ) → (run_from_text p text ≡ Bad n) ↔ IsFirstBadLineOfRun p text n
+bad_exactly p plant text n = (named_first p plant text n, λ first. by_tale (run_from_text p text) refl first)
   where
-    by_tale : (tale : Tale) → tale_of p text ≡ tale → IsFirstBad p text n → tale_of p text ≡ Bad n
+    by_tale : (tale : Tale) → run_from_text p text ≡ tale → IsFirstBadLineOfRun p text n → run_from_text p text ≡ Bad n
     by_tale (IsTold t) e first = absurd (first.none (t, (told_exactly p plant text t).0 e))
     by_tale (Bad m) e first = e ∙ ap (λ k. Bad k) (one_first p text m n (named_first p plant text m e) first)

@@ -1,39 +1,35 @@
--- The numbers of what a state has a line for.
+-- The numbers of the items that have a line in a state.
 use Rattle.std.proofs.Common.{◌≡◌, ℕ, ◌+◌, ◌≤◌, Bool, true, false, Option, None, List, [], ◌∷◌, ◌++◌, filter, length, slice_get, Result, subst, sym, ap, ◌∙◌, append-nil}
 use Rattle.std.specs.List.{range_with_len}
 use Rattle.std.proofs.lemmas.List.Elements.{filter-append}
 use Rattle.std.proofs.lemmas.Option.{slice_get_past}
 use Rattle.ilk_base.proofs.Ranges.{filter_one, range-more}
 use Rattle.ilk_base.specs.Option.{◌>>=◌}
-use Rattle.ilk_lines.specs.Answers.{TellsPart}
+use Rattle.ilk_lines.specs.Answers.{MatchesPartResult}
 use Rattle.ilk_lines.specs.Lines.{Bytes}
 use Rattle.ilk_lines.specs.LinesLeft.{LinesLeft}
-use Rattle.ilk_lines.specs.Reading.{each_told}
+use Rattle.ilk_lines.specs.Reading.{values_from_lines}
 use Rattle.ilk_lines.specs.declared.fault.LineFault.{LineFault}
 
--- a number more
 pub numbered_more : (numbers new : List ℕ) (n : ℕ) → numbers ≡ range_with_len 0 n → new ≡ numbers ++ n ∷ [] → new ≡ range_with_len 0 (n + 1)
 numbered_more numbers new n e f = f ∙ ap (λ ns. ns ++ n ∷ []) e ∙ sym (range-more n)
 
 listed : (test : ℕ → Bool) (numbers : List ℕ) (n : ℕ) → numbers ≡ filter test (range_with_len 0 n) → filter test (range_with_len 0 (n + 1)) ≡ numbers ++ filter test (n ∷ [])
 listed test numbers n e = ap (filter test) (range-more n) ∙ filter-append test (range_with_len 0 n) (n ∷ []) ∙ ap (λ ns. ns ++ filter test (n ∷ [])) (sym e)
 
--- a number more that passes
 pub listed_more : (test : ℕ → Bool) (numbers new : List ℕ) (n : ℕ) → numbers ≡ filter test (range_with_len 0 n) → test n ≡ true → new ≡ numbers ++ n ∷ [] → new ≡ filter test (range_with_len 0 (n + 1))
 listed_more test numbers new n e passes f = f ∙ ap (λ ns. numbers ++ ns) (sym (filter_one test n true passes)) ∙ sym (listed test numbers n e)
 
--- a number that doesn't pass
 pub listed_same : (test : ℕ → Bool) (numbers : List ℕ) (n : ℕ) → numbers ≡ filter test (range_with_len 0 n) → test n ≡ false → numbers ≡ filter test (range_with_len 0 (n + 1))
 listed_same test numbers n e fails = sym (append-nil numbers) ∙ ap (λ ns. numbers ++ ns) (sym (filter_one test n false fails)) ∙ sym (listed test numbers n e)
 
--- what has no number in a list has no name there, and a line tells nothing of it
+-- A number past the end of the names has no name, so no line describes it.
 pub unnamed : {A : Type 0} (names : List Bytes) (x : ℕ) (told : Bytes → Option A) → length names ≤ x → None ≡ (slice_get names x >>= told)
 unnamed {A = A} names x told past = sym (ap (λ (o : Option Bytes). o >>= told) (slice_get_past names x past))
 
--- equal items tell the same
 pub same_items :
     {A : Type 0} (value : ℕ → Bytes → Option A) (items others : List ℕ) (n : ℕ) (lines : List Bytes)
     (left : LinesLeft) (answer : Result (List A) LineFault) → items ≡ others →
-    TellsPart (each_told value items n lines) left answer →
-    TellsPart (each_told value others n lines) left answer
-same_items value items others n lines left answer same told = subst (λ (xs : List ℕ). TellsPart (each_told value xs n lines) left answer) same told
+    MatchesPartResult (values_from_lines value items n lines) left answer →
+    MatchesPartResult (values_from_lines value others n lines) left answer
+same_items value items others n lines left answer same told = subst (λ (xs : List ℕ). MatchesPartResult (values_from_lines value xs n lines) left answer) same told

@@ -1,4 +1,4 @@
--- What is written for a run is its text.
+-- The bytes written for a run are its text.
 use Rattle.std.proofs.Common.{◌≡◌, List, [], ◌∷◌, ◌++◌, map, flat_map, refl, sym, ap, ◌∙◌, append_assoc}
 use Rattle.std.specs.Prelude.{codes}
 use Rattle.ilk_lines.specs.Lines.{Bytes}
@@ -13,7 +13,6 @@ events-are : (p : PlantLists) (events : List Event) → flat_map (λ event. even
 events-are p [] = refl
 events-are p (event ∷ events) = ap (λ (t : Bytes). (event_line p event ++ 10 ∷ []) ++ t) (events-are p events)
 
--- the first line, how the run begins, its events and the last line are its text
 pub text_is : (p : PlantLists) (told : Told) → ((codes "run 1\n" ++ text_of (beginning_lines p told.from_start told.first)) ++ flat_map (λ event. event_line p event ++ 10 ∷ []) told.events) ++ codes "end\n" ≡ run_text p told
 text_is p told =
     let b : List Bytes = beginning_lines p told.from_start told.first in

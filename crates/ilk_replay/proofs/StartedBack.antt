@@ -1,4 +1,4 @@
--- The text of a run from the start tells that run.
+-- The text of a run from the start is read back.
 use Rattle.std.proofs.Common.{◌≡◌, ℕ, ◌+◌, true, All, Option, Some, None, Result, Ok, List, [], ◌∷◌, ◌++◌, codes, drop, get_or, length, map, slice_get, unwrap_or, refl, ap, ◌∙◌, subst}
 use Rattle.std.proofs.lemmas.Option.{slice_get_within, get_or_from_slice_get}
 use Rattle.std.proofs.lemmas.List.Elements.{All-nil, All-cons}
@@ -8,8 +8,8 @@ use Rattle.ilk_plant.specs.Start.{start}
 use Rattle.ilk_model.specs.declared.event.Event.{Event}
 use Rattle.ilk_model.specs.declared.event.Event.TheVariants.{Mark, Allocate, Lock, Sense, Release, Finish, Throw, Settle, Enter, Head, Tail, Leave, Cancel}
 use Rattle.ilk_lines.specs.Lines.{Bytes, after_lines}
-use Rattle.ilk_lines.specs.Reading.{after_line, at_the_end}
-use Rattle.ilk_lines.specs.Written.{Lacks}
+use Rattle.ilk_lines.specs.Reading.{lines_after, expect_end}
+use Rattle.ilk_lines.specs.Written.{LacksByte}
 use Rattle.ilk_lines.proofs.Lacking.{lacks_spaced}
 use Rattle.ilk_base.proofs.Lists.{drop-mapped}
 use Rattle.ilk_lines.proofs.Leading.{leading_back}
@@ -19,23 +19,22 @@ use Rattle.ilk_model.specs.EventWords.{event_word}
 use Rattle.ilk_replay.specs.EventSubjects.{event_with, events_about, subject}
 use Rattle.ilk_replay.specs.declared.event_line.Subject.{Subject}
 use Rattle.ilk_replay.specs.declared.event_line.Subject.TheVariants.{Route, Point, Section}
-use Rattle.ilk_replay.specs.EventLine.{event_of}
-use Rattle.ilk_replay.specs.Told.{events_told, tale_of, told, told_of}
+use Rattle.ilk_replay.specs.EventLine.{event_from_line}
+use Rattle.ilk_replay.specs.Told.{events_from_lines, run_from_text, run_from_lines, run_from_start}
 use Rattle.ilk_replay.specs.RunText.{event_line, name_of, run_text, subject_name}
-use Rattle.ilk_replay.specs.Writable.{IsAbout}
+use Rattle.ilk_replay.specs.Writable.{HasSubjectOf}
 use Rattle.ilk_replay.proofs.PlainNames.{HasPlainNames}
 use Rattle.ilk_replay.specs.declared.told.Tale.TheVariants.{Told as IsTold}
 use Rattle.ilk_replay.proofs.WrittenRun.{answered}
 use Rattle.ilk_replay.proofs.ReadBack.{event_back}
 
-pub name_lacks : (c : ℕ) (names : List Bytes) (i : ℕ) → All (Lacks c) names → Lacks c (name_of names i)
+pub name_lacks : (c : ℕ) (names : List Bytes) (i : ℕ) → All (LacksByte c) names → LacksByte c (name_of names i)
 name_lacks c names i plain = by_place (slice_get names i) refl
   where
-    by_place : (o : Option Bytes) → slice_get names i ≡ o → Lacks c (unwrap_or o [])
+    by_place : (o : Option Bytes) → slice_get names i ≡ o → LacksByte c (unwrap_or o [])
     by_place None this = refl
-    by_place (Some name) this = subst (Lacks c) (get_or_from_slice_get names i name [] this) (plain i [] (slice_get_within names i name this))
+    by_place (Some name) this = subst (LacksByte c) (get_or_from_slice_get names i name [] this) (plain i [] (slice_get_within names i name this))
 
--- each event is read by its word
 event_back-word : (event : Event) → event_with (event_word event) (subject event) ≡ Some event
 event_back-word (Mark r) = refl
 event_back-word (Allocate r) = refl
@@ -56,33 +55,33 @@ words-plain (Route r) = refl
 words-plain (Point x) = refl
 words-plain (Section x) = refl
 
-subject-plain : (p : PlantLists) → HasPlainNames p → (about : Subject) → Lacks 10 (subject_name p about)
+subject-plain : (p : PlantLists) → HasPlainNames p → (about : Subject) → LacksByte 10 (subject_name p about)
 subject-plain p plain (Route r) = name_lacks 10 p.route_names r plain.routes
 subject-plain p plain (Point x) = name_lacks 10 p.section_names x plain.sections
 subject-plain p plain (Section x) = name_lacks 10 p.section_names x plain.sections
 
-event_line-plain : (p : PlantLists) → HasPlainNames p → (event : Event) → Lacks 10 (event_line p event)
+event_line-plain : (p : PlantLists) → HasPlainNames p → (event : Event) → LacksByte 10 (event_line p event)
 event_line-plain p plain event =
     lacks_spaced (event_word event) (subject_name p (subject event)) (word_lacks 10 event_word (events_about (subject event)) event (event_back-word event) (words-plain (subject event))) (subject-plain p plain (subject event))
 
-pub event_lines-plain : (p : PlantLists) → HasPlainNames p → (events : List Event) → All (Lacks 10) (map (event_line p) events ++ codes "end" ∷ [])
-event_lines-plain p plain [] = All-cons (Lacks 10) (codes "end") [] refl (All-nil (Lacks 10))
-event_lines-plain p plain (event ∷ events) = All-cons (Lacks 10) (event_line p event) (map (event_line p) events ++ codes "end" ∷ []) (event_line-plain p plain event) (event_lines-plain p plain events)
+pub event_lines-plain : (p : PlantLists) → HasPlainNames p → (events : List Event) → All (LacksByte 10) (map (event_line p) events ++ codes "end" ∷ [])
+event_lines-plain p plain [] = All-cons (LacksByte 10) (codes "end") [] refl (All-nil (LacksByte 10))
+event_lines-plain p plain (event ∷ events) = All-cons (LacksByte 10) (event_line p event) (map (event_line p) events ++ codes "end" ∷ []) (event_line-plain p plain event) (event_lines-plain p plain events)
 
-pub events_back : (p : PlantLists) → IsPlant p → (n : ℕ) (events : List Event) → All (IsAbout p) events → events_told p n (map (event_line p) events ++ codes "end" ∷ []) [] ≡ Ok events
+pub events_back : (p : PlantLists) → IsPlant p → (n : ℕ) (events : List Event) → All (HasSubjectOf p) events → events_from_lines p n (map (event_line p) events ++ codes "end" ∷ []) [] ≡ Ok events
 events_back p plant n events about =
     let lines : List Bytes = map (event_line p) events ++ codes "end" ∷ [] in
-    let told : All (λ event. event_of p (event_line p event) ≡ Some event) events = λ k d within. event_back p plant (get_or events k d) (about k d within) in
-    ap (λ (es : List Event). after_line (codes "end") (n + length es) (drop (length es) lines) >>= (λ more. at_the_end (n + length es + 1) more [] >>= (λ none. Ok es))) (leading_back (event_of p) (event_line p) events (codes "end") [] told refl)
-    ∙ ap (λ (ls : List Bytes). after_line (codes "end") (n + length events) ls >>= (λ more. at_the_end (n + length events + 1) more [] >>= (λ none. Ok events))) (drop-mapped (event_line p) events (codes "end" ∷ []))
+    let told : All (λ event. event_from_line p (event_line p event) ≡ Some event) events = λ k d within. event_back p plant (get_or events k d) (about k d within) in
+    ap (λ (es : List Event). lines_after (codes "end") (n + length es) (drop (length es) lines) >>= (λ more. expect_end (n + length es + 1) more [] >>= (λ none. Ok es)))
+    (leading_back (event_from_line p) (event_line p) events (codes "end") [] told refl)
+    ∙ ap (λ (ls : List Bytes). lines_after (codes "end") (n + length events) ls >>= (λ more. expect_end (n + length events + 1) more [] >>= (λ none. Ok events))) (drop-mapped (event_line p) events (codes "end" ∷ []))
 
--- the text of a run from the start tells that run
-pub started_back : (p : PlantLists) → IsPlant p → HasPlainNames p → (events : List Event) → All (IsAbout p) events → tale_of p (run_text p (told_of p events)) ≡ IsTold (told_of p events)
+pub started_back : (p : PlantLists) → IsPlant p → HasPlainNames p → (events : List Event) → All (HasSubjectOf p) events → run_from_text p (run_text p (run_from_start p events)) ≡ IsTold (run_from_start p events)
 started_back p plant plain events about =
     let lines : List Bytes = map (event_line p) events ++ codes "end" ∷ [] in
-    let all : All (Lacks 10) (codes "run 1" ∷ codes "start" ∷ lines) =
-    All-cons (Lacks 10) (codes "run 1") (codes "start" ∷ lines) refl (All-cons (Lacks 10) (codes "start") lines refl (event_lines-plain p plain events)) in
+    let all : All (LacksByte 10) (codes "run 1" ∷ codes "start" ∷ lines) =
+    All-cons (LacksByte 10) (codes "run 1") (codes "start" ∷ lines) refl (All-cons (LacksByte 10) (codes "start") lines refl (event_lines-plain p plain events)) in
     let back = lines_back (codes "run 1" ∷ codes "start" ∷ lines) all in
-    ap (λ (ls : List Bytes). answered (told p ls (after_lines (run_text p (told_of p events))))) back.0
-    ∙ ap (λ (bs : Bytes). answered (told p (codes "run 1" ∷ codes "start" ∷ lines) bs)) back.1
+    ap (λ (ls : List Bytes). answered (run_from_lines p ls (after_lines (run_text p (run_from_start p events))))) back.0
+    ∙ ap (λ (bs : Bytes). answered (run_from_lines p (codes "run 1" ∷ codes "start" ∷ lines) bs)) back.1
     ∙ ap (λ (r : Result (List Event) ℕ). answered (r >>= (λ es. Ok (record { first = start p; from_start = true; events = es })))) (events_back p plant 3 events about)

@@ -1,4 +1,4 @@
--- What is written for a state is its lines.
+-- The bytes written for a state are its lines.
 use Rattle.std.proofs.Common.{◌≡◌, ℕ, zero, suc, ◌+◌, ◌<◌, ◌≤◌, true, Some, All, List, [], ◌∷◌, ◌++◌, drop, length, map, flat_map, slice_get, refl, sym, ap, ◌∙◌, arith, append_assoc, append-nil}
 use Rattle.std.specs.Prelude.{codes}
 use Rattle.std.specs.List.{list_all}
@@ -6,10 +6,10 @@ use Rattle.ilk_base.proofs.Lists.{drop_from}
 use Rattle.ilk_base.proofs.Tested.{All-tested}
 use Rattle.ilk_lines.specs.Lines.{Bytes}
 use Rattle.ilk_lines.specs.Reading.{numbers_of}
-use Rattle.ilk_lines.specs.Written.{each_line, text_of}
+use Rattle.ilk_lines.specs.Written.{lines_of_items, text_of}
 use Rattle.ilk_base.proofs.Ranges.{passing_within}
 use Rattle.ilk_plant.specs.Plant.{PlantLists, is_point_section}
-use Rattle.ilk_plant.specs.Shape.{HasShape, is_body}
+use Rattle.ilk_plant.specs.Shape.{HasShape, has_valid_body}
 use Rattle.ilk_plant.specs.declared.state.State.{State}
 use Rattle.ilk_plant.specs.declared.state.Train.{Train}
 use Rattle.ilk_plant.specs.Words.{direction_word}
@@ -20,11 +20,11 @@ use Rattle.ilk_replay.specs.RunText.{board_line, name_of, point_line, route_line
 use Rattle.ilk_replay.specs.StateTold.{point_sections}
 use Rattle.ilk_lines.proofs.TextLines.{text_of-append}
 
--- the lines of items from place i on
+-- The lines of items from index i on.
 abbrev pub lines_from : {A : Type 0} → (ℕ → A → Bytes) → List ℕ → List A → ℕ → Bytes
-lines_from line items values i = text_of (each_line line (drop i items) (drop i values))
+lines_from line items values i = text_of (lines_of_items line (drop i items) (drop i values))
 
--- where a line is written, and those from the next place on are to come, the whole is as before
+-- Each loop step moves one line from the rest to the written part.
 pub line_more :
     {A : Type 0} (line : ℕ → A → Bytes) (items : List ℕ) (values : List A) (i x : ℕ) (v : A)
     (whole now next : Bytes) →
@@ -38,10 +38,9 @@ line_more line items values i x v whole now next item value sofar grown =
     ∙ append_assoc now (line x v ++ 10 ∷ []) (lines_from line items values (i + 1))
     ∙ ap (λ (t : Bytes). now ++ t) (sym these) ∙ sofar
 
--- where no value is left, the whole is written
 pub line_end : {A : Type 0} (line : ℕ → A → Bytes) (items : List ℕ) (values : List A) (i : ℕ) (whole now : Bytes) → length items ≤ i → now ++ lines_from line items values i ≡ whole → now ≡ whole
 line_end line items values i whole now first sofar =
-    let none : lines_from line items values i ≡ [] = ap (λ xs. text_of (each_line line xs (drop i values))) (drop-all items i first) in
+    let none : lines_from line items values i ≡ [] = ap (λ xs. text_of (lines_of_items line xs (drop i values))) (drop-all items i first) in
     sym (append-nil now) ∙ ap (λ (t : Bytes). now ++ t) (sym none) ∙ sofar
   where
     drop-all : {X : Type 0} (xs : List X) (i : ℕ) → length xs ≤ i → drop i xs ≡ []
@@ -50,24 +49,22 @@ line_end line items values i whole now first sofar =
     drop-all (x ∷ xs) zero past = absurd (omega arith)
     drop-all (x ∷ xs) (suc i) past = drop-all xs i (omega arith)
 
--- the lines of trains, each with its line feed
 trains-are : (p : PlantLists) (trains : List Train) → flat_map (λ train. train_line p train ++ 10 ∷ []) trains ≡ text_of (map (train_line p) trains)
 trains-are p [] = refl
 trains-are p (train ∷ trains) = ap (λ (t : Bytes). (train_line p train ++ 10 ∷ []) ++ t) (trains-are p trains)
 
--- the lines of all lists, one after another, are those of the state
 pub state_is : (p : PlantLists) (s : State) (start : Bytes) →
-    ((((start ++ text_of (each_line (route_line p) (numbers_of p.routes) s.routes))
-    ++ text_of (each_line (point_line p) (point_sections p) s.points))
-    ++ text_of (each_line (board_line p) (numbers_of p.boards) s.boards))
-    ++ text_of (each_line (section_line p) (numbers_of p.sections) s.locks))
+    ((((start ++ text_of (lines_of_items (route_line p) (numbers_of p.routes) s.routes))
+    ++ text_of (lines_of_items (point_line p) (point_sections p) s.points))
+    ++ text_of (lines_of_items (board_line p) (numbers_of p.boards) s.boards))
+    ++ text_of (lines_of_items (section_line p) (numbers_of p.sections) s.locks))
     ++ flat_map (λ train. train_line p train ++ 10 ∷ []) s.trains
     ≡ start ++ text_of (state_lines p s)
 state_is p s start =
-    let a : List Bytes = each_line (route_line p) (numbers_of p.routes) s.routes in
-    let b : List Bytes = each_line (point_line p) (point_sections p) s.points in
-    let c : List Bytes = each_line (board_line p) (numbers_of p.boards) s.boards in
-    let d : List Bytes = each_line (section_line p) (numbers_of p.sections) s.locks in
+    let a : List Bytes = lines_of_items (route_line p) (numbers_of p.routes) s.routes in
+    let b : List Bytes = lines_of_items (point_line p) (point_sections p) s.points in
+    let c : List Bytes = lines_of_items (board_line p) (numbers_of p.boards) s.boards in
+    let d : List Bytes = lines_of_items (section_line p) (numbers_of p.sections) s.locks in
     let e : List Bytes = map (train_line p) s.trains in
     let parts : text_of (state_lines p s) ≡ (((text_of a ++ text_of b) ++ text_of c) ++ text_of d) ++ text_of e =
     text_of-append (((a ++ b) ++ c) ++ d) e
@@ -78,21 +75,17 @@ state_is p s start =
     regroup : (z a b c d e : Bytes) → ((((z ++ a) ++ b) ++ c) ++ d) ++ e ≡ z ++ ((((a ++ b) ++ c) ++ d) ++ e)
     regroup z a b c d e = simp append_assoc
 
--- a train's word and direction, the names and the line feed are its line
 pub train_is : (p : PlantLists) (train : Train) (start : Bytes) → ((start ++ (codes "train " ++ direction_word train.dir)) ++ flat_map (λ x. 32 ∷ name_of p.section_names x) train.body) ++ codes "\n" ≡ start ++ (train_line p train ++ 10 ∷ [])
 train_is p train start = regroup start (codes "train ") (direction_word train.dir) (flat_map (λ x. 32 ∷ name_of p.section_names x) train.body) (codes "\n")
   where
     regroup : (z a b c d : Bytes) → ((z ++ (a ++ b)) ++ c) ++ d ≡ z ++ ((a ++ (b ++ c)) ++ d)
     regroup z a b c d = simp append_assoc
 
--- a point's section is one of the plant's
 pub point_known : (p : PlantLists) (n x : ℕ) → slice_get (point_sections p) n ≡ Some x → x < length p.sections
 point_known p n x at = let within = passing_within (is_point_section p) 0 (length p.sections) n x at in omega arith
 
--- there is a state for each point
 pub points_counted : (p : PlantLists) (s : State) → HasShape p s → length s.points ≡ length (point_sections p)
 points_counted p s shape = shape.points ∙ sym (point_sections-length p)
 
--- each section of a train's body is a section of the plant
-pub bodies_known : (p : PlantLists) (trains : List Train) → IsPlant p → list_all (is_body p) trains ≡ true → All (λ train. All (λ x. x < length p.sections) train.body) trains
-bodies_known p trains plant bodies = All-tested (is_body p) (λ train. All (λ x. x < length p.sections) train.body) (λ train body. body_known p plant train.dir train.body body) trains bodies
+pub bodies_known : (p : PlantLists) (trains : List Train) → IsPlant p → list_all (has_valid_body p) trains ≡ true → All (λ train. All (λ x. x < length p.sections) train.body) trains
+bodies_known p trains plant bodies = All-tested (has_valid_body p) (λ train. All (λ x. x < length p.sections) train.body) (λ train body. body_known p plant train.dir train.body body) trains bodies

@@ -1,8 +1,8 @@
--- The words of a state's values: each value is read by its word, and by no other.
+-- Each value in a state is read from its keyword, and from no other.
 use Rattle.std.proofs.Common.{◌≡◌, ℕ, true, Some, List, [], ◌∷◌, refl}
 use Rattle.ilk_lines.specs.Lines.{Bytes}
-use Rattle.ilk_lines.specs.Written.{Lacks}
-use Rattle.ilk_plant.specs.Words.{aspect_of_word, aspect_word, direction_of_word, direction_word, hold_of_word, hold_word, lie_of_word, lie_word, mode_of_word, mode_word, position_of_word, position_word}
+use Rattle.ilk_lines.specs.Written.{LacksByte}
+use Rattle.ilk_plant.specs.Words.{aspect_from_word, aspect_word, direction_from_word, direction_word, hold_from_word, hold_word, lie_from_word, lie_word, mode_from_word, mode_word, position_from_word, position_word}
 use Rattle.ilk_plant.specs.declared.network.Dir.{Dir}
 use Rattle.ilk_plant.specs.declared.network.Dir.TheVariants.{Up, Down}
 use Rattle.ilk_plant.specs.declared.network.Position.{Position}
@@ -21,74 +21,74 @@ use Rattle.ilk_replay.proofs.WordTables.{value_of_word-word, word_lacks, words_l
 abbrev modes : List Mode
 modes = Free ∷ Marked ∷ Allocating ∷ Locked ∷ Occupied ∷ []
 
-pub mode_back : (x : Mode) → mode_of_word (mode_word x) ≡ Some x
+pub mode_back : (x : Mode) → mode_from_word (mode_word x) ≡ Some x
 mode_back Free = refl
 mode_back Marked = refl
 mode_back Allocating = refl
 mode_back Locked = refl
 mode_back Occupied = refl
 
-pub mode_read : (word : Bytes) (x : Mode) → mode_of_word word ≡ Some x → word ≡ mode_word x
+pub mode_read : (word : Bytes) (x : Mode) → mode_from_word word ≡ Some x → word ≡ mode_word x
 mode_read word x e = value_of_word-word mode_word modes word x e
 
-pub mode_lacks : (c : ℕ) (x : Mode) → words_lack c mode_word modes ≡ true → Lacks c (mode_word x)
+pub mode_lacks : (c : ℕ) (x : Mode) → words_lack c mode_word modes ≡ true → LacksByte c (mode_word x)
 mode_lacks c x all = word_lacks c mode_word modes x (mode_back x) all
 
 abbrev lies : List Lie
 lies = LiesPlus ∷ LiesMinus ∷ Moving ∷ []
 
-pub lie_back : (x : Lie) → lie_of_word (lie_word x) ≡ Some x
+pub lie_back : (x : Lie) → lie_from_word (lie_word x) ≡ Some x
 lie_back LiesPlus = refl
 lie_back LiesMinus = refl
 lie_back Moving = refl
 
-pub lie_read : (word : Bytes) (x : Lie) → lie_of_word word ≡ Some x → word ≡ lie_word x
+pub lie_read : (word : Bytes) (x : Lie) → lie_from_word word ≡ Some x → word ≡ lie_word x
 lie_read word x e = value_of_word-word lie_word lies word x e
 
-pub lie_lacks : (c : ℕ) (x : Lie) → words_lack c lie_word lies ≡ true → Lacks c (lie_word x)
+pub lie_lacks : (c : ℕ) (x : Lie) → words_lack c lie_word lies ≡ true → LacksByte c (lie_word x)
 lie_lacks c x all = word_lacks c lie_word lies x (lie_back x) all
 
 abbrev positions : List Position
 positions = Plus ∷ Minus ∷ []
 
-pub position_read : (word : Bytes) (x : Position) → position_of_word word ≡ Some x → word ≡ position_word x
+pub position_read : (word : Bytes) (x : Position) → position_from_word word ≡ Some x → word ≡ position_word x
 position_read word x e = value_of_word-word position_word positions word x e
 
-pub position_lacks : (c : ℕ) (x : Position) → words_lack c position_word positions ≡ true → Lacks c (position_word x)
+pub position_lacks : (c : ℕ) (x : Position) → words_lack c position_word positions ≡ true → LacksByte c (position_word x)
 position_lacks c x all = word_lacks c position_word positions x (position_back x) all
 
 abbrev aspects : List Aspect
 aspects = Open ∷ Closed ∷ []
 
-pub aspect_back : (x : Aspect) → aspect_of_word (aspect_word x) ≡ Some x
+pub aspect_back : (x : Aspect) → aspect_from_word (aspect_word x) ≡ Some x
 aspect_back Open = refl
 aspect_back Closed = refl
 
-pub aspect_read : (word : Bytes) (x : Aspect) → aspect_of_word word ≡ Some x → word ≡ aspect_word x
+pub aspect_read : (word : Bytes) (x : Aspect) → aspect_from_word word ≡ Some x → word ≡ aspect_word x
 aspect_read word x e = value_of_word-word aspect_word aspects word x e
 
-pub aspect_lacks : (c : ℕ) (x : Aspect) → words_lack c aspect_word aspects ≡ true → Lacks c (aspect_word x)
+pub aspect_lacks : (c : ℕ) (x : Aspect) → words_lack c aspect_word aspects ≡ true → LacksByte c (aspect_word x)
 aspect_lacks c x all = word_lacks c aspect_word aspects x (aspect_back x) all
 
 abbrev holds : List Hold
 holds = FreeLock ∷ LockedLock ∷ Used ∷ []
 
-pub hold_back : (x : Hold) → hold_of_word (hold_word x) ≡ Some x
+pub hold_back : (x : Hold) → hold_from_word (hold_word x) ≡ Some x
 hold_back FreeLock = refl
 hold_back LockedLock = refl
 hold_back Used = refl
 
-pub hold_read : (word : Bytes) (x : Hold) → hold_of_word word ≡ Some x → word ≡ hold_word x
+pub hold_read : (word : Bytes) (x : Hold) → hold_from_word word ≡ Some x → word ≡ hold_word x
 hold_read word x e = value_of_word-word hold_word holds word x e
 
-pub hold_lacks : (c : ℕ) (x : Hold) → words_lack c hold_word holds ≡ true → Lacks c (hold_word x)
+pub hold_lacks : (c : ℕ) (x : Hold) → words_lack c hold_word holds ≡ true → LacksByte c (hold_word x)
 hold_lacks c x all = word_lacks c hold_word holds x (hold_back x) all
 
 abbrev directions : List Dir
 directions = Up ∷ Down ∷ []
 
-pub direction_read : (word : Bytes) (x : Dir) → direction_of_word word ≡ Some x → word ≡ direction_word x
+pub direction_read : (word : Bytes) (x : Dir) → direction_from_word word ≡ Some x → word ≡ direction_word x
 direction_read word x e = value_of_word-word direction_word directions word x e
 
-pub direction_lacks : (c : ℕ) (x : Dir) → words_lack c direction_word directions ≡ true → Lacks c (direction_word x)
+pub direction_lacks : (c : ℕ) (x : Dir) → words_lack c direction_word directions ≡ true → LacksByte c (direction_word x)
 direction_lacks c x all = word_lacks c direction_word directions x (direction_back x) all

@@ -1,4 +1,4 @@
--- Values that have a word each are read by that word alone.
+-- Values that have a keyword each are read from that keyword alone.
 use Rattle.std.proofs.Common.{◌≡◌, ℕ, Bool, true, false, ◌==◌, Option, Some, List, [], ◌∷◌, cond, refl, ap, ◌∙◌, subst}
 use Rattle.std.specs.List.{list_all, list_any}
 use Rattle.std.specs.Prelude.{not}
@@ -8,9 +8,8 @@ use Rattle.std.proofs.lemmas.Option.{same_Some}
 use Rattle.std.proofs.lemmas.Slice.Eq.{bytes_eq-Decides}
 use Rattle.ilk_base.specs.Words.{value_of_word}
 use Rattle.ilk_lines.specs.Lines.{Bytes}
-use Rattle.ilk_lines.specs.Written.{Lacks}
+use Rattle.ilk_lines.specs.Written.{LacksByte}
 
--- a value that is read has that word
 pub value_of_word-word : {A : Type 0} (word_of : A → Bytes) (values : List A) (word : Bytes) (v : A) → value_of_word word_of values word ≡ Some v → word ≡ word_of v
 value_of_word-word word_of [] word v e = cc
 value_of_word-word {A = A} word_of (x ∷ values) word v e = by_word (bytes_eq word (word_of x)) refl e (value_of_word-word word_of values word v)
@@ -19,12 +18,11 @@ value_of_word-word {A = A} word_of (x ∷ values) word v e = by_word (bytes_eq w
     by_word true same that later = (bytes_eq-Decides word (word_of x)).0 same ∙ ap word_of (same_Some x v that)
     by_word false differs that later = later that
 
--- what holds of each of these values
+-- P holds for each of the values.
 abbrev pub Each : {A : Type 0} → (A → Type 0) → List A → Type 0
 Each P [] = Unit {0}
 Each P (x ∷ xs) = P x × Each P xs
 
--- what holds of each of the values holds of the one that is read
 pub value_of_word-each : {A : Type 0} (P : A → Type 0) (word_of : A → Bytes) (values : List A) (word : Bytes) (v : A) → Each P values → value_of_word word_of values word ≡ Some v → P v
 value_of_word-each P word_of [] word v each e = cc
 value_of_word-each {A = A} P word_of (x ∷ values) word v each e = by_word (bytes_eq word (word_of x)) e (value_of_word-each P word_of values word v each.1)
@@ -33,7 +31,7 @@ value_of_word-each {A = A} P word_of (x ∷ values) word v each e = by_word (byt
     by_word true that later = subst P (same_Some x v that) each.0
     by_word false that later = later that
 
--- whether no word of these values has the byte c
+-- No keyword of these values contains the byte c.
 abbrev pub words_lack : {A : Type 0} → ℕ → (A → Bytes) → List A → Bool
 words_lack c word_of values = list_all (λ v. not (list_any (λ b. b == c) (word_of v))) values
 
@@ -41,8 +39,7 @@ each_passes : {A : Type 0} (test : A → Bool) (values : List A) → list_all te
 each_passes test [] all = tt
 each_passes test (x ∷ values) all = let parts = and_parts (test x) (list_all test values) all in (parts.0, each_passes test values parts.1)
 
--- the word of a value that is read by it lacks what all words lack
-pub word_lacks : {A : Type 0} (c : ℕ) (word_of : A → Bytes) (values : List A) (v : A) → value_of_word word_of values (word_of v) ≡ Some v → words_lack c word_of values ≡ true → Lacks c (word_of v)
+pub word_lacks : {A : Type 0} (c : ℕ) (word_of : A → Bytes) (values : List A) (v : A) → value_of_word word_of values (word_of v) ≡ Some v → words_lack c word_of values ≡ true → LacksByte c (word_of v)
 word_lacks {A = A} c word_of values v e all =
     let test : A → Bool = λ w. not (list_any (λ b. b == c) (word_of w)) in
     not-true _ (value_of_word-each (λ w. test w ≡ true) word_of values (word_of v) v (each_passes test values all) e)

@@ -1,4 +1,4 @@
--- What each event is about: a route, the point on a section, or the trains at a section.
+-- The subject of each event: a route, the point on a section, or the trains at a section.
 use Rattle.std.specs.Prelude.{Option, List, [], ◌∷◌}
 use Rattle.ilk_lines.specs.Lines.{Bytes}
 use Rattle.ilk_base.specs.Words.{value_of_word}
@@ -8,7 +8,7 @@ use Rattle.ilk_model.specs.EventWords.{event_word}
 use Rattle.ilk_replay.specs.declared.event_line.Subject.{Subject}
 use Rattle.ilk_replay.specs.declared.event_line.Subject.TheVariants.{Route, Point, Section}
 
--- what an event is about
+-- The subject of an event.
 abbrev pub subject : Event → Subject
 subject (Mark r) = Route r
 subject (Allocate r) = Route r
@@ -24,12 +24,12 @@ subject (Tail x) = Section x
 subject (Leave x) = Section x
 subject (Cancel r) = Route r
 
--- the events that are about a route, about the point on a section, and about trains at a section
+-- The events about a route, about the point on a section, and about trains at a section.
 abbrev pub events_about : Subject → List Event
 events_about (Route r) = Mark r ∷ Allocate r ∷ Lock r ∷ Sense r ∷ Release r ∷ Finish r ∷ Cancel r ∷ []
 events_about (Point x) = Throw x ∷ Settle x ∷ []
 events_about (Section x) = Enter x ∷ Head x ∷ Tail x ∷ Leave x ∷ []
 
--- the event about this that has this word
+-- The event with this subject and this keyword.
 abbrev pub event_with : Bytes → Subject → Option Event
 event_with word about = value_of_word event_word (events_about about) word

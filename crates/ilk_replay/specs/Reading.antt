@@ -1,4 +1,4 @@
--- Only private contracts cite this: what the reader of a state or of a beginning answers, for what is told.
+-- The results of the readers of a state and of a beginning. Used only by private contracts.
 use Rattle.std.specs.Prelude.{ℕ, ◌≡◌, Result, Ok, Err, Bool, false}
 use Rattle.ilk_lines.specs.LinesLeft.{LinesLeft}
 use Rattle.ilk_lines.specs.declared.fault.LineFault.{LineFault}
@@ -6,14 +6,15 @@ use Rattle.ilk_lines.specs.declared.fault.LineFault.TheVariants.{BadLine, OutOfM
 use Rattle.ilk_plant.specs.declared.state.State.{State}
 use Rattle.ilk_replay.specs.StateTold.{Beginning}
 
--- the answer is the state that is told, and this is left after it
-abbrev pub StateWith : Result Beginning ℕ → LinesLeft → Result State LineFault → Type 0
-StateWith told left (Ok s) = told ≡ Ok (record { first = s; from_start = false; number = left.number; lines = left.lines })
-StateWith told left (Err (BadLine n)) = told ≡ Err n
-StateWith told left (Err OutOfMemory) = Unit {0}
+-- Holds if the result agrees with `run_from_lines`, and these lines are left after the state.
+-- Running out of memory agrees with anything.
+abbrev pub IsStateRead : Result Beginning ℕ → LinesLeft → Result State LineFault → Type 0
+IsStateRead told left (Ok s) = told ≡ Ok (record { first = s; from_start = false; number = left.number; lines = left.lines })
+IsStateRead told left (Err (BadLine n)) = told ≡ Err n
+IsStateRead told left (Err OutOfMemory) = Unit {0}
 
--- the answer is the first state that is told and whether it is the start, and this is left after it
-abbrev pub BeginsWith : Result Beginning ℕ → LinesLeft → Result (State × Bool) LineFault → Type 0
-BeginsWith told left (Ok begun) = told ≡ Ok (record { first = begun.0; from_start = begun.1; number = left.number; lines = left.lines })
-BeginsWith told left (Err (BadLine n)) = told ≡ Err n
-BeginsWith told left (Err OutOfMemory) = Unit {0}
+-- The same for a result of the first state and whether it is the start.
+abbrev pub IsBeginningRead : Result Beginning ℕ → LinesLeft → Result (State × Bool) LineFault → Type 0
+IsBeginningRead told left (Ok begun) = told ≡ Ok (record { first = begun.0; from_start = begun.1; number = left.number; lines = left.lines })
+IsBeginningRead told left (Err (BadLine n)) = told ≡ Err n
+IsBeginningRead told left (Err OutOfMemory) = Unit {0}

@@ -1,10 +1,9 @@
--- The text of a run, by what is written: the line `run 1`, the beginning, a line for each event, and
--- the line `end`.
+-- The text of a run: the line `run 1`, the beginning, a line for each event, and the line `end`.
 use Rattle.std.specs.Prelude.{ℕ, Bool, true, false, List, [], ◌∷◌, ◌++◌, codes, flat_map, map, slice_get, unwrap_or}
 use Rattle.std.specs.Fmt.{decimal}
 use Rattle.ilk_lines.specs.Lines.{Bytes}
 use Rattle.ilk_lines.specs.Reading.{numbers_of}
-use Rattle.ilk_lines.specs.Written.{each_line, spaced, text_of}
+use Rattle.ilk_lines.specs.Written.{lines_of_items, word_and_rest, text_of}
 use Rattle.ilk_plant.specs.Plant.{PlantLists}
 use Rattle.ilk_plant.specs.declared.state.Aspect.{Aspect}
 use Rattle.ilk_plant.specs.declared.state.Hold.{Hold}
@@ -21,58 +20,58 @@ use Rattle.ilk_replay.specs.declared.event_line.Subject.{Subject}
 use Rattle.ilk_replay.specs.declared.event_line.Subject.TheVariants.{Route, Point, Section}
 use Rattle.ilk_replay.specs.declared.told.Told.{Told}
 
--- the name with this number
+-- The name with number i.
 abbrev pub name_of : List Bytes → ℕ → Bytes
 name_of names i = unwrap_or (slice_get names i) []
 
--- the name of what an event is about
+-- The name of a subject.
 abbrev pub subject_name : PlantLists → Subject → Bytes
 subject_name p (Route r) = name_of p.route_names r
 subject_name p (Point x) = name_of p.section_names x
 subject_name p (Section x) = name_of p.section_names x
 
--- an event's line: its word, and the name of what it is about
+-- An event's line: its keyword and the name of its subject.
 abbrev pub event_line : PlantLists → Event → Bytes
-event_line p event = spaced (event_word event) (subject_name p (subject event))
+event_line p event = word_and_rest (event_word event) (subject_name p (subject event))
 
--- a route's line: its name, its mode, seen and rel
+-- A route's line: its name, mode, `seen` and `rel`.
 abbrev pub route_line : PlantLists → ℕ → RouteState → Bytes
-route_line p r now = spaced (codes "route") (spaced (name_of p.route_names r) (spaced (mode_word now.mode) (spaced (decimal now.seen) (decimal now.rel))))
+route_line p r now = word_and_rest (codes "route") (word_and_rest (name_of p.route_names r) (word_and_rest (mode_word now.mode) (word_and_rest (decimal now.seen) (decimal now.rel))))
 
--- a point's line: its name, where it lies, where it is commanded
+-- A point's line: its name, detected position and commanded position.
 abbrev pub point_line : PlantLists → ℕ → PointState → Bytes
-point_line p x now = spaced (codes "point") (spaced (name_of p.section_names x) (spaced (lie_word now.at) (position_word now.to)))
+point_line p x now = word_and_rest (codes "point") (word_and_rest (name_of p.section_names x) (word_and_rest (lie_word now.at) (position_word now.to)))
 
--- a board's line: its name, its aspect
+-- A board's line: its name and aspect.
 abbrev pub board_line : PlantLists → ℕ → Aspect → Bytes
-board_line p m aspect = spaced (codes "board") (spaced (name_of p.board_names m) (aspect_word aspect))
+board_line p m aspect = word_and_rest (codes "board") (word_and_rest (name_of p.board_names m) (aspect_word aspect))
 
--- a section's line: its name, its lock
+-- A section's line: its name and lock.
 abbrev pub section_line : PlantLists → ℕ → Hold → Bytes
-section_line p x lock = spaced (codes "section") (spaced (name_of p.section_names x) (hold_word lock))
+section_line p x lock = word_and_rest (codes "section") (word_and_rest (name_of p.section_names x) (hold_word lock))
 
--- a train's line: its direction, and the names of its sections from tail to head
+-- A train's line: its direction, and the names of its sections from tail to head.
 abbrev pub train_line : PlantLists → Train → Bytes
-train_line p train = spaced (codes "train") (direction_word train.dir ++ flat_map (λ x. 32 ∷ name_of p.section_names x) train.body)
+train_line p train = word_and_rest (codes "train") (direction_word train.dir ++ flat_map (λ x. 32 ∷ name_of p.section_names x) train.body)
 
--- the lines of a state: routes, points in the order of sections, boards, sections, trains
+-- The lines of a state: routes, points in the order of sections, boards, sections, trains.
 abbrev pub state_lines : PlantLists → State → List Bytes
 state_lines p s =
-    each_line (route_line p) (numbers_of p.routes) s.routes
-    ++ each_line (point_line p) (point_sections p) s.points
-    ++ each_line (board_line p) (numbers_of p.boards) s.boards
-    ++ each_line (section_line p) (numbers_of p.sections) s.locks
+    lines_of_items (route_line p) (numbers_of p.routes) s.routes
+    ++ lines_of_items (point_line p) (point_sections p) s.points
+    ++ lines_of_items (board_line p) (numbers_of p.boards) s.boards
+    ++ lines_of_items (section_line p) (numbers_of p.sections) s.locks
     ++ map (train_line p) s.trains
 
--- how a run begins: `start`, or `state`, the state's lines and `events`
+-- The beginning of a run: `start`, or `state`, the lines of the state and `events`.
 abbrev pub beginning_lines : PlantLists → Bool → State → List Bytes
 beginning_lines p true s = codes "start" ∷ []
 beginning_lines p false s = codes "state" ∷ (state_lines p s ++ codes "events" ∷ [])
 
--- the lines of a run
+-- The lines of a run.
 abbrev pub run_lines : PlantLists → Told → List Bytes
 run_lines p told = codes "run 1" ∷ (beginning_lines p told.from_start told.first ++ map (event_line p) told.events ++ codes "end" ∷ [])
 
--- the text of a run, each line ended by one line feed
+-- The text of a run, with one line feed after each line.
 abbrev pub run_text : PlantLists → Told → Bytes
 run_text p told = text_of (run_lines p told)

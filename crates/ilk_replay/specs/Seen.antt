@@ -1,4 +1,4 @@
--- What is seen where a list of events is replayed.
+-- The result of replaying a list of events.
 use Rattle.std.specs.Prelude.{ℕ, Option, Some, None, List, length, take, find, is_none, unwrap_or}
 use Rattle.std.specs.List.{range_with_len}
 use Rattle.ilk_plant.specs.Plant.{PlantLists}
@@ -10,16 +10,16 @@ use Rattle.ilk_model.specs.declared.hazards.HazardAt.{HazardAt}
 use Rattle.ilk_replay.specs.declared.seen.Seen.{Seen}
 use Rattle.ilk_replay.specs.declared.seen.Seen.TheVariants.{NotARun, NoHazard, Hazard}
 
--- the least number n, from 1, such that the first n events are no run from s: event n isn't
--- enabled, or a hazard stands before it
+-- The least n, from 1, such that the first n events are not a run from s. Event n isn't enabled, or
+-- the state before it has a hazard.
 abbrev pub first_refused : PlantLists → State → List Event → ℕ
 first_refused p s events =
     unwrap_or (find (λ n. is_none (run p s (take n events))) (range_with_len 1 (length events))) 0
 
--- what the replay of these events from s shows: of a run, the hazard in which it ends, or that it
--- ends in none; of what is no run, the first event that is refused
-abbrev pub seen_of : PlantLists → State → List Event → Seen
-seen_of p s events = after (run p s events)
+-- The result of replaying these events from s. For a run: the hazard of its last state, or no
+-- hazard. Otherwise: the first refused event.
+abbrev pub replay_result : PlantLists → State → List Event → Seen
+replay_result p s events = after (run p s events)
   where
     shown : Option HazardAt → Seen
     shown None = NoHazard

@@ -1,10 +1,10 @@
--- The shape of the state in which a run that a text tells begins.
+-- The shape of the first state of a run that was read.
 use Rattle.ilk_plant.specs.Plant.{PlantLists}
 use Rattle.ilk_plant.specs.Shape.{HasShape}
 use Rattle.ilk_replay.specs.declared.told.Tale.{Tale}
 use Rattle.ilk_replay.specs.declared.told.Tale.TheVariants.{Told, Bad}
 
--- the first state of what is told has the shape
-abbrev pub TellsShape : PlantLists → Tale → Type 0
-TellsShape p (Told told) = HasShape p told.first
-TellsShape p (Bad n) = Unit {0}
+-- Holds if the first state of the run, if there is a run, has the plant's shape.
+abbrev pub HasShapeIfRead : PlantLists → Tale → Type 0
+HasShapeIfRead p (Told told) = HasShape p told.first
+HasShapeIfRead p (Bad n) = Unit {0}

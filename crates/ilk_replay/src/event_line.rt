@@ -1,14 +1,14 @@
 ghost use Rattle.std.specs.Prelude.{◌≡◌};
-ghost use Rattle.ilk_replay.specs.EventLine.{event_of, event_told};
+ghost use Rattle.ilk_replay.specs.EventLine.{event_from_line, event_from_words};
 ghost use Rattle.ilk_replay.specs.EventSubjects.{event_with};
 
 use crate::names::{point_named, route_named, section_named};
 use ilk_base::value_of_word;
-use ilk_lines::first_word;
+use ilk_lines::split_first_word;
 use ilk_model::Event;
 use ilk_plant::Plant;
 
-/// What an event is about: a route, the point on a section, or the trains at a section.
+/// The subject of an event: a route, the point on a section, or the trains at a section.
 #[derive(Clone, Copy)]
 pub(crate) enum Subject {
     Route(u32),
@@ -16,7 +16,7 @@ pub(crate) enum Subject {
     Section(u32),
 }
 
-// The event about this that has this word.
+// Returns the event with this subject and this keyword.
 fn event_with(word: &[u8], about: Subject) -> Option<Event>
     ensures { result ≡ event_with word.now about }
 {
@@ -46,9 +46,9 @@ fn event_with(word: &[u8], about: Subject) -> Option<Event>
     }
 }
 
-// The event that a word and a name tell: of a route, of a point, or of trains at a section.
+// Returns the event with this keyword, about the route, the point or the trains with this name.
 fn event_told(plant: &Plant, word: &[u8], name: &[u8]) -> Option<Event>
-    ensures { result ≡ event_told plant.now word.now name.now }
+    ensures { result ≡ event_from_words plant.now word.now name.now }
 {
     if let Some(r) = route_named(plant, name) {
         if let Some(event) = event_with(word, Subject::Route(r)) {
@@ -63,10 +63,10 @@ fn event_told(plant: &Plant, word: &[u8], name: &[u8]) -> Option<Event>
     event_with(word, Subject::Section(section_named(plant, name)?))
 }
 
-/// The event that a line tells. None exactly where it is no event's line.
-pub fn event_of(plant: &Plant, line: &[u8]) -> Option<Event>
-    ensures { result ≡ event_of plant.now line.now }
+/// Returns the event of `line`, or `None` if it isn't the line of an event.
+pub fn event_from_line(plant: &Plant, line: &[u8]) -> Option<Event>
+    ensures { result ≡ event_from_line plant.now line.now }
 {
-    let (word, name) = first_word(line)?;
+    let (word, name) = split_first_word(line)?;
     event_told(plant, word, name)
 }

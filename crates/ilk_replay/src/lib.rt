@@ -1,17 +1,17 @@
-//! Run texts, and the replay of a run: what a text tells, and what is seen where a list of events is
-//! done from a state.
+//! Run texts and their replay.
 //!
-//! A run text has a line for each thing that it says, so its definition is put together from the
-//! parts of `ilk_lines`. `ilk_model` has the words of events, and `ilk_plant` those of modes, lies, locks
-//! and the like: one table for each kind of value, by which it is written and read, so that a new
-//! event or mode is a line there. `specs/EventSubjects` says what an event is about.
-//! `specs/RunText` says how the text of a run is written, `specs/Told` what a text tells, and
-//! `specs/Writable` and `specs/FirstBad` join the two: the law `texts_are_those_written` says that a
-//! text tells a run exactly where it is the one that is written for it, and that the bad line that is
-//! named is the first. `specs/Seen` says what a replay shows.
+//! A run text consists of lines, so its definition uses the parts of `ilk_lines`. The keywords are
+//! in `ilk_model` (events) and `ilk_plant` (modes, positions, locks and so on). One table per kind
+//! of value serves reading and writing, so a new event or mode is one line there.
 //!
-//! `read_run` reads a text over a plant, `write_run` writes one that is read again to the same run, and
-//! `replay` does the run that a text tells.
+//! `specs/EventSubjects` defines the subject of an event, `specs/RunText` the text of a run, and
+//! `specs/Told` the content of a text. `specs/Writable` and `specs/FirstBad` connect the two. The
+//! theorem `texts_are_those_written` says that a text is read as a run if and only if it is written
+//! for that run. It also says that the reported bad line is the first. `specs/Seen` defines the
+//! result of a replay.
+//!
+//! `read_run` reads a text for a plant. `write_run` writes a text that is read as the same run.
+//! `replay` executes the run of a text.
 #![tactic(auto)]
 
 mod event_line;
@@ -26,7 +26,7 @@ mod state_reading;
 mod state_writing;
 mod told;
 
-pub use event_line::event_of;
+pub use event_line::event_from_line;
 pub use laws::texts_are_those_written;
 pub use reading::read_run;
 pub use run_writing::write_run;

@@ -1,13 +1,13 @@
 ghost use Rattle.std.specs.Prelude.{◌≡◌, ◌<◌, length, IfSome};
-ghost use Rattle.ilk_plant.specs.Plant.{first_named};
+ghost use Rattle.ilk_plant.specs.Plant.{first_number_named};
 ghost use Rattle.ilk_replay.specs.EventLine.{point_named};
 
 use ilk_plant::Plant;
 
-// Names are of ASCII, so what isn't UTF-8 is no name.
-/// The number of the route that has this name. None exactly where no route has it.
+// Names are ASCII, so a text that isn't UTF-8 is not a name.
+/// Returns the number of the route `name`, or `None` if there is none.
 pub(crate) fn route_named(plant: &Plant, name: &[u8]) -> Option<u32>
-    ensures { result ≡ first_named plant.now.route_names name.now }
+    ensures { result ≡ first_number_named plant.now.route_names name.now }
 {
     plant.is_sound();
     match str::from_utf8(name) {
@@ -16,9 +16,9 @@ pub(crate) fn route_named(plant: &Plant, name: &[u8]) -> Option<u32>
     }
 }
 
-/// The number of the section that has this name. None exactly where no section has it.
+/// Returns the number of the section `name`, or `None` if there is none.
 pub(crate) fn section_named(plant: &Plant, name: &[u8]) -> Option<u32>
-    ensures number { result ≡ first_named plant.now.section_names name.now }
+    ensures number { result ≡ first_number_named plant.now.section_names name.now }
     ensures known { IfSome result (λ x. x < length plant.now.sections) }
 {
     plant.is_sound();
@@ -28,7 +28,7 @@ pub(crate) fn section_named(plant: &Plant, name: &[u8]) -> Option<u32>
     }
 }
 
-/// The number of the section that has this name, if it is a point.
+/// Returns the number of the section `name` if it is a point.
 pub(crate) fn point_named(plant: &Plant, name: &[u8]) -> Option<u32>
     ensures { result ≡ point_named plant.now name.now }
 {

@@ -2,7 +2,7 @@ ghost use Rattle.std.specs.Prelude.{◌≡◌, ◌++◌, ◌∷◌, [], All, fla
 ghost use Rattle.ilk_lines.specs.Written.{text_of};
 ghost use Rattle.ilk_replay.specs.EventSubjects.{subject};
 ghost use Rattle.ilk_replay.specs.RunText.{beginning_lines, event_line, run_text, subject_name};
-ghost use Rattle.ilk_replay.specs.Writable.{HasSubject, IsAbout, IsOfPlant};
+ghost use Rattle.ilk_replay.specs.Writable.{HasSubject, HasSubjectOf, IsRunOfPlant};
 
 use crate::Told;
 use crate::event_line::Subject;
@@ -12,7 +12,7 @@ use ilk_model::Event;
 use ilk_plant::{Plant, Row};
 use std::alloc::{AllocError, Global};
 
-// What an event is about.
+// Returns the subject of an event.
 fn subject(event: Event) -> Subject
     ensures { result ≡ subject event }
 {
@@ -34,7 +34,7 @@ fn subject(event: Event) -> Subject
 }
 
 #[tactic(auto, using(crate::proofs::Subjects::subject_known))]
-// The name of what an event is about.
+// Returns the name of a subject.
 fn subject_name<'a>(plant: &'a Plant, about: Subject) -> &'a str
     requires { HasSubject plant.now about }
     ensures { result.now ≡ subject_name plant.now about }
@@ -46,9 +46,9 @@ fn subject_name<'a>(plant: &'a Plant, about: Subject) -> &'a str
     }
 }
 
-// Writes the line of an event at the end of a text.
+// Appends the line of an event.
 fn push_event(text: &mut String, plant: &Plant, event: Event) -> Result<(), AllocError>
-    requires { IsAbout plant.now event }
+    requires { HasSubjectOf plant.now event }
     ensures { OnOk result
         (string_bytes text.new ≡ string_bytes text.old ++ (event_line plant.now event ++ 10 ∷ [])) }
 {
@@ -56,9 +56,9 @@ fn push_event(text: &mut String, plant: &Plant, event: Event) -> Result<(), Allo
     write!(text, "{} {}\n", event.word(), name)
 }
 
-// Writes the lines of events.
+// Appends the lines of events.
 fn push_events(text: &mut String, plant: &Plant, events: &Row<Event>) -> Result<(), AllocError>
-    requires { All (IsAbout plant.now) events.now }
+    requires { All (HasSubjectOf plant.now) events.now }
     ensures { OnOk result
         (string_bytes text.new
         ≡ string_bytes text.old
@@ -70,14 +70,14 @@ fn push_events(text: &mut String, plant: &Plant, events: &Row<Event>) -> Result<
     Ok(())
 }
 
-// Writes how a run begins.
+// Appends the beginning of a run.
 fn push_beginning(
     alloc: Global,
     text: &mut String,
     plant: &Plant,
     told: &Told,
 ) -> Result<(), AllocError>
-    requires { IsOfPlant plant.now told.now }
+    requires { IsRunOfPlant plant.now told.now }
     ensures { OnOk result
         (string_bytes text.new
         ≡ string_bytes text.old
@@ -92,9 +92,10 @@ fn push_beginning(
 }
 
 #[tactic(auto, using(crate::proofs::RunTexts::text_is))]
-/// The text of a run, which `read_run` reads again. Want of memory is the only error.
+/// Returns the text of a run, which `read_run` reads as the same run. Fails only if memory runs
+/// out.
 pub fn write_run(alloc: Global, plant: &Plant, told: &Told) -> Result<Vec<u8>, AllocError>
-    requires { IsOfPlant plant.now told.now }
+    requires { IsRunOfPlant plant.now told.now }
     ensures { IfOk result (λ text. text.items ≡ run_text plant.now told.now) }
 {
     let mut text = String::from_str(alloc, "run 1\n")?;

@@ -1,29 +1,31 @@
 ghost use Rattle.std.specs.Prelude.{◌≡◌, IfOk, Some, IsTrue, is_some};
 ghost use Rattle.ilk_plant.specs.Shape.{HasShape};
-ghost use Rattle.ilk_model.specs.Run.{step};
-ghost use Rattle.ilk_replay.specs.Seen.{seen_of};
+ghost use Rattle.ilk_model.specs.Run.{next_if_no_hazard};
+ghost use Rattle.ilk_replay.specs.Seen.{replay_result};
 
 use ilk_model::{Event, HazardAt, apply, hazard};
 use ilk_plant::{Plant, Row, State};
 use std::alloc::{AllocError, Global};
 
-/// What the replay of a list of events shows.
+/// The result of replaying a list of events.
 #[derive(Clone, Copy, PartialEq, Eq, Debug)]
 pub enum Seen {
-    /// The events are no run: event `at`, from 1, isn't enabled, or a hazard stands before it.
+    /// The events are not a run: event `at`, from 1, isn't enabled, or the state before it has a
+    /// hazard.
     NotARun { at: u64 },
-    /// They are a run, which ends in no hazard.
+    /// They are a run, and its last state has no hazard.
     NoHazard,
-    /// They are a run, which ends in this hazard.
+    /// They are a run that ends in this hazard.
     Hazard(HazardAt),
 }
 
-// Does the event, if it is enabled and no hazard stands before it. True exactly where that is so.
+// Executes the event if it is enabled and the state has no hazard. Returns whether it did.
 fn advance(alloc: Global, plant: &Plant, s: &mut State, event: Event) -> Result<bool, AllocError>
     requires { HasShape plant.now s.old }
-    ensures answer { IfOk result (λ enabled. enabled ≡ is_some (step plant.now s.old event)) }
+    ensures answer { IfOk result (λ enabled. enabled
+        ≡ is_some (next_if_no_hazard plant.now s.old event)) }
     ensures next { IfOk result
-        (λ enabled. IsTrue enabled → step plant.now s.old event ≡ Some s.new) }
+        (λ enabled. IsTrue enabled → next_if_no_hazard plant.now s.old event ≡ Some s.new) }
     ensures shape { HasShape plant.now s.new }
 {
     if hazard(plant, s).is_some() {
@@ -32,8 +34,9 @@ fn advance(alloc: Global, plant: &Plant, s: &mut State, event: Event) -> Result<
     apply(alloc, plant, s, event)
 }
 
-/// Replays the events from the first state: names the first event that isn't enabled or before
-/// which a hazard stands, or else tells whether the last state is a hazard, and which.
+/// Replays the events from `first`. If an event isn't enabled or follows a hazard, returns
+/// `NotARun` with the number of the first such event. Otherwise returns the hazard of the last
+/// state, or `NoHazard`. Fails only if memory runs out.
 pub fn replay(
     alloc: Global,
     plant: &Plant,
@@ -41,7 +44,7 @@ pub fn replay(
     events: &Row<Event>,
 ) -> Result<Seen, AllocError>
     requires { HasShape plant.now first }
-    ensures { IfOk result (λ seen. seen ≡ seen_of plant.now first events.now) }
+    ensures { IfOk result (λ seen. seen ≡ replay_result plant.now first events.now) }
 {
     let mut state = first;
     for (i, event) in events.as_slice().iter().enumerate() {

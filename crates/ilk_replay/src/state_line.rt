@@ -1,36 +1,36 @@
 ghost use Rattle.std.specs.Prelude.{◌≡◌, IfOk, option_map};
-ghost use Rattle.ilk_replay.specs.StateLine.{board_told, lock_told, point_said, point_told, route_said, route_told, said_of, sections_named, train_said, train_told, train_with};
+ghost use Rattle.ilk_replay.specs.StateLine.{board_from_line, lock_from_line, point_state_from_words, point_from_line, route_state_from_words, route_from_line, rest_after_name, sections_named, train_words, train_from_line, train_with};
 ghost use Rattle.ilk_lines.specs.Words.{words_of};
 
 use crate::names::section_named;
-use ilk_lines::{after_word, decimal_up_to, first_word, next_word};
+use ilk_lines::{decimal_up_to, split_first_word, split_next_word, strip_first_word};
 use ilk_plant::{
     Aspect, Dir, Hold, Lie, Mode, Plant, PointState, Position, RouteState, Row, Train,
 };
 use std::alloc::{AllocError, Global};
 
-// What a line says of what has this name: what stands after the kind's word and the name.
+// Returns the rest of `line` after the words `kind` and `name`.
 fn said_of<'a>(kind: &[u8], name: &[u8], line: &'a [u8]) -> Option<&'a [u8]>
-    ensures { option_map (λ text. text.now) result ≡ said_of kind.now name.now line.now }
+    ensures { option_map (λ text. text.now) result ≡ rest_after_name kind.now name.now line.now }
 {
-    after_word(after_word(line, kind)?, name)
+    strip_first_word(strip_first_word(line, kind)?, name)
 }
 
-// A route's mode, seen and rel, each at most the limit.
+// Returns a route's mode, `seen` and `rel`, each count at most `limit`.
 fn route_said(limit: u32, text: &[u8]) -> Option<RouteState>
-    ensures { result ≡ route_said limit text.now }
+    ensures { result ≡ route_state_from_words limit text.now }
 {
-    let (mode, counts) = first_word(text)?;
-    let (seen, rel) = first_word(counts)?;
-    let mode = Mode::of_word(mode)?;
+    let (mode, counts) = split_first_word(text)?;
+    let (seen, rel) = split_first_word(counts)?;
+    let mode = Mode::from_word(mode)?;
     let seen = decimal_up_to(seen, limit as u64)? as u32;
     let rel = decimal_up_to(rel, limit as u64)? as u32;
     Some(RouteState { mode, seen, rel })
 }
 
-/// The state of route `r` that a line tells.
-pub(crate) fn route_told(plant: &Plant, r: u32, line: &[u8]) -> Option<RouteState>
-    ensures { result ≡ route_told plant.now r line.now }
+/// Returns the state of route `r` from its line.
+pub(crate) fn route_from_line(plant: &Plant, r: u32, line: &[u8]) -> Option<RouteState>
+    ensures { result ≡ route_from_line plant.now r line.now }
 {
     if r >= plant.routes() {
         return None;
@@ -40,19 +40,19 @@ pub(crate) fn route_told(plant: &Plant, r: u32, line: &[u8]) -> Option<RouteStat
     route_said(limit, text)
 }
 
-// Where a point lies, and where it is commanded.
+// Returns a point's detected and commanded position.
 fn point_said(text: &[u8]) -> Option<PointState>
-    ensures { result ≡ point_said text.now }
+    ensures { result ≡ point_state_from_words text.now }
 {
-    let (at, to) = first_word(text)?;
-    let at = Lie::of_word(at)?;
-    let to = Position::of_word(to)?;
+    let (at, to) = split_first_word(text)?;
+    let at = Lie::from_word(at)?;
+    let to = Position::from_word(to)?;
     Some(PointState { at, to })
 }
 
-/// The state of the point on section `x` that a line tells.
-pub(crate) fn point_told(plant: &Plant, x: u32, line: &[u8]) -> Option<PointState>
-    ensures { result ≡ point_told plant.now x line.now }
+/// Returns the state of the point on section `x` from its line.
+pub(crate) fn point_from_line(plant: &Plant, x: u32, line: &[u8]) -> Option<PointState>
+    ensures { result ≡ point_from_line plant.now x line.now }
 {
     plant.is_sound();
     if x >= plant.sections() {
@@ -62,32 +62,32 @@ pub(crate) fn point_told(plant: &Plant, x: u32, line: &[u8]) -> Option<PointStat
     point_said(text)
 }
 
-/// The aspect of board `m` that a line tells.
-pub(crate) fn board_told(plant: &Plant, m: u32, line: &[u8]) -> Option<Aspect>
-    ensures { result ≡ board_told plant.now m line.now }
+/// Returns the aspect of board `m` from its line.
+pub(crate) fn board_from_line(plant: &Plant, m: u32, line: &[u8]) -> Option<Aspect>
+    ensures { result ≡ board_from_line plant.now m line.now }
 {
     plant.is_sound();
     if m >= plant.boards() {
         return None;
     }
     let text = said_of(b"board", plant.board_name(m).as_bytes(), line)?;
-    Aspect::of_word(text)
+    Aspect::from_word(text)
 }
 
-/// The lock of section `x` that a line tells.
-pub(crate) fn lock_told(plant: &Plant, x: u32, line: &[u8]) -> Option<Hold>
-    ensures { result ≡ lock_told plant.now x line.now }
+/// Returns the lock of section `x` from its line.
+pub(crate) fn lock_from_line(plant: &Plant, x: u32, line: &[u8]) -> Option<Hold>
+    ensures { result ≡ lock_from_line plant.now x line.now }
 {
     plant.is_sound();
     if x >= plant.sections() {
         return None;
     }
     let text = said_of(b"section", plant.section_name(x).as_bytes(), line)?;
-    Hold::of_word(text)
+    Hold::from_word(text)
 }
 
 #[tactic(auto, using(crate::proofs::Bodies::taken_name, crate::proofs::Bodies::unknown_name))]
-// The numbers of the sections with these names. None where one has no section.
+// Returns the numbers of the sections with these names, or `None` if one is unknown.
 fn sections_named(
     alloc: Global,
     plant: &Plant,
@@ -98,7 +98,7 @@ fn sections_named(
     let mut body = Row::new(alloc);
     let mut rest = Some(names);
     while let Some(text) = rest {
-        let (name, more) = next_word(text);
+        let (name, more) = split_next_word(text);
         let Some(x) = section_named(plant, name) else {
             return Ok(None);
         };
@@ -108,34 +108,34 @@ fn sections_named(
     Ok(Some(body))
 }
 
-// A train's direction and the names of its sections.
+// Returns a train's direction and the names of its sections.
 fn train_said(line: &[u8]) -> Option<(Dir, &[u8])>
-    ensures { option_map (λ said. (said.0, said.1.now)) result ≡ train_said line.now }
+    ensures { option_map (λ said. (said.0, said.1.now)) result ≡ train_words line.now }
 {
-    let rest = after_word(line, b"train")?;
-    let (dir, names) = first_word(rest)?;
-    Some((Dir::of_word(dir)?, names))
+    let rest = strip_first_word(line, b"train")?;
+    let (dir, names) = split_first_word(rest)?;
+    Some((Dir::from_word(dir)?, names))
 }
 
-// A train with this body. None where the body doesn't lead on in its direction.
+// Returns a train with this body, or `None` if the body doesn't lead on in its direction.
 fn train_with(plant: &Plant, dir: Dir, body: Row<u32>) -> Option<Train>
     ensures { result ≡ train_with plant.now dir body }
 {
     let train = Train { dir, body };
-    if plant.is_body(&train) {
+    if plant.has_valid_body(&train) {
         Some(train)
     } else {
         None
     }
 }
 
-/// The train that a line tells. None where it is no train's line.
-pub(crate) fn train_told(
+/// Returns the train of `line`, or `None` if it isn't the line of a train.
+pub(crate) fn train_from_line(
     alloc: Global,
     plant: &Plant,
     line: &[u8],
 ) -> Result<Option<Train>, AllocError>
-    ensures { IfOk result (λ train. train ≡ train_told plant.now line.now) }
+    ensures { IfOk result (λ train. train ≡ train_from_line plant.now line.now) }
 {
     let Some((dir, names)) = train_said(line) else {
         return Ok(None);

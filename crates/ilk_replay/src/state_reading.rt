@@ -1,19 +1,21 @@
 ghost use Rattle.std.specs.Prelude.{◌≡◌, IfOk, OnOk};
 ghost use Rattle.std.specs.List.{range_with_len};
-ghost use Rattle.ilk_lines.specs.Answers.{TellsPart, part_of};
-ghost use Rattle.ilk_lines.specs.Reading.{each_told, leading_part, numbers_of};
+ghost use Rattle.ilk_lines.specs.Answers.{MatchesPartResult, part_with};
+ghost use Rattle.ilk_lines.specs.Reading.{values_from_lines, leading_part, numbers_of};
 ghost use Rattle.ilk_plant.specs.Shape.{HasShape};
-ghost use Rattle.ilk_replay.specs.StateLine.{board_told, lock_told, point_told, route_told, train_told};
-ghost use Rattle.ilk_replay.specs.StateTold.{point_sections, state_told};
-ghost use Rattle.ilk_replay.specs.Reading.{StateWith};
+ghost use Rattle.ilk_replay.specs.StateLine.{board_from_line, lock_from_line, point_from_line, route_from_line, train_from_line};
+ghost use Rattle.ilk_replay.specs.StateTold.{point_sections, state_from_lines};
+ghost use Rattle.ilk_replay.specs.Reading.{IsStateRead};
 
-use crate::state_line::{board_told, lock_told, point_told, route_told, train_told};
-use ilk_lines::{LineFault, Lines, read_each, read_leading};
+use crate::state_line::{
+    board_from_line, lock_from_line, point_from_line, route_from_line, train_from_line,
+};
+use ilk_lines::{LineFault, Lines, read_lines, read_while_some};
 use ilk_plant::{Aspect, Hold, Plant, PointState, RouteState, Row, State, Train};
 use std::alloc::{AllocError, Global};
 
 #[tactic(auto, using(crate::proofs::Items::numbered_more))]
-// The numbers below `count`.
+// Returns the numbers below `count`.
 fn numbers_below(alloc: Global, count: u32) -> Result<Row<u32>, AllocError>
     ensures { IfOk result (λ numbers. numbers ≡ range_with_len 0 count) }
 {
@@ -25,7 +27,7 @@ fn numbers_below(alloc: Global, count: u32) -> Result<Row<u32>, AllocError>
 }
 
 #[tactic(auto, using(crate::proofs::Items::listed_more, crate::proofs::Items::listed_same))]
-/// The numbers of the point sections, in order.
+/// Returns the numbers of the point sections, in order.
 pub(crate) fn point_sections(alloc: Global, plant: &Plant) -> Result<Row<u32>, AllocError>
     ensures { IfOk result (λ numbers. numbers ≡ point_sections plant.now) }
 {
@@ -38,96 +40,99 @@ pub(crate) fn point_sections(alloc: Global, plant: &Plant) -> Result<Row<u32>, A
     Ok(numbers)
 }
 
-// The states of the routes, a line for each.
+// Reads the states of the routes, one per line.
 fn read_routes(
     alloc: Global,
     plant: &Plant,
     lines: &mut Lines,
 ) -> Result<Row<RouteState>, LineFault>
-    ensures told { TellsPart
-        (each_told (route_told plant.now) (numbers_of plant.now.routes) lines.old.number
+    ensures told { MatchesPartResult
+        (values_from_lines (route_from_line plant.now) (numbers_of plant.now.routes)
+        lines.old.number
         lines.old.lines) lines.new result }
     ensures after { OnOk result (lines.new.after ≡ lines.old.after) }
 {
     let routes = numbers_below(alloc, plant.routes())?;
-    read_each(
+    read_lines(
         alloc,
         lines,
         routes.as_slice(),
-        |r, line| route_told(plant, r, line),
+        |r, line| route_from_line(plant, r, line),
     )
 }
 
-// The states of the points, a line for each, in the order of their sections.
+// Reads the states of the points, one per line, in the order of their sections.
 fn read_points(
     alloc: Global,
     plant: &Plant,
     lines: &mut Lines,
 ) -> Result<Row<PointState>, LineFault>
-    ensures told { TellsPart
-        (each_told (point_told plant.now) (point_sections plant.now) lines.old.number
+    ensures told { MatchesPartResult
+        (values_from_lines (point_from_line plant.now) (point_sections plant.now) lines.old.number
         lines.old.lines) lines.new result }
     ensures after { OnOk result (lines.new.after ≡ lines.old.after) }
 {
     let points = point_sections(alloc, plant)?;
-    read_each(
+    read_lines(
         alloc,
         lines,
         points.as_slice(),
-        |x, line| point_told(plant, x, line),
+        |x, line| point_from_line(plant, x, line),
     )
 }
 
-// The aspects of the boards, a line for each.
+// Reads the aspects of the boards, one per line.
 fn read_boards(alloc: Global, plant: &Plant, lines: &mut Lines) -> Result<Row<Aspect>, LineFault>
-    ensures told { TellsPart
-        (each_told (board_told plant.now) (numbers_of plant.now.boards) lines.old.number
+    ensures told { MatchesPartResult
+        (values_from_lines (board_from_line plant.now) (numbers_of plant.now.boards)
+        lines.old.number
         lines.old.lines) lines.new result }
     ensures after { OnOk result (lines.new.after ≡ lines.old.after) }
 {
     let boards = numbers_below(alloc, plant.boards())?;
-    read_each(
+    read_lines(
         alloc,
         lines,
         boards.as_slice(),
-        |m, line| board_told(plant, m, line),
+        |m, line| board_from_line(plant, m, line),
     )
 }
 
-// The locks of the sections, a line for each.
+// Reads the locks of the sections, one per line.
 fn read_locks(alloc: Global, plant: &Plant, lines: &mut Lines) -> Result<Row<Hold>, LineFault>
-    ensures told { TellsPart
-        (each_told (lock_told plant.now) (numbers_of plant.now.sections) lines.old.number
+    ensures told { MatchesPartResult
+        (values_from_lines (lock_from_line plant.now) (numbers_of plant.now.sections)
+        lines.old.number
         lines.old.lines) lines.new result }
     ensures after { OnOk result (lines.new.after ≡ lines.old.after) }
 {
     let sections = numbers_below(alloc, plant.sections())?;
-    read_each(
+    read_lines(
         alloc,
         lines,
         sections.as_slice(),
-        |x, line| lock_told(plant, x, line),
+        |x, line| lock_from_line(plant, x, line),
     )
 }
 
-// The trains of the next lines, as far as each is a train's.
+// Reads the trains of the next lines, up to the first line that isn't a train.
 fn read_trains(alloc: Global, plant: &Plant, lines: &mut Lines) -> Result<Row<Train>, AllocError>
     ensures told { IfOk result
-        (λ trains. leading_part (train_told plant.now) lines.old.number lines.old.lines
-        ≡ part_of trains lines.new) }
+        (λ trains. leading_part (train_from_line plant.now) lines.old.number lines.old.lines
+        ≡ part_with trains lines.new) }
     ensures after { lines.new.after ≡ lines.old.after }
 {
-    read_leading(alloc, lines, |line| train_told(alloc, plant, line))
+    read_while_some(alloc, lines, |line| train_from_line(alloc, plant, line))
 }
 
-/// The state that the lines from line 3 on tell, to the line `events`.
+/// Reads a state, from line 3 up to the line `events`.
 pub(crate) fn read_state(
     alloc: Global,
     plant: &Plant,
     lines: &mut Lines,
 ) -> Result<State, LineFault>
     requires { lines.old.number ≡ 3 }
-    ensures told { StateWith (state_told plant.now lines.old.lines) lines.new result }
+    ensures told { IsStateRead (state_from_lines plant.now lines.old.lines) lines.new result }
     ensures after { OnOk result (lines.new.after ≡ lines.old.after) }
     ensures shape { IfOk result (HasShape plant.now) }
 {
@@ -137,7 +142,7 @@ pub(crate) fn read_state(
     let boards = read_boards(alloc, plant, lines)?;
     let locks = read_locks(alloc, plant, lines)?;
     let trains = read_trains(alloc, plant, lines)?;
-    lines.pass(b"events")?;
+    lines.expect_line(b"events")?;
     Ok(State {
         routes,
         points,

@@ -1,6 +1,6 @@
 ghost use Rattle.std.specs.Prelude.{◌≡◌, ◌<◌, ◌++◌, ◌∷◌, [], All, flat_map, length, string_bytes, OnOk};
 ghost use Rattle.ilk_lines.specs.Reading.{numbers_of};
-ghost use Rattle.ilk_lines.specs.Written.{each_line, text_of};
+ghost use Rattle.ilk_lines.specs.Written.{lines_of_items, text_of};
 ghost use Rattle.ilk_plant.specs.Shape.{HasShape};
 ghost use Rattle.ilk_replay.specs.RunText.{board_line, name_of, point_line, route_line, section_line, state_lines, train_line};
 ghost use Rattle.ilk_replay.specs.StateTold.{point_sections};
@@ -10,7 +10,7 @@ use ilk_base::Worded;
 use ilk_plant::{Aspect, Hold, Plant, PointState, RouteState, Row, State, Train};
 use std::alloc::{AllocError, Global};
 
-// Writes the line of route `r` at the end of a text.
+// Appends the line of route `r`.
 fn push_route(text: &mut String, plant: &Plant, r: u32, now: &RouteState) -> Result<(), AllocError>
     requires { r < length plant.now.routes }
     ensures { OnOk result
@@ -22,7 +22,7 @@ fn push_route(text: &mut String, plant: &Plant, r: u32, now: &RouteState) -> Res
     write!(text, "route {} {} {} {}\n", name, mode, now.seen, now.rel)
 }
 
-// Writes the line of the point on section `x`.
+// Appends the line of the point on section `x`.
 fn push_point(text: &mut String, plant: &Plant, x: u32, now: &PointState) -> Result<(), AllocError>
     requires { x < length plant.now.sections }
     ensures { OnOk result
@@ -33,7 +33,7 @@ fn push_point(text: &mut String, plant: &Plant, x: u32, now: &PointState) -> Res
     write!(text, "point {} {} {}\n", name, now.at.word(), now.to.word())
 }
 
-// Writes the line of board `m`.
+// Appends the line of board `m`.
 fn push_board(text: &mut String, plant: &Plant, m: u32, aspect: Aspect) -> Result<(), AllocError>
     requires { m < length plant.now.boards }
     ensures { OnOk result
@@ -43,7 +43,7 @@ fn push_board(text: &mut String, plant: &Plant, m: u32, aspect: Aspect) -> Resul
     write!(text, "board {} {}\n", plant.board_name(m), aspect.word())
 }
 
-// Writes the line of section `x`.
+// Appends the line of section `x`.
 fn push_section(text: &mut String, plant: &Plant, x: u32, lock: Hold) -> Result<(), AllocError>
     requires { x < length plant.now.sections }
     ensures { OnOk result
@@ -53,7 +53,7 @@ fn push_section(text: &mut String, plant: &Plant, x: u32, lock: Hold) -> Result<
     write!(text, "section {} {}\n", plant.section_name(x), lock.word())
 }
 
-// Writes the name of section `x` after a space.
+// Appends a space and the name of section `x`.
 fn push_name(text: &mut String, plant: &Plant, x: u32) -> Result<(), AllocError>
     requires { x < length plant.now.sections }
     ensures { OnOk result
@@ -62,7 +62,7 @@ fn push_name(text: &mut String, plant: &Plant, x: u32) -> Result<(), AllocError>
     write!(text, " {}", plant.section_name(x))
 }
 
-// Writes the names of sections, each after a space.
+// Appends the names of sections, each after a space.
 fn push_names(text: &mut String, plant: &Plant, body: &[u32]) -> Result<(), AllocError>
     requires { All (λ x. x < length plant.now.sections) body.now }
     ensures { OnOk result
@@ -77,7 +77,7 @@ fn push_names(text: &mut String, plant: &Plant, body: &[u32]) -> Result<(), Allo
 }
 
 #[tactic(auto, using(crate::proofs::StateTexts::train_is))]
-// Writes the line of a train.
+// Appends the line of a train.
 fn push_train(text: &mut String, plant: &Plant, train: &Train) -> Result<(), AllocError>
     requires { All (λ x. x < length plant.now.sections) train.now.body }
     ensures { OnOk result
@@ -89,14 +89,13 @@ fn push_train(text: &mut String, plant: &Plant, train: &Train) -> Result<(), All
     text.push_str("\n")
 }
 
-// Writes the lines of routes.
 fn push_routes(text: &mut String, plant: &Plant, routes: &Row<RouteState>) -> Result<(), AllocError>
     requires { length routes.now ≡ length plant.now.routes }
     ensures { OnOk result
         (string_bytes text.new
         ≡ string_bytes text.old
         ++ text_of
-        (each_line (route_line plant.now) (numbers_of plant.now.routes) routes.now)) }
+        (lines_of_items (route_line plant.now) (numbers_of plant.now.routes) routes.now)) }
 {
     for r in 0..plant.routes() {
         push_route(text, plant, r, routes.at(r as u64))?;
@@ -104,7 +103,7 @@ fn push_routes(text: &mut String, plant: &Plant, routes: &Row<RouteState>) -> Re
     Ok(())
 }
 
-// Writes the lines of points, in the order of their sections.
+// Appends the lines of points, in the order of their sections.
 fn push_points(
     alloc: Global,
     text: &mut String,
@@ -116,7 +115,7 @@ fn push_points(
         (string_bytes text.new
         ≡ string_bytes text.old
         ++ text_of
-        (each_line (point_line plant.now) (point_sections plant.now) points.now)) }
+        (lines_of_items (point_line plant.now) (point_sections plant.now) points.now)) }
 {
     let sections = point_sections(alloc, plant)?;
     for n in 0..sections.len() {
@@ -125,14 +124,13 @@ fn push_points(
     Ok(())
 }
 
-// Writes the lines of boards.
 fn push_boards(text: &mut String, plant: &Plant, boards: &Row<Aspect>) -> Result<(), AllocError>
     requires { length boards.now ≡ length plant.now.boards }
     ensures { OnOk result
         (string_bytes text.new
         ≡ string_bytes text.old
         ++ text_of
-        (each_line (board_line plant.now) (numbers_of plant.now.boards) boards.now)) }
+        (lines_of_items (board_line plant.now) (numbers_of plant.now.boards) boards.now)) }
 {
     for m in 0..plant.boards() {
         push_board(text, plant, m, *boards.at(m as u64))?;
@@ -140,14 +138,13 @@ fn push_boards(text: &mut String, plant: &Plant, boards: &Row<Aspect>) -> Result
     Ok(())
 }
 
-// Writes the lines of sections.
 fn push_sections(text: &mut String, plant: &Plant, locks: &Row<Hold>) -> Result<(), AllocError>
     requires { length locks.now ≡ length plant.now.sections }
     ensures { OnOk result
         (string_bytes text.new
         ≡ string_bytes text.old
         ++ text_of
-        (each_line (section_line plant.now) (numbers_of plant.now.sections)
+        (lines_of_items (section_line plant.now) (numbers_of plant.now.sections)
         locks.now)) }
 {
     for x in 0..plant.sections() {
@@ -156,7 +153,6 @@ fn push_sections(text: &mut String, plant: &Plant, locks: &Row<Hold>) -> Result<
     Ok(())
 }
 
-// Writes the lines of trains.
 fn push_trains(text: &mut String, plant: &Plant, trains: &Row<Train>) -> Result<(), AllocError>
     requires { All (λ train. All (λ x. x < length plant.now.sections) train.body) trains.now }
     ensures { OnOk result
@@ -171,7 +167,7 @@ fn push_trains(text: &mut String, plant: &Plant, trains: &Row<Train>) -> Result<
 }
 
 #[tactic(auto, using(crate::proofs::StateTexts::state_is, crate::proofs::StateTexts::bodies_known, crate::proofs::StateTexts::points_counted))]
-/// Writes the lines of a state at the end of a text.
+/// Appends the lines of a state.
 pub(crate) fn push_state(
     alloc: Global,
     text: &mut String,

@@ -1,17 +1,17 @@
 use ilk_model::Event;
 use ilk_plant::{Row, State};
 
-/// A run as a text tells it.
+/// A run, as read from a text.
 #[derive(Drop)]
 pub struct Told {
-    /// The state in which it begins.
+    /// The first state of the run.
     pub first: State,
-    /// Whether the text says `start`, and not the state itself.
+    /// True if the text says `start` instead of giving the state.
     pub from_start: bool,
     pub events: Row<Event>,
 }
 
-/// What a text tells: a run, or no run at all.
+/// The result of reading a text: a run, or its first bad line.
 #[derive(Drop)]
 pub enum Tale {
     Told(Told),

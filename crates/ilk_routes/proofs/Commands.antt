@@ -1,4 +1,4 @@
--- Points, where some have been commanded.
+-- Points after commands.
 use Rattle.std.proofs.Common.{◌≡◌, ℕ, true, false, Option, Some, None, List, [], ◌∷◌, ◌++◌, ◌∙◌, length, slice_get, set, sym, unwrap_or, refl, ap, arith}
 use Rattle.std.proofs.lemmas.Grind.{common_steps}
 use Rattle.std.specs.Option.{option_or}
@@ -16,7 +16,6 @@ length-with_commands p points entries = length-map_numbered _ points
 pub with_commands-none : (p : PlantLists) (points : List PointState) → with_commands p points [] ≡ points
 with_commands-none p points = map_numbered-same _ points (λ n point. refl)
 
--- an entry that lists point n counts where no later one does
 last_counts : (o : Option Position) (at to : Position) → unwrap_or o at ≡ unwrap_or (option_or o (Some at)) to
 last_counts None at to = refl
 last_counts (Some later) at to = refl
@@ -25,11 +24,9 @@ not_listed : (o : Option Position) → option_or o None ≡ o
 not_listed None = refl
 not_listed (Some later) = refl
 
--- an entry that does not list point n doesn't count for it
 passed_over : (p : PlantLists) (listed : Listed) (rest : List Listed) (n : ℕ) → lists_point p n listed ≡ false → listed_position p n (listed ∷ rest) ≡ listed_position p n rest
 passed_over p listed rest n not = rw not (not_listed (listed_position p n rest))
 
--- the first entry's point is commanded, and then those of the rest
 pub with_commands-first :
     (p : PlantLists) (points : List PointState) (listed : Listed) (rest : List Listed) (n : ℕ)
     (point : PointState) →
@@ -49,7 +46,6 @@ with_commands-first p points listed rest n point number at =
         let not : lists_point p i listed ≡ false = rw number (grind (arith, common_steps, apart)) in
         rw (passed_over p listed rest i not) refl
 
--- an entry that lists no point changes nothing
 pub with_commands-no_point : (p : PlantLists) (points : List PointState) (listed : Listed) (rest : List Listed) → point_number p listed.point ≡ None → with_commands p points rest ≡ with_commands p points (listed ∷ rest)
 with_commands-no_point p points listed rest none =
     map_numbered-alike (λ i q. record q { to = unwrap_or (listed_position p i rest) q.to })
@@ -58,7 +54,6 @@ with_commands-no_point p points listed rest none =
     (let not : lists_point p i listed ≡ false = rw none refl in
     rw (passed_over p listed rest i not) refl))
 
--- the first entry alone, and then the rest
 pub with_commands-after : (p : PlantLists) (points : List PointState) (listed : Listed) (rest : List Listed) → with_commands p (with_commands p points (listed ∷ [])) rest ≡ with_commands p points (listed ∷ rest)
 with_commands-after p points listed rest =
     map_numbered-after (λ i q. record q { to = unwrap_or (listed_position p i rest) q.to })
@@ -71,7 +66,6 @@ with_commands-after p points listed rest =
     later_first None first to = refl
     later_first (Some position) first to = refl
 
--- some entries first, and then others
 pub with_commands-append : (p : PlantLists) (points : List PointState) (xs ys : List Listed) → with_commands p (with_commands p points xs) ys ≡ with_commands p points (xs ++ ys)
 with_commands-append p points [] ys = ap (λ left. with_commands p left ys) (with_commands-none p points)
 with_commands-append p points (x ∷ xs) ys =

@@ -1,4 +1,4 @@
--- The events of routes and points, worked through at a junction: a train takes the route to its minus leg.
+-- An example of route and point events at a junction: a train takes the route to the minus leg.
 use Rattle.std.proofs.Common.{◌≡◌, refl, ℕ, Option, Some, None, List, [], ◌∷◌}
 use Rattle.ilk_base.specs.Option.{◌>>=◌}
 use Rattle.ilk_plant.specs.Plant.{PlantLists}
@@ -15,8 +15,9 @@ use Rattle.ilk_plant.specs.declared.state.State.{State}
 use Rattle.ilk_routes.specs.Points.{after_settle, after_throw}
 use Rattle.ilk_routes.specs.Routes.{after_allocate, after_finish, after_lock, after_mark, after_release, after_sense}
 
--- section 0 leads up to the point 1, whose plus leg is 2 and whose minus leg is 3. From board 0, which stands on
--- section 0 for direction up, route 0 leads to section 3, with section 2 as its overlap, and route 1 to section 2
+-- Section 0 leads up to point 1, with plus leg 2 and minus leg 3. Route 0 leads from board 0
+-- (section 0, up) to section 3, with section 2 as its overlap. Route 1 leads from board 0 to
+-- section 2.
 abbrev junction : PlantLists
 junction = record {
   sections = Linear None (Some 1) None (Some 0) ∷ Point 0 2 3 Up ∷ Linear (Some 1) None (Some 1) None ∷ Linear (Some 1) None (Some 2) None ∷ [];
@@ -33,11 +34,11 @@ junction = record {
 abbrev marked : RouteState
 marked = record { mode = Marked; seen = 0; rel = 0 }
 
--- the state, where one train that runs up stands there
+-- The state with one up train in these sections.
 abbrev with_train_at : State → List ℕ → State
 with_train_at s body = record s { trains = record { dir = Up; body = body } ∷ [] }
 
--- both routes are marked, and route 0 is allocated
+-- Both routes are marked, and route 0 is allocated.
 abbrev after_allocation : Option State
 after_allocation = do
   a ← after_mark junction (start junction) 0
@@ -53,14 +54,15 @@ allocation : after_allocation ≡ Some (record {
 })
 allocation = refl
 
--- then the conflicting route isn't allocated, and route 0 isn't locked before its point lies at minus
+-- Then the conflicting route isn't allocated. Route 0 isn't locked before its point is in position
+-- minus.
 no_conflicting_allocation : (after_allocation >>= (λ s. after_allocate junction s 1)) ≡ None
 no_conflicting_allocation = refl
 
 no_early_lock : (after_allocation >>= (λ s. after_lock junction s 0)) ≡ None
 no_early_lock = refl
 
--- the point moves over, and route 0 is locked
+-- The point settles, and route 0 is locked.
 abbrev after_locking : Option State
 after_locking = do
   a ← after_allocation
@@ -77,7 +79,7 @@ locking : after_locking ≡ Some (record {
 })
 locking = refl
 
--- a train takes section 1 and then section 3, and section 1 is given back behind it
+-- A train takes section 1 and then section 3; section 1 is released behind it.
 abbrev after_use : Option State
 after_use = do
   a ← after_locking
@@ -94,7 +96,7 @@ use_ : after_use ≡ Some (record {
 })
 use_ = refl
 
--- the route finishes, and gives back its last section and its overlap
+-- The route finishes, and releases its last section and its overlap.
 finish : (after_use >>= (λ s. after_finish junction s 0)) ≡ Some (record {
   routes = free_route ∷ marked ∷ [];
   points = record { at = LiesMinus; to = Minus } ∷ [];
@@ -104,6 +106,6 @@ finish : (after_use >>= (λ s. after_finish junction s 0)) ≡ Some (record {
 })
 finish = refl
 
--- the other route isn't allocated while a train stands on one of its sections
+-- The other route isn't allocated while a train is in one of its sections.
 no_occupied_allocation : (after_use >>= (λ s. after_finish junction s 0) >>= (λ s. after_allocate junction (with_train_at s (2 ∷ [])) 1)) ≡ None
 no_occupied_allocation = refl

@@ -1,4 +1,4 @@
--- Locks, where some sections have been given one.
+-- Locks after changes.
 use Rattle.std.proofs.Common.{◌≡◌, ℕ, Bool, true, false, Some, List, [], ◌∷◌, ◌++◌, ◌||◌, ◌==◌, length, slice_get, set, refl, sym, ◌∙◌, ap, arith, if◌then◌else◌}
 use Rattle.std.proofs.lemmas.Grind.{common_steps}
 use Rattle.std.proofs.lemmas.List.Folds.{list_any-append}
@@ -17,7 +17,6 @@ either : (b : Bool) (hold : Hold) → (if b then hold else hold) ≡ hold
 either true hold = refl
 either false hold = refl
 
--- the first section is given the lock, and then the rest
 pub with_locks-first : (locks : List Hold) (x : ℕ) (rest : List ℕ) (hold lock : Hold) → slice_get locks x ≡ Some lock → with_locks (set locks x hold) rest hold ≡ with_locks locks (x ∷ rest) hold
 with_locks-first locks x rest hold lock at =
     map_numbered-set (λ i z. if has_section i rest then hold else z) (λ i z. if has_section i (x ∷ rest) then hold else z) locks x lock hold at here other
@@ -29,7 +28,6 @@ with_locks-first locks x rest hold lock at =
     other i z apart =
         let same : has_section i (x ∷ rest) ≡ has_section i rest = grind (arith, common_steps, apart) in rw same refl
 
--- some sections are given the lock, and then others
 pub with_locks-append : (locks : List Hold) (xs ys : List ℕ) (hold : Hold) → with_locks (with_locks locks xs hold) ys hold ≡ with_locks locks (xs ++ ys) hold
 with_locks-append locks xs ys hold =
     map_numbered-after (λ i z. if has_section i ys then hold else z) (λ i z. if has_section i xs then hold else z) (λ i z. if has_section i (xs ++ ys) then hold else z) locks both

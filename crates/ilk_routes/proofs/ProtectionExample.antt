@@ -1,4 +1,4 @@
--- Protecting points, protecting boards and cancelling, worked through at a line beside a junction.
+-- An example of protecting points, protecting boards and cancelling, at a line beside a junction.
 use Rattle.std.proofs.Common.{◌≡◌, refl, Option, Some, None, [], ◌∷◌}
 use Rattle.ilk_base.specs.Option.{◌>>=◌}
 use Rattle.ilk_plant.specs.Plant.{PlantLists}
@@ -14,9 +14,10 @@ use Rattle.ilk_plant.specs.declared.state.State.{State}
 use Rattle.ilk_routes.specs.Points.{after_settle, after_throw}
 use Rattle.ilk_routes.specs.Routes.{after_allocate, after_cancel, after_finish, after_lock, after_mark}
 
--- section 0 leads up to the point 1, whose plus leg is 2 and whose minus leg is 3; section 4 leads up to section 5. From
--- board 0, on section 0, route 0 leads to section 2. From board 1, on section 4, two routes lead to section 5: route 1
--- wants point 1 minus as its protecting point, route 2 wants board 0 closed
+-- Section 0 leads up to point 1, with plus leg 2 and minus leg 3; section 4 leads up to section 5.
+-- Route 0 leads from board 0 (section 0) to section 2. From board 1 (section 4) two routes lead to
+-- section 5. Route 1 has point 1 minus as its protecting point; route 2 has board 0 as its
+-- protecting board.
 abbrev junction_and_line : PlantLists
 junction_and_line = record {
   sections =
@@ -38,7 +39,7 @@ junction_and_line = record {
   route_names = [];
 }
 
--- route 1 is allocated: its protecting point is locked and commanded
+-- Route 1 is allocated: its protecting point is locked and commanded.
 abbrev after_allocation : Option State
 after_allocation = do
   a ← after_mark junction_and_line (start junction_and_line) 1
@@ -53,14 +54,15 @@ allocation : after_allocation ≡ Some (record {
 })
 allocation = refl
 
--- then route 0, whose path has that point, isn't allocated, and route 1 isn't locked before the point lies at minus
+-- Then route 0, with that point in its path, isn't allocated. Route 1 isn't locked before the point
+-- is in position minus.
 no_allocation_over_it : (after_allocation >>= (λ a. after_mark junction_and_line a 0 >>= (λ b. after_allocate junction_and_line b 0))) ≡ None
 no_allocation_over_it = refl
 
 no_early_lock : (after_allocation >>= (λ s. after_lock junction_and_line s 1)) ≡ None
 no_early_lock = refl
 
--- the route is cancelled: its locks are free, and the point is still commanded to minus
+-- If the route is cancelled, its locks are free, and the point is still commanded to minus.
 cancelled : (after_allocation >>= (λ s. after_cancel junction_and_line s 1)) ≡ Some (record {
   routes = free_route ∷ free_route ∷ free_route ∷ [];
   points = record { at = LiesPlus; to = Minus } ∷ [];
@@ -70,7 +72,7 @@ cancelled : (after_allocation >>= (λ s. after_cancel junction_and_line s 1)) �
 })
 cancelled = refl
 
--- once the point lies at minus, the route is locked
+-- When the point is in position minus, the route is locked.
 abbrev after_locking : Option State
 after_locking = do
   a ← after_allocation
@@ -87,11 +89,11 @@ locking : after_locking ≡ Some (record {
 })
 locking = refl
 
--- then it isn't cancelled any more
+-- Then it can't be cancelled.
 no_late_cancellation : (after_locking >>= (λ s. after_cancel junction_and_line s 1)) ≡ None
 no_late_cancellation = refl
 
--- once it is used, it finishes, and gives back its protecting point too
+-- After use it finishes, and also releases its protecting point.
 abbrev used : State → State
 used s = record s { routes = free_route ∷ record { mode = Occupied; seen = 1; rel = 0 } ∷ free_route ∷ [] }
 
@@ -104,7 +106,7 @@ finish : (after_locking >>= (λ s. after_finish junction_and_line (used s) 1)) �
 })
 finish = refl
 
--- routes 0 and 2 are allocated, and one of them is locked
+-- Routes 0 and 2 are allocated, and one of them is locked.
 abbrev after_both_allocations : Option State
 after_both_allocations = do
   a ← after_mark junction_and_line (start junction_and_line) 0
@@ -112,13 +114,13 @@ after_both_allocations = do
   c ← after_mark junction_and_line b 2
   after_allocate junction_and_line c 2
 
--- while route 0 has opened board 0, route 2 isn't locked; while route 2 is Locked, route 0 isn't
+-- While route 0 has opened board 0, route 2 isn't locked. While route 2 is Locked, route 0 isn't
+-- locked.
 board_is_open : (after_both_allocations >>= (λ a. after_lock junction_and_line a 0 >>= (λ b. after_lock junction_and_line b 2))) ≡ None
 board_is_open = refl
 
 board_is_protecting : (after_both_allocations >>= (λ a. after_lock junction_and_line a 2 >>= (λ b. after_lock junction_and_line b 0))) ≡ None
 board_is_protecting = refl
 
--- a Marked route that is cancelled is Free, and no lock changes
 marked_is_cancelled : (after_mark junction_and_line (start junction_and_line) 1 >>= (λ a. after_cancel junction_and_line a 1)) ≡ Some (start junction_and_line)
 marked_is_cancelled = refl

@@ -1,12 +1,12 @@
--- No event of a route or a point breaks the shape.
+-- Route and point events keep the state well-formed.
 use Rattle.std.proofs.Common.{◌≡◌, ◌+◌, ℕ, Bool, true, false, Some, None, List, length, slice_get, set, subst, sym, ◌∙◌, ap, refl, inl, inr, if◌then◌else◌, length-set, arith, map, ◌<◌}
 use Rattle.std.proofs.lemmas.Option.{option_and_then_some, cond_some, same_Some, slice_get_within}
 use Rattle.std.specs.List.{last_or}
 use Rattle.std.proofs.lemmas.List.Elements.{All-append, All-map}
 use Rattle.ilk_base.proofs.ListTests.{all-at}
 use Rattle.ilk_plant.specs.Plant.{PlantLists, point_number, IsRouteOf}
-use Rattle.ilk_plant.specs.Shape.{HasShape, fits_path}
-use Rattle.ilk_plant.proofs.Shapes.{fits_path-counts, fits_path-from_counts}
+use Rattle.ilk_plant.specs.Shape.{HasShape, counts_fit_path}
+use Rattle.ilk_plant.proofs.Shapes.{counts_fit_path-counts, counts_fit_path-from_counts}
 use Rattle.ilk_plant.specs.declared.state.Aspect.{Aspect}
 use Rattle.ilk_plant.specs.declared.state.Aspect.TheVariants.{Closed}
 use Rattle.ilk_plant.specs.declared.state.Hold.{Hold}
@@ -18,7 +18,7 @@ use Rattle.ilk_plant.specs.declared.table.Route.{Route}
 use Rattle.ilk_routes.proofs.Commands.{length-with_commands}
 use Rattle.ilk_routes.proofs.Locks.{length-with_locks}
 use Rattle.ilk_plant.specs.TableRules.{sections_locked_for}
-use Rattle.ilk_routes.specs.Claims.{sections_beside, wanted_points}
+use Rattle.ilk_routes.specs.Claims.{sections_beside_path, required_points}
 use Rattle.ilk_routes.specs.Locks.{with_locks}
 use Rattle.ilk_routes.specs.Points.{after_settle, after_throw}
 use Rattle.ilk_routes.specs.Routes.{after_allocate, after_cancel, after_finish, after_lock, after_mark, after_release, after_sense}
@@ -29,11 +29,11 @@ length-close_if : (b : Bool) (boards : List Aspect) (m : ℕ) → length (if b t
 length-close_if true boards m = length-set boards m Closed
 length-close_if false boards m = refl
 
--- the shape of a state in which route r is at `now`, and boards, points and locks are as many as before
+-- The state with route r at `now` and as many boards, points and locks is well-formed.
 reshaped :
     (p : PlantLists) (s : State) (r : ℕ) (mine : Route) (now : RouteState) (boards : List Aspect)
     (points : List PointState) (locks : List Hold) → HasShape p s →
-    slice_get p.routes r ≡ Some mine → fits_path mine now ≡ true → length boards ≡ length s.boards →
+    slice_get p.routes r ≡ Some mine → counts_fit_path mine now ≡ true → length boards ≡ length s.boards →
     length points ≡ length s.points → length locks ≡ length s.locks →
     HasShape p (record s { routes = set s.routes r now; boards = boards; points = points; locks = locks })
 reshaped p s r mine now boards points locks shape known within b n l = record {
@@ -60,7 +60,7 @@ after_allocate-shape p s t r shape e =
     option_and_then_some _ (slice_get p.routes r) t e (λ route known e1.
     option_and_then_some _ (slice_get s.routes r) t e1 (λ now here e2.
     let done = cond_some _ _ t e2 in
-    subst (HasShape p) done.1 (reshaped p s r route _ s.boards _ _ shape known (shape.counts r route now known here) refl (length-with_commands p s.points (wanted_points route)) (length-with_locks s.locks (sections_locked_for route) _))))
+    subst (HasShape p) done.1 (reshaped p s r route _ s.boards _ _ shape known (shape.counts r route now known here) refl (length-with_commands p s.points (required_points route)) (length-with_locks s.locks (sections_locked_for route) _))))
 
 pub after_lock-shape : (p : PlantLists) (s t : State) (r : ℕ) → HasShape p s → after_lock p s r ≡ Some t → HasShape p t
 after_lock-shape p s t r shape e =
@@ -78,9 +78,9 @@ after_sense-shape p s t r shape e =
     let below = slice_get_within route.path now.seen x there in
     subst (HasShape p) done.1
     (reshaped p s r route _ _ s.points _ shape known
-    (fits_path-from_counts route (record now { mode = Occupied; seen = now.seen + 1 })
+    (counts_fit_path-from_counts route (record now { mode = Occupied; seen = now.seen + 1 })
     (omega (arith, below))
-    (fits_path-counts route now (shape.counts r route now known here)).1)
+    (counts_fit_path-counts route now (shape.counts r route now known here)).1)
     (length-close_if _ s.boards route.source) refl (length-set s.locks x _)))))
 
 pub after_release-shape : (p : PlantLists) (s t : State) (r : ℕ) → HasShape p s → after_release p s r ≡ Some t → HasShape p t
@@ -92,8 +92,8 @@ after_release-shape p s t r shape e =
     let below = slice_get_within route.path now.rel x there in
     subst (HasShape p) done.1
     (reshaped p s r route _ s.boards s.points _ shape known
-    (fits_path-from_counts route (record now { rel = now.rel + 1 })
-    (fits_path-counts route now (shape.counts r route now known here)).0
+    (counts_fit_path-from_counts route (record now { rel = now.rel + 1 })
+    (counts_fit_path-counts route now (shape.counts r route now known here)).0
     (omega (arith, below))) refl refl
     (length-set s.locks x _)))))
 
@@ -105,9 +105,9 @@ after_finish-shape p s t r shape e =
     let done = cond_some _ _ t e3 in
     subst (HasShape p) done.1
     (reshaped p s r route _ s.boards s.points _ shape known
-    (fits_path-from_counts route (record { mode = Free; seen = 0; rel = 0 }) (omega arith)
+    (counts_fit_path-from_counts route (record { mode = Free; seen = 0; rel = 0 }) (omega arith)
     (omega arith)) refl refl
-    (length-with_locks _ (sections_beside route) _ ∙ length-set s.locks x _)))))
+    (length-with_locks _ (sections_beside_path route) _ ∙ length-set s.locks x _)))))
 
 length-give_back_if : (b : Bool) (locks : List Hold) (sections : List ℕ) (hold : Hold) → length (if b then with_locks locks sections hold else locks) ≡ length locks
 length-give_back_if true locks sections hold = length-with_locks locks sections hold
@@ -120,7 +120,6 @@ after_cancel-shape p s t r shape e =
     let done = cond_some _ _ t e2 in
     subst (HasShape p) done.1 (reshaped p s r route _ s.boards s.points _ shape known (shape.counts r route now known here) refl refl (length-give_back_if _ s.locks (sections_locked_for route) _))))
 
--- the shape of a state in which one point changes
 repointed : (p : PlantLists) (s : State) (n : ℕ) (point : PointState) → HasShape p s → HasShape p (record s { points = set s.points n point })
 repointed p s n point shape = record {
   routes = shape.routes;
@@ -145,10 +144,9 @@ after_settle-shape p s t x shape e =
     let done = cond_some _ _ t e2 in
     subst (HasShape p) done.1 (repointed p s n _ shape)))
 
--- a section beside a route is one of the plant
-pub beside-known : (p : PlantLists) (route : Route) → IsRouteOf p route → (i x : ℕ) → slice_get (sections_beside route) i ≡ Some x → x < length p.sections
+pub beside-known : (p : PlantLists) (route : Route) → IsRouteOf p route → (i x : ℕ) → slice_get (sections_beside_path route) i ≡ Some x → x < length p.sections
 beside-known p route of i x at =
-    all-at (λ x. x < length p.sections) (sections_beside route) i x
+    all-at (λ x. x < length p.sections) (sections_beside_path route) i x
     (All-append (λ x. x < length p.sections) route.overlap
     (map (λ listed. listed.point) route.protecting_points) of.overlap
     (All-map (λ x. x < length p.sections) (λ (listed : Listed). listed.point)

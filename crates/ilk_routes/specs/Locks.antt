@@ -1,9 +1,9 @@
--- The locks of sections.
+-- Locks of sections.
 use Rattle.std.specs.Prelude.{ℕ, List, if◌then◌else◌}
 use Rattle.ilk_plant.specs.Network.{has_section}
 use Rattle.ilk_plant.specs.declared.state.Hold.{Hold}
 use Rattle.ilk_base.specs.Numbered.{map_numbered}
 
--- the locks, where each of these sections has this one and all else is as it was
+-- The locks with this one for each of these sections, and all others unchanged.
 abbrev pub with_locks : List Hold → List ℕ → Hold → List Hold
 with_locks locks sections hold = map_numbered (λ x lock. if has_section x sections then hold else lock) locks

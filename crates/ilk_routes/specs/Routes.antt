@@ -1,4 +1,5 @@
--- The seven events of routes. Each is the state that follows, where the event is enabled.
+-- The seven route events. Each definition is the next state if the event is enabled, otherwise
+-- `None`.
 use Rattle.std.specs.Prelude.{ℕ, ◌+◌, Bool, Option, ◌==◌, ◌&&◌, ◌||◌, if◌then◌else◌, length, nat_le, slice_get, set, not}
 use Rattle.std.specs.List.{list_any, list_all}
 use Rattle.ilk_base.specs.Option.{◌>>=◌, only_if}
@@ -10,14 +11,14 @@ use Rattle.ilk_plant.specs.declared.state.Hold.TheVariants.{Free as FreeLock, Lo
 use Rattle.ilk_plant.specs.declared.state.Mode.TheVariants.{Free, Marked, Allocating, Locked, Occupied}
 use Rattle.ilk_plant.specs.declared.state.State.{State}
 use Rattle.ilk_plant.specs.declared.table.Route.{Route}
-use Rattle.ilk_routes.specs.Boards.{has_aspect, is_protecting}
-use Rattle.ilk_routes.specs.Claims.{sections_beside, wanted_points}
-use Rattle.ilk_routes.specs.Lies.{lies_as_listed, with_commands}
+use Rattle.ilk_routes.specs.Boards.{has_aspect, is_held_closed}
+use Rattle.ilk_routes.specs.Claims.{sections_beside_path, required_points}
+use Rattle.ilk_routes.specs.Lies.{is_detected_as_listed, with_commands}
 use Rattle.ilk_routes.specs.Locks.{with_locks}
-use Rattle.ilk_routes.specs.Modes.{is_claimed, same_mode}
+use Rattle.ilk_routes.specs.Modes.{is_allocating_or_locked, same_mode}
 use Rattle.ilk_plant.specs.Network.{last_of}
 
--- mark r: r is Free; r is Marked
+-- `mark r`. Enabled if r is Free. It becomes Marked.
 abbrev pub after_mark : PlantLists → State → ℕ → Option State
 after_mark p s r = do
   route ← slice_get p.routes r
@@ -26,33 +27,33 @@ after_mark p s r = do
     routes = set s.routes r (record now { mode = Marked });
   })
 
--- whether no conflict is Allocating or Locked, and every section of path, overlap and protecting points has lock Free
--- and is vacant
-abbrev pub can_claim : State → Route → Bool
-can_claim s route =
-    not (list_any (is_claimed s) route.conflicts) && list_all (is_clear s) (sections_locked_for route)
+-- Returns whether no conflict is Allocating or Locked, and every section of path, overlap and
+-- protecting points has lock Free and is vacant.
+abbrev pub can_reserve_sections : State → Route → Bool
+can_reserve_sections s route =
+    not (list_any (is_allocating_or_locked s) route.conflicts) && list_all (is_clear s) (sections_locked_for route)
 
--- allocate r: r is Marked and can claim its sections; r is Allocating, those locks are Locked, and each point that it
--- wants, listed or protecting, is commanded to its position
+-- `allocate r`. Enabled if r is Marked and can claim its sections. It becomes Allocating, those
+-- locks become Locked, and its listed and protecting points are commanded.
 abbrev pub after_allocate : PlantLists → State → ℕ → Option State
 after_allocate p s r = do
   route ← slice_get p.routes r
   now ← slice_get s.routes r
-  only_if (same_mode now.mode Marked && can_claim s route) (record s {
+  only_if (same_mode now.mode Marked && can_reserve_sections s route) (record s {
     routes = set s.routes r (record now { mode = Allocating });
     locks = with_locks s.locks (sections_locked_for route) LockedLock;
-    points = with_commands p s.points (wanted_points route);
+    points = with_commands p s.points (required_points route);
   })
 
--- whether each point that the route wants, listed or protecting, lies at its position, each of its protecting boards is
--- Closed, and no Locked route has its source among its protecting boards
+-- Returns whether the points, listed and protecting, are in position, the protecting boards are
+-- Closed, and the source is not a protecting board of a Locked route.
 abbrev pub can_lock : PlantLists → State → Route → Bool
 can_lock p s route =
-    list_all (lies_as_listed p s) (wanted_points route)
+    list_all (is_detected_as_listed p s) (required_points route)
     && list_all (λ m. has_aspect s m Closed) route.protecting_boards
-    && not (is_protecting p s route.source)
+    && not (is_held_closed p s route.source)
 
--- lock r: r is Allocating and can be locked; r is Locked, and its source is Open
+-- `lock r`. Enabled if r is Allocating and can be locked. It becomes Locked, and its source opens.
 abbrev pub after_lock : PlantLists → State → ℕ → Option State
 after_lock p s r = do
   route ← slice_get p.routes r
@@ -62,8 +63,9 @@ after_lock p s r = do
     boards = set s.boards route.source Open;
   })
 
--- sense r: r is Locked or Occupied, and the path section after the seen ones is occupied and has lock Locked; that
--- lock is Used, one more is seen, r is Occupied, and with the first section its source is Closed
+-- `sense r`. Enabled if r is Locked or Occupied, and the first path section not yet seen is
+-- occupied and has lock Locked. That lock becomes Used, one more section is seen, and r becomes
+-- Occupied. With the first section, its source closes.
 abbrev pub after_sense : PlantLists → State → ℕ → Option State
 after_sense p s r = do
   route ← slice_get p.routes r
@@ -77,8 +79,9 @@ after_sense p s r = do
         boards = (if now.seen == 0 then set s.boards route.source Closed else s.boards);
       })
 
--- release r: r is Occupied, at least two more are seen than released, and the path section after the released ones is vacant
--- and has lock Used; that lock is Free, and one more is released
+-- `release r`. Enabled if r is Occupied, at least two more sections are seen than released, and the
+-- first one not yet released is vacant and has lock Used. That lock becomes Free, and one more
+-- section is released.
 abbrev pub after_release : PlantLists → State → ℕ → Option State
 after_release p s r = do
   route ← slice_get p.routes r
@@ -92,8 +95,9 @@ after_release p s r = do
         locks = set s.locks x FreeLock;
       })
 
--- finish r: r is Occupied, the whole path is seen, and all of it but its last section is released; the locks of that
--- section, of the overlap and of the protecting points are Free, none is seen or released, and r is Free
+-- `finish r`. Enabled if r is Occupied, the whole path is seen, and all of it except the last
+-- section is released. The locks of that section, the overlap and the protecting points become
+-- Free. Both counts become 0, and r becomes Free.
 abbrev pub after_finish : PlantLists → State → ℕ → Option State
 after_finish p s r = do
   route ← slice_get p.routes r
@@ -103,11 +107,11 @@ after_finish p s r = do
       && now.seen == length route.path
       && now.rel + 1 == length route.path) (record s {
         routes = set s.routes r (record { mode = Free; seen = 0; rel = 0 });
-        locks = with_locks (set s.locks x FreeLock) (sections_beside route) FreeLock;
+        locks = with_locks (set s.locks x FreeLock) (sections_beside_path route) FreeLock;
       })
 
--- cancel r: r is Marked or Allocating; where it is Allocating, the locks of path, overlap and protecting points are Free;
--- r is Free
+-- `cancel r`. Enabled if r is Marked or Allocating. If it is Allocating, the locks of path, overlap
+-- and protecting points become Free. The route becomes Free.
 abbrev pub after_cancel : PlantLists → State → ℕ → Option State
 after_cancel p s r = do
   route ← slice_get p.routes r

@@ -1,14 +1,14 @@
 ghost use Rattle.std.specs.Prelude.{◌≡◌, ◌<◌, [], ◌∷◌, All, length, map};
 ghost use Rattle.ilk_plant.specs.Plant.{point_count};
 ghost use Rattle.ilk_plant.specs.TableRules.{sections_locked_for};
-ghost use Rattle.ilk_routes.specs.Claims.{sections_beside, wanted_points};
+ghost use Rattle.ilk_routes.specs.Claims.{sections_beside_path, required_points};
 ghost use Rattle.ilk_routes.specs.Lies.{with_commands};
 ghost use Rattle.ilk_routes.specs.Locks.{with_locks};
 
 use ilk_plant::{Hold, Listed, Plant, PointState, Route, Row};
 
-/// Gives each of the sections the lock.
-pub fn give_locks(locks: &mut Row<Hold>, sections: &Row<u32>, hold: Hold)
+/// Sets the lock of each of these sections to `hold`.
+pub fn set_section_locks(locks: &mut Row<Hold>, sections: &Row<u32>, hold: Hold)
     requires { All (λ x. x < length locks.old) sections.now }
     ensures long { length locks.new ≡ length locks.old }
     ensures locks { locks.new ≡ with_locks locks.old sections.now hold }
@@ -18,7 +18,6 @@ pub fn give_locks(locks: &mut Row<Hold>, sections: &Row<u32>, hold: Hold)
     }
 }
 
-// Gives each of the points' sections the lock.
 fn give_point_locks(locks: &mut Row<Hold>, points: &Row<Listed>, hold: Hold)
     requires { All (λ listed. listed.point < length locks.old) points.now }
     ensures long { length locks.new ≡ length locks.old }
@@ -30,22 +29,20 @@ fn give_point_locks(locks: &mut Row<Hold>, points: &Row<Listed>, hold: Hold)
     }
 }
 
-/// Gives the lock to each section beside the route's path: those of its overlap and of its
-/// protecting points.
-pub fn give_locks_beside(locks: &mut Row<Hold>, route: &Route, hold: Hold)
+/// Sets the lock of each section of the route's overlap and protecting points to `hold`.
+pub fn set_locks_beside_path(locks: &mut Row<Hold>, route: &Route, hold: Hold)
     requires overlap { All (λ x. x < length locks.old) route.now.overlap }
     requires protecting { All (λ listed. listed.point < length locks.old)
         route.now.protecting_points }
     ensures long { length locks.new ≡ length locks.old }
-    ensures locks { locks.new ≡ with_locks locks.old (sections_beside route.now) hold }
+    ensures locks { locks.new ≡ with_locks locks.old (sections_beside_path route.now) hold }
 {
-    give_locks(locks, &route.overlap, hold);
+    set_section_locks(locks, &route.overlap, hold);
     give_point_locks(locks, &route.protecting_points, hold);
 }
 
-/// Gives the lock to each section of the route: those of its path, of its overlap and of its
-/// protecting points.
-pub fn give_all_locks(locks: &mut Row<Hold>, route: &Route, hold: Hold)
+/// Sets the lock of each section of the route's path, overlap and protecting points to `hold`.
+pub fn set_route_locks(locks: &mut Row<Hold>, route: &Route, hold: Hold)
     requires path { All (λ x. x < length locks.old) route.now.path }
     requires overlap { All (λ x. x < length locks.old) route.now.overlap }
     requires protecting { All (λ listed. listed.point < length locks.old)
@@ -53,12 +50,11 @@ pub fn give_all_locks(locks: &mut Row<Hold>, route: &Route, hold: Hold)
     ensures long { length locks.new ≡ length locks.old }
     ensures locks { locks.new ≡ with_locks locks.old (sections_locked_for route.now) hold }
 {
-    give_locks(locks, &route.path, hold);
-    give_locks(locks, &route.overlap, hold);
+    set_section_locks(locks, &route.path, hold);
+    set_section_locks(locks, &route.overlap, hold);
     give_point_locks(locks, &route.protecting_points, hold);
 }
 
-// Commands a listed point to its listed position.
 fn command_point(plant: &Plant, points: &mut Row<PointState>, listed: &Listed)
     requires known { listed.now.point < length plant.now.sections }
     requires points { length points.old ≡ point_count plant.now }
@@ -71,7 +67,7 @@ fn command_point(plant: &Plant, points: &mut Row<PointState>, listed: &Listed)
 }
 
 /// Commands each of the listed points to its listed position.
-pub fn command(plant: &Plant, points: &mut Row<PointState>, listed_points: &Row<Listed>)
+pub fn command_points(plant: &Plant, points: &mut Row<PointState>, listed_points: &Row<Listed>)
     requires known { All (λ listed. listed.point < length plant.now.sections) listed_points.now }
     requires points { length points.old ≡ point_count plant.now }
     ensures long { length points.new ≡ length points.old }
@@ -82,14 +78,14 @@ pub fn command(plant: &Plant, points: &mut Row<PointState>, listed_points: &Row<
     }
 }
 
-/// Commands each point that the route wants, listed or protecting, to its position.
-pub fn command_wanted(plant: &Plant, points: &mut Row<PointState>, route: &Route)
+/// Commands each point that the route requires, listed or protecting, to its position.
+pub fn command_route_points(plant: &Plant, points: &mut Row<PointState>, route: &Route)
     requires listed { All (λ listed. listed.point < length plant.now.sections) route.now.points }
     requires protecting { All (λ listed. listed.point < length plant.now.sections)
         route.now.protecting_points }
     requires points { length points.old ≡ point_count plant.now }
-    ensures { points.new ≡ with_commands plant.now points.old (wanted_points route.now) }
+    ensures { points.new ≡ with_commands plant.now points.old (required_points route.now) }
 {
-    command(plant, points, &route.points);
-    command(plant, points, &route.protecting_points);
+    command_points(plant, points, &route.points);
+    command_points(plant, points, &route.protecting_points);
 }

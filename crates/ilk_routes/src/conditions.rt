@@ -6,19 +6,20 @@ ghost use Rattle.ilk_plant.specs.Network.{last_of};
 ghost use Rattle.ilk_plant.specs.State.{is_clear};
 ghost use Rattle.ilk_plant.specs.declared.state.Aspect.TheVariants.{Closed};
 ghost use Rattle.ilk_plant.specs.declared.state.Mode.TheVariants.{Locked};
-ghost use Rattle.ilk_routes.specs.Boards.{has_aspect, is_protecting, protects_by};
+ghost use Rattle.ilk_routes.specs.Boards.{has_aspect, is_held_closed, has_protecting_board};
 ghost use Rattle.ilk_plant.specs.TableRules.{sections_locked_for};
-ghost use Rattle.ilk_routes.specs.Claims.{wanted_points};
-ghost use Rattle.ilk_routes.specs.Lies.{is_moving, lie_in, lies_as_listed, lies_at};
-ghost use Rattle.ilk_routes.specs.Modes.{has_mode, is_claimed};
-ghost use Rattle.ilk_routes.specs.Routes.{can_claim, can_lock};
+ghost use Rattle.ilk_routes.specs.Claims.{required_points};
+ghost use Rattle.ilk_routes.specs.Lies.{is_moving, lie_from_position, is_detected_as_listed, is_lie_at_position};
+ghost use Rattle.ilk_routes.specs.Modes.{has_mode, is_allocating_or_locked};
+ghost use Rattle.ilk_routes.specs.Routes.{can_reserve_sections, can_lock};
 
 use ilk_base::has_number;
 use ilk_plant::{
-    Aspect, Lie, Listed, Mode, Plant, Position, Route, RouteState, Row, State, is_clear, lie_of,
+    Aspect, Lie, Listed, Mode, Plant, Position, Route, RouteState, Row, State, detected_position,
+    is_clear,
 };
 
-/// Whether route `r` has the mode.
+/// Returns whether route `r` has the mode.
 pub fn has_mode(s: &State, r: u32, mode: Mode) -> bool
     ensures { result ≡ has_mode s.now r mode }
 {
@@ -28,28 +29,28 @@ pub fn has_mode(s: &State, r: u32, mode: Mode) -> bool
     }
 }
 
-/// Whether route `r` is Allocating or Locked.
-pub fn is_claimed(s: &State, r: u32) -> bool
-    ensures { result ≡ is_claimed s.now r }
+/// Returns whether route `r` is Allocating or Locked.
+pub fn is_allocating_or_locked(s: &State, r: u32) -> bool
+    ensures { result ≡ is_allocating_or_locked s.now r }
 {
     has_mode(s, r, Mode::Allocating) || has_mode(s, r, Mode::Locked)
 }
 
-// Whether one of the routes is Allocating or Locked.
 fn any_claimed(s: &State, routes: &Row<u32>) -> bool
-    ensures { result ≡ list_any (is_claimed s.now) routes.now }
+    ensures { result ≡ list_any (is_allocating_or_locked s.now) routes.now }
 {
-    routes.as_slice().iter().any(|r| is_claimed(s, *r))
+    routes
+        .as_slice()
+        .iter()
+        .any(|r| is_allocating_or_locked(s, *r))
 }
 
-// Whether each of the sections has lock Free and is vacant.
 fn all_clear(s: &State, sections: &Row<u32>) -> bool
     ensures { result ≡ list_all (is_clear s.now) sections.now }
 {
     sections.as_slice().iter().all(|x| is_clear(s, *x))
 }
 
-// Whether each of the points' sections has lock Free and is vacant.
 fn all_points_clear(s: &State, points: &Row<Listed>) -> bool
     ensures { result ≡ list_all (is_clear s.now) (map (λ listed. listed.point) points.now) }
 {
@@ -60,8 +61,6 @@ fn all_points_clear(s: &State, points: &Row<Listed>) -> bool
         .all(|x| is_clear(s, x))
 }
 
-// Whether each section of the route's path, overlap and protecting points has lock Free and is
-// vacant.
 fn all_claimed_clear(s: &State, route: &Route) -> bool
     ensures { result ≡ list_all (is_clear s.now) (sections_locked_for route.now) }
 {
@@ -70,15 +69,15 @@ fn all_claimed_clear(s: &State, route: &Route) -> bool
         && all_points_clear(s, &route.protecting_points)
 }
 
-/// Whether no conflicting route is Allocating or Locked, and each section of path, overlap and
-/// protecting points has lock Free and is vacant.
-pub fn can_claim(s: &State, route: &Route) -> bool
-    ensures { result ≡ can_claim s.now route.now }
+/// Returns whether no conflicting route is Allocating or Locked, and each section of path, overlap
+/// and protecting points has lock Free and is vacant.
+pub fn can_reserve_sections(s: &State, route: &Route) -> bool
+    ensures { result ≡ can_reserve_sections s.now route.now }
 {
     !any_claimed(s, &route.conflicts) && all_claimed_clear(s, route)
 }
 
-/// The last of the sections.
+/// Returns the last of these sections.
 pub fn last_of(sections: &Row<u32>) -> u32
     requires { 0 < length sections.now }
     ensures last { last_of sections.now ≡ Some result }
@@ -87,16 +86,16 @@ pub fn last_of(sections: &Row<u32>) -> u32
     *sections.at(sections.len() - 1)
 }
 
-/// Whether a point that lies so moves.
+/// Returns whether a point with this detected position is moving.
 pub fn is_moving(lie: Lie) -> bool
     ensures { result ≡ is_moving lie }
 {
     lie == Lie::Moving
 }
 
-/// How a point lies in this position.
-pub fn lie_in(position: Position) -> Lie
-    ensures { result ≡ lie_in position }
+/// Returns the detected position that equals `position`.
+pub fn lie_from_position(position: Position) -> Lie
+    ensures { result ≡ lie_from_position position }
 {
     match position {
         Position::Plus => Lie::Plus,
@@ -104,42 +103,42 @@ pub fn lie_in(position: Position) -> Lie
     }
 }
 
-/// Whether a point that lies so lies at this position.
-pub fn lies_at(lie: Lie, position: Position) -> bool
-    ensures { result ≡ lies_at lie position }
+/// Returns whether the detected position equals `position`.
+pub fn is_lie_at_position(lie: Lie, position: Position) -> bool
+    ensures { result ≡ is_lie_at_position lie position }
 {
-    lie == lie_in(position)
+    lie == lie_from_position(position)
 }
 
-/// Whether a listed point lies at its listed position.
-pub fn lies_as_listed(plant: &Plant, s: &State, listed: &Listed) -> bool
-    ensures { result ≡ lies_as_listed plant.now s.now listed.now }
+/// Returns whether a listed point is detected in its listed position.
+pub fn is_detected_as_listed(plant: &Plant, s: &State, listed: &Listed) -> bool
+    ensures { result ≡ is_detected_as_listed plant.now s.now listed.now }
 {
-    match lie_of(plant, s, listed.point) {
-        Some(lie) => lies_at(lie, listed.at),
+    match detected_position(plant, s, listed.point) {
+        Some(lie) => is_lie_at_position(lie, listed.at),
         None => false,
     }
 }
 
-// Whether each listed point lies at its listed position.
 fn all_lie_as_listed(plant: &Plant, s: &State, points: &Row<Listed>) -> bool
-    ensures { result ≡ list_all (lies_as_listed plant.now s.now) points.now }
+    ensures { result ≡ list_all (is_detected_as_listed plant.now s.now) points.now }
 {
     points
         .as_slice()
         .iter()
-        .all(|listed| lies_as_listed(plant, s, listed))
+        .all(|listed| is_detected_as_listed(plant, s, listed))
 }
 
-// Whether each point that the route wants, listed or protecting, lies at its position.
+// Returns whether each point that the route requires is detected in its position.
 fn all_wanted_lie(plant: &Plant, s: &State, route: &Route) -> bool
-    ensures { result ≡ list_all (lies_as_listed plant.now s.now) (wanted_points route.now) }
+    ensures { result ≡ list_all (is_detected_as_listed plant.now s.now)
+        (required_points route.now) }
 {
     all_lie_as_listed(plant, s, &route.points)
         && all_lie_as_listed(plant, s, &route.protecting_points)
 }
 
-/// Whether board `m` shows the aspect.
+/// Returns whether board `m` shows the aspect.
 pub fn has_aspect(s: &State, m: u32, aspect: Aspect) -> bool
     ensures { result ≡ has_aspect s.now m aspect }
 {
@@ -149,7 +148,7 @@ pub fn has_aspect(s: &State, m: u32, aspect: Aspect) -> bool
     }
 }
 
-/// Whether each of the boards is Closed.
+/// Returns whether each of the boards is Closed.
 pub fn all_closed(s: &State, boards: &Row<u32>) -> bool
     ensures { result ≡ list_all (λ m. has_aspect s.now m Closed) boards.now }
 {
@@ -159,29 +158,28 @@ pub fn all_closed(s: &State, boards: &Row<u32>) -> bool
         .all(|m| has_aspect(s, *m, Aspect::Closed))
 }
 
-/// Whether route `q` has board `m` among its protecting boards.
-pub fn protects_by(plant: &Plant, q: u32, m: u32) -> bool
-    ensures { result ≡ protects_by plant.now q m }
+/// Returns whether board `m` is a protecting board of route `q`.
+pub fn has_protecting_board(plant: &Plant, q: u32, m: u32) -> bool
+    ensures { result ≡ has_protecting_board plant.now q m }
 {
     q < plant.routes() && has_number(plant.route(q).protecting_boards.as_slice(), m)
 }
 
-// Whether route `q` is Locked and has board `m` among its protecting boards.
 fn is_locked_by(plant: &Plant, s: &State, q: u32, m: u32) -> bool
-    ensures { result ≡ (has_mode s.now q Locked && protects_by plant.now q m) }
+    ensures { result ≡ (has_mode s.now q Locked && has_protecting_board plant.now q m) }
 {
-    has_mode(s, q, Mode::Locked) && protects_by(plant, q, m)
+    has_mode(s, q, Mode::Locked) && has_protecting_board(plant, q, m)
 }
 
-// Whether some Locked route has board `m` among its protecting boards.
+// Returns whether board `m` is a protecting board of some Locked route.
 fn is_protecting(plant: &Plant, s: &State, m: u32) -> bool
-    ensures { result ≡ is_protecting plant.now s.now m }
+    ensures { result ≡ is_held_closed plant.now s.now m }
 {
     (0..plant.routes()).any(|q| is_locked_by(plant, s, q, m))
 }
 
-/// Whether each point that the route wants, listed or protecting, lies at its position, each of its
-/// protecting boards is Closed, and no Locked route has its source among its protecting boards.
+/// Returns whether the points, listed and protecting, are in position, the protecting boards are
+/// Closed, and the source is not a protecting board of a Locked route.
 pub fn can_lock(plant: &Plant, s: &State, route: &Route) -> bool
     ensures { result ≡ can_lock plant.now s.now route.now }
 {
@@ -190,8 +188,8 @@ pub fn can_lock(plant: &Plant, s: &State, route: &Route) -> bool
         && !is_protecting(plant, s, route.source)
 }
 
-/// Route `r` with its state, whose counts are at most the length of its path.
-pub fn route_now<'a>(plant: &'a Plant, s: &State, r: u32) -> (&'a Route, RouteState)
+/// Returns route `r` with its state. Its counts are at most the length of its path.
+pub fn route_with_state<'a>(plant: &'a Plant, s: &State, r: u32) -> (&'a Route, RouteState)
     requires shape { HasShape plant.now s.now }
     requires known { r < length plant.now.routes }
     ensures route { slice_get plant.now.routes r ≡ Some result.0.now }

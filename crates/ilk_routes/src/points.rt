@@ -2,47 +2,45 @@ ghost use Rattle.std.specs.Prelude.{◌≡◌, is_some, unwrap_or};
 ghost use Rattle.ilk_plant.specs.Shape.{HasShape};
 ghost use Rattle.ilk_routes.specs.Points.{after_settle, after_throw};
 
-use crate::conditions::{is_moving, lie_in, lies_at};
-use ilk_plant::{Lie, Plant, State, point_on};
+use crate::conditions::{is_lie_at_position, is_moving, lie_from_position};
+use ilk_plant::{Lie, Plant, State, point_number_at};
 
-// Throws the point on section `p`, where that is enabled.
 fn throw(plant: &Plant, s: &mut State, p: u32) -> bool
     requires { HasShape plant.now s.old }
     ensures answer { result ≡ is_some (after_throw plant.now s.old p) }
     ensures next { s.new ≡ unwrap_or (after_throw plant.now s.old p) s.old }
 {
-    let Some(n) = point_on(plant, p) else {
+    let Some(n) = point_number_at(plant, p) else {
         return false;
     };
     let point = *s.points.at(n as u64);
-    if is_moving(point.at) || lies_at(point.at, point.to) {
+    if is_moving(point.at) || is_lie_at_position(point.at, point.to) {
         return false;
     }
     s.points.at_mut(n as u64).at = Lie::Moving;
     true
 }
 
-// Settles the point on section `p`, where that is enabled.
 fn settle(plant: &Plant, s: &mut State, p: u32) -> bool
     requires { HasShape plant.now s.old }
     ensures answer { result ≡ is_some (after_settle plant.now s.old p) }
     ensures next { s.new ≡ unwrap_or (after_settle plant.now s.old p) s.old }
 {
-    let Some(n) = point_on(plant, p) else {
+    let Some(n) = point_number_at(plant, p) else {
         return false;
     };
     let point = *s.points.at(n as u64);
     if !is_moving(point.at) {
         return false;
     }
-    s.points.at_mut(n as u64).at = lie_in(point.to);
+    s.points.at_mut(n as u64).at = lie_from_position(point.to);
     true
 }
 
-/// Throws the point on section `p`: it moves.
+/// Throws the point on section `p`: it starts to move.
 ///
-/// True exactly where that is enabled: `p` is a section with a point, which doesn't move and doesn't
-/// lie where it is commanded. Otherwise false, and `s` is unchanged.
+/// Returns `true` if and only if `p` is a point section, and the point is neither moving nor
+/// detected in its commanded position. Otherwise `s` doesn't change.
 pub fn step_throw(plant: &Plant, s: &mut State, p: u32) -> bool
     requires { HasShape plant.now s.old }
     ensures answer { result ≡ is_some (after_throw plant.now s.old p) }
@@ -52,10 +50,10 @@ pub fn step_throw(plant: &Plant, s: &mut State, p: u32) -> bool
     throw(plant, s, p)
 }
 
-/// Settles the point on section `p`: it lies where it is commanded.
+/// Settles the point on section `p`: it is detected in its commanded position.
 ///
-/// True exactly where that is enabled: `p` is a section with a point, which moves. Otherwise false,
-/// and `s` is unchanged.
+/// Returns `true` if and only if `p` is a point section, and the point is moving. Otherwise `s`
+/// doesn't change.
 pub fn step_settle(plant: &Plant, s: &mut State, p: u32) -> bool
     requires { HasShape plant.now s.old }
     ensures answer { result ≡ is_some (after_settle plant.now s.old p) }

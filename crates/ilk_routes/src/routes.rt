@@ -2,11 +2,10 @@ ghost use Rattle.std.specs.Prelude.{◌≡◌, is_some, unwrap_or};
 ghost use Rattle.ilk_plant.specs.Shape.{HasShape};
 ghost use Rattle.ilk_routes.specs.Routes.{after_allocate, after_cancel, after_finish, after_lock, after_mark, after_release, after_sense};
 
-use crate::changes::{command_wanted, give_all_locks, give_locks_beside};
-use crate::conditions::{can_claim, can_lock, last_of, route_now};
+use crate::changes::{command_route_points, set_locks_beside_path, set_route_locks};
+use crate::conditions::{can_lock, can_reserve_sections, last_of, route_with_state};
 use ilk_plant::{Aspect, Hold, Mode, Plant, RouteState, State, has_lock, occupied};
 
-// Marks route `r`, where that is enabled.
 fn mark(plant: &Plant, s: &mut State, r: u32) -> bool
     requires { HasShape plant.now s.old }
     ensures answer { result ≡ is_some (after_mark plant.now s.old r) }
@@ -19,7 +18,6 @@ fn mark(plant: &Plant, s: &mut State, r: u32) -> bool
     true
 }
 
-// Allocates route `r`, where that is enabled.
 fn allocate(plant: &Plant, s: &mut State, r: u32) -> bool
     requires { HasShape plant.now s.old }
     ensures answer { result ≡ is_some (after_allocate plant.now s.old r) }
@@ -29,16 +27,15 @@ fn allocate(plant: &Plant, s: &mut State, r: u32) -> bool
         return false;
     }
     let route = plant.route(r);
-    if s.routes.at(r as u64).mode != Mode::Marked || !can_claim(s, route) {
+    if s.routes.at(r as u64).mode != Mode::Marked || !can_reserve_sections(s, route) {
         return false;
     }
     s.routes.at_mut(r as u64).mode = Mode::Allocating;
-    give_all_locks(&mut s.locks, route, Hold::Locked);
-    command_wanted(plant, &mut s.points, route);
+    set_route_locks(&mut s.locks, route, Hold::Locked);
+    command_route_points(plant, &mut s.points, route);
     true
 }
 
-// Locks route `r`, where that is enabled.
 fn lock(plant: &Plant, s: &mut State, r: u32) -> bool
     requires { HasShape plant.now s.old }
     ensures answer { result ≡ is_some (after_lock plant.now s.old r) }
@@ -57,7 +54,6 @@ fn lock(plant: &Plant, s: &mut State, r: u32) -> bool
     true
 }
 
-// Senses the next path section of route `r`, where that is enabled.
 fn sense(plant: &Plant, s: &mut State, r: u32) -> bool
     requires { HasShape plant.now s.old }
     ensures answer { result ≡ is_some (after_sense plant.now s.old r) }
@@ -66,7 +62,7 @@ fn sense(plant: &Plant, s: &mut State, r: u32) -> bool
     if r >= plant.routes() {
         return false;
     }
-    let (route, now) = route_now(plant, s, r);
+    let (route, now) = route_with_state(plant, s, r);
     let seen = now.seen as u64;
     if seen >= route.path.len() || (now.mode != Mode::Locked && now.mode != Mode::Occupied) {
         return false;
@@ -85,7 +81,6 @@ fn sense(plant: &Plant, s: &mut State, r: u32) -> bool
     true
 }
 
-// Releases the next path section of route `r`, where that is enabled.
 fn release(plant: &Plant, s: &mut State, r: u32) -> bool
     requires { HasShape plant.now s.old }
     ensures answer { result ≡ is_some (after_release plant.now s.old r) }
@@ -94,7 +89,7 @@ fn release(plant: &Plant, s: &mut State, r: u32) -> bool
     if r >= plant.routes() {
         return false;
     }
-    let (route, now) = route_now(plant, s, r);
+    let (route, now) = route_with_state(plant, s, r);
     let rel = now.rel as u64;
     if now.mode != Mode::Occupied || rel >= route.path.len() || rel + 2 > now.seen as u64 {
         return false;
@@ -108,7 +103,6 @@ fn release(plant: &Plant, s: &mut State, r: u32) -> bool
     true
 }
 
-// Finishes route `r`, where that is enabled.
 fn finish(plant: &Plant, s: &mut State, r: u32) -> bool
     requires { HasShape plant.now s.old }
     ensures answer { result ≡ is_some (after_finish plant.now s.old r) }
@@ -117,14 +111,14 @@ fn finish(plant: &Plant, s: &mut State, r: u32) -> bool
     if r >= plant.routes() {
         return false;
     }
-    let (route, now) = route_now(plant, s, r);
+    let (route, now) = route_with_state(plant, s, r);
     let length = route.path.len();
     if now.mode != Mode::Occupied || now.seen as u64 != length || now.rel as u64 + 1 != length {
         return false;
     }
     let last = last_of(&route.path);
     *s.locks.at_mut(last as u64) = Hold::Free;
-    give_locks_beside(&mut s.locks, route, Hold::Free);
+    set_locks_beside_path(&mut s.locks, route, Hold::Free);
     *s.routes.at_mut(r as u64) = RouteState {
         mode: Mode::Free,
         seen: 0,
@@ -133,7 +127,6 @@ fn finish(plant: &Plant, s: &mut State, r: u32) -> bool
     true
 }
 
-// Cancels route `r`, where that is enabled.
 fn cancel(plant: &Plant, s: &mut State, r: u32) -> bool
     requires { HasShape plant.now s.old }
     ensures answer { result ≡ is_some (after_cancel plant.now s.old r) }
@@ -147,16 +140,15 @@ fn cancel(plant: &Plant, s: &mut State, r: u32) -> bool
         return false;
     }
     if mode == Mode::Allocating {
-        give_all_locks(&mut s.locks, plant.route(r), Hold::Free);
+        set_route_locks(&mut s.locks, plant.route(r), Hold::Free);
     }
     s.routes.at_mut(r as u64).mode = Mode::Free;
     true
 }
 
-/// Marks route `r`: it becomes Marked.
+/// Marks route `r` (route request): it becomes Marked.
 ///
-/// True exactly where that is enabled: `r` is a route, and Free. Otherwise false, and `s` is
-/// unchanged.
+/// Returns `true` if and only if `r` is a Free route. Otherwise `s` doesn't change.
 pub fn step_mark(plant: &Plant, s: &mut State, r: u32) -> bool
     requires { HasShape plant.now s.old }
     ensures answer { result ≡ is_some (after_mark plant.now s.old r) }
@@ -167,11 +159,11 @@ pub fn step_mark(plant: &Plant, s: &mut State, r: u32) -> bool
 }
 
 /// Allocates route `r`: it becomes Allocating, the locks of its path, overlap and protecting points
-/// become Locked, and each of its listed and protecting points is commanded to its position.
+/// become Locked, and its listed and protecting points are commanded.
 ///
-/// True exactly where that is enabled: `r` is a route, and Marked, no route that it lists as a
-/// conflict is Allocating or Locked, and every section of its path, overlap and protecting points
-/// has lock Free and is vacant. Otherwise false, and `s` is unchanged.
+/// Returns `true` if and only if `r` is a Marked route and can claim its sections. No route that it
+/// lists as a conflict may be Allocating or Locked. Every section of its path, overlap and
+/// protecting points must have lock Free and be vacant. Otherwise `s` doesn't change.
 pub fn step_allocate(plant: &Plant, s: &mut State, r: u32) -> bool
     requires { HasShape plant.now s.old }
     ensures answer { result ≡ is_some (after_allocate plant.now s.old r) }
@@ -183,9 +175,9 @@ pub fn step_allocate(plant: &Plant, s: &mut State, r: u32) -> bool
 
 /// Locks route `r`: it becomes Locked, and its source board opens.
 ///
-/// True exactly where that is enabled: `r` is a route, and Allocating, each of its listed and
-/// protecting points lies at its position, each of its protecting boards is Closed, and no Locked
-/// route has its source among its protecting boards. Otherwise false, and `s` is unchanged.
+/// Returns `true` if and only if `r` is an Allocating route and can be locked. Its listed and
+/// protecting points must be in position, and its protecting boards Closed. Its source must not be
+/// a protecting board of a Locked route. Otherwise `s` doesn't change.
 pub fn step_lock(plant: &Plant, s: &mut State, r: u32) -> bool
     requires { HasShape plant.now s.old }
     ensures answer { result ≡ is_some (after_lock plant.now s.old r) }
@@ -195,13 +187,12 @@ pub fn step_lock(plant: &Plant, s: &mut State, r: u32) -> bool
     lock(plant, s, r)
 }
 
-/// Senses that a train has taken the next path section of route `r`: the section's lock becomes
-/// Used, `seen` grows by 1, the route becomes Occupied, and with the first section its source board
-/// closes.
+/// Senses that a train has entered the next path section of route `r`: the section's lock becomes
+/// Used, `seen` grows by 1, and the route becomes Occupied. With the first section, its source
+/// board closes.
 ///
-/// True exactly where that is enabled: `r` is a route, and Locked or Occupied, `seen` is below the
-/// length of its path, and the section at that place is occupied and has lock Locked. Otherwise
-/// false, and `s` is unchanged.
+/// Returns `true` if and only if `r` is a Locked or Occupied route, and the path section at index
+/// `seen` exists, is occupied and has lock Locked. Otherwise `s` doesn't change.
 pub fn step_sense(plant: &Plant, s: &mut State, r: u32) -> bool
     requires { HasShape plant.now s.old }
     ensures answer { result ≡ is_some (after_sense plant.now s.old r) }
@@ -214,9 +205,8 @@ pub fn step_sense(plant: &Plant, s: &mut State, r: u32) -> bool
 /// Releases the next path section of route `r` behind a train: the section's lock becomes Free, and
 /// `rel` grows by 1.
 ///
-/// True exactly where that is enabled: `r` is a route, and Occupied, `rel + 2` is at most `seen`, and
-/// the path section at place `rel` is vacant and has lock Used. Otherwise false, and `s` is
-/// unchanged.
+/// Returns `true` if and only if `r` is an Occupied route, `rel + 2` is at most `seen`, and the
+/// path section at index `rel` is vacant and has lock Used. Otherwise `s` doesn't change.
 pub fn step_release(plant: &Plant, s: &mut State, r: u32) -> bool
     requires { HasShape plant.now s.old }
     ensures answer { result ≡ is_some (after_release plant.now s.old r) }
@@ -226,11 +216,11 @@ pub fn step_release(plant: &Plant, s: &mut State, r: u32) -> bool
     release(plant, s, r)
 }
 
-/// Finishes route `r`: the locks of its last path section, of its overlap and of its protecting
-/// points become Free, `seen` and `rel` become 0, and the route becomes Free.
+/// Finishes route `r`: the locks of its last path section, overlap and protecting points become
+/// Free, `seen` and `rel` become 0, and the route becomes Free.
 ///
-/// True exactly where that is enabled: `r` is a route, and Occupied, and both `seen` and `rel + 1`
-/// are the length of its path. Otherwise false, and `s` is unchanged.
+/// Returns `true` if and only if `r` is an Occupied route, and `seen` and `rel + 1` both equal the
+/// length of its path. Otherwise `s` doesn't change.
 pub fn step_finish(plant: &Plant, s: &mut State, r: u32) -> bool
     requires { HasShape plant.now s.old }
     ensures answer { result ≡ is_some (after_finish plant.now s.old r) }
@@ -240,11 +230,10 @@ pub fn step_finish(plant: &Plant, s: &mut State, r: u32) -> bool
     finish(plant, s, r)
 }
 
-/// Cancels route `r`: it becomes Free, and where it was Allocating, the locks of its path, overlap
-/// and protecting points become Free. Where its points are commanded stays as it is.
+/// Cancels route `r`: it becomes Free. If it was Allocating, the locks of its path, overlap and
+/// protecting points become Free. Its points keep their commanded positions.
 ///
-/// True exactly where that is enabled: `r` is a route, and Marked or Allocating. Otherwise false,
-/// and `s` is unchanged.
+/// Returns `true` if and only if `r` is a Marked or Allocating route. Otherwise `s` doesn't change.
 pub fn step_cancel(plant: &Plant, s: &mut State, r: u32) -> bool
     requires { HasShape plant.now s.old }
     ensures answer { result ≡ is_some (after_cancel plant.now s.old r) }

@@ -5,8 +5,8 @@ use Rattle.std.specs.List.{filter}
 use Rattle.std.proofs.lemmas.List.{take-append-le}
 use Rattle.std.proofs.lemmas.List.Elements.{filter-append}
 use Rattle.ilk_base.proofs.Lists.{slice_get-push_cases}
-use Rattle.ilk_cnf.specs.Literal.{Literal, opposite, has_lit, has_var}
-use Rattle.ilk_cnf.proofs.Gates.{opposite-opposite}
+use Rattle.ilk_cnf.specs.Literal.{Literal, negated_lit, has_lit, has_var}
+use Rattle.ilk_cnf.proofs.Gates.{negated_lit-negated_lit}
 use Rattle.ilk_cnf.proofs.SameLiterals.{has-var}
 use Rattle.ilk_trail.specs.declared.entry.Entry.{Entry}
 use Rattle.ilk_trail.specs.Trail.{level_of}
@@ -32,7 +32,7 @@ assumed-next set old mid new l k (known e h) =
     let P : List Entry → Type 0 = λ xs. IsAssumed (set ++ l ∷ []) old xs in
     subst P (sym e) (record {
       kept = k.kept;
-      levels = λ i x le s. (let v = k.levels i x le s in (v.0, v.1, push-old set l (opposite x.lit) v.2));
+      levels = λ i x le s. (let v = k.levels i x le s in (v.0, v.1, push-old set l (negated_lit x.lit) v.2));
       low = k.low;
       covered = λ m q. elim (pushed-lit set l m q) [ inl t ↦ k.covered m t | inr is ↦ ap (λ (x : Literal). is_set mid x.var) is ∙ h ];
     })
@@ -42,9 +42,9 @@ assumed-next set old mid new l k (new_one e is lit level) =
     subst P (sym is) (record {
       kept = take-append-le (length old) mid (e ∷ []) (length-kept old mid k.kept) ∙ k.kept;
       levels = λ i x le s. elim (slice_get-push_cases mid e x i s) [
-        | inl p ↦ (let v = k.levels i x le p in (v.1 ∙ sym (now ∙ level), v.1, push-old set l (opposite x.lit) v.2))
-        | inr p ↦ (let Q : Entry → Type 0 = λ y. (y.level ≡ level_of (mid ++ e ∷ [])) × (y.level ≡ 1) × (has_lit (opposite y.lit) (set ++ l ∷ []) ≡ true) in
-            subst Q p.1 (sym now, level, ap (λ (y : Literal). has_lit y (set ++ l ∷ [])) (ap opposite lit ∙ opposite-opposite l) ∙ push-new set l))
+        | inl p ↦ (let v = k.levels i x le p in (v.1 ∙ sym (now ∙ level), v.1, push-old set l (negated_lit x.lit) v.2))
+        | inr p ↦ (let Q : Entry → Type 0 = λ y. (y.level ≡ level_of (mid ++ e ∷ [])) × (y.level ≡ 1) × (has_lit (negated_lit y.lit) (set ++ l ∷ []) ≡ true) in
+            subst Q p.1 (sym now, level, ap (λ (y : Literal). has_lit y (set ++ l ∷ [])) (ap negated_lit lit ∙ negated_lit-negated_lit l) ∙ push-new set l))
       ];
       low = omega (arith, now, level);
       covered = λ m q. elim (pushed-lit set l m q) [
@@ -53,6 +53,5 @@ assumed-next set old mid new l k (new_one e is lit level) =
       ];
     })
 
--- the first literals that pass a test, with one more
 pub filter-more : (p : Literal → Bool) (ls : List Literal) (i : ℕ) (l : Literal) → slice_get ls i ≡ Some l → filter p (take (i + 1) ls) ≡ filter p (take i ls) ++ filter p (l ∷ [])
 filter-more p ls i l at = ap (λ (n : ℕ). filter p (take n ls)) (add-one i) ∙ ap (filter p) (take-one-more ls i l at) ∙ filter-append p (take i ls) (l ∷ [])

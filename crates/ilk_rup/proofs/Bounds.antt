@@ -4,10 +4,10 @@ use Rattle.std.specs.Prelude.{flat_map, ◌==◌}
 use Rattle.std.specs.List.{filter, onto_first, slice_split}
 use Rattle.std.proofs.lemmas.Bool.{cases_Bool}
 use Rattle.ilk_lines.specs.Lines.{Bytes, parts_at}
-use Rattle.ilk_rup.specs.RefutationText.{is_blank, is_comment, is_nothing, line_words, text_words, words_in}
+use Rattle.ilk_rup.specs.RefutationText.{is_blank, is_comment, is_empty_word, line_words, text_words, words_in}
 
 abbrev some : List Bytes → ℕ
-some parts = length (filter (λ part. not (is_nothing part)) parts)
+some parts = length (filter (λ part. not (is_empty_word part)) parts)
 
 onto-some : (x : ℕ) (parts : List Bytes) → some (onto_first x parts) ≤ 1 + some parts
 onto-some x [] = omega arith

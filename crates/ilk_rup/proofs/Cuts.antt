@@ -16,11 +16,9 @@ none_from : (p : ℕ → Bool) (i : ℕ) (xs : List ℕ) → position_from p i x
 none_from p i [] e = refl
 none_from p i (x ∷ xs) e = none_by p (p x) i x xs (λ here. none_from p (i + 1) xs here) e
 
--- where no item passes, the list is one part
 pub cut_none : (p : ℕ → Bool) (xs : List ℕ) → position p xs ≡ None → slice_split p xs ≡ xs ∷ []
 cut_none p xs e = none_from p 0 xs (sym (position_from-zero p xs) ∙ e)
 
--- the first part ends at the first item that passes
 pub cut_some : (p : ℕ → Bool) (xs : List ℕ) (i : ℕ) → position p xs ≡ Some i → slice_split p xs ≡ take i xs ∷ slice_split p (drop (i + 1) xs)
 cut_some p xs i e = by_place (nat_lt (position_or_len p xs) (length xs)) refl e
   where

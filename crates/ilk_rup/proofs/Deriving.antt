@@ -9,33 +9,32 @@ use Rattle.std.proofs.lemmas.Option.{slice_get_within}
 use Rattle.std.proofs.Math.Seq.{take-length}
 use Rattle.ilk_base.proofs.Lists.{at-past, item_at}
 use Rattle.ilk_base.proofs.Ranges.{below_or_past}
-use Rattle.ilk_cnf.specs.Literal.{Literal, opposite, has_lit, has_var, vars_differ}
-use Rattle.ilk_cnf.specs.Formula.{clause_in}
-use Rattle.ilk_cnf.proofs.Gates.{opposite-opposite}
+use Rattle.ilk_cnf.specs.Literal.{Literal, negated_lit, has_lit, has_var, vars_differ}
+use Rattle.ilk_cnf.specs.Formula.{is_clause_over}
+use Rattle.ilk_cnf.proofs.Gates.{negated_lit-negated_lit}
 use Rattle.ilk_arena.specs.Arena.{ArenaLists, literals_of}
-use Rattle.ilk_clauses.specs.Chained.{IsClauses}
-use Rattle.ilk_clauses.specs.Reasons.{clause_at, is_conflict}
-use Rattle.ilk_log.specs.Derived.{ends_false, opposites}
-use Rattle.ilk_log.specs.Propagation.{is_closed, is_falsified}
+use Rattle.ilk_watches.specs.Chained.{IsClauses}
+use Rattle.ilk_watches.specs.Reasons.{clause_at, is_conflict}
+use Rattle.ilk_log.specs.Derived.{hints_end_in_conflict, negated_clause}
+use Rattle.ilk_log.specs.Propagation.{is_saturated, is_falsified}
 use Rattle.ilk_log.proofs.Closed.{no-false-end}
 use Rattle.ilk_trail.specs.declared.entry.Entry.{Entry}
-use Rattle.ilk_trail.specs.Trail.{TrailList, level_of, up_to}
-use Rattle.ilk_trail.specs.Laws.{climbs, is_set, lits_of}
+use Rattle.ilk_trail.specs.Trail.{TrailList, level_of, entries_up_to}
+use Rattle.ilk_trail.specs.Laws.{has_rising_levels, is_set, lits_of}
 use Rattle.ilk_trail.proofs.Entries.{entry-lit}
-use Rattle.ilk_trail.proofs.Levels.{up_to-all}
+use Rattle.ilk_trail.proofs.Levels.{entries_up_to-all}
 use Rattle.ilk_watches.specs.Propagated.{IsPropagated}
 use Rattle.ilk_watches.specs.Watched.{IsQueue}
 use Rattle.ilk_watches.proofs.Covers.{covered-more}
 use Rattle.ilk_watches.proofs.Entries.{at-kept, at-old, entry-of-lit, length-kept, lit-kept, one-entry}
 use Rattle.ilk_watches.proofs.Looks.{satisfied-kept}
 use Rattle.ilk_watches.proofs.Queues.{all-covered}
-use Rattle.ilk_learn.proofs.Derived.{false-at, opposite-of}
+use Rattle.ilk_learn.proofs.Derived.{false-at, negated_lit-of}
 use Rattle.ilk_learn.proofs.Members.{same-var, var-of}
 use Rattle.ilk_rup.specs.Accepted.{Follows}
 use Rattle.ilk_rup.specs.Needs.{Explains, IsAssumed, IsClauseOf}
 use Rattle.ilk_rup.proofs.Signs.{var-either}
 
--- entries more at the level above, where all was propagated
 pub queue-assumed : (a : ArenaLists) (es fs : List Entry) (h s : ℕ) (set : List Literal) → IsQueue a es h s → IsClauses a → s ≡ length a.clauses → h ≡ length es → IsAssumed set es fs → IsQueue a fs h s
 queue-assumed a es fs h s set k cl all here p =
     let v = all-covered a es h s k cl all in
@@ -48,11 +47,10 @@ queue-assumed a es fs h s set k cl all here p =
       short = λ c known le n. satisfied-kept es fs (literals_of a c) p.kept (k.short c known le n);
     }
 
--- each literal of the set is false then
 assumed-false : (set : List Literal) (es fs : List Entry) (m : Literal) → vars_differ set ≡ true →
     vars_differ (lits_of fs) ≡ true →
     ((l : Literal) → has_lit l set ≡ true → has_lit l (lits_of es) ≡ false) → IsAssumed set es fs →
-    has_lit m set ≡ true → has_lit (opposite m) (lits_of fs) ≡ true
+    has_lit m set ≡ true → has_lit (negated_lit m) (lits_of fs) ≡ true
 assumed-false set es fs m differ once untrue p h =
     let x = var-of (lits_of fs) m.var (p.covered m h) in
     let y = entry-of-lit fs x.0 x.2 in
@@ -60,33 +58,30 @@ assumed-false set es fs m differ once untrue p h =
     elim (below_or_past y.index (length es)) [
       | inl b ↦ (let old = at-old es fs y.index y.entry p.kept b y.stands in
           let there : has_lit x.0 (lits_of es) ≡ true = ap (λ (l : Literal). has_lit l (lits_of es)) (sym lit) ∙ entry-lit es y.index y.entry old in
-          elim (var-either x.0 m (lits_of es) x.1 there) [ inl t ↦ absurd (true≢false (sym t ∙ untrue m h)) | inr t ↦ lit-kept es fs (opposite m) p.kept t ])
+          elim (var-either x.0 m (lits_of es) x.1 there) [ inl t ↦ absurd (true≢false (sym t ∙ untrue m h)) | inr t ↦ lit-kept es fs (negated_lit m) p.kept t ])
       | inr b ↦ (let v = p.levels y.index y.entry b y.stands in
-          let own : has_lit (opposite x.0) set ≡ true = ap (λ (l : Literal). has_lit (opposite l) set) (sym lit) ∙ v.2 in
-          let same : opposite x.0 ≡ m = same-var set (opposite x.0) m differ own h x.1 in
-          ap (λ (l : Literal). has_lit l (lits_of fs)) (sym (sym (opposite-opposite x.0) ∙ ap opposite same)) ∙ x.2)
+          let own : has_lit (negated_lit x.0) set ≡ true = ap (λ (l : Literal). has_lit (negated_lit l) set) (sym lit) ∙ v.2 in
+          let same : negated_lit x.0 ≡ m = same-var set (negated_lit x.0) m differ own h x.1 in
+          ap (λ (l : Literal). has_lit l (lits_of fs)) (sym (sym (negated_lit-negated_lit x.0) ∙ ap negated_lit same)) ∙ x.2)
     ]
 
--- where propagation is at its end, and each literal of the set is false, no hints derive a clause of it
 pub none-follows : (n : ℕ) (cs : List (List Literal)) (es : List Entry) (set : List Literal) →
-    is_closed cs (lits_of es) ≡ true →
-    ((m : Literal) → has_lit m set ≡ true → has_lit (opposite m) (lits_of es) ≡ true) → (c : List Literal) →
+    is_saturated cs (lits_of es) ≡ true →
+    ((m : Literal) → has_lit m set ≡ true → has_lit (negated_lit m) (lits_of es) ≡ true) → (c : List Literal) →
     IsClauseOf n set c → Follows n cs c → ⊥
 none-follows n cs es set closed false_all c of follows =
-    let none = no-false-end cs (opposites c) (lits_of es) follows.0 closed (λ m h. (let o = opposite-of c m h in ap (λ (l : Literal). has_lit l (lits_of es)) o.2 ∙ false_all o.0 (of.fewer o.0 o.1))) in
-    true≢false (sym (and_parts (clause_in n c && vars_differ c) (ends_false cs (opposites c) follows.0) follows.1).1 ∙ none)
+    let none = no-false-end cs (negated_clause c) (lits_of es) follows.0 closed (λ m h. (let o = negated_lit-of c m h in ap (λ (l : Literal). has_lit l (lits_of es)) o.2 ∙ false_all o.0 (of.fewer o.0 o.1))) in
+    true≢false (sym (and_parts (is_clause_over n c && vars_differ c) (hints_end_in_conflict cs (negated_clause c) follows.0) follows.1).1 ∙ none)
 
 pub assumed-none : (n : ℕ) (cs : List (List Literal)) (es fs gs : List Entry) (set : List Literal) →
-    is_closed cs (lits_of gs) ≡ true → vars_differ set ≡ true → vars_differ (lits_of fs) ≡ true →
+    is_saturated cs (lits_of gs) ≡ true → vars_differ set ≡ true → vars_differ (lits_of fs) ≡ true →
     take (length fs) gs ≡ fs → ((l : Literal) → has_lit l set ≡ true → has_lit l (lits_of es) ≡ false) →
     IsAssumed set es fs → (c : List Literal) → IsClauseOf n set c → Follows n cs c → ⊥
-assumed-none n cs es fs gs set closed differ once kept untrue p = none-follows n cs gs set closed (λ m h. lit-kept fs gs (opposite m) kept (assumed-false set es fs m differ once untrue p h))
+assumed-none n cs es fs gs set closed differ once kept untrue p = none-follows n cs gs set closed (λ m h. lit-kept fs gs (negated_lit m) kept (assumed-false set es fs m differ once untrue p h))
 
--- entries that stay twice
 pub kept-join : (es fs gs : List Entry) → take (length es) fs ≡ es → take (length fs) gs ≡ fs → take (length es) gs ≡ es
 kept-join es fs gs a b = ap (take (length es)) (sym (take-append-drop (length fs) gs) ∙ ap (λ (xs : List Entry). xs ++ drop (length fs) gs) b) ∙ take-append-le (length es) fs (drop (length fs) gs) (length-kept es fs a) ∙ a
 
--- a conflict after the literals were made false
 pub derive-explains : (cs : List (List Literal)) (es fs gs : List Entry) (set : List Literal) (c : ℕ) →
     is_conflict cs (lits_of gs) c ≡ true → vars_differ (lits_of gs) ≡ true →
     ((l : Literal) → has_lit l set ≡ true → has_lit l (lits_of es) ≡ false) → IsAssumed set es fs →
@@ -100,7 +95,7 @@ derive-explains cs es fs gs set c h once untrue p q =
       known_in = ef;
       from_in = fg;
       top_in = omega arith;
-      denied = λ m x. inr (ap (λ (xs : List Entry). has_lit (opposite m) (lits_of xs)) (take-length gs) ∙ false-at (lits_of gs) (clause_at cs c) m t.1 x);
+      denied = λ m x. inr (ap (λ (xs : List Entry). has_lit (negated_lit m) (lits_of xs)) (take-length gs) ∙ false-at (lits_of gs) (clause_at cs c) m t.1 x);
       walk = λ i e le lt at. (
         q.reasons i e le at,
         elim (cases_Bool (has_var e.lit.var set)) [
@@ -118,23 +113,23 @@ derive-explains cs es fs gs set c h once untrue p q =
       untrue = λ m x. ap (λ (xs : List Entry). has_lit m (lits_of xs)) (kept-join es fs gs p.kept q.kept) ∙ untrue m x;
     }
 
-none-up : (xs : List Entry) → ((i : ℕ) (e : Entry) → slice_get xs i ≡ Some e → 0 < e.level) → up_to 0 xs ≡ []
+none-up : (xs : List Entry) → ((i : ℕ) (e : Entry) → slice_get xs i ≡ Some e → 0 < e.level) → entries_up_to 0 xs ≡ []
 none-up [] f = refl
 none-up (e ∷ xs) f =
     let b = f 0 e refl in
     let z : nat_le e.level 0 ≡ false = grind (arith, nat_tests) in
     rw z (none-up xs (λ i x at. f (suc i) x at))
 
--- the entries at level 0 are those from before
-back-level : (es gs : List Entry) → take (length es) gs ≡ es → climbs 0 es ≡ true → level_of es ≡ 0 → ((i : ℕ) (e : Entry) → length es ≤ i → slice_get gs i ≡ Some e → 0 < e.level) → up_to 0 gs ≡ es
+back-level : (es gs : List Entry) → take (length es) gs ≡ es → has_rising_levels 0 es ≡ true → level_of es ≡ 0 → ((i : ℕ) (e : Entry) → length es ≤ i → slice_get gs i ≡ Some e → 0 < e.level) → entries_up_to 0 gs ≡ es
 back-level es gs p climb level f =
     let whole : es ++ drop (length es) gs ≡ gs = ap (λ (xs : List Entry). xs ++ drop (length es) gs) (sym p) ∙ take-append-drop (length es) gs in
-    let rest : up_to 0 (drop (length es) gs) ≡ [] = none-up (drop (length es) gs)
+    let rest : entries_up_to 0 (drop (length es) gs) ≡ [] = none-up (drop (length es) gs)
     (λ i e at.
     (let P : List Entry → Type 0 = λ xs. slice_get xs (length es + i) ≡ Some e in
     f (length es + i) e (omega arith) (subst P whole (at-past es (drop (length es) gs) i e at))))
     in
-    ap (up_to 0) (sym whole) ∙ filter-append (λ (e : Entry). nat_le e.level 0) es (drop (length es) gs) ∙ ap (λ (xs : List Entry). up_to 0 es ++ xs) rest ∙ append-nil (up_to 0 es) ∙ up_to-all 0 0 es climb (omega (arith, level))
+    ap (entries_up_to 0) (sym whole) ∙ filter-append (λ (e : Entry). nat_le e.level 0) es (drop (length es) gs) ∙ ap (λ (xs : List Entry). entries_up_to 0 es ++ xs) rest ∙ append-nil (entries_up_to 0 es)
+    ∙ entries_up_to-all 0 0 es climb (omega (arith, level))
 
 above-level : (cs : List (List Literal)) (es fs gs : List Entry) (set : List Literal) → length es < length fs → IsAssumed set es fs → IsPropagated cs fs gs → (i : ℕ) (e : Entry) → length es ≤ i → slice_get gs i ≡ Some e → 0 < e.level
 above-level cs es fs gs set more p q i e le at =
@@ -146,16 +141,14 @@ above-level cs es fs gs set more p q i e le at =
           omega (arith, v.0, v.1, w))
     ]
 
--- where more was set, and propagated, what is set at level 0 is the same
-pub back-known : (cs : List (List Literal)) (es fs gs : List Entry) (set : List Literal) → climbs 0 es ≡ true → level_of es ≡ 0 → length es < length fs → IsAssumed set es fs → IsPropagated cs fs gs → up_to 0 gs ≡ es
+pub back-known : (cs : List (List Literal)) (es fs gs : List Entry) (set : List Literal) → has_rising_levels 0 es ≡ true → level_of es ≡ 0 → length es < length fs → IsAssumed set es fs → IsPropagated cs fs gs → entries_up_to 0 gs ≡ es
 back-known cs es fs gs set climb level more p q = back-level es gs (kept-join es fs gs p.kept q.kept) climb level (above-level cs es fs gs set more p q)
 
--- some literal of the set was unset
 pub some-unset : (set : List Literal) (es fs : List Entry) → length es < length fs → vars_differ (lits_of fs) ≡ true → IsAssumed set es fs → (l : Literal) × (has_lit l set ≡ true) × (is_set es l.var ≡ false)
 some-unset set es fs more once p =
     let x = item_at fs (length es) more in
     let v = p.levels (length es) x.0 (omega arith) x.1 in (
-      opposite x.0.lit,
+      negated_lit x.0.lit,
       v.2,
       elim (cases_Bool (is_set es x.0.lit.var)) [
         | inl t ↦ absurd (let y = var-of (lits_of es) x.0.lit.var t in

@@ -4,32 +4,32 @@ use Rattle.std.specs.Prelude.{slice_get}
 use Rattle.std.proofs.lemmas.Bool.{true≢false}
 use Rattle.ilk_base.proofs.Lists.{take-at, taken-before}
 use Rattle.ilk_base.proofs.Ranges.{below_or_past}
-use Rattle.ilk_cnf.specs.Literal.{Literal, opposite, has_lit, vars_differ}
+use Rattle.ilk_cnf.specs.Literal.{Literal, negated_lit, has_lit, vars_differ}
 use Rattle.ilk_cnf.specs.Formula.{Formula, IsFormula}
-use Rattle.ilk_clauses.specs.Reasons.{clause_at}
-use Rattle.ilk_clauses.proofs.Within.{clause-there}
+use Rattle.ilk_watches.specs.Reasons.{clause_at}
+use Rattle.ilk_watches.proofs.Within.{clause-there}
 use Rattle.ilk_trail.specs.declared.entry.Entry.{Entry}
 use Rattle.ilk_trail.specs.Laws.{lits_of}
 use Rattle.ilk_trail.proofs.Entries.{entry-lit}
 use Rattle.ilk_watches.proofs.Entries.{entry-of-lit}
 use Rattle.ilk_learn.proofs.Members.{same-var}
-use Rattle.ilk_rup.specs.Needs.{AreHints, Explains, IsKnown, IsNeeded, Shows, unit_hints}
+use Rattle.ilk_rup.specs.Needs.{AreHints, Explains, AreUnitHints, IsNeeded, FalsifiesWithNeeded, unit_hints}
 use Rattle.ilk_rup.proofs.Explaining.{not-in, shows-start, shows-end}
 use Rattle.ilk_rup.proofs.Passing.{lits-taken, once-taken}
 
 pub shown-first : (f : Formula) (es : List Entry) (set needed : List Literal) (c from top known : ℕ) →
     IsFormula f → vars_differ (lits_of es) ≡ true → Explains f.clauses es set c from top known →
     IsNeeded set (clause_at f.clauses c) [] needed →
-    Shows f.clauses (lits_of (take top es)) (lits_of (take top es)) set needed ((c + 1) ∷ [])
+    FalsifiesWithNeeded f.clauses (lits_of (take top es)) (lits_of (take top es)) set needed ((c + 1) ∷ [])
 shown-first f es set needed c from top known k once x n =
-    let P : ℕ → Type 0 = λ h. Shows f.clauses (lits_of (take top es)) (lits_of (take top es)) set needed (h ∷ []) in
+    let P : ℕ → Type 0 = λ h. FalsifiesWithNeeded f.clauses (lits_of (take top es)) (lits_of (take top es)) set needed (h ∷ []) in
     subst P (sym (add-one c)) (shows-start f.clauses (lits_of (take top es)) set (clause_at f.clauses c) needed c (clause-there f.clauses c x.clause) (once-taken es top once) x.denied n)
 
 pub explained :
     (cs : List (List Literal)) (es : List Entry) (set needed : List Literal) (units hints : List ℕ)
     (c from top known n : ℕ) →
-    Explains cs es set c from top known → IsKnown units cs es n known → vars_differ (lits_of es) ≡ true →
-    vars_differ needed ≡ true → Shows cs (lits_of (take top es)) (lits_of (take from es)) set needed hints →
+    Explains cs es set c from top known → AreUnitHints units cs es n known → vars_differ (lits_of es) ≡ true →
+    vars_differ needed ≡ true → FalsifiesWithNeeded cs (lits_of (take top es)) (lits_of (take from es)) set needed hints →
     AreHints cs set (unit_hints units needed ++ hints)
 explained cs es set needed units hints c from top known n x k once apart s = λ d differ fewer more.
     shows-end cs (lits_of (take top es)) (lits_of (take from es)) set needed units hints d s apart (λ l u h e. named l u h e) (λ l h b. unit l h b) fewer more
@@ -56,5 +56,5 @@ explained cs es set needed units hints c from top known n x k once apart s = λ 
         let b = taken-before from es y.index y.entry y.stands in
         elim (below_or_past y.index known) [
           | inl q ↦ (let t = k.told y.index y.entry q b.1 in (t.0, ap (λ (z : Literal). get_or units z.var 0) (sym y.is) ∙ t.1))
-          | inr q ↦ absurd (true≢false (sym (ap (λ (z : Literal). has_lit (opposite z) set) (sym y.is) ∙ x.assumed y.index y.entry q b.0 b.1) ∙ s.apart l h))
+          | inr q ↦ absurd (true≢false (sym (ap (λ (z : Literal). has_lit (negated_lit z) set) (sym y.is) ∙ x.assumed y.index y.entry q b.0 b.1) ∙ s.apart l h))
         ]

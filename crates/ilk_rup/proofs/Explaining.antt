@@ -1,35 +1,33 @@
--- The hints that a walk over the entries finds, from the latest entry on.
+-- The hints found by a walk over the entries, latest first.
 use Rattle.std.proofs.Common.{◌≡◌, ℕ, zero, suc, inl, inr, ◌⊎◌, true, false, not, eqb, List, [], ◌∷◌, ◌++◌, refl, sym, ap, ◌∙◌, subst, Some, arith, get_or}
 use Rattle.std.specs.Prelude.{slice_get}
 use Rattle.std.proofs.lemmas.Bool.{and_parts, or_cases, or_left, or_right, cases_Bool, not-true, not_from_false, true≢false, eqb-true, or_from}
 use Rattle.std.proofs.lemmas.Bool.Decides.{nat_tests}
-use Rattle.ilk_cnf.specs.Literal.{Literal, opposite, same_lit, has_lit, has_var, vars_differ}
-use Rattle.ilk_cnf.proofs.Gates.{opposite-opposite}
+use Rattle.ilk_cnf.specs.Literal.{Literal, negated_lit, same_lit, has_lit, has_var, vars_differ}
+use Rattle.ilk_cnf.proofs.Gates.{negated_lit-negated_lit}
 use Rattle.ilk_cnf.proofs.SameLiterals.{same-lit, lit-is, has-var}
-use Rattle.ilk_log.specs.Propagation.{is_falsified, unit_of}
-use Rattle.ilk_log.specs.Derived.{ends_false, opposites}
-use Rattle.ilk_log.specs.Fresh.{others}
-use Rattle.ilk_learn.proofs.Derived.{false-from, false-at, unit-one, has-opposite, opposite-of}
+use Rattle.ilk_log.specs.Propagation.{is_falsified, unit_lit}
+use Rattle.ilk_log.specs.Derived.{hints_end_in_conflict, negated_clause}
+use Rattle.ilk_log.specs.Fresh.{other_lits}
+use Rattle.ilk_learn.proofs.Derived.{false-from, false-at, unit-one, has-negated_lit, negated_lit-of}
 use Rattle.ilk_learn.proofs.Members.{kept-at, no-var, same-var, var-of}
-use Rattle.ilk_rup.specs.Needs.{IsNeeded, Shows, unit_hints}
+use Rattle.ilk_rup.specs.Needs.{IsNeeded, FalsifiesWithNeeded, unit_hints}
 use Rattle.ilk_rup.proofs.Alike.{ends-first}
 use Rattle.ilk_rup.proofs.Signs.{var-either}
 
--- a literal that a clause needs stands in the set with its variable
-needed-is : (all new : List Literal) (m : Literal) → vars_differ all ≡ true → ((x : Literal) → has_lit x new ≡ true → has_lit x all ≡ true) → has_lit (opposite m) all ≡ true → has_var m.var new ≡ true → has_lit (opposite m) new ≡ true
+needed-is : (all new : List Literal) (m : Literal) → vars_differ all ≡ true → ((x : Literal) → has_lit x new ≡ true → has_lit x all ≡ true) → has_lit (negated_lit m) all ≡ true → has_var m.var new ≡ true → has_lit (negated_lit m) new ≡ true
 needed-is all new m d w h v =
     let x = var-of new m.var v in
-    let e : x.0 ≡ opposite m = same-var all x.0 (opposite m) d (w x.0 x.2) h x.1 in
+    let e : x.0 ≡ negated_lit m = same-var all x.0 (negated_lit m) d (w x.0 x.2) h x.1 in
     ap (λ (y : Literal). has_lit y new) (sym e) ∙ x.2
 
 pub not-in : (m : Literal) (xs : List Literal) → (has_lit m xs ≡ true → ⊥) → has_lit m xs ≡ false
 not-in m xs f = elim (cases_Bool (has_lit m xs)) [ inl t ↦ absurd (f t) | inr t ↦ t ]
 
--- the clause that is false
 pub shows-start : (cs : List (List Literal)) (all set d needed : List Literal) (i : ℕ) →
     slice_get cs i ≡ Some d → vars_differ all ≡ true →
-    ((m : Literal) → has_lit m d ≡ true → (has_lit m set ≡ true) ⊎ (has_lit (opposite m) all ≡ true)) →
-    IsNeeded set d [] needed → Shows cs all all set needed (suc i ∷ [])
+    ((m : Literal) → has_lit m d ≡ true → (has_lit m set ≡ true) ⊎ (has_lit (negated_lit m) all ≡ true)) →
+    IsNeeded set d [] needed → FalsifiesWithNeeded cs all all set needed (suc i ∷ [])
 shows-start cs all set d needed i at differ f n = record {
   apart = λ x h. elim (n.made x h) [ inl y ↦ absurd (true≢false (sym y)) | inr y ↦ y.1 ];
   within = within;
@@ -37,7 +35,7 @@ shows-start cs all set d needed i at differ f n = record {
     | inl s ↦ b m s
     | inr v ↦ elim (f m h) [
       | inl s ↦ b m s
-      | inr t ↦ c (opposite m) (needed-is all needed m differ within t v) t
+      | inr t ↦ c (negated_lit m) (needed-is all needed m differ within t v) t
     ]
   ]));
 }
@@ -45,21 +43,20 @@ shows-start cs all set d needed i at differ f n = record {
     within : (x : Literal) → has_lit x needed ≡ true → has_lit x all ≡ true
     within x h = elim (n.made x h) [
       | inl y ↦ absurd (true≢false (sym y))
-      | inr y ↦ elim (f (opposite x) y.0) [
+      | inr y ↦ elim (f (negated_lit x) y.0) [
         | inl s ↦ absurd (true≢false (sym s ∙ y.1))
-        | inr t ↦ ap (λ (z : Literal). has_lit z all) (sym (opposite-opposite x)) ∙ t
+        | inr t ↦ ap (λ (z : Literal). has_lit z all) (sym (negated_lit-negated_lit x)) ∙ t
       ]
     ]
 
--- the entries before one, and with it
 pub record Next (before more : List Literal) (l : Literal) : Type 0 where
   pub kept : (m : Literal) → has_lit m before ≡ true → has_lit m more ≡ true
   pub last : has_lit l more ≡ true
   pub only : (m : Literal) → has_lit m more ≡ true → (has_lit m before ≡ true) ⊎ (m ≡ l)
   pub unset : has_var l.var before ≡ false
 
--- an entry whose literal isn't needed
-pub shows-skip : (cs : List (List Literal)) (all before more set needed : List Literal) (l : Literal) (hints : List ℕ) → Next before more l → has_lit l needed ≡ false → Shows cs all more set needed hints → Shows cs all before set needed hints
+pub shows-skip : (cs : List (List Literal)) (all before more set needed : List Literal) (l : Literal) (hints : List ℕ) → Next before more l → has_lit l needed ≡ false → FalsifiesWithNeeded cs all more set needed hints
+    → FalsifiesWithNeeded cs all before set needed hints
 shows-skip cs all before more set needed l hints n u s = record {
   apart = s.apart;
   within = s.within;
@@ -69,55 +66,53 @@ shows-skip cs all before more set needed l hints n u s = record {
   ]);
 }
 
--- an entry whose literal is needed, with its reason
 pub shows-step :
     (cs : List (List Literal)) (all before more set needed next d : List Literal) (l : Literal) (r : ℕ)
     (hints : List ℕ) →
     Next before more l → has_lit l needed ≡ true → slice_get cs r ≡ Some d → vars_differ d ≡ true →
-    has_lit l d ≡ true → is_falsified before (others l d) ≡ true → has_var l.var set ≡ false →
+    has_lit l d ≡ true → is_falsified before (other_lits l d) ≡ true → has_var l.var set ≡ false →
     vars_differ all ≡ true → ((m : Literal) → has_lit m before ≡ true → has_lit m all ≡ true) →
-    IsNeeded set d needed next → Shows cs all more set needed hints →
-    Shows cs all before set next (suc r ∷ hints)
+    IsNeeded set d needed next → FalsifiesWithNeeded cs all more set needed hints →
+    FalsifiesWithNeeded cs all before set next (suc r ∷ hints)
 shows-step cs all before more set needed next d l r hints n u at differ own falsified away once inside k s = record {
   apart = λ x h. elim (k.made x h) [ inl y ↦ s.apart x y | inr y ↦ y.1 ];
   within = within;
-  ends = λ now a b c. (let one : unit_of now d ≡ Some l = unit-one now d l differ own (unset now a l refl) (unset now a (opposite l) refl) (λ m h e. denied now b c m h e) in
+  ends = λ now a b c. (let one : unit_lit now d ≡ Some l = unit-one now d l differ own (unset now a l refl) (unset now a (negated_lit l) refl) (λ m h e. denied now b c m h e) in
       ends-first cs now (l ∷ now) (suc r) hints (rw at (rw one refl)) (s.ends (l ∷ now) (λ m h. elim (or_cases (same_lit m l) (has_lit m now) h) [
         | inl e ↦ inl (ap (λ (z : Literal). has_lit z more) (lit-is m l e) ∙ n.last)
         | inr t ↦ elim (a m t) [ inl y ↦ inl (n.kept m y) | inr y ↦ inr y ]
-      ]) (λ m h. or_right (same_lit (opposite m) l) (has_lit (opposite m) now) (b m h)) (λ x h y. elim (n.only x y) [
+      ]) (λ m h. or_right (same_lit (negated_lit m) l) (has_lit (negated_lit m) now) (b m h)) (λ x h y. elim (n.only x y) [
         | inl t ↦ or_right (same_lit x l) (has_lit x now) (c x (k.kept x h) t)
         | inr e ↦ or_left (same_lit x l) (has_lit x now) (ap (λ (z : Literal). same_lit z l) e ∙ same-lit l)
       ])));
 }
   where
-    -- the opposites of the others stand before
-    behind : (m : Literal) → has_lit m d ≡ true → same_lit l m ≡ false → has_lit (opposite m) before ≡ true
-    behind m h e = false-at before (others l d) m falsified (kept-at (λ (x : Literal). not (same_lit l x)) d m h (not_from_false (same_lit l m) e))
+    behind : (m : Literal) → has_lit m d ≡ true → same_lit l m ≡ false → has_lit (negated_lit m) before ≡ true
+    behind m h e = false-at before (other_lits l d) m falsified (kept-at (λ (x : Literal). not (same_lit l x)) d m h (not_from_false (same_lit l m) e))
 
     within : (x : Literal) → has_lit x next ≡ true → has_lit x all ≡ true
     within x h = elim (k.made x h) [
       | inl y ↦ s.within x y
-      | inr y ↦ (let e : same_lit l (opposite x) ≡ false = elim (cases_Bool (same_lit l (opposite x))) [
-        | inl t ↦ absurd (let q : l.var ≡ x.var = ap (λ (z : Literal). z.var) (lit-is l (opposite x) t) in
+      | inr y ↦ (let e : same_lit l (negated_lit x) ≡ false = elim (cases_Bool (same_lit l (negated_lit x))) [
+        | inl t ↦ absurd (let q : l.var ≡ x.var = ap (λ (z : Literal). z.var) (lit-is l (negated_lit x) t) in
             true≢false (sym (has-var l needed u) ∙ ap (λ (v : ℕ). has_var v needed) q ∙ y.2))
         | inr t ↦ t
       ] in
-          ap (λ (z : Literal). has_lit z all) (sym (opposite-opposite x)) ∙ inside (opposite (opposite x)) (behind (opposite x) y.0 e))
+          ap (λ (z : Literal). has_lit z all) (sym (negated_lit-negated_lit x)) ∙ inside (negated_lit (negated_lit x)) (behind (negated_lit x) y.0 e))
     ]
 
-    unset : (now : List Literal) → ((m : Literal) → has_lit m now ≡ true → (has_lit m before ≡ true) ⊎ (has_lit (opposite m) set ≡ true)) → (m : Literal) → m.var ≡ l.var → has_lit m now ≡ false
+    unset : (now : List Literal) → ((m : Literal) → has_lit m now ≡ true → (has_lit m before ≡ true) ⊎ (has_lit (negated_lit m) set ≡ true)) → (m : Literal) → m.var ≡ l.var → has_lit m now ≡ false
     unset now a m e = not-in m now (λ h. elim (a m h) [
       | inl t ↦ no-var before m (ap (λ (v : ℕ). has_var v before) e ∙ n.unset) t
-      | inr t ↦ no-var set (opposite m) (ap (λ (v : ℕ). has_var v set) e ∙ away) t
+      | inr t ↦ no-var set (negated_lit m) (ap (λ (v : ℕ). has_var v set) e ∙ away) t
     ])
 
-    denied : (now : List Literal) → ((m : Literal) → has_lit m set ≡ true → has_lit (opposite m) now ≡ true) →
+    denied : (now : List Literal) → ((m : Literal) → has_lit m set ≡ true → has_lit (negated_lit m) now ≡ true) →
         ((x : Literal) → has_lit x next ≡ true → has_lit x before ≡ true → has_lit x now ≡ true) →
-        (m : Literal) → has_lit m d ≡ true → same_lit l m ≡ false → has_lit (opposite m) now ≡ true
+        (m : Literal) → has_lit m d ≡ true → same_lit l m ≡ false → has_lit (negated_lit m) now ≡ true
     denied now b c m h e = elim (k.covered m h) [
       | inl t ↦ b m t
-      | inr v ↦ (let q = behind m h e in c (opposite m) (needed-is all next m once within (inside (opposite m) q) v) q)
+      | inr v ↦ (let q = behind m h e in c (negated_lit m) (needed-is all next m once within (inside (negated_lit m) q) v) q)
     ]
 
 later : (ls : List Literal) (l x : Literal) → has_lit x ls ≡ true → has_lit x (l ∷ ls) ≡ true
@@ -133,24 +128,23 @@ by-unit : {P : Type 0} (u : ℕ) → (u ≡ 0 → P) → ((k : ℕ) → u ≡ su
 by-unit zero f g = f refl
 by-unit (suc k) f g = g k refl
 
--- what stands there after the hints of known literals
+-- The literals after the hints of known literals.
 pub record Taken (now ls : List Literal) (units : List ℕ) (next : List Literal) : Type 0 where
   pub kept : (m : Literal) → has_lit m now ≡ true → has_lit m next ≡ true
   pub set : (x : Literal) (k : ℕ) → has_lit x ls ≡ true → get_or units x.var 0 ≡ suc k → has_lit x next ≡ true
   pub only : (m : Literal) → has_lit m next ≡ true → (has_lit m now ≡ true) ⊎ ((has_lit m ls ≡ true) × (k : ℕ) × (get_or units m.var 0 ≡ suc k))
 
--- the hints of known literals, and then hints that end at a false clause from whatever then stands there
 pub take-units : (cs : List (List Literal)) (units hints : List ℕ) (now ls : List Literal) →
     vars_differ ls ≡ true →
     ((x : Literal) (k : ℕ) → has_lit x ls ≡ true → get_or units x.var 0 ≡ suc k →
     (slice_get cs k ≡ Some (x ∷ [])) × (has_var x.var now ≡ false)) →
-    ((next : List Literal) → Taken now ls units next → ends_false cs next hints ≡ true) →
-    ends_false cs now (unit_hints units ls ++ hints) ≡ true
+    ((next : List Literal) → Taken now ls units next → hints_end_in_conflict cs next hints ≡ true) →
+    hints_end_in_conflict cs now (unit_hints units ls ++ hints) ≡ true
 take-units cs units hints now [] d f e = e now (record { kept = λ m h. h; set = λ x k h q. absurd (true≢false (sym h)); only = λ m h. inl h })
 take-units cs units hints now (l ∷ ls) d f e =
     let p = and_parts (not (has_var l.var ls)) (vars_differ ls) d in
     let none = not-true (has_var l.var ls) p.0 in
-    let P : List ℕ → Type 0 = λ hs. ends_false cs now (hs ++ hints) ≡ true in
+    let P : List ℕ → Type 0 = λ hs. hints_end_in_conflict cs now (hs ++ hints) ≡ true in
     by-unit (get_or units l.var 0) (λ z. (let same : unit_hints units ls ≡ unit_hints units (l ∷ ls) = rw z refl in
     subst P same (take-units cs units hints now ls p.1 (λ x k h q. f x k (later ls l x h) q) (λ next t. e next (record {
       kept = t.kept;
@@ -161,7 +155,7 @@ take-units cs units hints now (l ∷ ls) d f e =
       only = λ m h. elim (t.only m h) [ inl y ↦ inl y | inr y ↦ inr (later ls l m y.0, y.1, y.2) ];
     }))))) (λ u z. (let here = f l u (or_left (same_lit l l) (has_lit l ls) (same-lit l)) z in
     let unset : (m : Literal) → m.var ≡ l.var → has_lit m now ≡ false = λ m q. not-in m now (λ h. no-var now m (ap (λ (v : ℕ). has_var v now) q ∙ here.1) h) in
-    let one : unit_of now (l ∷ []) ≡ Some l = unit-one now (l ∷ []) l refl (or_left (same_lit l l) false (same-lit l)) (unset l refl) (unset (opposite l) refl) (λ m h n. absurd (elim (or_cases (same_lit m l) false h) [
+    let one : unit_lit now (l ∷ []) ≡ Some l = unit-one now (l ∷ []) l refl (or_left (same_lit l l) false (same-lit l)) (unset l refl) (unset (negated_lit l) refl) (λ m h n. absurd (elim (or_cases (same_lit m l) false h) [
       | inl t ↦ true≢false (sym (ap (λ (y : Literal). same_lit l y) (lit-is m l t) ∙ same-lit l) ∙ n)
       | inr t ↦ true≢false (sym t)
     ])) in
@@ -184,28 +178,27 @@ take-units cs units hints now (l ∷ ls) d f e =
       ];
     }))))))
 
--- the hints of the known literals, and then those of the walk
 pub shows-end :
     (cs : List (List Literal)) (all before set needed : List Literal) (units hints : List ℕ)
     (c : List Literal) →
-    Shows cs all before set needed hints → vars_differ needed ≡ true →
+    FalsifiesWithNeeded cs all before set needed hints → vars_differ needed ≡ true →
     ((x : Literal) (k : ℕ) → has_lit x needed ≡ true → get_or units x.var 0 ≡ suc k →
     (slice_get cs k ≡ Some (x ∷ [])) × (has_lit x set ≡ false) × (has_lit x before ≡ true)) →
     ((x : Literal) → has_lit x needed ≡ true → has_lit x before ≡ true →
     (k : ℕ) × (get_or units x.var 0 ≡ suc k)) →
     ((m : Literal) → has_lit m c ≡ true → has_lit m set ≡ true) →
     ((m : Literal) → has_lit m set ≡ true → has_lit m c ≡ true) →
-    ends_false cs (opposites c) (unit_hints units needed ++ hints) ≡ true
+    hints_end_in_conflict cs (negated_clause c) (unit_hints units needed ++ hints) ≡ true
 shows-end cs all before set needed units hints c s d f g fewer more =
-    take-units cs units hints (opposites c) needed d (λ x k h e. (let q = f x k h e in (q.0, free x h q.1))) (λ next t. s.ends next (λ m h. elim (t.only m h) [
-      | inl y ↦ (let o = opposite-of c m y in inr (ap (λ (z : Literal). has_lit z set) (ap opposite o.2 ∙ opposite-opposite o.0) ∙ fewer o.0 o.1))
+    take-units cs units hints (negated_clause c) needed d (λ x k h e. (let q = f x k h e in (q.0, free x h q.1))) (λ next t. s.ends next (λ m h. elim (t.only m h) [
+      | inl y ↦ (let o = negated_lit-of c m y in inr (ap (λ (z : Literal). has_lit z set) (ap negated_lit o.2 ∙ negated_lit-negated_lit o.0) ∙ fewer o.0 o.1))
       | inr y ↦ inl (f m y.1 y.0 y.2).2
-    ]) (λ m h. t.kept (opposite m) (has-opposite c m (more m h))) (λ x h k. (let u = g x h k in t.set x u.0 h u.1)))
+    ]) (λ m h. t.kept (negated_lit m) (has-negated_lit c m (more m h))) (λ x h k. (let u = g x h k in t.set x u.0 h u.1)))
   where
-    free : (x : Literal) → has_lit x needed ≡ true → has_lit x set ≡ false → has_var x.var (opposites c) ≡ false
-    free x h n = elim (cases_Bool (has_var x.var (opposites c))) [
-      | inl t ↦ absurd (let y = var-of (opposites c) x.var t in
-          let o = opposite-of c y.0 y.2 in
+    free : (x : Literal) → has_lit x needed ≡ true → has_lit x set ≡ false → has_var x.var (negated_clause c) ≡ false
+    free x h n = elim (cases_Bool (has_var x.var (negated_clause c))) [
+      | inl t ↦ absurd (let y = var-of (negated_clause c) x.var t in
+          let o = negated_lit-of c y.0 y.2 in
           let v : o.0.var ≡ x.var = ap (λ (z : Literal). z.var) (sym o.2) ∙ y.1 in
           elim (var-either o.0 x set v (fewer o.0 o.1)) [ inl y ↦ true≢false (sym y ∙ n) | inr y ↦ true≢false (sym y ∙ s.apart x h) ])
       | inr t ↦ t

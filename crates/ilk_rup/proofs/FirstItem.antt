@@ -1,18 +1,18 @@
--- What the first item of a text is, as its words are read one by one.
+-- The first item of a text, as its words are read one by one.
 use Rattle.std.proofs.Common.{◌≡◌, ◌++◌, ◌∷◌, [], ◌⊎◌, ◌||◌, ℕ, inl, inr, Bool, true, false, not, List, Option, Some, None, refl, sym, ap, ◌∙◌, append_assoc, option_map}
 use Rattle.std.proofs.lemmas.Bool.{cases_Bool, or_cases, or_parts, true≢false}
 use Rattle.std.proofs.lemmas.List.{append-nil}
 use Rattle.std.proofs.lemmas.List.Folds.{list_any-append}
 use Rattle.ilk_base.specs.Option.{◌>>=◌}
-use Rattle.ilk_cnf.specs.Literal.{Literal, opposite, same_lit, has_lit}
+use Rattle.ilk_cnf.specs.Literal.{Literal, negated_lit, same_lit, has_lit}
 use Rattle.ilk_cnf.specs.Formula.{is_tautology}
-use Rattle.ilk_cnf.proofs.Gates.{opposite-opposite}
+use Rattle.ilk_cnf.proofs.Gates.{negated_lit-negated_lit}
 use Rattle.ilk_cnf.proofs.SameLiterals.{same-lit, lit-is}
 use Rattle.ilk_lines.specs.Lines.{Bytes}
-use Rattle.ilk_rup.specs.RefutationText.{in_first, is_end, items_of, literal_of, literals_of}
+use Rattle.ilk_rup.specs.RefutationText.{with_word_in_first, is_end, items_of, literal_of, literals_of}
 use Rattle.ilk_rup.specs.Items.{more}
 
--- where words and literals were read before these words: what the first item of all is
+-- The first item, after some words and literals were read.
 pub record Before (n : ℕ) (words now : List Bytes) (ls : List Literal) : Type 0 where
   pub front : List Bytes
   pub whole : words ≡ front ++ now
@@ -43,11 +43,10 @@ before-next n words rest word ls l b e k = record {
   front = b.front ++ word ∷ [];
   whole = b.whole ∙ sym (append_assoc b.front (word ∷ []) rest);
   lits = λ w ws. ap (literals_of n) (append_assoc b.front (word ∷ []) (w ∷ ws)) ∙ b.lits word (w ∷ ws) ∙ first-lits n word w ws l ls k;
-  items = λ w ws item more h. (let inner : items_of (word ∷ (w ∷ ws)) ≡ (word ∷ item) ∷ more = rw e (ap (in_first word) h) in
+  items = λ w ws item more h. (let inner : items_of (word ∷ (w ∷ ws)) ≡ (word ∷ item) ∷ more = rw e (ap (with_word_in_first word) h) in
       ap items_of (append_assoc b.front (word ∷ []) (w ∷ ws)) ∙ b.items word (w ∷ ws) (word ∷ item) more inner ∙ ap (λ (xs : List Bytes). xs ∷ more) (sym (append_assoc b.front (word ∷ []) item)));
 }
 
--- the word 0
 pub read-end : (n : ℕ) (words rest : List Bytes) (word : Bytes) (ls : List Literal) → Before n words (word ∷ rest) ls → is_end word ≡ true → (item : List Bytes) × (items_of words ≡ item ∷ items_of rest) × (literals_of n item ≡ Some ls)
 read-end n words rest word ls b e =
     let inner : items_of (word ∷ rest) ≡ (word ∷ []) ∷ items_of rest = rw e refl in
@@ -57,15 +56,13 @@ read-end n words rest word ls b e =
       b.lits word [] ∙ ap (option_map (λ ms. ls ++ ms)) last ∙ ap (λ (xs : List Literal). Some xs) (append-nil ls),
     )
 
--- the first item of some words
 pub first-item : (word : Bytes) (rest : List Bytes) → is_end word ≡ false → (tail : List Bytes) × (items : List (List Bytes)) × (items_of (word ∷ rest) ≡ (word ∷ tail) ∷ items)
 first-item word rest e = go (items_of rest) refl
   where
     go : (xs : List (List Bytes)) → items_of rest ≡ xs → (tail : List Bytes) × (items : List (List Bytes)) × (items_of (word ∷ rest) ≡ (word ∷ tail) ∷ items)
-    go [] h = ([], [], rw e (ap (in_first word) h))
-    go (item ∷ items) h = (item, items, rw e (ap (in_first word) h))
+    go [] h = ([], [], rw e (ap (with_word_in_first word) h))
+    go (item ∷ items) h = (item, items, rw e (ap (with_word_in_first word) h))
 
--- a word that is none of the two
 pub read-bad : (n : ℕ) (words rest : List Bytes) (word : Bytes) (ls : List Literal) →
     Before n words (word ∷ rest) ls → is_end word ≡ false → literal_of n word ≡ None →
     (item : List Bytes) × (items : List (List Bytes)) × (items_of words ≡ item ∷ items) ×
@@ -82,7 +79,6 @@ read-bad n words rest word ls b e k =
     bad [] = rw e refl
     bad (w ∷ ws) = ap (λ (o : Option Literal). o >>= λ x. literals_of n (w ∷ ws) >>= λ xs. Some (x ∷ xs)) k
 
--- no word is left
 pub read-cut : (n : ℕ) (words : List Bytes) (word : Bytes) (ls : List Literal) → Before n words (word ∷ []) ls → is_end word ≡ false → (item : List Bytes) × (items : List (List Bytes)) × (items_of words ≡ item ∷ items) × (literals_of n item ≡ None)
 read-cut n words word ls b e =
     let inner : items_of (word ∷ []) ≡ (word ∷ []) ∷ [] = rw e refl in
@@ -93,14 +89,13 @@ read-cut n words word ls b e =
       b.lits word [] ∙ ap (option_map (λ ms. ls ++ ms)) last,
     )
 
--- literals, with one more
-pub taut-push : (ls : List Literal) (l : Literal) → is_tautology (ls ++ l ∷ []) ≡ (is_tautology ls || has_lit (opposite l) ls)
+pub taut-push : (ls : List Literal) (l : Literal) → is_tautology (ls ++ l ∷ []) ≡ (is_tautology ls || has_lit (negated_lit l) ls)
 taut-push [] l = refl
 taut-push (m ∷ ls) l =
-    ap (λ b. b || is_tautology (ls ++ l ∷ [])) (list_any-append (same_lit (opposite m)) ls (l ∷ []))
-    ∙ ap (λ b. (has_lit (opposite m) ls || has_lit (opposite m) (l ∷ [])) || b) (taut-push ls l)
-    ∙ mix (has_lit (opposite m) ls) (same_lit (opposite m) l) (is_tautology ls) (has_lit (opposite l) ls)
-    ∙ ap (λ b. (has_lit (opposite m) ls || is_tautology ls) || (b || has_lit (opposite l) ls)) (turn m l)
+    ap (λ b. b || is_tautology (ls ++ l ∷ [])) (list_any-append (same_lit (negated_lit m)) ls (l ∷ []))
+    ∙ ap (λ b. (has_lit (negated_lit m) ls || has_lit (negated_lit m) (l ∷ [])) || b) (taut-push ls l)
+    ∙ mix (has_lit (negated_lit m) ls) (same_lit (negated_lit m) l) (is_tautology ls) (has_lit (negated_lit l) ls)
+    ∙ ap (λ b. (has_lit (negated_lit m) ls || is_tautology ls) || (b || has_lit (negated_lit l) ls)) (turn m l)
   where
     mix : (a b c d : Bool) → ((a || (b || false)) || (c || d)) ≡ ((a || c) || (b || d))
     mix true b c d = refl
@@ -109,34 +104,33 @@ taut-push (m ∷ ls) l =
     mix false false true d = refl
     mix false false false d = refl
 
-    turn : (m l : Literal) → same_lit (opposite m) l ≡ same_lit (opposite l) m
-    turn m l = elim (cases_Bool (same_lit (opposite m) l)) [
-      | inl t ↦ t ∙ sym (ap (same_lit (opposite l)) (sym (opposite-opposite m) ∙ ap opposite (lit-is (opposite m) l t)) ∙ same-lit (opposite l))
-      | inr t ↦ elim (cases_Bool (same_lit (opposite l) m)) [
-        | inl u ↦ absurd (true≢false (sym (ap (same_lit (opposite m)) (sym (opposite-opposite l) ∙ ap opposite (lit-is (opposite l) m u)) ∙ same-lit (opposite m)) ∙ t))
+    turn : (m l : Literal) → same_lit (negated_lit m) l ≡ same_lit (negated_lit l) m
+    turn m l = elim (cases_Bool (same_lit (negated_lit m) l)) [
+      | inl t ↦ t ∙ sym (ap (same_lit (negated_lit l)) (sym (negated_lit-negated_lit m) ∙ ap negated_lit (lit-is (negated_lit m) l t)) ∙ same-lit (negated_lit l))
+      | inr t ↦ elim (cases_Bool (same_lit (negated_lit l) m)) [
+        | inl u ↦ absurd (true≢false (sym (ap (same_lit (negated_lit m)) (sym (negated_lit-negated_lit l) ∙ ap negated_lit (lit-is (negated_lit l) m u)) ∙ same-lit (negated_lit m)) ∙ t))
         | inr u ↦ t ∙ sym u
       ]
     ]
 
--- where no variable has both, a literal's opposite isn't there with it
 both-split : (xs : List Literal) (l x : Literal) →
-    ((has_lit l xs ≡ true) → (has_lit (opposite l) xs ≡ true) → ⊥) → has_lit (opposite x) xs ≡ false →
+    ((has_lit l xs ≡ true) → (has_lit (negated_lit l) xs ≡ true) → ⊥) → has_lit (negated_lit x) xs ≡ false →
     (same_lit l x ≡ true) ⊎ (has_lit l xs ≡ true) →
-    (same_lit (opposite l) x ≡ true) ⊎ (has_lit (opposite l) xs ≡ true) → ⊥
-both-split xs l x rest t (inl a) (inl b) = never l.positive (ap (λ (z : Literal). z.positive) (lit-is (opposite l) x b ∙ sym (lit-is l x a)))
+    (same_lit (negated_lit l) x ≡ true) ⊎ (has_lit (negated_lit l) xs ≡ true) → ⊥
+both-split xs l x rest t (inl a) (inl b) = never l.positive (ap (λ (z : Literal). z.positive) (lit-is (negated_lit l) x b ∙ sym (lit-is l x a)))
   where
     never : (p : Bool) → not p ≡ p → ⊥
     never true e = cc
     never false e = cc
-both-split xs l x rest t (inl a) (inr b) = true≢false (sym b ∙ ap (λ (z : Literal). has_lit (opposite z) xs) (lit-is l x a) ∙ t)
-both-split xs l x rest t (inr a) (inl b) = true≢false (sym a ∙ ap (λ (z : Literal). has_lit z xs) (sym (opposite-opposite l) ∙ ap opposite (lit-is (opposite l) x b)) ∙ t)
+both-split xs l x rest t (inl a) (inr b) = true≢false (sym b ∙ ap (λ (z : Literal). has_lit (negated_lit z) xs) (lit-is l x a) ∙ t)
+both-split xs l x rest t (inr a) (inl b) = true≢false (sym a ∙ ap (λ (z : Literal). has_lit z xs) (sym (negated_lit-negated_lit l) ∙ ap negated_lit (lit-is (negated_lit l) x b)) ∙ t)
 both-split xs l x rest t (inr a) (inr b) = rest a b
 
-never-both : (xs : List Literal) (l : Literal) → is_tautology xs ≡ false → has_lit l xs ≡ true → has_lit (opposite l) xs ≡ true → ⊥
+never-both : (xs : List Literal) (l : Literal) → is_tautology xs ≡ false → has_lit l xs ≡ true → has_lit (negated_lit l) xs ≡ true → ⊥
 never-both [] l t a b = true≢false (sym a)
 never-both (x ∷ xs) l t a b =
-    let p = or_parts (has_lit (opposite x) xs) (is_tautology xs) t in
-    both-split xs l x (λ c d. never-both xs l p.1 c d) p.0 (or_cases (same_lit l x) (has_lit l xs) a) (or_cases (same_lit (opposite l) x) (has_lit (opposite l) xs) b)
+    let p = or_parts (has_lit (negated_lit x) xs) (is_tautology xs) t in
+    both-split xs l x (λ c d. never-both xs l p.1 c d) p.0 (or_cases (same_lit l x) (has_lit l xs) a) (or_cases (same_lit (negated_lit l) x) (has_lit (negated_lit l) xs) b)
 
-pub not-both-there : (ls : List Literal) (l : Literal) → is_tautology ls ≡ false → has_lit l ls ≡ true → has_lit (opposite l) ls ≡ false
-not-both-there ls l t own = elim (cases_Bool (has_lit (opposite l) ls)) [ inl x ↦ absurd (never-both ls l t own x) | inr x ↦ x ]
+pub not-both-there : (ls : List Literal) (l : Literal) → is_tautology ls ≡ false → has_lit l ls ≡ true → has_lit (negated_lit l) ls ≡ false
+not-both-there ls l t own = elim (cases_Bool (has_lit (negated_lit l) ls)) [ inl x ↦ absurd (never-both ls l t own x) | inr x ↦ x ]

@@ -1,4 +1,4 @@
--- What is known, as propagation goes on, and as clauses are added.
+-- The invariant, as propagation continues and clauses are added.
 use Rattle.std.proofs.Common.{◌≡◌, ◌<◌, ◌≤◌, ◌+◌, ◌++◌, ◌∷◌, [], ℕ, suc, inl, inr, true, List, Some, length, take, drop, set, refl, sym, ap, ◌∙◌, subst, arith, length-append}
 use Rattle.std.specs.Prelude.{IsSomeAnd, slice_get}
 use Rattle.std.proofs.Common.{get_or, replicate}
@@ -11,26 +11,26 @@ use Rattle.ilk_learn.proofs.Derived.{false-at}
 use Rattle.ilk_watches.proofs.Queues.{queue-start}
 use Rattle.ilk_rup.proofs.Alike.{alike-join, alike-self}
 use Rattle.ilk_base.proofs.Ranges.{below_or_past}
-use Rattle.ilk_cnf.specs.Literal.{Literal, has_lit, opposite}
+use Rattle.ilk_cnf.specs.Literal.{Literal, has_lit, negated_lit}
 use Rattle.ilk_cnf.specs.Formula.{Formula}
 use Rattle.ilk_arena.specs.Arena.{ArenaLists}
-use Rattle.ilk_clauses.specs.Chained.{IsClauses, IsClauseAdded, SameClauses}
-use Rattle.ilk_clauses.specs.Reasons.{clause_at, is_conflict, is_reason}
+use Rattle.ilk_watches.specs.Chained.{IsClauses, IsClauseAdded, SameClauses}
+use Rattle.ilk_watches.specs.Reasons.{clause_at, is_conflict, is_reason}
 use Rattle.ilk_log.specs.declared.step.Step.{Step}
 use Rattle.ilk_log.specs.Derived.{is_derived}
 use Rattle.ilk_trail.specs.declared.entry.Entry.{Entry}
 use Rattle.ilk_trail.specs.Trail.{TrailList}
 use Rattle.ilk_trail.specs.Laws.{IsTrail, lits_of}
-use Rattle.ilk_watches.specs.declared.queue.Queue.{Queue}
+use Rattle.ilk_watches.specs.declared.queue.Propagator.{Propagator}
 use Rattle.ilk_watches.specs.Propagated.{IsPropagated}
 use Rattle.ilk_watches.specs.Watched.{IsQueue}
-use Rattle.ilk_watches.proofs.Added.{queue-added}
+use Rattle.ilk_watches.proofs.Added.{queue-with_clause_added}
 use Rattle.ilk_watches.proofs.Entries.{at-kept, at-old, length-kept}
 use Rattle.ilk_rup.specs.declared.base.Base.{Base}
-use Rattle.ilk_rup.specs.Alike.{Alike}
+use Rattle.ilk_rup.specs.Alike.{AreEquivalent}
 use Rattle.ilk_rup.specs.LitSet.{LitSetList}
-use Rattle.ilk_rup.specs.Needs.{Explains, IsForced, IsKnown}
-use Rattle.ilk_rup.specs.Standing.{Held, IsAlike, IsLogged, IsNamed, Loose, Stands}
+use Rattle.ilk_rup.specs.Needs.{Explains, IsForced, AreUnitHints}
+use Rattle.ilk_rup.specs.Standing.{IsBaseInvariant, KeepsConsequences, IsLogged, HasUnitsAdded, IsBeforeClosure, IsBetweenItems}
 use Rattle.ilk_rup.proofs.Keeping.{forced-more, known-more, logged-more}
 
 take-kept : (es fs : List Entry) (i : ℕ) → take (length es) fs ≡ es → i ≤ length es → take i fs ≡ take i es
@@ -43,7 +43,7 @@ forced-propagated cs es fs i p h = λ e at. elim (below_or_past i (length es)) [
   | inr b ↦ p.reasons i e b at
 ]
 
-pub known-propagated : (units : List ℕ) (cs : List (List Literal)) (es fs : List Entry) (n k : ℕ) → take (length es) fs ≡ es → IsKnown units cs es n k → IsKnown units cs fs n k
+pub known-propagated : (units : List ℕ) (cs : List (List Literal)) (es fs : List Entry) (n k : ℕ) → take (length es) fs ≡ es → AreUnitHints units cs es n k → AreUnitHints units cs fs n k
 known-propagated units cs es fs n k p h = record {
   sized = h.sized;
   within = (let m = length-kept es fs p in omega (arith, m, h.within));
@@ -52,15 +52,15 @@ known-propagated units cs es fs n k p h = record {
 }
 
 pub held-propagated :
-    (f : Formula) (a b : ArenaLists) (t u : TrailList) (q r : Queue) (units : List ℕ) (named : ℕ)
+    (f : Formula) (a b : ArenaLists) (t u : TrailList) (q r : Propagator) (units : List ℕ) (named : ℕ)
     (log : List Step) →
-    Held f a t q units named log → SameClauses a b → u ≡ record t { entries = u.entries } →
+    IsBaseInvariant f a t q units named log → SameClauses a b → u ≡ record t { entries = u.entries } →
     IsPropagated a.clauses t.entries u.entries → IsQueue b u.entries r.head r.settled →
-    Held f b u r units named log
+    IsBaseInvariant f b u r units named log
 held-propagated f a b t u q r units named log h same is p queue =
     let cs = sym same.clauses in
     let F : List (List Literal) → Type 0 = λ xs. (i : ℕ) → IsForced xs u.entries i in
-    let K : List (List Literal) → Type 0 = λ xs. IsKnown units xs u.entries f.vars named in
+    let K : List (List Literal) → Type 0 = λ xs. AreUnitHints units xs u.entries f.vars named in
     let L : List (List Literal) → Type 0 = λ xs. IsLogged f xs log in
     record {
       vars = same.vars ∙ h.vars;
@@ -72,55 +72,52 @@ held-propagated f a b t u q r units named log h same is p queue =
       logged = subst L cs h.logged;
     }
 
-pub loose-propagated : (k : Base) (b : ArenaLists) (u : TrailList) (r : Queue) → Loose k →
+pub loose-propagated : (k : Base) (b : ArenaLists) (u : TrailList) (r : Propagator) → IsBeforeClosure k →
     SameClauses k.clauses b → u ≡ record k.trail { entries = u.entries } →
     IsPropagated k.clauses.clauses k.trail.entries u.entries → IsQueue b u.entries r.head r.settled →
-    Loose (record k { clauses = b; trail = u; queue = r })
+    IsBeforeClosure (record k { clauses = b; trail = u; queue = r })
 loose-propagated k b u r h same is p queue = record {
   held = held-propagated k.formula.now k.clauses b k.trail u k.queue r k.explainer.units.items k.explainer.named k.log h.held same is p queue;
   needed_vars = h.needed_vars;
   set_vars = h.set_vars;
 }
 
--- one clause more
 pub added-clauses : (a b : ArenaLists) (c : List Literal) → IsClauseAdded a c b → b.clauses ≡ a.clauses ++ c ∷ []
 added-clauses a b c k = ap (λ (x : ArenaLists). x.clauses) k.is
 
--- the literal of an entry has a clause of its own
 pub held-named :
-    (f : Formula) (a b : ArenaLists) (t : TrailList) (q : Queue) (units : List ℕ) (named count : ℕ)
+    (f : Formula) (a b : ArenaLists) (t : TrailList) (q : Propagator) (units : List ℕ) (named count : ℕ)
     (log : List Step) (e : Entry) (hints : List ℕ) →
-    Held f a t q units named log → IsClauses a → IsClauses b → IsClauseAdded a (e.lit ∷ []) b → IsTrail t →
+    IsBaseInvariant f a t q units named log → IsClauses a → IsClauses b → IsClauseAdded a (e.lit ∷ []) b → IsTrail t →
     slice_get t.entries named ≡ Some e →
     is_derived f.vars a.clauses (record { clause = e.lit ∷ []; hints = hints }) ≡ true →
     e.lit.var < length units → count ≡ length b.clauses →
-    Held f b t q (set units e.lit.var count) (named + 1)
+    IsBaseInvariant f b t q (set units e.lit.var count) (named + 1)
     (log ++ record { clause = e.lit ∷ []; hints = hints } ∷ [])
 held-named f a b t q units named count log e hints h ka kb added trail at derived room size =
     let is = added-clauses a b (e.lit ∷ []) added in
     let cs = sym is in
     let F : List (List Literal) → Type 0 = λ xs. (i : ℕ) → IsForced xs t.entries i in
-    let K : List (List Literal) → Type 0 = λ xs. IsKnown (set units e.lit.var count) xs t.entries f.vars (named + 1) in
+    let K : List (List Literal) → Type 0 = λ xs. AreUnitHints (set units e.lit.var count) xs t.entries f.vars (named + 1) in
     let L : List (List Literal) → Type 0 = λ xs. IsLogged f xs (log ++ record { clause = e.lit ∷ []; hints = hints } ∷ []) in
     let long = length-append a.clauses ((e.lit ∷ []) ∷ []) in
     record {
       vars = ap (λ (x : ArenaLists). x.vars) added.is ∙ h.vars;
       trail_vars = h.trail_vars;
       level = h.level;
-      queued = queue-added a b t.entries q.head q.settled (e.lit ∷ []) h.queued ka kb added tt;
+      queued = queue-with_clause_added a b t.entries q.head q.settled (e.lit ∷ []) h.queued ka kb added tt;
       forced = subst F cs (λ i. forced-more a.clauses ((e.lit ∷ []) ∷ []) t.entries i (h.forced i));
       known = subst K cs (known-more units a.clauses t.entries f.vars named count e h.known at trail.once room (size ∙ ap length is ∙ long));
       logged = subst L cs (logged-more f a.clauses log (record { clause = e.lit ∷ []; hints = hints }) h.logged derived refl);
     }
 
--- before anything is set
 zeros : (n v k : ℕ) → get_or (replicate n 0) v 0 ≡ suc k → ⊥
 zeros n v k e = elim (below_or_past v n) [
   | inl b ↦ (let z : 0 ≡ suc k = sym (get_or-replicate n v 0 0 b) ∙ e in omega (arith, z))
   | inr b ↦ (let long = length-replicate {A = ℕ} n 0 in let z : 0 ≡ suc k = sym (get_or_past (replicate n 0) v 0 (omega (arith, b, long))) ∙ e in omega (arith, z))
 ]
 
-pub held-start : (f : Formula) (a : ArenaLists) → a.vars ≡ f.vars → a.clauses ≡ f.clauses → Held f a (record { vars = f.vars; entries = [] }) (record { head = 0; settled = 0 }) (replicate (f.vars + 1) 0) 0 []
+pub held-start : (f : Formula) (a : ArenaLists) → a.vars ≡ f.vars → a.clauses ≡ f.clauses → IsBaseInvariant f a (record { vars = f.vars; entries = [] }) (record { head = 0; settled = 0 }) (replicate (f.vars + 1) 0) 0 []
 held-start f a vars is = record {
   vars = vars;
   trail_vars = refl;
@@ -136,7 +133,6 @@ held-start f a vars is = record {
   logged = record { clauses_are = is ∙ sym (append-nil f.clauses); derived = refl; unended = refl };
 }
 
--- a conflict at level 0 needs no walk
 pub refute-explains : (cs : List (List Literal)) (es : List Entry) (k c : ℕ) → is_conflict cs (lits_of es) c ≡ true → k ≡ length es → Explains cs es [] c k k k
 refute-explains cs es k c h e =
     let p = and_parts (nat_lt c (length cs)) (is_falsified (lits_of es) (clause_at cs c)) h in
@@ -146,27 +142,25 @@ refute-explains cs es k c h e =
       known_in = omega arith;
       from_in = omega arith;
       top_in = omega (arith, e);
-      denied = λ m x. inr (ap (λ (xs : List Entry). has_lit (opposite m) (lits_of xs)) all ∙ false-at (lits_of es) (clause_at cs c) m p.1 x);
+      denied = λ m x. inr (ap (λ (xs : List Entry). has_lit (negated_lit m) (lits_of xs)) all ∙ false-at (lits_of es) (clause_at cs c) m p.1 x);
       walk = λ i x le lt at. absurd (omega (arith, le, lt));
       assumed = λ i x le lt at. absurd (omega (arith, le, lt));
       untrue = λ m x. absurd (true≢false (sym x));
     }
 
--- what stays alike
-pub alike-twice : (a b c : Base) → IsAlike a b → IsAlike b c → IsAlike a c
+pub alike-twice : (a b c : Base) → KeepsConsequences a b → KeepsConsequences b c → KeepsConsequences a c
 alike-twice a b c j k = record { formula = k.formula ∙ j.formula; alike = alike-join a.clauses.clauses b.clauses.clauses c.clauses.clauses j.alike k.alike }
 
-pub alike-propagated : (k : Base) (b : ArenaLists) (u : TrailList) (r : Queue) → SameClauses k.clauses b → IsAlike k (record k { clauses = b; trail = u; queue = r })
-alike-propagated k b u r same = (let A : List (List Literal) → Type 0 = λ cs. Alike k.clauses.clauses cs in record { formula = refl; alike = subst A (sym same.clauses) (alike-self k.clauses.clauses) })
+pub alike-propagated : (k : Base) (b : ArenaLists) (u : TrailList) (r : Propagator) → SameClauses k.clauses b → KeepsConsequences k (record k { clauses = b; trail = u; queue = r })
+alike-propagated k b u r same = (let A : List (List Literal) → Type 0 = λ cs. AreEquivalent k.clauses.clauses cs in record { formula = refl; alike = subst A (sym same.clauses) (alike-self k.clauses.clauses) })
 
-pub named_self : (k : Base) → IsNamed k k
+pub named_self : (k : Base) → HasUnitsAdded k k
 named_self k = record { same = record { formula = refl; alike = alike-self k.clauses.clauses }; refuted = refl; trail = refl; conflicts = λ c h. h }
 
-pub named-twice : (a b c : Base) → IsNamed a b → IsNamed b c → IsNamed a c
+pub named-twice : (a b c : Base) → HasUnitsAdded a b → HasUnitsAdded b c → HasUnitsAdded a c
 named-twice a b c j k = record { same = alike-twice a b c j.same k.same; refuted = k.refuted ∙ j.refuted; trail = k.trail ∙ j.trail; conflicts = λ i h. k.conflicts i (j.conflicts i h) }
 
--- the literals of an item were read
-pub stands-read : (k : Base) (s : LitSetList) → s.vars ≡ k.set.vars → Stands k → Stands (record k { set = s })
+pub stands-read : (k : Base) (s : LitSetList) → s.vars ≡ k.set.vars → IsBetweenItems k → IsBetweenItems (record k { set = s })
 stands-read k s e st = record {
   set_vars = e ∙ st.set_vars;
   going = λ r. (let x = st.going r in record { loose = record { held = x.loose.held; needed_vars = x.loose.needed_vars; set_vars = e ∙ x.loose.set_vars }; closed = x.closed; head = x.head; settled = x.settled; named = x.named });

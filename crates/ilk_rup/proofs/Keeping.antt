@@ -1,4 +1,4 @@
--- What is known, as a clause of one literal is added.
+-- The invariant, as a unit clause is added.
 use Rattle.std.proofs.Common.{◌≡◌, ◌<◌, ◌+◌, ◌&&◌, ◌++◌, ◌∷◌, [], ℕ, suc, inl, inr, true, false, eqb, List, Some, length, take, set, get_or, sym, ap, ◌∙◌, subst, arith, add-one, length-append}
 use Rattle.std.specs.Prelude.{Option, None, IsSomeAnd, slice_get, not, nat_lt}
 use Rattle.std.specs.List.{list_all}
@@ -9,13 +9,13 @@ use Rattle.std.proofs.lemmas.Option.{same_Some, slice_get_within}
 use Rattle.ilk_base.proofs.Lists.{at-before, taken-before}
 use Rattle.ilk_base.proofs.Ranges.{below_or_past}
 use Rattle.ilk_base.proofs.Tested.{list_all-more, list_all-slice_get}
-use Rattle.ilk_cnf.specs.Literal.{Literal, opposite, same_lit, has_lit, has_var, vars_differ}
-use Rattle.ilk_cnf.specs.Formula.{Formula, clause_in}
+use Rattle.ilk_cnf.specs.Literal.{Literal, negated_lit, same_lit, has_lit, has_var, vars_differ}
+use Rattle.ilk_cnf.specs.Formula.{Formula, is_clause_over}
 use Rattle.ilk_cnf.proofs.SameLiterals.{same-lit, lit-is}
-use Rattle.ilk_clauses.specs.Reasons.{clause_at, is_conflict, is_reason}
+use Rattle.ilk_watches.specs.Reasons.{clause_at, is_conflict, is_reason}
 use Rattle.ilk_log.specs.declared.step.Step.{Step}
-use Rattle.ilk_log.specs.Derived.{ends_empty, ends_false, is_derived, is_derived_log, is_empty, is_refutation, opposites, step_clauses}
-use Rattle.ilk_log.specs.Fresh.{others}
+use Rattle.ilk_log.specs.Derived.{ends_with_empty_clause, hints_end_in_conflict, is_derived, is_derived_log, is_empty, is_refutation, negated_clause, step_clauses}
+use Rattle.ilk_log.specs.Fresh.{other_lits}
 use Rattle.ilk_log.proofs.Pushed.{clauses-push, derived-push}
 use Rattle.ilk_log.specs.Propagation.{is_falsified}
 use Rattle.ilk_trail.specs.declared.entry.Entry.{Entry}
@@ -26,8 +26,8 @@ use Rattle.ilk_learn.proofs.Members.{kept-at, no-var}
 use Rattle.ilk_learn.proofs.Walk.{stands}
 use Rattle.std.proofs.Common.{append_assoc}
 use Rattle.std.proofs.lemmas.Bool.{not_from_false}
-use Rattle.ilk_rup.specs.Alike.{Alike}
-use Rattle.ilk_rup.specs.Needs.{AreHints, Explains, IsClauseOf, IsForced, IsKnown}
+use Rattle.ilk_rup.specs.Alike.{AreEquivalent}
+use Rattle.ilk_rup.specs.Needs.{AreHints, Explains, IsClauseOf, IsForced, AreUnitHints}
 use Rattle.ilk_rup.specs.Standing.{IsLogged}
 use Rattle.ilk_rup.proofs.Alike.{alike-forced, last-at}
 use Rattle.ilk_rup.proofs.Explaining.{not-in}
@@ -36,7 +36,7 @@ use Rattle.ilk_rup.proofs.Passing.{next-at, reason-in}
 pub reason-more : (cs more : List (List Literal)) (set : List Literal) (l : Literal) (r : ℕ) → is_reason cs set l r ≡ true → is_reason (cs ++ more) set l r ≡ true
 reason-more cs more set l r h =
     let same : clause_at (cs ++ more) r ≡ clause_at cs r = get_or-append cs more [] r (reason-in cs set l r h) in
-    ap (λ (k : List Literal). has_lit l k && is_falsified set (others l k)) same ∙ h
+    ap (λ (k : List Literal). has_lit l k && is_falsified set (other_lits l k)) same ∙ h
 
 pub forced-more : (cs more : List (List Literal)) (es : List Entry) (i : ℕ) → IsForced cs es i → IsForced (cs ++ more) es i
 forced-more cs more es i h = λ e at. go e e.reason (h e at)
@@ -54,9 +54,9 @@ conflict-more cs more set c h =
     and_from (nat_lt c (length (cs ++ more))) (is_falsified set (clause_at (cs ++ more) c)) (le-leb (suc c) (length (cs ++ more)) (omega (arith, b, n))) (ap (is_falsified set) same ∙ p.1)
 
 pub known-more : (units : List ℕ) (cs : List (List Literal)) (es : List Entry) (n k count : ℕ) (e : Entry) →
-    IsKnown units cs es n k → slice_get es k ≡ Some e → vars_differ (lits_of es) ≡ true →
+    AreUnitHints units cs es n k → slice_get es k ≡ Some e → vars_differ (lits_of es) ≡ true →
     e.lit.var < length units → count ≡ length cs + 1 →
-    IsKnown (set units e.lit.var count) (cs ++ (e.lit ∷ []) ∷ []) es n (k + 1)
+    AreUnitHints (set units e.lit.var count) (cs ++ (e.lit ∷ []) ∷ []) es n (k + 1)
 known-more units cs es n k count e h at once room size = record {
   sized = length-set units e.lit.var count ∙ h.sized;
   within = (let w = slice_get_within es k e at in omega (arith, w));
@@ -75,15 +75,14 @@ known-more units cs es n k count e h at once room size = record {
   ];
 }
 
--- the literal alone of an entry adds nothing
 pub entry-alike : (cs : List (List Literal)) (es : List Entry) (units : List ℕ) (n k r : ℕ) (e : Entry) →
-    list_all vars_differ cs ≡ true → IsKnown units cs es n k → slice_get es k ≡ Some e →
-    is_reason cs (lits_of (take k es)) e.lit r ≡ true → Alike (cs ++ (e.lit ∷ []) ∷ []) cs
+    list_all vars_differ cs ≡ true → AreUnitHints units cs es n k → slice_get es k ≡ Some e →
+    is_reason cs (lits_of (take k es)) e.lit r ≡ true → AreEquivalent (cs ++ (e.lit ∷ []) ∷ []) cs
 entry-alike cs es units n k r e differ known at reason =
     let d = clause_at cs r in
-    let p = and_parts (has_lit e.lit d) (is_falsified (lits_of (take k es)) (others e.lit d)) reason in
+    let p = and_parts (has_lit e.lit d) (is_falsified (lits_of (take k es)) (other_lits e.lit d)) reason in
     let there = stands cs r e.lit p.0 in
-    alike-forced cs r d e.lit there (list_all-slice_get vars_differ cs r d differ there) p.0 (λ m x. (let y = entry-of-lit (take k es) (opposite m) (false-at (lits_of (take k es)) (others e.lit d) m p.1 x) in
+    alike-forced cs r d e.lit there (list_all-slice_get vars_differ cs r d differ there) p.0 (λ m x. (let y = entry-of-lit (take k es) (negated_lit m) (false-at (lits_of (take k es)) (other_lits e.lit d) m p.1 x) in
     let b = taken-before k es y.index y.entry y.stands in
     let t = known.told y.index y.entry b.0 b.1 in
     (t.0, t.2 ∙ ap (λ (z : Literal). Some (z ∷ [])) y.is)))
@@ -93,7 +92,7 @@ pub name-explains : (cs : List (List Literal)) (es : List Entry) (k r : ℕ) (e 
     is_reason cs (lits_of (take k es)) e.lit r ≡ true → Explains cs es (e.lit ∷ []) r k k k
 name-explains cs es k r e at once b reason =
     let d = clause_at cs r in
-    let p = and_parts (has_lit e.lit d) (is_falsified (lits_of (take k es)) (others e.lit d)) reason in
+    let p = and_parts (has_lit e.lit d) (is_falsified (lits_of (take k es)) (other_lits e.lit d)) reason in
     record {
       clause = b;
       known_in = omega arith;
@@ -101,7 +100,7 @@ name-explains cs es k r e at once b reason =
       top_in = (let w = slice_get_within es k e at in omega (arith, w));
       denied = λ m h. elim (cases_Bool (same_lit e.lit m)) [
         | inl t ↦ inl (or_left (same_lit m e.lit) false (ap (λ (y : Literal). same_lit y e.lit) (sym (lit-is e.lit m t)) ∙ same-lit e.lit))
-        | inr t ↦ inr (false-at (lits_of (take k es)) (others e.lit d) m p.1 (kept-at (λ (y : Literal). not (same_lit e.lit y)) d m h (not_from_false (same_lit e.lit m) t)))
+        | inr t ↦ inr (false-at (lits_of (take k es)) (other_lits e.lit d) m p.1 (kept-at (λ (y : Literal). not (same_lit e.lit y)) d m h (not_from_false (same_lit e.lit m) t)))
       ];
       walk = λ i x le lt s. absurd (omega (arith, le, lt));
       assumed = λ i x le lt s. absurd (omega (arith, le, lt));
@@ -112,14 +111,14 @@ name-explains cs es k r e at once b reason =
     }
 
 pub step-derived : (n : ℕ) (cs : List (List Literal)) (set c : List Literal) (hints : List ℕ) → AreHints cs set hints → IsClauseOf n set c → is_derived n cs (record { clause = c; hints = hints }) ≡ true
-step-derived n cs set c hints h k = and_from (clause_in n c && vars_differ c) (ends_false cs (opposites c) hints) (and_from (clause_in n c) (vars_differ c) k.within k.differ) (h c k.differ k.fewer k.more)
+step-derived n cs set c hints h k = and_from (is_clause_over n c && vars_differ c) (hints_end_in_conflict cs (negated_clause c) hints) (and_from (is_clause_over n c) (vars_differ c) k.within k.differ) (h c k.differ k.fewer k.more)
 
-ends-push : (log : List Step) (s : Step) → list_all (λ (t : Step). not (is_empty t.clause)) log ≡ true → is_empty s.clause ≡ true → ends_empty (log ++ s ∷ []) ≡ true
+ends-push : (log : List Step) (s : Step) → list_all (λ (t : Step). not (is_empty t.clause)) log ≡ true → is_empty s.clause ≡ true → ends_with_empty_clause (log ++ s ∷ []) ≡ true
 ends-push [] s h e = e
 ends-push (t ∷ []) s h e = (let p = and_parts (not (is_empty t.clause)) true h in and_from (not (is_empty t.clause)) (is_empty s.clause) p.0 e)
 ends-push (t ∷ (u ∷ log)) s h e =
     let p = and_parts (not (is_empty t.clause)) (list_all (λ (x : Step). not (is_empty x.clause)) (u ∷ log)) h in
-    and_from (not (is_empty t.clause)) (ends_empty ((u ∷ log) ++ s ∷ [])) p.0 (ends-push (u ∷ log) s p.1 e)
+    and_from (not (is_empty t.clause)) (ends_with_empty_clause ((u ∷ log) ++ s ∷ [])) p.0 (ends-push (u ∷ log) s p.1 e)
 
 pub logged-more : (f : Formula) (cs : List (List Literal)) (log : List Step) (s : Step) → IsLogged f cs log → is_derived f.vars cs s ≡ true → is_empty s.clause ≡ false → IsLogged f (cs ++ s.clause ∷ []) (log ++ s ∷ [])
 logged-more f cs log s k d e = record {
@@ -129,7 +128,7 @@ logged-more f cs log s k d e = record {
 }
 
 pub log-refutes : (f : Formula) (cs : List (List Literal)) (log : List Step) (s : Step) → IsLogged f cs log → is_derived f.vars cs s ≡ true → is_empty s.clause ≡ true → is_refutation f (log ++ s ∷ []) ≡ true
-log-refutes f cs log s k d e = and_from (is_derived_log f (log ++ s ∷ [])) (ends_empty (log ++ s ∷ []))
+log-refutes f cs log s k d e = and_from (is_derived_log f (log ++ s ∷ [])) (ends_with_empty_clause (log ++ s ∷ []))
     (derived-push f.vars f.clauses log s k.derived
     (ap (λ (xs : List (List Literal)). is_derived f.vars xs s) (sym k.clauses_are) ∙ d))
     (ends-push log s k.unended e)

@@ -9,8 +9,8 @@ use Rattle.ilk_base.proofs.Lists.{take-at, taken-before}
 use Rattle.ilk_base.proofs.Tested.{list_all-slice_get}
 use Rattle.ilk_cnf.specs.Literal.{Literal, has_lit, has_var, vars_differ}
 use Rattle.ilk_cnf.specs.Formula.{Formula, IsFormula}
-use Rattle.ilk_clauses.specs.Reasons.{clause_at, is_reason}
-use Rattle.ilk_log.specs.Fresh.{others}
+use Rattle.ilk_watches.specs.Reasons.{clause_at, is_reason}
+use Rattle.ilk_log.specs.Fresh.{other_lits}
 use Rattle.ilk_log.specs.Propagation.{is_falsified}
 use Rattle.ilk_trail.specs.declared.entry.Entry.{Entry}
 use Rattle.ilk_trail.specs.Trail.{entry_of}
@@ -20,11 +20,10 @@ use Rattle.ilk_watches.proofs.Entries.{entry-of-lit, one-entry}
 use Rattle.ilk_learn.proofs.Latest.{entry-at, take-one-more}
 use Rattle.ilk_learn.proofs.Members.{var-of}
 use Rattle.ilk_learn.proofs.Walk.{stands}
-use Rattle.ilk_rup.specs.Needs.{IsNeeded, IsPassed, Shows, unit_hints}
+use Rattle.ilk_rup.specs.Needs.{IsNeeded, IsPassed, FalsifiesWithNeeded, unit_hints}
 use Rattle.ilk_rup.proofs.Explaining.{Next, shows-skip, shows-step}
 use Rattle.ilk_rup.proofs.Needing.{pushed-lit, push-old, push-new}
 
--- the entries before one, and with it
 pub next-at : (es : List Entry) (i : ℕ) (e : Entry) → slice_get es i ≡ Some e → vars_differ (lits_of es) ≡ true → Next (lits_of (take i es)) (lits_of (take (i + 1) es)) e.lit
 next-at es i e at once =
     let more : lits_of (take (i + 1) es) ≡ lits_of (take i es) ++ e.lit ∷ [] = ap (λ (n : ℕ). lits_of (take n es)) (add-one i) ∙ ap lits_of (take-one-more es i e at) ∙ lits_of-push (take i es) e in
@@ -43,7 +42,6 @@ next-at es i e at once =
       ];
     })
 
--- a reason
 pub reason-at : (es : List Entry) (i : ℕ) (e : Entry) (l : Literal) (o : Option ℕ) → vars_differ (lits_of es) ≡ true → slice_get es i ≡ Some e → e.lit ≡ l → option_map (λ (x : Entry). x.reason) (entry_of es l.var) ≡ Some o → e.reason ≡ o
 reason-at es i e l o once at is h = same_Some e.reason o (sym (ap (option_map (λ (x : Entry). x.reason)) (ap (λ (y : Literal). entry_of es y.var) (sym is) ∙ entry-at es i e once at)) ∙ h)
 
@@ -59,10 +57,9 @@ that-reason o r P e h = (let Q : Option ℕ → Type 0 = λ x. IsSomeAnd x P in 
 
 pub reason-in : (cs : List (List Literal)) (set : List Literal) (l : Literal) (r : ℕ) → is_reason cs set l r ≡ true → r < length cs
 reason-in cs set l r h =
-    let p = and_parts (has_lit l (clause_at cs r)) (is_falsified set (others l (clause_at cs r))) h in
+    let p = and_parts (has_lit l (clause_at cs r)) (is_falsified set (other_lits l (clause_at cs r))) h in
     slice_get_within cs r (clause_at cs r) (stands cs r l p.0)
 
--- the literals of the first entries are among those of more
 pub lits-taken : (es : List Entry) (i top : ℕ) (m : Literal) → i ≤ top → has_lit m (lits_of (take i es)) ≡ true → has_lit m (lits_of (take top es)) ≡ true
 lits-taken es i top m le h =
     let y = entry-of-lit (take i es) m h in
@@ -84,7 +81,6 @@ once-taken (e ∷ es) (suc top) d =
       | inr t ↦ t
     ])
 
--- an entry that isn't needed
 pub passed-skip :
     (cs : List (List Literal)) (es : List Entry) (set needed : List Literal) (i : ℕ) (e : Entry)
     (hints : List ℕ) →
@@ -92,7 +88,6 @@ pub passed-skip :
     IsPassed cs es set i needed hints needed hints
 passed-skip cs es set needed i e hints at once u = λ top b le s. shows-skip cs (lits_of (take top es)) (lits_of (take i es)) (lits_of (take (i + 1) es)) set needed e.lit hints (next-at es i e at once) u s
 
--- an entry that is
 pub passed-step :
     (f : Formula) (es : List Entry) (set needed next : List Literal) (i r : ℕ) (e : Entry) (reasons : List ℕ)
     → IsFormula f →
@@ -102,17 +97,16 @@ pub passed-step :
     IsPassed f.clauses es set i needed (reverse reasons) next (reverse (reasons ++ (r + 1) ∷ []))
 passed-step f es set needed next i r e reasons k at once u reason away n = λ top b le s.
     (let cs = f.clauses in
-    let p = and_parts (has_lit e.lit (clause_at cs r)) (is_falsified (lits_of (take i es)) (others e.lit (clause_at cs r))) reason in
+    let p = and_parts (has_lit e.lit (clause_at cs r)) (is_falsified (lits_of (take i es)) (other_lits e.lit (clause_at cs r))) reason in
     let there = stands cs r e.lit p.0 in
     let turned : (r + 1) ∷ reverse reasons ≡ reverse (reasons ++ (r + 1) ∷ []) = sym (reverse-append reasons ((r + 1) ∷ [])) in
-    let P : List ℕ → Type 0 = λ hs. Shows cs (lits_of (take top es)) (lits_of (take i es)) set next hs in
+    let P : List ℕ → Type 0 = λ hs. FalsifiesWithNeeded cs (lits_of (take top es)) (lits_of (take i es)) set next hs in
     subst P (ap (λ (h : ℕ). h ∷ reverse reasons) (sym (add-one r)) ∙ turned)
     (shows-step cs (lits_of (take top es)) (lits_of (take i es)) (lits_of (take (i + 1) es)) set needed
     next (clause_at cs r) e.lit r (reverse reasons) (next-at es i e at once) u there
     (list_all-slice_get vars_differ cs r (clause_at cs r) k.differ there) p.0 p.1 away
     (once-taken es top once) (λ m h. lits-taken es i top m (omega (arith, b)) h) n s))
 
--- the hints of the first needed literals, with one more
 pub units-more : (units : List ℕ) (ls : List Literal) (i : ℕ) (l : Literal) → slice_get ls i ≡ Some l → unit_hints units (take (i + 1) ls) ≡ unit_hints units (take i ls) ++ unit_hints units (l ∷ [])
 units-more units ls i l at = ap (λ (n : ℕ). unit_hints units (take n ls)) (add-one i) ∙ ap (unit_hints units) (take-one-more ls i l at) ∙ hints-append (take i ls) (l ∷ [])
   where

@@ -7,34 +7,33 @@ use Rattle.std.proofs.lemmas.List.Folds.{list_any-append}
 use Rattle.std.proofs.lemmas.Option.{slice_get_within}
 use Rattle.ilk_base.proofs.Lists.{at-before}
 use Rattle.ilk_cnf.specs.Literal.{Literal, same_lit, has_lit, has_var, vars_differ}
-use Rattle.ilk_cnf.specs.Formula.{clause_in}
+use Rattle.ilk_cnf.specs.Formula.{is_clause_over}
 use Rattle.ilk_cnf.proofs.SameLiterals.{same-lit}
 use Rattle.ilk_arena.specs.Arena.{ArenaLists}
-use Rattle.ilk_clauses.specs.Chained.{IsClauses, IsClauseAdded}
+use Rattle.ilk_watches.specs.Chained.{IsClauses, IsClauseAdded}
 use Rattle.ilk_log.specs.declared.step.Step.{Step}
 use Rattle.ilk_log.specs.Derived.{is_empty}
 use Rattle.ilk_log.specs.Propagation.{is_falsified}
 use Rattle.ilk_trail.specs.declared.entry.Entry.{Entry}
 use Rattle.ilk_trail.specs.Trail.{level_of}
-use Rattle.ilk_trail.specs.Laws.{IsTrail, climbs, is_set, lits_of}
-use Rattle.ilk_trail.proofs.Levels.{up_to-all}
-use Rattle.ilk_watches.specs.Watched.{FalseOnlyNow, IsAddable}
-use Rattle.ilk_watches.proofs.Added.{queue-added}
+use Rattle.ilk_trail.specs.Laws.{IsTrail, has_rising_levels, is_set, lits_of}
+use Rattle.ilk_trail.proofs.Levels.{entries_up_to-all}
+use Rattle.ilk_watches.specs.Watched.{FalseAtCurrentLevel, IsAddable}
+use Rattle.ilk_watches.proofs.Added.{queue-with_clause_added}
 use Rattle.ilk_watches.proofs.Entries.{entry-of-lit}
 use Rattle.ilk_watches.proofs.Prefixes.{up-level}
 use Rattle.ilk_learn.proofs.Derived.{false-from}
 use Rattle.ilk_learn.proofs.Members.{differ-kept, each-within, kept-at, kept-from, var-of}
 use Rattle.ilk_rup.specs.Accepted.{Follows}
-use Rattle.ilk_rup.specs.Alike.{Alike}
-use Rattle.ilk_rup.specs.Needs.{IsClauseOf, IsForced, IsKnown, unset_first}
-use Rattle.ilk_rup.specs.Standing.{HasTaken, IsAlike, IsDerivedStep, IsLogged, IsStepAdded, Loose, Stands}
+use Rattle.ilk_rup.specs.Alike.{AreEquivalent}
+use Rattle.ilk_rup.specs.Needs.{IsClauseOf, IsForced, AreUnitHints, unset_first}
+use Rattle.ilk_rup.specs.Standing.{HasTaken, KeepsConsequences, IsDerivedStep, IsLogged, IsStepAdded, IsBeforeClosure, IsBetweenItems}
 use Rattle.ilk_rup.specs.declared.base.Base.{Base}
 use Rattle.ilk_rup.proofs.Alike.{alike-ended, alike-join, alike-known, alike-same, follows-any, follows-known}
 use Rattle.ilk_rup.proofs.Holds.{added-clauses}
 use Rattle.ilk_rup.proofs.Keeping.{forced-more, logged-more, step-derived}
 use Rattle.ilk_rup.proofs.Signs.{var-either}
 
--- the literals of a set, those that are unset first
 first-has : (es : List Entry) (ls : List Literal) (m : Literal) → has_lit m (unset_first es ls) ≡ true → has_lit m ls ≡ true
 first-has es ls m h =
     elim (or_cases (has_lit m (filter (λ l. not (is_set es l.var)) ls)) (has_lit m (filter (λ l. is_set es l.var) ls)) (sym (list_any-append (same_lit m) (filter (λ l. not (is_set es l.var)) ls) (filter (λ l. is_set es l.var) ls)) ∙ h)) [
@@ -58,7 +57,7 @@ apart-differ (x ∷ xs) ys d e f =
     let none : has_var x.var (xs ++ ys) ≡ false = list_any-append (λ (l : Literal). l.var == x.var) xs ys ∙ or_from (has_var x.var xs) (has_var x.var ys) (not-true (has_var x.var xs) p.0) (f x (or_left (same_lit x x) (has_lit x xs) (same-lit x))) in
     and_from (not (has_var x.var (xs ++ ys))) (vars_differ (xs ++ ys)) (not_from_false (has_var x.var (xs ++ ys)) none) (apart-differ xs ys p.1 e (λ y h. f y (or_right (same_lit y x) (has_lit y xs) h)))
 
-pub first-clause : (n : ℕ) (es : List Entry) (set : List Literal) → clause_in n set ≡ true → vars_differ set ≡ true → IsClauseOf n set (unset_first es set)
+pub first-clause : (n : ℕ) (es : List Entry) (set : List Literal) → is_clause_over n set ≡ true → vars_differ set ≡ true → IsClauseOf n set (unset_first es set)
 first-clause n es set w d =
     let p : Literal → Bool = λ l. not (is_set es l.var) in
     let q : Literal → Bool = λ l. is_set es l.var in
@@ -75,12 +74,11 @@ first-clause n es set w d =
       more = λ m h. has-first es set m h;
     }
 
--- such a clause may be added at level 0, where none of its literals is true, and one is unset
 filter-each : (p : Literal → Bool) (ls rest : List Literal) (x : Literal) → filter p ls ≡ x ∷ rest → (m : Literal) → has_lit m (x ∷ rest) ≡ true → (p m ≡ true) × (has_lit m ls ≡ true)
 filter-each p ls rest x e m h = (let k = kept-from p ls m (ap (has_lit m) e ∙ h) in (k.1, k.0))
 
 pub first-addable : (es : List Entry) (set : List Literal) (l : Literal) → level_of es ≡ 0 →
-    climbs 0 es ≡ true → ((m : Literal) → has_lit m set ≡ true → has_lit m (lits_of es) ≡ false) →
+    has_rising_levels 0 es ≡ true → ((m : Literal) → has_lit m set ≡ true → has_lit m (lits_of es) ≡ false) →
     has_lit l set ≡ true → is_set es l.var ≡ false → IsAddable es (unset_first es set)
 first-addable es set l level climb untrue h u = go (filter p set) (filter q set) refl refl
   where
@@ -90,9 +88,9 @@ first-addable es set l level climb untrue h u = go (filter p set) (filter q set)
     q : Literal → Bool
     q m = is_set es m.var
 
-    now : (m : Literal) → FalseOnlyNow es m
+    now : (m : Literal) → FalseAtCurrentLevel es m
     now m = λ i e at is.
-        (let all = up_to-all 0 0 es climb (omega (arith, level)) in
+        (let all = entries_up_to-all 0 0 es climb (omega (arith, level)) in
         let low = up-level 0 es i e (ap (λ (xs : List Entry). slice_get xs i) all ∙ at) in
         omega (arith, low, level))
 
@@ -113,7 +111,7 @@ first-addable es set l level climb untrue h u = go (filter p set) (filter q set)
     go (x ∷ []) (y ∷ ys) a b = (not-true (is_set es x.var) (filter-each p set [] x a x (own x [])).0, inr (denied (y ∷ ys) (λ m k. filter-each q set ys y b m k), now y))
     go (x ∷ (z ∷ xs)) ys a b = (not-true (is_set es x.var) (filter-each p set (z ∷ xs) x a x (own x (z ∷ xs))).0, inl (not-true (is_set es z.var) (filter-each p set (z ∷ xs) x a z (or_right (same_lit z x) (has_lit z (z ∷ xs)) (own z xs))).0))
 
-known-grown : (units : List ℕ) (cs more : List (List Literal)) (es : List Entry) (n k : ℕ) → IsKnown units cs es n k → IsKnown units (cs ++ more) es n k
+known-grown : (units : List ℕ) (cs more : List (List Literal)) (es : List Entry) (n k : ℕ) → AreUnitHints units cs es n k → AreUnitHints units (cs ++ more) es n k
 known-grown units cs more es n k h = record {
   sized = h.sized;
   within = h.within;
@@ -125,17 +123,16 @@ not-empty : (c : List Literal) (l : Literal) → has_lit l c ≡ true → is_emp
 not-empty [] l h = absurd (true≢false (sym h))
 not-empty (x ∷ c) l h = refl
 
--- the clause of the literals at hand is kept, with its step
-pub taken-clause : (k : Base) (s : Step) → IsDerivedStep k s → clause_in k.set.vars k.set.lits ≡ true → vars_differ k.set.lits ≡ true → IsClauseOf k.formula.now.vars k.set.lits s.clause
+pub taken-clause : (k : Base) (s : Step) → IsDerivedStep k s → is_clause_over k.set.vars k.set.lits ≡ true → vars_differ k.set.lits ≡ true → IsClauseOf k.formula.now.vars k.set.lits s.clause
 taken-clause k s step w d =
     let n = k.formula.now.vars in
     let P : List Literal → Type 0 = λ x. IsClauseOf n k.set.lits x in
-    subst P (sym step.clause) (first-clause n k.trail.entries k.set.lits (ap (λ (v : ℕ). clause_in v k.set.lits) (sym step.loose.set_vars) ∙ w) d)
+    subst P (sym step.clause) (first-clause n k.trail.entries k.set.lits (ap (λ (v : ℕ). is_clause_over v k.set.lits) (sym step.loose.set_vars) ∙ w) d)
 
 pub loose-taken : (k : Base) (b : ArenaLists) (s : Step) → IsDerivedStep k s →
     IsClauseOf k.formula.now.vars k.set.lits s.clause → IsClauses k.clauses → IsClauses b →
     IsClauseAdded k.clauses s.clause b → IsTrail k.trail →
-    Loose (record k { clauses = b; log = k.log ++ s ∷ [] })
+    IsBeforeClosure (record k { clauses = b; log = k.log ++ s ∷ [] })
 loose-taken k b s step own ka kb added trail =
     let f = k.formula.now in
     let a = k.clauses in
@@ -147,14 +144,14 @@ loose-taken k b s step own ka kb added trail =
     let derived = step-derived f.vars a.clauses k.set.lits s.clause s.hints step.hints own in
     let cs = sym (added-clauses a b s.clause added) in
     let F : List (List Literal) → Type 0 = λ xs. (i : ℕ) → IsForced xs es i in
-    let K : List (List Literal) → Type 0 = λ xs. IsKnown k.explainer.units.items xs es f.vars k.explainer.named in
+    let K : List (List Literal) → Type 0 = λ xs. AreUnitHints k.explainer.units.items xs es f.vars k.explainer.named in
     let L : List (List Literal) → Type 0 = λ xs. IsLogged f xs (k.log ++ s ∷ []) in
     record {
       held = record {
         vars = ap (λ (x : ArenaLists). x.vars) added.is ∙ h.vars;
         trail_vars = h.trail_vars;
         level = h.level;
-        queued = queue-added a b es k.queue.head k.queue.settled s.clause h.queued ka kb added may;
+        queued = queue-with_clause_added a b es k.queue.head k.queue.settled s.clause h.queued ka kb added may;
         forced = subst F cs (λ i. forced-more a.clauses (s.clause ∷ []) es i (h.forced i));
         known = subst K cs (known-grown k.explainer.units.items a.clauses (s.clause ∷ []) es f.vars k.explainer.named h.known);
         logged = subst L cs (logged-more f a.clauses k.log s h.logged derived (not-empty s.clause step.unset (own.more step.unset step.has)));
@@ -166,7 +163,7 @@ loose-taken k b s step own ka kb added trail =
 pub has-taken : (k m a new : Base) (s : Step) →
     m ≡ record k { clauses = m.clauses; trail = m.trail; queue = m.queue; explainer = m.explainer } →
     m.clauses.clauses ≡ k.clauses.clauses → IsDerivedStep m s →
-    IsClauseOf m.formula.now.vars m.set.lits s.clause → IsStepAdded m s a → Stands new → IsAlike a new →
+    IsClauseOf m.formula.now.vars m.set.lits s.clause → IsStepAdded m s a → IsBetweenItems new → KeepsConsequences a new →
     HasTaken k new
 has-taken k m a new s rest cs step own added stands same =
     let old = k.clauses.clauses in
@@ -180,8 +177,8 @@ has-taken k m a new s rest cs step own added stands same =
           let C : List (List Literal) → Type 0 = λ xs. Follows k.formula.now.vars xs d in
           subst C cs (subst N vars (s.hints, step-derived m.formula.now.vars m.clauses.clauses m.set.lits d s.hints step.hints p)));
       alike = λ d of. (let p = here d of in
-          let C : List (List Literal) → Type 0 = λ xs. Alike (xs ++ d ∷ []) a.clauses.clauses in
-          let A : List (List Literal) → Type 0 = λ xs. Alike (m.clauses.clauses ++ d ∷ []) xs in
+          let C : List (List Literal) → Type 0 = λ xs. AreEquivalent (xs ++ d ∷ []) a.clauses.clauses in
+          let A : List (List Literal) → Type 0 = λ xs. AreEquivalent (m.clauses.clauses ++ d ∷ []) xs in
           let more = alike-same m.clauses.clauses d s.clause p.differ own.differ (λ l x. own.more l (p.fewer l x)) (λ l x. p.more l (own.fewer l x)) in
           alike-join (old ++ d ∷ []) a.clauses.clauses new.clauses.clauses (subst C cs (subst A (sym is) more)) same.alike);
     }
@@ -189,8 +186,7 @@ has-taken k m a new s rest cs step own added stands same =
     here : (d : List Literal) → IsClauseOf k.formula.now.vars k.set.lits d → IsClauseOf m.formula.now.vars m.set.lits d
     here d of = (let P : Base → Type 0 = λ b. IsClauseOf b.formula.now.vars b.set.lits d in subst P (sym rest) of)
 
--- the clause has a literal that is set
-pub taken-known : (k : Base) (l : Literal) → Stands k → k.refuted ≡ false → has_lit l k.set.lits ≡ true → has_lit l (lits_of k.trail.entries) ≡ true → HasTaken k k
+pub taken-known : (k : Base) (l : Literal) → IsBetweenItems k → k.refuted ≡ false → has_lit l k.set.lits ≡ true → has_lit l (lits_of k.trail.entries) ≡ true → HasTaken k k
 taken-known k l st e h t =
     let s = st.going e in
     let cs = k.clauses.clauses in
@@ -205,14 +201,13 @@ taken-known k l st e h t =
       alike = λ c of. alike-known cs n.0 l c at (of.more l h);
     }
 
-pub taken-refuted : (k : Base) → Stands k → k.refuted ≡ true → HasTaken k k
+pub taken-refuted : (k : Base) → IsBetweenItems k → k.refuted ≡ true → HasTaken k k
 taken-refuted k st e =
     let n = k.formula.now.vars in
     let cs = k.clauses.clauses in
     let r = st.ended e in
     record { stands = st; formula = refl; follows = λ c of. follows-any n cs c of.within of.differ r.follows; alike = λ c of. alike-ended n cs c r.follows }
 
--- what is told of an option that is known
 pub some-fact : {A : Type 0} (o : Option A) (P : A → Type 0) (x : A) → IfSome o P → o ≡ Some x → P x
 some-fact {A} o P x h e = (let Q : Option A → Type 0 = λ y. IfSome y P in subst Q e h)
 

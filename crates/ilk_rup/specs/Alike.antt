@@ -1,17 +1,18 @@
--- Only private contracts and proofs need this file: lists of clauses from which the same follows.
+-- Used only in private contracts and proofs: lists of clauses with the same consequences.
 use Rattle.std.specs.Prelude.{ℕ, ◌≡◌, true, List, ◌++◌}
 use Rattle.ilk_cnf.specs.Literal.{Literal}
-use Rattle.ilk_log.specs.Derived.{ends_false}
+use Rattle.ilk_log.specs.Derived.{hints_end_in_conflict}
 
--- some list of hints ends at a false clause
-abbrev pub Ends : List (List Literal) → List Literal → Type 0
-Ends cs set = (hints : List ℕ) × (ends_false cs set hints ≡ true)
+-- Holds if some list of hints ends at a false clause.
+abbrev pub HasFalsifyingHints : List (List Literal) → List Literal → Type 0
+HasFalsifyingHints cs set = (hints : List ℕ) × (hints_end_in_conflict cs set hints ≡ true)
 
--- where some list of hints over cs does, one over ds does, whatever clauses are added to both
-abbrev pub Covers : List (List Literal) → List (List Literal) → Type 0
-Covers ds cs = (more : List (List Literal)) (set : List Literal) → Ends (cs ++ more) set → Ends (ds ++ more) set
+-- Holds if some list of hints over `ds` ends whenever one over `cs` does, after any clauses are
+-- added to both.
+abbrev pub HasConsequencesOf : List (List Literal) → List (List Literal) → Type 0
+HasConsequencesOf ds cs = (more : List (List Literal)) (set : List Literal) → HasFalsifyingHints (cs ++ more) set → HasFalsifyingHints (ds ++ more) set
 
--- and the other way round
-pub record Alike (cs ds : List (List Literal)) : Type 0 where
-  pub there : Covers ds cs
-  pub back : Covers cs ds
+-- Holds if the lists have the same consequences: each covers the other.
+pub record AreEquivalent (cs ds : List (List Literal)) : Type 0 where
+  pub there : HasConsequencesOf ds cs
+  pub back : HasConsequencesOf cs ds

@@ -1,10 +1,10 @@
--- What a checker has of a formula.
+-- The state of a checker for a formula.
 use Rattle.std.specs.Prelude.{List}
 use Rattle.ilk_cnf.specs.Formula.{Formula}
 use Rattle.ilk_cnf.specs.Literal.{Literal}
 use Rattle.ilk_rup.specs.declared.base.Base.{Base}
 
--- the formula, and the clauses that are kept: its own, and those that followed so far
+-- The formula, and the stored clauses: its own, and those derived so far.
 pub record CheckerLists : Type 0 where
   pub formula : Formula
   pub clauses : List (List Literal)

@@ -1,22 +1,22 @@
--- Only private contracts and proofs need this file: what is known where a conflict is explained.
+-- Used only in private contracts and proofs: conditions for the explanation of a conflict.
 use Rattle.std.specs.Prelude.{ℕ, ◌≡◌, ◌+◌, replicate}
 use Rattle.ilk_arena.specs.Arena.{ArenaLists}
 use Rattle.ilk_trail.specs.Trail.{TrailList}
 use Rattle.ilk_rup.specs.LitSet.{LitSetList}
-use Rattle.ilk_rup.specs.Needs.{Explains, IsKnown}
+use Rattle.ilk_rup.specs.Needs.{Explains, AreUnitHints}
 use Rattle.ilk_rup.specs.declared.explain.Explainer.{Explainer}
 use Rattle.ilk_rup.specs.declared.explain.Conflict.{Conflict}
 
--- no variable has a clause of its literal alone
-pub record IsNew (x : Explainer) (n : ℕ) : Type 0 where
+-- Holds if no variable has a unit clause.
+pub record IsNewExplainer (x : Explainer) (n : ℕ) : Type 0 where
   pub units : x.units.items ≡ replicate (n + 1) 0
   pub named : x.named ≡ 0
   pub vars : x.needed.vars ≡ n
 
--- all is over the same variables, and the clause is false as told
+-- Holds if all is over the same variables, and the clause is false as `at` says.
 pub record CanExplain (x : Explainer) (clauses : ArenaLists) (trail : TrailList) (set : LitSetList) (at : Conflict) : Type 0 where
   pub vars : x.needed.vars ≡ clauses.vars
   pub set_vars : set.vars ≡ clauses.vars
   pub trail_vars : trail.vars ≡ clauses.vars
-  pub units : IsKnown x.units.items clauses.clauses trail.entries clauses.vars x.named
+  pub units : AreUnitHints x.units.items clauses.clauses trail.entries clauses.vars x.named
   pub explains : Explains clauses.clauses trail.entries set.lits at.clause at.from at.top x.named

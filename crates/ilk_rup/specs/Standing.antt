@@ -1,90 +1,91 @@
--- Only private contracts and proofs need this file: what is kept while the items of a text are taken.
+-- Used only in private contracts and proofs: the invariant while the items of a text are taken.
 use Rattle.std.specs.Prelude.{ℕ, ◌≡◌, Bool, true, false, not, List, [], ◌∷◌, ◌++◌, length}
 use Rattle.std.specs.List.{list_all}
 use Rattle.ilk_arena.specs.Arena.{ArenaLists}
-use Rattle.ilk_clauses.specs.Chained.{IsClauseAdded}
-use Rattle.ilk_clauses.specs.Reasons.{is_conflict}
+use Rattle.ilk_watches.specs.Chained.{IsClauseAdded}
+use Rattle.ilk_watches.specs.Reasons.{is_conflict}
 use Rattle.ilk_cnf.specs.Formula.{Formula}
 use Rattle.ilk_cnf.specs.Literal.{Literal, has_lit}
 use Rattle.ilk_log.specs.declared.step.Step.{Step}
 use Rattle.ilk_log.specs.Derived.{is_derived_log, is_empty, is_refutation, step_clauses}
-use Rattle.ilk_log.specs.Propagation.{is_closed}
+use Rattle.ilk_log.specs.Propagation.{is_saturated}
 use Rattle.ilk_trail.specs.Laws.{is_set, lits_of}
 use Rattle.ilk_trail.specs.Trail.{TrailList, level_of}
 use Rattle.ilk_watches.specs.Watched.{IsQueue}
-use Rattle.ilk_watches.specs.declared.queue.Queue.{Queue}
+use Rattle.ilk_watches.specs.declared.queue.Propagator.{Propagator}
 use Rattle.ilk_rup.specs.Accepted.{Follows}
-use Rattle.ilk_rup.specs.Alike.{Alike}
-use Rattle.ilk_rup.specs.Needs.{AreHints, IsClauseOf, IsForced, IsKnown, unset_first}
+use Rattle.ilk_rup.specs.Alike.{AreEquivalent}
+use Rattle.ilk_rup.specs.Needs.{AreHints, IsClauseOf, IsForced, AreUnitHints, unset_first}
 use Rattle.ilk_rup.specs.declared.base.Base.{Base}
 
--- the clauses are those of the formula and of the steps, each step follows, and none is empty
+-- Holds if the clauses are those of the formula and of the steps, each step follows, and none is
+-- empty.
 pub record IsLogged (f : Formula) (clauses : List (List Literal)) (log : List Step) : Type 0 where
   pub clauses_are : clauses ≡ f.clauses ++ step_clauses log
   pub derived : is_derived_log f log ≡ true
   pub unended : list_all (λ (s : Step). not (is_empty s.clause)) log ≡ true
 
--- what is so of the clauses, of what they set at level 0, and of the steps
-pub record Held (f : Formula) (clauses : ArenaLists) (trail : TrailList) (queue : Queue) (units : List ℕ) (named : ℕ) (log : List Step) : Type 0 where
+-- Holds for the clauses, the literals that they set at level 0, and the steps.
+pub record IsBaseInvariant (f : Formula) (clauses : ArenaLists) (trail : TrailList) (queue : Propagator) (units : List ℕ) (named : ℕ) (log : List Step) : Type 0 where
   pub vars : clauses.vars ≡ f.vars
   pub trail_vars : trail.vars ≡ f.vars
   pub level : level_of trail.entries ≡ 0
   pub queued : IsQueue clauses trail.entries queue.head queue.settled
   pub forced : (i : ℕ) → IsForced clauses.clauses trail.entries i
-  pub known : IsKnown units clauses.clauses trail.entries f.vars named
+  pub known : AreUnitHints units clauses.clauses trail.entries f.vars named
   pub logged : IsLogged f clauses.clauses log
 
--- before propagation has come to its end
-pub record Loose (k : Base) : Type 0 where
-  pub held : Held k.formula.now k.clauses k.trail k.queue k.explainer.units.items k.explainer.named k.log
+-- Holds before propagation has ended.
+pub record IsBeforeClosure (k : Base) : Type 0 where
+  pub held : IsBaseInvariant k.formula.now k.clauses k.trail k.queue k.explainer.units.items k.explainer.named k.log
   pub needed_vars : k.explainer.needed.vars ≡ k.formula.now.vars
   pub set_vars : k.set.vars ≡ k.formula.now.vars
 
--- and where it has
-pub record Settled (k : Base) : Type 0 where
-  pub loose : Loose k
-  pub closed : is_closed k.clauses.clauses (lits_of k.trail.entries) ≡ true
+-- Holds after propagation has ended.
+pub record IsAfterClosure (k : Base) : Type 0 where
+  pub loose : IsBeforeClosure k
+  pub closed : is_saturated k.clauses.clauses (lits_of k.trail.entries) ≡ true
   pub head : k.queue.head ≡ length k.trail.entries
   pub settled : k.queue.settled ≡ length k.clauses.clauses
   pub named : k.explainer.named ≡ length k.trail.entries
 
--- the log refutes the formula, and the empty clause follows
+-- Holds if the log refutes the formula, and the empty clause follows.
 pub record Refutes (k : Base) : Type 0 where
   pub log : is_refutation k.formula.now k.log ≡ true
   pub follows : Follows k.formula.now.vars k.clauses.clauses []
 
--- what is so between two items
-pub record Stands (k : Base) : Type 0 where
+-- Holds between two items.
+pub record IsBetweenItems (k : Base) : Type 0 where
   pub set_vars : k.set.vars ≡ k.formula.now.vars
-  pub going : k.refuted ≡ false → Settled k
+  pub going : k.refuted ≡ false → IsAfterClosure k
   pub ended : k.refuted ≡ true → Refutes k
 
--- the same follows from the clauses after a call as from those before it
-pub record IsAlike (old new : Base) : Type 0 where
+-- Holds if the clauses after a call have the same consequences as those before it.
+pub record KeepsConsequences (old new : Base) : Type 0 where
   pub formula : new.formula ≡ old.formula
-  pub alike : Alike old.clauses.clauses new.clauses.clauses
+  pub alike : AreEquivalent old.clauses.clauses new.clauses.clauses
 
--- and the same is set, and each clause is false that was
-pub record IsNamed (old new : Base) : Type 0 where
-  pub same : IsAlike old new
+-- Holds if, in addition, the same literals are set, and each false clause stays false.
+pub record HasUnitsAdded (old new : Base) : Type 0 where
+  pub same : KeepsConsequences old new
   pub refuted : new.refuted ≡ old.refuted
   pub trail : new.trail ≡ old.trail
   pub conflicts : (c : ℕ) → is_conflict old.clauses.clauses (lits_of old.trail.entries) c ≡ true → is_conflict new.clauses.clauses (lits_of new.trail.entries) c ≡ true
 
--- a clause more, with the step that shows it
+-- Holds if one clause was added, with the step that derives it.
 pub record IsStepAdded (old : Base) (s : Step) (new : Base) : Type 0 where
   pub clauses : IsClauseAdded old.clauses s.clause new.clauses
   pub log : new.log ≡ old.log ++ s ∷ []
   pub rest : new ≡ record old { clauses = new.clauses; log = new.log }
 
--- no hints derive a clause of the literals at hand
+-- Holds if no hints derive a clause of the current literals.
 abbrev pub NoneFollows : Base → Type 0
 NoneFollows k = (c : List Literal) → IsClauseOf k.formula.now.vars k.set.lits c → Follows k.formula.now.vars k.clauses.clauses c → ⊥
 
--- the clause of the literals at hand, those that are unset first, with hints that derive it; none of them
--- is true, and one is unset
+-- Holds for the clause of the current literals, the unset ones first, with hints that derive it.
+-- None of them is true, and one is unset.
 pub record IsDerivedStep (k : Base) (s : Step) : Type 0 where
-  pub loose : Loose k
+  pub loose : IsBeforeClosure k
   pub clause : s.clause ≡ unset_first k.trail.entries k.set.lits
   pub hints : AreHints k.clauses.clauses k.set.lits s.hints
   pub untrue : (m : Literal) → has_lit m k.set.lits ≡ true → has_lit m (lits_of k.trail.entries) ≡ false
@@ -92,12 +93,13 @@ pub record IsDerivedStep (k : Base) (s : Step) : Type 0 where
   pub has : has_lit unset k.set.lits ≡ true
   pub open_ : is_set k.trail.entries unset.var ≡ false
 
--- the clause of the literals at hand follows and was taken, or none of them follows
+-- Holds if the clause of the current literals follows and was taken. After `false`, no clause of
+-- them follows.
 pub record HasTaken (old new : Base) : Type 0 where
-  pub stands : Stands new
+  pub stands : IsBetweenItems new
   pub formula : new.formula ≡ old.formula
   pub follows : (c : List Literal) → IsClauseOf old.formula.now.vars old.set.lits c → Follows old.formula.now.vars old.clauses.clauses c
-  pub alike : (c : List Literal) → IsClauseOf old.formula.now.vars old.set.lits c → Alike (old.clauses.clauses ++ c ∷ []) new.clauses.clauses
+  pub alike : (c : List Literal) → IsClauseOf old.formula.now.vars old.set.lits c → AreEquivalent (old.clauses.clauses ++ c ∷ []) new.clauses.clauses
 
 abbrev pub IsTaken : Base → Bool → Base → Type 0
 IsTaken old true new = HasTaken old new

@@ -1,10 +1,10 @@
--- Only private contracts and proofs need this file: the words that are still to be read.
+-- Used only in private contracts and proofs: the words that are still to be read.
 use Rattle.std.specs.Prelude.{List, [], ◌++◌, Option}
 use Rattle.std.specs.Borrow.{Bor}
 use Rattle.std.specs.Option.{option_map_or}
 use Rattle.ilk_lines.specs.Lines.{Bytes}
 use Rattle.ilk_rup.specs.RefutationText.{text_words, words_in}
 
--- the words of what is left of a line, and of the lines after it
+-- The words of the rest of a line, and of the lines after it.
 abbrev pub words_left : Bytes → Option (Bor Bytes) → List Bytes
 words_left line lines = words_in line ++ option_map_or (λ (rest : Bor Bytes). text_words rest.now) lines []

@@ -1,8 +1,8 @@
-//! The literals of a set, made false; and its clause.
+//! Makes the literals of a set false, and builds its clause.
 
 ghost use Rattle.std.specs.Prelude.{◌≡◌, ◌≤◌, ◌++◌, ◌∷◌, [], if◌then◌else◌, not, IfOk, OnOk, IsTrue};
 ghost use Rattle.std.specs.List.{filter};
-ghost use Rattle.ilk_cnf.specs.Formula.{lit_in};
+ghost use Rattle.ilk_cnf.specs.Formula.{is_lit_over};
 ghost use Rattle.ilk_trail.specs.Trail.{level_of};
 ghost use Rattle.ilk_cnf.specs.Literal.{has_lit};
 ghost use Rattle.ilk_trail.specs.Laws.{is_set, lits_of};
@@ -13,10 +13,10 @@ use ilk_cnf::{Lit, Lits};
 use ilk_trail::Trail;
 use std::alloc::{AllocError, Global};
 
-// Makes a literal false at level 1, where its variable isn't set. No reason is asked of such an entry, and
-// 0 stands in its place where the level isn't opened by it.
+// Makes literal `l` false at level 1, if its variable is unset. No reason is needed for such an
+// entry; if it doesn't open the level, its reason is 0 as a placeholder.
 fn assume_one(trail: &mut Trail, l: Lit)
-    requires within { IsTrue (lit_in trail.old.vars l) }
+    requires within { IsTrue (is_lit_over trail.old.vars l) }
     requires low { level_of trail.old.entries ≤ 1 }
     ensures trail { trail.new ≡ record trail.old { entries = trail.new.entries } }
     ensures assumed { AssumesOne l trail.old.entries trail.new.entries }
@@ -32,9 +32,8 @@ fn assume_one(trail: &mut Trail, l: Lit)
 }
 
 #[tactic(auto, using(crate::proofs::Sets::some_set, crate::proofs::Sets::none_set))]
-// Whether the variable of a literal is set.
 fn is_set(trail: &Trail, l: Lit) -> bool
-    requires { IsTrue (lit_in trail.now.vars l) }
+    requires { IsTrue (is_lit_over trail.now.vars l) }
     ensures { result ≡ is_set trail.now.entries l.var }
 {
     match trail.value(l) {
@@ -44,9 +43,9 @@ fn is_set(trail: &Trail, l: Lit) -> bool
 }
 
 #[tactic(auto, using(crate::proofs::Sets::has_value, crate::proofs::Sets::no_value))]
-/// Whether a literal is true.
+/// Returns whether `l` is true.
 pub fn is_true(trail: &Trail, l: Lit) -> bool
-    requires { IsTrue (lit_in trail.now.vars l) }
+    requires { IsTrue (is_lit_over trail.now.vars l) }
     ensures { result ≡ has_lit l (lits_of trail.now.entries) }
 {
     let _ = trail.level();
@@ -56,8 +55,8 @@ pub fn is_true(trail: &Trail, l: Lit) -> bool
     }
 }
 
-/// Makes the literals of a set false at level 1, where their variables aren't set.
-pub fn assume(trail: &mut Trail, set: &LitSet)
+/// Makes the literals of a set false at level 1, if their variables are unset.
+pub fn assume_negations(trail: &mut Trail, set: &LitSet)
     requires vars { set.now.vars ≡ trail.old.vars }
     requires level { level_of trail.old.entries ≡ 0 }
     ensures trail { trail.new ≡ record trail.old { entries = trail.new.entries } }
@@ -68,7 +67,7 @@ pub fn assume(trail: &mut Trail, set: &LitSet)
     }
 }
 
-// Adds a literal, where it is wanted.
+// Adds `l` to `clause`, if it is `wanted`.
 fn push_if(clause: &mut Lits, l: Lit, wanted: bool) -> Result<(), AllocError>
     ensures { OnOk result (clause.new ≡ clause.old ++ (if wanted then l ∷ [] else [])) }
 {
@@ -78,7 +77,7 @@ fn push_if(clause: &mut Lits, l: Lit, wanted: bool) -> Result<(), AllocError>
     Ok(())
 }
 
-// Adds the literals whose variables are set, or those whose variables aren't.
+// Adds the literals whose variables are set. `push_unset` adds those whose variables are unset.
 fn push_where(clause: &mut Lits, trail: &Trail, set: &LitSet) -> Result<(), AllocError>
     requires { set.now.vars ≡ trail.now.vars }
     ensures { OnOk result
@@ -104,7 +103,7 @@ fn push_unset(clause: &mut Lits, trail: &Trail, set: &LitSet) -> Result<(), Allo
     Ok(())
 }
 
-/// The literals of a set, those that are unset first, in memory of just their size.
+/// Returns the literals of a set, the unset ones first, in memory of exactly their size.
 pub fn unset_first(alloc: Global, trail: &Trail, set: &LitSet) -> Result<Lits, AllocError>
     requires { set.now.vars ≡ trail.now.vars }
     ensures { IfOk result (λ clause. clause ≡ unset_first trail.now.entries set.now.lits) }

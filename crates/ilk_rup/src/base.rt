@@ -1,38 +1,38 @@
-//! The clauses so far, what they set at level 0, and the steps that show them.
+//! The clauses so far, the literals that they set at level 0, and the steps that derive them.
 
 ghost use Rattle.std.specs.Prelude.{◌≡◌, ◌<◌, ◌+◌, ◌∷◌, [], true, false, length, IfOk, IfNone, IfSome, OnOk, IsTrue};
-ghost use Rattle.ilk_cnf.specs.Formula.{clause_in};
+ghost use Rattle.ilk_cnf.specs.Formula.{is_clause_over};
 ghost use Rattle.ilk_cnf.specs.Literal.{Literal, has_lit, vars_differ};
-ghost use Rattle.ilk_clauses.specs.Reasons.{is_conflict};
+ghost use Rattle.ilk_watches.specs.Reasons.{is_conflict};
 ghost use Rattle.ilk_trail.specs.Laws.{lits_of};
-ghost use Rattle.ilk_rup.specs.Standing.{IsAlike, IsDerivedStep, IsNamed, IsStepAdded, IsTaken, Loose, NoneFollows, Settled, Stands};
+ghost use Rattle.ilk_rup.specs.Standing.{KeepsConsequences, IsDerivedStep, HasUnitsAdded, IsStepAdded, IsTaken, IsBeforeClosure, NoneFollows, IsAfterClosure, IsBetweenItems};
 
-use crate::assume::{assume, is_true, unset_first};
+use crate::assume::{assume_negations, is_true, unset_first};
 use crate::explain::{Conflict, Explainer, reason_of};
 use crate::set::LitSet;
-use ilk_clauses::Clauses;
 use ilk_cnf::{Cnf, Lit, Lits};
 use ilk_log::{Hints, Log, Step};
 use ilk_trail::Trail;
-use ilk_watches::Queue;
+use ilk_watches::{Clauses, Propagator};
 use std::alloc::{AllocError, Global};
 
-/// The clauses of a formula and those that follow so far, what they set, and the steps that show them.
+/// The clauses of a formula and those derived so far, the literals that they set, and the steps
+/// that derive them.
 #[derive(Drop)]
 pub struct Base<'a> {
     pub formula: &'a Cnf,
     pub clauses: Clauses,
     pub trail: Trail,
-    pub queue: Queue,
+    pub queue: Propagator,
     pub explainer: Explainer,
-    // the literals of the clause at hand
+    // The literals of the current clause.
     pub set: LitSet,
     pub log: Log,
-    // the log ends with the empty clause
+    // True if the log ends with the empty clause.
     pub refuted: bool,
 }
 
-// The clause of one literal.
+// Returns the unit clause of `l`.
 fn alone(alloc: Global, l: Lit) -> Result<Lits, AllocError>
     ensures { IfOk result (λ clause. clause ≡ l ∷ []) }
 {
@@ -42,18 +42,18 @@ fn alone(alloc: Global, l: Lit) -> Result<Lits, AllocError>
 }
 
 impl<'a> Base<'a> {
-    /// The clauses of a formula, before anything is set.
+    /// Creates the base of a formula, with nothing set.
     pub fn new(alloc: Global, cnf: &'a Cnf) -> Result<Base<'a>, AllocError>
-        ensures loose { IfOk result (λ k. Loose k) }
+        ensures loose { IfOk result (λ k. IsBeforeClosure k) }
         ensures formula { IfOk result (λ k. k.formula.now ≡ cnf.now) }
         ensures clauses { IfOk result (λ k. k.clauses.clauses ≡ cnf.now.clauses) }
         ensures going { IfOk result (λ k. k.refuted ≡ false) }
     {
         let vars = cnf.vars();
         let _ = cnf.clauses();
-        let clauses = Clauses::of(alloc, cnf)?;
+        let clauses = Clauses::from_cnf(alloc, cnf)?;
         let trail = Trail::new(alloc, vars)?;
-        let queue = Queue::new();
+        let queue = Propagator::new();
         let explainer = Explainer::new(alloc, vars)?;
         let set = LitSet::new(alloc, vars)?;
         let log = Log::new(alloc);
@@ -69,9 +69,9 @@ impl<'a> Base<'a> {
         })
     }
 
-    // Adds a clause, and the step that shows it.
+    // Adds a clause, and the step that derives it.
     fn add(&mut self, clause: Lits, hints: Hints) -> Result<(), AllocError>
-        requires within { IsTrue (clause_in self.old.clauses.vars clause) }
+        requires within { IsTrue (is_clause_over self.old.clauses.vars clause) }
         requires differ { IsTrue (vars_differ clause) }
         ensures { OnOk result
             (IsStepAdded self.old (record { clause = clause; hints = hints }) self.new) }
@@ -81,12 +81,12 @@ impl<'a> Base<'a> {
         self.log.push(Step { clause, hints })
     }
 
-    // Gives the literal of the first entry that has none a clause of its own.
+    // Adds the unit clause for the first entry that has none.
     fn name(&mut self, alloc: Global) -> Result<(), AllocError>
-        requires loose { Loose self.old }
+        requires loose { IsBeforeClosure self.old }
         requires below { self.old.explainer.named < length self.old.trail.entries }
-        ensures loose { OnOk result (Loose self.new) }
-        ensures same { OnOk result (IsNamed self.old self.new) }
+        ensures loose { OnOk result (IsBeforeClosure self.new) }
+        ensures same { OnOk result (HasUnitsAdded self.old self.new) }
         ensures named { OnOk result (self.new.explainer.named ≡ self.old.explainer.named + 1) }
     {
         let _ = self.clauses.count();
@@ -110,11 +110,11 @@ impl<'a> Base<'a> {
         Ok(())
     }
 
-    // Gives the literal of each entry a clause of its own.
+    // Adds a unit clause for each entry that has none.
     fn name_all(&mut self, alloc: Global) -> Result<(), AllocError>
-        requires { Loose self.old }
-        ensures loose { OnOk result (Loose self.new) }
-        ensures same { OnOk result (IsNamed self.old self.new) }
+        requires { IsBeforeClosure self.old }
+        ensures loose { OnOk result (IsBeforeClosure self.new) }
+        ensures same { OnOk result (HasUnitsAdded self.old self.new) }
         ensures named { OnOk result (self.new.explainer.named ≡ length self.new.trail.entries) }
     {
         'names: while self.explainer.named < self.trail.count() {
@@ -123,13 +123,13 @@ impl<'a> Base<'a> {
         Ok(())
     }
 
-    /// Sets what the clauses force at level 0 until nothing is left to set, or the empty clause is
-    /// derived. The literal of each entry has a clause of its own then.
-    pub fn settle(&mut self, alloc: Global) -> Result<(), AllocError>
-        requires loose { Loose self.old }
+    /// Assigns what the clauses force at level 0 until nothing is left to assign, or the empty
+    /// clause is derived. If it isn't, each entry has a unit clause afterwards.
+    pub fn propagate_units(&mut self, alloc: Global) -> Result<(), AllocError>
+        requires loose { IsBeforeClosure self.old }
         requires going { self.old.refuted ≡ false }
-        ensures stands { OnOk result (Stands self.new) }
-        ensures same { OnOk result (IsAlike self.old self.new) }
+        ensures stands { OnOk result (IsBetweenItems self.new) }
+        ensures same { OnOk result (KeepsConsequences self.old self.new) }
     {
         'rounds: loop {
             match self.queue.propagate(&mut self.clauses, &mut self.trail) {
@@ -148,15 +148,15 @@ impl<'a> Base<'a> {
         }
     }
 
-    // Derives the empty clause, where clause `conflict` is false at level 0, and the literal of each entry
-    // has a clause of its own.
+    // Derives the empty clause, if clause `conflict` is false at level 0, and each entry has a unit
+    // clause.
     fn refute(&mut self, alloc: Global, conflict: u64) -> Result<(), AllocError>
-        requires loose { Loose self.old }
+        requires loose { IsBeforeClosure self.old }
         requires named { self.old.explainer.named ≡ length self.old.trail.entries }
         requires conflict { IsTrue
             (is_conflict self.old.clauses.clauses (lits_of self.old.trail.entries) conflict) }
-        ensures stands { OnOk result (Stands self.new) }
-        ensures same { OnOk result (IsAlike self.old self.new) }
+        ensures stands { OnOk result (IsBetweenItems self.new) }
+        ensures same { OnOk result (KeepsConsequences self.old self.new) }
     {
         let _ = self.clauses.count();
         let _ = self.trail.count();
@@ -175,7 +175,7 @@ impl<'a> Base<'a> {
         Ok(())
     }
 
-    // Whether some literal at hand is true at level 0.
+    // Returns whether some literal of the current clause is true at level 0.
     fn knows(&self) -> bool
         requires { self.now.set.vars ≡ self.now.trail.vars }
         ensures yes { result ≡ true →
@@ -192,10 +192,10 @@ impl<'a> Base<'a> {
         false
     }
 
-    // The clause of the literals at hand, none of which is true at level 0, with hints that derive it.
-    // None exactly where no hints do; the trail is then of no more use.
+    // Returns the clause of the current literals, none of which is true at level 0, with hints that
+    // derive it. Returns `None` if and only if no hints do; the trail is unusable afterwards.
     fn derive(&mut self, alloc: Global) -> Result<Option<Step>, AllocError>
-        requires settled { Settled self.old }
+        requires settled { IsAfterClosure self.old }
         requires untrue { (l : Literal) → has_lit l self.old.set.lits ≡ true →
             has_lit l (lits_of self.old.trail.entries) ≡ false }
         ensures none { IfOk result (λ step. IfNone step (NoneFollows self.old)) }
@@ -212,7 +212,7 @@ impl<'a> Base<'a> {
         let _ = self.set.len();
         let _ = self.clauses.count();
         let known = self.trail.count();
-        assume(&mut self.trail, &self.set);
+        assume_negations(&mut self.trail, &self.set);
         let from = self.trail.count();
         if from == known {
             return Ok(None);
@@ -237,10 +237,10 @@ impl<'a> Base<'a> {
         Ok(Some(Step { clause, hints }))
     }
 
-    /// Takes the clause of the literals at hand. Answers whether some list of hints derives it from the
-    /// clauses so far; where none does, nothing more is known.
-    pub fn take(&mut self, alloc: Global) -> Result<bool, AllocError>
-        requires { Stands self.old }
+    /// Takes the clause of the current literals. Returns whether some list of hints derives it from
+    /// the clauses so far. After `false` nothing is known about the base.
+    pub fn try_add_clause(&mut self, alloc: Global) -> Result<bool, AllocError>
+        requires { IsBetweenItems self.old }
         ensures { IfOk result (λ right. IsTaken self.old right self.new) }
     {
         if self.refuted {
@@ -258,7 +258,7 @@ impl<'a> Base<'a> {
         let _before = self.clauses.count();
         self.add(step.clause, step.hints)?;
         let _after = self.clauses.count();
-        self.settle(alloc)?;
+        self.propagate_units(alloc)?;
         Ok(true)
     }
 }

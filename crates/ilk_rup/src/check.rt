@@ -1,5 +1,5 @@
 ghost use Rattle.std.specs.Prelude.{IfOk};
-ghost use Rattle.ilk_rup.specs.Accepted.{IsJudged};
+ghost use Rattle.ilk_rup.specs.Accepted.{IsRupVerdictFor};
 
 use crate::checker::Checker;
 use crate::next::Next;
@@ -8,14 +8,14 @@ use crate::words::Words;
 use ilk_cnf::Cnf;
 use std::alloc::{AllocError, Global};
 
-/// Checks a refutation of the formula, in the text of clauses that other solvers write. `Refuted`
-/// comes exactly where the text is accepted, `Bad` exactly where it isn't. No memory for the clauses
-/// and the log is the only error.
+/// Checks a refutation of the formula, in the text of clauses that other solvers write. Returns
+/// `Refuted` if and only if the text is accepted, otherwise `Bad`. The only error is that there is
+/// no memory for the clauses and the log.
 pub fn check_rup(alloc: Global, cnf: &Cnf, text: &[u8]) -> Result<Rup, AllocError>
-    ensures { IfOk result (λ rup. IsJudged cnf.now text.now rup) }
+    ensures { IfOk result (λ rup. IsRupVerdictFor cnf.now text.now rup) }
 {
     let mut checker = Checker::new(alloc, cnf)?;
-    let mut words = Words::of(text);
+    let mut words = Words::from_text(text);
     let mut item = 1;
     'items: loop {
         match checker.step(alloc, &mut words)? {

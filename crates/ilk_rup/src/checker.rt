@@ -1,7 +1,7 @@
-//! What is known while the items of a text are taken.
+//! The state while the items of a text are taken.
 
 ghost use Rattle.std.specs.Prelude.{◌≡◌, IfOk};
-ghost use Rattle.ilk_rup.specs.Alike.{Alike};
+ghost use Rattle.ilk_rup.specs.Alike.{AreEquivalent};
 ghost use Rattle.ilk_rup.specs.Stepped.{IsStepped};
 
 use crate::base::Base;
@@ -12,7 +12,7 @@ use ilk_cnf::Cnf;
 use std::alloc::{AllocError, Global};
 use std::marker::Model;
 
-/// A formula, and the clauses that follow from it so far.
+/// A formula, and the clauses derived from it so far.
 #[derive(Drop)]
 pub struct Checker<'a> {
     base: Base<'a>,
@@ -20,23 +20,23 @@ pub struct Checker<'a> {
 
 impl<'a> Model for Checker<'a> {
     ghost use Rattle.ilk_rup.specs.Checker.{CheckerLists, checker_of};
-    ghost use Rattle.ilk_rup.specs.Standing.{Stands};
+    ghost use Rattle.ilk_rup.specs.Standing.{IsBetweenItems};
 
     ghost Value = { CheckerLists };
 
     ghost view = { λ k. checker_of k.base };
 
-    ghost invariant = { λ k. Stands k.base };
+    ghost invariant = { λ k. IsBetweenItems k.base };
 }
 
 impl<'a> Checker<'a> {
-    /// What is known of a formula before the first item.
+    /// Creates the checker of a formula before the first item.
     pub fn new(alloc: Global, cnf: &'a Cnf) -> Result<Checker<'a>, AllocError>
         ensures formula { IfOk result (λ k. k.formula ≡ cnf.now) }
-        ensures alike { IfOk result (λ k. Alike cnf.now.clauses k.clauses) }
+        ensures alike { IfOk result (λ k. AreEquivalent cnf.now.clauses k.clauses) }
     {
         let mut base = Base::new(alloc, cnf)?;
-        base.settle(alloc)?;
+        base.propagate_units(alloc)?;
         Ok(Checker { base })
     }
 
@@ -59,7 +59,7 @@ impl<'a> Checker<'a> {
             Item::Malformed => Ok(Next::Bad),
             Item::Idle => Ok(Next::Right(Checker { base })),
             Item::Adds => {
-                if base.take(alloc)? {
+                if base.try_add_clause(alloc)? {
                     Ok(Next::Right(Checker { base }))
                 } else {
                     Ok(Next::Bad)

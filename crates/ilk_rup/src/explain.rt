@@ -1,23 +1,23 @@
 //! The hints of a conflict: only those that it needs, found on a walk back over the trail.
 
 ghost use Rattle.std.specs.Prelude.{◌≡◌, ◌<◌, ◌≤◌, ◌+◌, ◌^◌, ◌++◌, ◌∷◌, [], ◌==◌, not, length, replicate, reverse, slice_index, take, IfOk, OnOk, IsTrue};
-ghost use Rattle.ilk_cnf.specs.Formula.{lit_in};
-ghost use Rattle.ilk_clauses.specs.Reasons.{clause_at};
+ghost use Rattle.ilk_cnf.specs.Formula.{is_lit_over};
+ghost use Rattle.ilk_watches.specs.Reasons.{clause_at};
 ghost use Rattle.std.specs.List.{filter};
 ghost use Rattle.ilk_trail.specs.Laws.{lits_of};
-ghost use Rattle.ilk_rup.specs.Explained.{CanExplain, IsNew};
-ghost use Rattle.ilk_rup.specs.Needs.{AreHints, CanWalk, IsForced, IsNeeded, IsPassed, IsReasonAt, NeedsOne, Shows, unit_hints};
+ghost use Rattle.ilk_rup.specs.Explained.{CanExplain, IsNewExplainer};
+ghost use Rattle.ilk_rup.specs.Needs.{AreHints, CanWalk, IsForced, IsNeeded, IsPassed, IsReasonAt, NeedsOne, FalsifiesWithNeeded, unit_hints};
 
 use crate::set::LitSet;
-use ilk_clauses::Clauses;
 use ilk_cnf::Lit;
 use ilk_log::Hints;
 use ilk_trail::Trail;
+use ilk_watches::Clauses;
 use std::alloc::{AllocError, Global};
 
-// Looks at a literal of a clause: where the set doesn't have it, its opposite is needed.
+// Adds the opposite of `l` to `needed`, if `set` doesn't have `l`.
 fn need_one(needed: &mut LitSet, set: &LitSet, l: Lit)
-    requires within { IsTrue (lit_in needed.old.vars l) }
+    requires within { IsTrue (is_lit_over needed.old.vars l) }
     requires vars { set.now.vars ≡ needed.old.vars }
     ensures needed { NeedsOne set.now.lits l needed.old.lits needed.new.lits }
     ensures vars { needed.new.vars ≡ needed.old.vars }
@@ -28,7 +28,7 @@ fn need_one(needed: &mut LitSet, set: &LitSet, l: Lit)
     needed.put(l.negated());
 }
 
-// What clause `c` needs.
+// Adds what clause `c` needs.
 fn need(needed: &mut LitSet, clauses: &Clauses, set: &LitSet, c: u64)
     requires known { c < length clauses.now.clauses }
     requires vars { needed.old.vars ≡ clauses.now.vars }
@@ -42,7 +42,7 @@ fn need(needed: &mut LitSet, clauses: &Clauses, set: &LitSet, c: u64)
     }
 }
 
-// The clause that forces entry `i`.
+/// Returns the index of the clause that forces entry `i`.
 pub fn reason_of(clauses: &Clauses, trail: &Trail, i: u64) -> u64
     requires trail { trail.now.vars ≡ clauses.now.vars }
     requires below { i < length trail.now.entries }
@@ -55,7 +55,7 @@ pub fn reason_of(clauses: &Clauses, trail: &Trail, i: u64) -> u64
     trail.reason(trail.at(i)).unwrap()
 }
 
-// Passes entry `i`: where it is needed, so are the literals of its reason.
+// Passes entry `i`. If it is needed, so are the literals of its reason.
 fn pass(
     reasons: &mut Vec<u64>,
     needed: &mut LitSet,
@@ -85,8 +85,8 @@ fn pass(
     Ok(())
 }
 
-// Goes through the entries before `top` from the latest on, as far as `from`, and adds the reasons of
-// those that are needed, the last of them first.
+// Visits the entries before `top`, latest first, down to `from`, and adds the reasons of the needed
+// ones, in reverse order.
 fn walk(
     reasons: &mut Vec<u64>,
     needed: &mut LitSet,
@@ -102,11 +102,11 @@ fn walk(
     requires from { from ≤ top }
     requires top { top ≤ length trail.now.entries }
     requires walk { CanWalk clauses.now.clauses trail.now.entries set.now.lits from top }
-    requires shows { Shows clauses.now.clauses (lits_of (take top trail.now.entries))
+    requires shows { FalsifiesWithNeeded clauses.now.clauses (lits_of (take top trail.now.entries))
         (lits_of (take top trail.now.entries)) set.now.lits needed.old.lits
         (reverse reasons.old.items) }
     ensures shows { OnOk result
-        (Shows clauses.now.clauses (lits_of (take top trail.now.entries))
+        (FalsifiesWithNeeded clauses.now.clauses (lits_of (take top trail.now.entries))
         (lits_of (take from trail.now.entries)) set.now.lits needed.new.lits
         (reverse reasons.new.items)) }
     ensures vars { needed.new.vars ≡ needed.old.vars }
@@ -119,7 +119,7 @@ fn walk(
     Ok(())
 }
 
-// The hint of the variable of a literal, or 0.
+// Returns the hint for the unit clause of `l`, or 0 if there is none.
 fn unit_of(units: &[u64], l: Lit) -> u64
     ensures { result ≡ slice_index units.now l.var }
 {
@@ -129,7 +129,6 @@ fn unit_of(units: &[u64], l: Lit) -> u64
     }
 }
 
-// How many of the needed literals have a clause of their own.
 fn count_units(needed: &LitSet, units: &[u64]) -> u64 {
     let mut count: u64 = 0;
     for i in 0..needed.len() {
@@ -140,8 +139,8 @@ fn count_units(needed: &LitSet, units: &[u64]) -> u64 {
     count
 }
 
-// The hints of the needed literals that have a clause of their own, and then those of the reasons, in
-// memory of just their size.
+// Returns the hints of needed unit clauses, then those of the reasons, in memory of exactly their
+// size.
 fn gather(
     alloc: Global,
     needed: &LitSet,
@@ -158,7 +157,7 @@ fn gather(
     Ok(hints)
 }
 
-// Adds a hint that isn't 0.
+// Adds a hint, unless it is 0.
 fn push_unit(hints: &mut Hints, unit: u64) -> Result<(), AllocError>
     ensures { OnOk result (hints.new ≡ hints.old ++ filter (λ u. not (u == 0)) (unit ∷ [])) }
 {
@@ -168,7 +167,7 @@ fn push_unit(hints: &mut Hints, unit: u64) -> Result<(), AllocError>
     Ok(())
 }
 
-// Adds the hints of the needed literals that have a clause of their own.
+// Adds the hints of needed unit clauses.
 fn push_units(hints: &mut Hints, needed: &LitSet, units: &[u64]) -> Result<(), AllocError>
     ensures { OnOk result (hints.new ≡ hints.old ++ unit_hints units.now needed.now.lits) }
 {
@@ -178,7 +177,7 @@ fn push_units(hints: &mut Hints, needed: &LitSet, units: &[u64]) -> Result<(), A
     Ok(())
 }
 
-// Adds numbers, the last of them first.
+// Adds `numbers` in reverse order.
 fn push_turned(hints: &mut Hints, numbers: &[u64]) -> Result<(), AllocError>
     ensures { OnOk result (hints.new ≡ hints.old ++ reverse numbers.now) }
 {
@@ -190,7 +189,6 @@ fn push_turned(hints: &mut Hints, numbers: &[u64]) -> Result<(), AllocError>
     Ok(())
 }
 
-// A zero for each variable, and one more.
 fn zeros(alloc: Global, vars: u64) -> Result<Vec<u64>, AllocError>
     requires { vars ≤ 2 ^ 62 }
     ensures { IfOk result (λ zeros. zeros.items ≡ replicate (vars + 1) 0) }
@@ -198,8 +196,8 @@ fn zeros(alloc: Global, vars: u64) -> Result<Vec<u64>, AllocError>
     Ok(vec![in alloc; 0; vars as usize + 1]?)
 }
 
-/// A clause that is false, and which of the entries stand between it and what is known or assumed:
-/// those from `from` on and before `top`.
+/// A false clause, and the entries between it and the known or assumed ones: those from `from` on
+/// and before `top`.
 #[derive(Clone, Copy)]
 pub struct Conflict {
     pub clause: u64,
@@ -207,23 +205,23 @@ pub struct Conflict {
     pub top: u64,
 }
 
-/// What finds the hints of a conflict.
+/// Finds the hints of a conflict.
 #[derive(Drop)]
 pub struct Explainer {
-    // by variable: the hint that names the clause of its literal alone, 0 where there is none
+    // By variable: the hint of the unit clause of its literal, or 0 if there is none.
     pub units: Vec<u64>,
-    // how many of the entries have such a clause
+    // The number of entries with a unit clause.
     pub named: u64,
-    // used anew for each conflict: the needed literals, and the hints of reasons, the last of them first
+    // Cleared for each conflict: the needed literals, and the hints of reasons in reverse order.
     pub needed: LitSet,
     pub reasons: Vec<u64>,
 }
 
 impl Explainer {
-    /// None of the variables 1 to `vars` has a clause of its literal alone.
+    /// Creates an explainer without unit clauses over the variables 1 to `vars`.
     pub fn new(alloc: Global, vars: u64) -> Result<Explainer, AllocError>
         requires { vars ≤ 2 ^ 62 }
-        ensures { IfOk result (λ x. IsNew x vars) }
+        ensures { IfOk result (λ x. IsNewExplainer x vars) }
     {
         Ok(Explainer {
             units: zeros(alloc, vars)?,
@@ -233,8 +231,8 @@ impl Explainer {
         })
     }
 
-    /// The hints that derive a clause of these literals, where clause `at.clause` is false by the set
-    /// and the entries before `at.top`: see `Explains`.
+    /// Returns hints that derive a clause of the literals of `set`. Clause `at.clause` has to be
+    /// false by the set and the entries before `at.top`: see `Explains`.
     pub fn explain(
         &mut self,
         alloc: Global,

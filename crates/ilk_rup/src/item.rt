@@ -1,21 +1,21 @@
-//! An item of a text: what it is, and the literals of the clause that it adds.
+//! Reads an item of a text: its kind, and the literals of the clause that it adds.
 
 ghost use Rattle.std.specs.Prelude.{◌≡◌, ◌≤◌, ◌^◌, ◌∷◌, [], ◌||◌, IsTrue, bytes_eq, codes};
-ghost use Rattle.ilk_cnf.specs.Formula.{lit_in};
+ghost use Rattle.ilk_cnf.specs.Formula.{is_lit_over};
 ghost use Rattle.ilk_rup.specs.RefutationText.{is_end, literal_of, var_of};
-ghost use Rattle.ilk_rup.specs.Items.{IsItemRead, IsPut, IsRead, kept_item, plain_item};
+ghost use Rattle.ilk_rup.specs.Items.{IsItemRead, IsPut, IsFirstItemRead, deletion_item, addition_item};
 
 use crate::set::LitSet;
 use crate::words::Words;
 use ilk_cnf::Lit;
 use ilk_lines::decimal_up_to;
 
-/// What was read where an item may begin.
+/// The kind of the item that was read.
 #[derive(Clone, Copy)]
 pub enum Item {
-    /// Nothing: the text is at its end.
+    /// No item: the text has ended.
     End,
-    /// An item that isn't of the form, or isn't finished.
+    /// A malformed or unfinished item.
     Malformed,
     /// An item that adds nothing.
     Idle,
@@ -23,7 +23,7 @@ pub enum Item {
     Adds,
 }
 
-// The number of a variable, of the variables 1 to `vars`.
+// Returns the variable that `word` writes, or `None` if it isn't one of 1 to `vars`.
 fn var_of(word: &[u8], vars: u64) -> Option<u64>
     ensures { result ≡ var_of vars word.now }
 {
@@ -31,7 +31,7 @@ fn var_of(word: &[u8], vars: u64) -> Option<u64>
     if v > 0 { Some(v) } else { None }
 }
 
-// The literal that a word writes, of the variables 1 to `vars`.
+// Returns the literal that `word` writes, or `None` if it isn't one over the variables 1 to `vars`.
 fn literal_of(word: &[u8], vars: u64) -> Option<Lit>
     requires { vars ≤ 2 ^ 62 }
     ensures { result ≡ literal_of vars word.now }
@@ -42,9 +42,9 @@ fn literal_of(word: &[u8], vars: u64) -> Option<Lit>
     }
 }
 
-// Puts a literal into a set. Answers whether the set has its opposite, and then leaves it out.
+// Adds `l` to `set`, unless the set has its opposite. Returns whether it has.
 fn put(set: &mut LitSet, l: Lit) -> bool
-    requires { IsTrue (lit_in set.old.vars l) }
+    requires { IsTrue (is_lit_over set.old.vars l) }
     ensures put { IsPut l set.old.lits set.new.lits result }
     ensures vars { set.new.vars ≡ set.old.vars }
 {
@@ -58,34 +58,32 @@ fn put(set: &mut LitSet, l: Lit) -> bool
     false
 }
 
-// Whether a word is 0, which ends an item.
 fn is_end(word: &[u8]) -> bool
     ensures { result ≡ is_end word.now }
 {
     word == b"0".as_slice()
 }
 
-// Whether a word is d, which begins an item that adds nothing.
+// Returns whether the word is `d`, which begins an item that adds nothing.
 fn is_keep(word: &[u8]) -> bool
     ensures { result ≡ bytes_eq word.now (codes "d") }
 {
     word == b"d".as_slice()
 }
 
-// Whether one of the two is so.
 fn either(a: bool, b: bool) -> bool
     ensures { result ≡ (a || b) }
 {
     a || b
 }
 
-// Reads the literals from a first word on, as far as the word 0, into a set that has none. Answers
-// whether they have both literals of a variable. None where a word is no literal, or none is 0.
+// Reads literals, from the word `first` up to the word `0`, into an empty set. Returns whether some
+// variable has both its literals, or `None` if a word isn't a literal, or `0` is missing.
 fn read_literals(first: &[u8], words: &mut Words, set: &mut LitSet, vars: u64) -> Option<bool>
     requires numbered { vars ≤ 2 ^ 62 }
     requires vars { set.old.vars ≡ vars }
     requires empty { set.old.lits ≡ [] }
-    ensures read { IsRead vars (first.now ∷ words.old) set.new.lits words.new result }
+    ensures read { IsFirstItemRead vars (first.now ∷ words.old) set.new.lits words.new result }
     ensures vars { set.new.vars ≡ set.old.vars }
 {
     let mut word = first;
@@ -105,9 +103,9 @@ fn read_literals(first: &[u8], words: &mut Words, set: &mut LitSet, vars: u64) -
     }
 }
 
-// What an item without the word d is.
+// Returns the kind of an item without the word `d`.
 fn plain_item(read: Option<bool>) -> Item
-    ensures { result ≡ plain_item read }
+    ensures { result ≡ addition_item read }
 {
     match read {
         None => Item::Malformed,
@@ -116,9 +114,9 @@ fn plain_item(read: Option<bool>) -> Item
     }
 }
 
-// What an item with the word d is.
+// Returns the kind of an item with the word `d`.
 fn kept_item(read: Option<bool>) -> Item
-    ensures { result ≡ kept_item read }
+    ensures { result ≡ deletion_item read }
 {
     match read {
         None => Item::Malformed,
@@ -126,8 +124,8 @@ fn kept_item(read: Option<bool>) -> Item
     }
 }
 
-/// Reads the next item, with a set that has no literals: where the item adds a clause, the set then has
-/// its literals.
+/// Reads the next item, with an empty set. If the item adds a clause, the set then has its
+/// literals.
 pub fn read_item(words: &mut Words, set: &mut LitSet, vars: u64) -> Item
     requires numbered { vars ≤ 2 ^ 62 }
     requires vars { set.old.vars ≡ vars }

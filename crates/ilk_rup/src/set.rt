@@ -1,7 +1,7 @@
-//! Sets of literals over different variables, of which each question takes one step.
+//! Sets of literals over different variables, with queries in constant time.
 
 ghost use Rattle.std.specs.Prelude.{◌≡◌, ◌<◌, ◌≤◌, ◌^◌, ◌++◌, ◌∷◌, [], false, length, slice_get, Some, IfOk, IsTrue};
-ghost use Rattle.ilk_cnf.specs.Formula.{clause_in, lit_in};
+ghost use Rattle.ilk_cnf.specs.Formula.{is_clause_over, is_lit_over};
 ghost use Rattle.ilk_cnf.specs.Literal.{has_lit, has_var, vars_differ};
 ghost use Rattle.ilk_trail.specs.Laws.{lits_of};
 
@@ -10,10 +10,10 @@ use ilk_trail::Trail;
 use std::alloc::{AllocError, Global};
 use std::marker::Model;
 
-/// A set of literals over different variables, in the order in which they were put into it.
+/// A set of literals over different variables, in the order of insertion.
 #[derive(Drop)]
 pub struct LitSet {
-    // each literal is decided on a level of its own
+    // Each literal is decided at a level of its own.
     trail: Trail,
 }
 
@@ -29,7 +29,7 @@ impl Model for LitSet {
 }
 
 impl LitSet {
-    /// The set without literals, over the variables 1 to `vars`.
+    /// Creates an empty set over the variables 1 to `vars`.
     pub fn new(alloc: Global, vars: u64) -> Result<LitSet, AllocError>
         requires { vars ≤ 2 ^ 62 }
         ensures { IfOk result (λ s. s ≡ record { vars = vars; lits = [] }) }
@@ -41,9 +41,9 @@ impl LitSet {
 
     #[inline(always)]
     #[tactic(auto, using(crate::proofs::Sets::has_value, crate::proofs::Sets::no_value))]
-    /// Whether the set has the literal.
+    /// Returns whether the set has `l`.
     pub fn has(&self, l: Lit) -> bool
-        requires { IsTrue (lit_in self.now.vars l) }
+        requires { IsTrue (is_lit_over self.now.vars l) }
         ensures { result ≡ has_lit l self.now.lits }
     {
         let _ = self.trail.level();
@@ -55,9 +55,9 @@ impl LitSet {
 
     #[inline(always)]
     #[tactic(auto, using(crate::proofs::Sets::some_set, crate::proofs::Sets::none_set))]
-    /// Whether the set has a literal of the variable.
+    /// Returns whether the set has a literal of the variable of `l`.
     pub fn has_var(&self, l: Lit) -> bool
-        requires { IsTrue (lit_in self.now.vars l) }
+        requires { IsTrue (is_lit_over self.now.vars l) }
         ensures { result ≡ has_var l.var self.now.lits }
     {
         match self.trail.value(l) {
@@ -67,9 +67,9 @@ impl LitSet {
     }
 
     #[tactic(auto, using(crate::proofs::Sets::decided_lits, crate::proofs::Sets::decided_all))]
-    /// Puts a literal into the set.
+    /// Adds `l` to the set.
     pub fn put(&mut self, l: Lit)
-        requires within { IsTrue (lit_in self.old.vars l) }
+        requires within { IsTrue (is_lit_over self.old.vars l) }
         requires unset { has_var l.var self.old.lits ≡ false }
         ensures { self.new ≡ record self.old { lits = self.old.lits ++ l ∷ [] } }
     {
@@ -77,17 +77,17 @@ impl LitSet {
     }
 
     #[tactic(auto, using(crate::proofs::Sets::lits_length))]
-    /// How many literals the set has.
+    /// Returns the number of literals.
     pub fn len(&self) -> u64
         ensures count { result ≡ length self.now.lits }
         ensures differ { IsTrue (vars_differ self.now.lits) }
-        ensures within { IsTrue (clause_in self.now.vars self.now.lits) }
+        ensures within { IsTrue (is_clause_over self.now.vars self.now.lits) }
     {
         self.trail.count()
     }
 
     #[tactic(auto, using(crate::proofs::Sets::lits_length, crate::proofs::Sets::lits_at))]
-    /// Literal `i`.
+    /// Returns literal `i`.
     pub fn at(&self, i: u64) -> Lit
         requires { i < length self.now.lits }
         ensures { slice_get self.now.lits i ≡ Some result }
@@ -96,7 +96,7 @@ impl LitSet {
     }
 
     #[tactic(auto, using(crate::proofs::Sets::none_left, crate::proofs::Sets::none_decided))]
-    /// Takes all literals out.
+    /// Removes all literals.
     pub fn clear(&mut self)
         ensures { self.new ≡ record self.old { lits = [] } }
     {

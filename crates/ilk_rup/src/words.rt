@@ -1,4 +1,4 @@
-//! The words of a text, one after another.
+//! Iterates over the words of a text.
 
 ghost use Rattle.std.specs.Prelude.{◌≡◌, ◌<◌, [], ◌∷◌, ◌++◌, length, position, IfNone, IfSome};
 ghost use Rattle.std.specs.List.{slice_split};
@@ -6,15 +6,15 @@ ghost use Rattle.std.specs.Option.{option_map_or};
 ghost use Rattle.ilk_rup.specs.RefutationText.{is_blank, line_words, text_words, words_in};
 ghost use Rattle.ilk_rup.specs.WordsLeft.{words_left};
 
-use ilk_lines::cut;
+use ilk_lines::split_at_byte;
 use std::marker::Model;
 
 /// The words of a text that are still to be read.
 #[derive(Drop)]
 pub struct Words<'a> {
-    // what is left of the line at hand
+    // The rest of the current line.
     line: &'a [u8],
-    // the lines after it, where there is one
+    // The lines after it, if there are any.
     lines: Option<&'a [u8]>,
 }
 
@@ -29,8 +29,8 @@ impl<'a> Model for Words<'a> {
 }
 
 impl<'a> Words<'a> {
-    /// The words of a text.
-    pub fn of(text: &'a [u8]) -> Words<'a>
+    /// Creates the words of `text`.
+    pub fn from_text(text: &'a [u8]) -> Words<'a>
         ensures { result ≡ text_words text.now }
     {
         Words {
@@ -39,7 +39,7 @@ impl<'a> Words<'a> {
         }
     }
 
-    /// Reads the next word. None exactly where no word is left.
+    /// Returns the next word, or `None` if and only if no word is left.
     pub fn next(&mut self) -> Option<&'a [u8]>
         ensures word { IfSome result (λ word. self.old ≡ word.now ∷ self.new) }
         ensures none { IfNone result (self.old ≡ []) }
@@ -51,8 +51,8 @@ impl<'a> Words<'a> {
     }
 }
 
-// The next word of a line and the lines after it, and what is left of both. None exactly where no word
-// is left.
+// Returns the next word of a line and the lines after it, with the rest of both. Returns `None` if
+// and only if no word is left.
 fn next_word<'a>(
     line: &'a [u8],
     lines: Option<&'a [u8]>,
@@ -73,18 +73,18 @@ fn next_word<'a>(
     }
 }
 
-// The first line of a text, or nothing in the place of a comment, and what stands after it, if there is
-// a line feed.
+// Returns the first line of a text, or an empty one in place of a comment, and the text after it,
+// if there is a line feed.
 fn next_line(text: &[u8]) -> (&[u8], Option<&[u8]>)
     ensures words { text_words text.now
         ≡ words_in result.0.now ++ option_map_or (λ rest. text_words rest.now) result.1 [] }
     ensures shorter { IfSome result.1 (λ rest. length rest.now < length text.now) }
 {
-    let (line, rest) = cut(text, b'\n');
+    let (line, rest) = split_at_byte(text, b'\n');
     (without_comment(line), rest)
 }
 
-// A line, where it is no comment; else nothing.
+// Returns the line, or an empty one if it is a comment.
 fn without_comment(line: &[u8]) -> &[u8]
     ensures { words_in result.now ≡ line_words line.now }
 {
@@ -94,14 +94,12 @@ fn without_comment(line: &[u8]) -> &[u8]
     }
 }
 
-// Whether a byte is a space, a tab or a carriage return.
 fn is_blank(b: u8) -> bool
     ensures { result ≡ is_blank b }
 {
     b == b' ' || b == b'\t' || b == b'\r'
 }
 
-// The place of the first blank.
 fn place_of_blank(line: &[u8]) -> Option<usize>
     ensures { result ≡ position is_blank line.now }
 {
@@ -109,7 +107,7 @@ fn place_of_blank(line: &[u8]) -> Option<usize>
 }
 
 #[tactic(auto, using(crate::proofs::Cuts::cut_none, crate::proofs::Cuts::cut_some, std::proofs::lemmas::List::take_rest))]
-// What stands before the first blank of a line, and what stands after it, if there is one.
+// Returns the part before the first blank of a line, and the part after it, if there is one.
 fn cut_blank(line: &[u8]) -> (&[u8], Option<&[u8]>)
     ensures parts { slice_split is_blank line.now
         ≡ result.0.now ∷ option_map_or (λ rest. slice_split is_blank rest.now) result.1 [] }
@@ -121,7 +119,8 @@ fn cut_blank(line: &[u8]) -> (&[u8], Option<&[u8]>)
     }
 }
 
-// The first word of a line, and what stands after it. None exactly where the line has no word.
+// Returns the first word of a line, and the rest. Returns `None` if and only if the line has no
+// word.
 fn next_in(line: &[u8]) -> Option<(&[u8], &[u8])>
     ensures { words_in line.now ≡ option_map_or (λ cut. cut.0.now ∷ words_in cut.1.now) result [] }
 {
@@ -138,7 +137,7 @@ fn next_in(line: &[u8]) -> Option<(&[u8], &[u8])>
     }
 }
 
-// What stands after a blank, or nothing.
+// Returns the part after a blank, or an empty one.
 fn rest_of(rest: Option<&[u8]>) -> &[u8]
     ensures { words_in result.now ≡ option_map_or (λ after. words_in after.now) rest.entry [] }
 {

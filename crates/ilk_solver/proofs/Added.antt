@@ -1,17 +1,17 @@
--- A search with a step more.
+-- A search with one more step.
 use Rattle.std.proofs.Common.{◌≡◌, ◌+◌, ◌-◌, ◌<◌, ℕ, inl, inr, cond, List, [], ◌∷◌, ◌++◌, length, take, get_or, sym, ap, ◌∙◌, subst, arith, append_assoc, length-append}
 use Rattle.std.specs.Prelude.{count_by}
 use Rattle.std.proofs.lemmas.Bool.{and_from, and_parts, le-leb, lt-ltb, ltb-true}
 use Rattle.std.proofs.lemmas.List.{take-append-le, get_or_past}
 use Rattle.ilk_base.proofs.Ranges.{below_or_past}
 use Rattle.std.proofs.lemmas.List.Sums.{count_by-le-length}
-use Rattle.ilk_cnf.specs.Literal.{Literal, has_var, plus}
-use Rattle.ilk_cnf.specs.Formula.{Formula, grown, lit_in}
+use Rattle.ilk_cnf.specs.Literal.{Literal, has_var, positive_lit}
+use Rattle.ilk_cnf.specs.Formula.{Formula, with_clauses, is_lit_over}
 use Rattle.ilk_log.specs.declared.step.Step.{Step}
 use Rattle.ilk_log.specs.Derived.{step_clauses}
 use Rattle.ilk_trail.specs.Trail.{TrailList}
-use Rattle.ilk_clauses.specs.Reasons.{HasReasons}
-use Rattle.ilk_clauses.proofs.Forced.{reasons-grown}
+use Rattle.ilk_watches.specs.Reasons.{HasReasons}
+use Rattle.ilk_watches.proofs.Forced.{reasons-grown}
 use Rattle.ilk_solver.specs.Levels.{LevelsClosed}
 use Rattle.ilk_solver.specs.View.{ViewLists, weight_of}
 use Rattle.ilk_solver.specs.Held.{HoldsSearch}
@@ -23,7 +23,7 @@ use Rattle.ilk_solver.proofs.Weights.{count_by-push}
 pub held-added : (cs : Formula) (given : ℕ) (log : List Step) (view new : ViewLists) (s : Step) →
     HoldsSearch cs given log view → LevelsClosed (s.clause ∷ []) view.trail.entries → new.trail ≡ view.trail →
     ((v : ℕ) → 0 < v → weight_of new v ≡ weight_of view v + cond (has_var v s.clause) 1 0) →
-    HoldsSearch (grown cs cs.vars (s.clause ∷ [])) given (log ++ s ∷ []) new
+    HoldsSearch (with_clauses cs cs.vars (s.clause ∷ [])) given (log ++ s ∷ []) new
 held-added cs given log view new s h apart same counts =
     let c = s.clause in
     let front : take given (cs.clauses ++ c ∷ []) ≡ take given cs.clauses = take-append-le given cs.clauses (c ∷ []) h.first in
@@ -45,13 +45,12 @@ held-added cs given log view new s h apart same counts =
         reasons = subst S (sym same) (subst R laid reasons);
         closed = subst D (sym same) (subst C laid closed);
         weighed = λ v w.
-            (let known = h.search.weighed v (ap (λ (t : TrailList). lit_in t.vars (plus v)) (sym same) ∙ w) in
+            (let known = h.search.weighed v (ap (λ (t : TrailList). is_lit_over t.vars (positive_lit v)) (sym same) ∙ w) in
             let from_1 = ltb-true 0 v (and_parts _ _ w).0 in
             counts v from_1 ∙ ap (λ n. n + cond (has_var v c) 1 0) known ∙ sym (count_by-push (has_var v) (step_clauses log) c) ∙ ap (count_by (has_var v)) (sym (clauses-push log s)));
       };
     }
 
--- a weight is at most the number of the clauses
 pub weight-fits : (cs : Formula) (given : ℕ) (log : List Step) (view : ViewLists) (room : ℕ) → HoldsSearch cs given log view → length view.weights ≡ view.trail.vars → length cs.clauses + 1 < room → (i : ℕ) → get_or view.weights i 0 + 1 < room
 weight-fits cs given log view room h long few i = elim (below_or_past i (length view.weights)) [
   | inl b ↦ (let back : i + 1 - 1 ≡ i = omega arith in

@@ -1,40 +1,38 @@
--- A clause that is asserting is open on the levels below the one that it goes back to.
+-- An asserting clause is open on the levels below the one that it goes back to.
 use Rattle.std.proofs.Common.{◌≡◌, ◌&&◌, ◌<◌, ◌≤◌, ℕ, true, false, not, inl, inr, eqb, List, [], ◌∷◌, refl, sym, ap, ◌∙◌, subst, arith}
 use Rattle.std.specs.Prelude.{nat_le, nat_lt, is_none}
 use Rattle.std.proofs.lemmas.Bool.{and_parts, cases_Bool, eqb-true, ltb-true, not-true, or_parts, or_from}
 use Rattle.std.proofs.lemmas.Bool.Decides.{eqb_tells, nat_tests}
-use Rattle.ilk_cnf.specs.Literal.{Literal, opposite, has_var, vars_differ}
-use Rattle.ilk_log.specs.Propagation.{is_closed, is_false, is_falsified, unit_of}
+use Rattle.ilk_cnf.specs.Literal.{Literal, negated_lit, has_var, vars_differ}
+use Rattle.ilk_log.specs.Propagation.{is_saturated, is_false, is_falsified, unit_lit}
 use Rattle.ilk_trail.specs.declared.entry.Entry.{Entry}
-use Rattle.ilk_trail.specs.Trail.{level_of, up_to}
+use Rattle.ilk_trail.specs.Trail.{level_of, entries_up_to}
 use Rattle.ilk_trail.specs.Laws.{lits_of}
-use Rattle.ilk_clauses.proofs.Values.{no_lit}
+use Rattle.ilk_watches.proofs.Values.{no_lit}
 use Rattle.ilk_learn.specs.Levels.{level_at, is_current, highest_level}
-use Rattle.ilk_learn.specs.Asserting.{back_level, begins_at, is_asserting}
+use Rattle.ilk_learn.specs.Asserting.{back_level, has_first_at_level, is_asserting}
 use Rattle.ilk_solver.specs.Levels.{LevelsClosed}
 use Rattle.ilk_base.proofs.Ranges.{below_or_past}
-use Rattle.ilk_trail.specs.Laws.{climbs}
+use Rattle.ilk_trail.specs.Laws.{has_rising_levels}
 use Rattle.ilk_learn.proofs.Derived.{false-at, false-from}
-use Rattle.ilk_learn.proofs.Fresh.{has-up_to}
+use Rattle.ilk_learn.proofs.Fresh.{has-entries_up_to}
 use Rattle.ilk_learn.proofs.Highest.{below-highest}
 use Rattle.ilk_learn.proofs.Latest.{level-entry}
-use Rattle.ilk_watches.specs.Watched.{FalseOnlyNow, IsAddable}
+use Rattle.ilk_watches.specs.Watched.{FalseAtCurrentLevel, IsAddable}
 use Rattle.ilk_watches.proofs.Entries.{at-kept}
-use Rattle.ilk_watches.proofs.Prefixes.{front-kept, up_to-twice}
+use Rattle.ilk_watches.proofs.Prefixes.{front-kept, entries_up_to-twice}
 
--- fewer entries have fewer variables
-none-fewer : (es : List Entry) (k v : ℕ) → has_var v (lits_of es) ≡ false → has_var v (lits_of (up_to k es)) ≡ false
+none-fewer : (es : List Entry) (k v : ℕ) → has_var v (lits_of es) ≡ false → has_var v (lits_of (entries_up_to k es)) ≡ false
 none-fewer [] k v h = refl
 none-fewer (x ∷ es) k v h =
     let p = or_parts (eqb x.lit.var v) (has_var v (lits_of es)) h in
     let rest = none-fewer es k v p.1 in
     elim (cases_Bool (nat_le x.level k)) [
-      | inl t ↦ rw t (or_from (eqb x.lit.var v) (has_var v (lits_of (up_to k es))) p.0 rest)
+      | inl t ↦ rw t (or_from (eqb x.lit.var v) (has_var v (lits_of (entries_up_to k es))) p.0 rest)
       | inr t ↦ rw t rest
     ]
 
--- a variable that was set above level k isn't set by the entries up to it
-unset-below : (es : List Entry) (k : ℕ) (l : Literal) → vars_differ (lits_of es) ≡ true → k < level_at es l → has_var l.var (lits_of (up_to k es)) ≡ false
+unset-below : (es : List Entry) (k : ℕ) (l : Literal) → vars_differ (lits_of es) ≡ true → k < level_at es l → has_var l.var (lits_of (entries_up_to k es)) ≡ false
 unset-below [] k l d h = refl
 unset-below (x ∷ es) k l d h =
     let p = and_parts (not (has_var x.lit.var (lits_of es))) (vars_differ (lits_of es)) d in
@@ -45,53 +43,48 @@ unset-below (x ∷ es) k l d h =
           rw t (none-fewer es k l.var (subst N q.1 (not-true (has_var x.lit.var (lits_of es)) p.0))))
       | inr q ↦ (let rest = unset-below es k l p.1 (rw q.0 at h) in
           elim (cases_Bool (nat_le x.level k)) [
-            | inl t ↦ rw t (or_from (eqb x.lit.var l.var) (has_var l.var (lits_of (up_to k es))) q.0 rest)
+            | inl t ↦ rw t (or_from (eqb x.lit.var l.var) (has_var l.var (lits_of (entries_up_to k es))) q.0 rest)
             | inr t ↦ rw t rest
           ])
     ]
 
--- so its literal isn't false there
-open-below : (es : List Entry) (k : ℕ) (l : Literal) → vars_differ (lits_of es) ≡ true → k < level_at es l → is_false (lits_of (up_to k es)) l ≡ false
-open-below es k l d h = no_lit (opposite l) l.var (lits_of (up_to k es)) refl (unset-below es k l d h)
+open-below : (es : List Entry) (k : ℕ) (l : Literal) → vars_differ (lits_of es) ≡ true → k < level_at es l → is_false (lits_of (entries_up_to k es)) l ≡ false
+open-below es k l d h = no_lit (negated_lit l) l.var (lits_of (entries_up_to k es)) refl (unset-below es k l d h)
 
--- two literals that aren't false keep a clause open
-two-open : (set : List Literal) (l m : Literal) (ls : List Literal) → is_false set l ≡ false → is_false set m ≡ false → (not (is_falsified set (l ∷ (m ∷ ls))) && is_none (unit_of set (l ∷ (m ∷ ls))) && true) ≡ true
+two-open : (set : List Literal) (l m : Literal) (ls : List Literal) → is_false set l ≡ false → is_false set m ≡ false → (not (is_falsified set (l ∷ (m ∷ ls))) && is_none (unit_lit set (l ∷ (m ∷ ls))) && true) ≡ true
 two-open set l m ls h k = rw (h, k) refl
 
-pub asserting-open : (es : List Entry) (c : List Literal) (n : ℕ) → vars_differ (lits_of es) ≡ true → is_asserting es c ≡ true → n ≤ back_level es c → level_of (up_to n es) ≡ n → LevelsClosed (c ∷ []) (up_to n es)
+pub asserting-open : (es : List Entry) (c : List Literal) (n : ℕ) → vars_differ (lits_of es) ≡ true → is_asserting es c ≡ true → n ≤ back_level es c → level_of (entries_up_to n es) ≡ n → LevelsClosed (c ∷ []) (entries_up_to n es)
 asserting-open es [] n d a b top = absurd (cc)
 asserting-open es (l ∷ []) n d a b top = λ k low. absurd (omega (arith, b, top, low))
 asserting-open es (l ∷ (m ∷ c)) n d a b top = λ k low.
     let high = highest_level es (m ∷ c) in
-    let one = and_parts (is_falsified (lits_of es) (l ∷ (m ∷ c)) && is_current es l && nat_lt high (level_of es)) (begins_at es high (m ∷ c)) a in
+    let one = and_parts (is_falsified (lits_of es) (l ∷ (m ∷ c)) && is_current es l && nat_lt high (level_of es)) (has_first_at_level es high (m ∷ c)) a in
     let two = and_parts (is_falsified (lits_of es) (l ∷ (m ∷ c)) && is_current es l) (nat_lt high (level_of es)) one.0 in
     let three = and_parts (is_falsified (lits_of es) (l ∷ (m ∷ c))) (is_current es l) two.0 in
     let first = eqb-true (level_at es l) (level_of es) three.1 in
     let second = eqb-true (level_at es m) high one.1 in
     let under = ltb-true high (level_of es) two.1 in
     let below : k < n = omega (arith, top, low) in
-    let P : List Entry → Type 0 = λ xs. is_closed ((l ∷ (m ∷ c)) ∷ []) (lits_of xs) ≡ true in
-    subst P (sym (up_to-twice k n es (omega (arith, below)))) (two-open (lits_of (up_to k es)) l m c (open-below es k l d (omega (arith, below, b, first, under))) (open-below es k m d (omega (arith, below, b, second))))
+    let P : List Entry → Type 0 = λ xs. is_saturated ((l ∷ (m ∷ c)) ∷ []) (lits_of xs) ≡ true in
+    subst P (sym (entries_up_to-twice k n es (omega (arith, below)))) (two-open (lits_of (entries_up_to k es)) l m c (open-below es k l d (omega (arith, below, b, first, under))) (open-below es k m d (omega (arith, below, b, second))))
 
--- what stays false where the search goes back to the highest level of the others
-rest-false : (es : List Entry) (ls : List Literal) (n : ℕ) → vars_differ (lits_of es) ≡ true → is_falsified (lits_of es) ls ≡ true → highest_level es ls ≤ n → is_falsified (lits_of (up_to n es)) ls ≡ true
-rest-false es ls n d f h = false-from (lits_of (up_to n es)) ls (λ x s.
+rest-false : (es : List Entry) (ls : List Literal) (n : ℕ) → vars_differ (lits_of es) ≡ true → is_falsified (lits_of es) ls ≡ true → highest_level es ls ≤ n → is_falsified (lits_of (entries_up_to n es)) ls ≡ true
+rest-false es ls n d f h = false-from (lits_of (entries_up_to n es)) ls (λ x s.
     (let low = below-highest es ls x s in
-    has-up_to n es (opposite x) d (false-at (lits_of es) ls x f s) (omega (arith, low, h))))
+    has-entries_up_to n es (negated_lit x) d (false-at (lits_of es) ls x f s) (omega (arith, low, h))))
 
--- the entry that makes the second literal false is of that level
-second-now : (es : List Entry) (m : Literal) (n : ℕ) → climbs 0 es ≡ true → vars_differ (lits_of es) ≡ true → level_at es m ≡ n → level_of (up_to n es) ≡ n → FalseOnlyNow (up_to n es) m
+second-now : (es : List Entry) (m : Literal) (n : ℕ) → has_rising_levels 0 es ≡ true → vars_differ (lits_of es) ≡ true → level_at es m ≡ n → level_of (entries_up_to n es) ≡ n → FalseAtCurrentLevel (entries_up_to n es) m
 second-now es m n climb d at top = λ i e s q.
-    (let old = at-kept (up_to n es) es i e (front-kept n es climb) s in
+    (let old = at-kept (entries_up_to n es) es i e (front-kept n es climb) s in
     sym (level-entry es i e d old) ∙ ap (level_at es) q ∙ at ∙ sym top)
 
--- an asserting clause may be added where the search goes back
-pub addable : (es : List Entry) (c : List Literal) (n : ℕ) → climbs 0 es ≡ true → vars_differ (lits_of es) ≡ true → is_asserting es c ≡ true → n ≤ back_level es c → level_of (up_to n es) ≡ n → IsAddable (up_to n es) c
+pub addable : (es : List Entry) (c : List Literal) (n : ℕ) → has_rising_levels 0 es ≡ true → vars_differ (lits_of es) ≡ true → is_asserting es c ≡ true → n ≤ back_level es c → level_of (entries_up_to n es) ≡ n → IsAddable (entries_up_to n es) c
 addable es [] n climb d a b top = tt
 addable es (l ∷ []) n climb d a b top = tt
 addable es (l ∷ (m ∷ c)) n climb d a b top =
     let high = highest_level es (m ∷ c) in
-    let one = and_parts (is_falsified (lits_of es) (l ∷ (m ∷ c)) && is_current es l && nat_lt high (level_of es)) (begins_at es high (m ∷ c)) a in
+    let one = and_parts (is_falsified (lits_of es) (l ∷ (m ∷ c)) && is_current es l && nat_lt high (level_of es)) (has_first_at_level es high (m ∷ c)) a in
     let two = and_parts (is_falsified (lits_of es) (l ∷ (m ∷ c)) && is_current es l) (nat_lt high (level_of es)) one.0 in
     let three = and_parts (is_falsified (lits_of es) (l ∷ (m ∷ c))) (is_current es l) two.0 in
     let first = eqb-true (level_at es l) (level_of es) three.1 in

@@ -1,4 +1,4 @@
--- What a conflict teaches a search, and when its formula is stuck.
+-- Learned clauses, and formulas that are stuck.
 use Rattle.std.proofs.Common.{◌≡◌, ◌&&◌, ◌-◌, ◌<◌, ℕ, Bool, true, false, not, inl, inr, List, [], ◌∷◌, length, refl, sym, ◌∙◌, subst, arith}
 use Rattle.std.specs.Prelude.{is_none, nat_lt, Result, Ok, Err, IfOk}
 use Rattle.std.proofs.lemmas.Bool.{and_parts, cases_Bool, ltb-true, not-true, true≢false}
@@ -6,17 +6,17 @@ use Rattle.ilk_base.proofs.Tested.{list_all-slice_get}
 use Rattle.ilk_cnf.specs.Literal.{Literal}
 use Rattle.ilk_cnf.specs.Formula.{Formula}
 use Rattle.ilk_log.specs.declared.step.Step.{Step}
-use Rattle.ilk_log.specs.Propagation.{is_closed, is_falsified, unit_of}
+use Rattle.ilk_log.specs.Propagation.{is_saturated, is_falsified, unit_lit}
 use Rattle.ilk_log.specs.Derived.{is_derived}
 use Rattle.ilk_log.specs.Fresh.{IsFresh, IsStuck}
 use Rattle.ilk_log.proofs.Closed.{no-false-end}
 use Rattle.ilk_trail.specs.declared.entry.Entry.{Entry}
-use Rattle.ilk_trail.specs.Trail.{level_of, up_to}
+use Rattle.ilk_trail.specs.Trail.{level_of, entries_up_to}
 use Rattle.ilk_trail.specs.Laws.{lits_of}
-use Rattle.ilk_clauses.specs.Reasons.{clause_at, is_conflict}
-use Rattle.ilk_clauses.proofs.Within.{clause-there}
+use Rattle.ilk_watches.specs.Reasons.{clause_at, is_conflict}
+use Rattle.ilk_watches.proofs.Within.{clause-there}
 use Rattle.ilk_learn.specs.Levels.{is_current, highest_level}
-use Rattle.ilk_learn.specs.Asserting.{back_level, begins_at, is_asserting}
+use Rattle.ilk_learn.specs.Asserting.{back_level, has_first_at_level, is_asserting}
 use Rattle.ilk_solver.specs.Levels.{LevelsClosed}
 use Rattle.ilk_solver.specs.Search.{SearchLists, IsSearch, all_clauses}
 use Rattle.ilk_solver.specs.Learned.{IsLearned}
@@ -24,41 +24,37 @@ use Rattle.ilk_solver.specs.View.{ViewLists}
 use Rattle.ilk_solver.specs.Held.{search_of, HoldsSearch}
 use Rattle.ilk_solver.proofs.Searches.{known-closed}
 
--- where propagation is at its end, no clause is false
-no-conflict : (cs : List (List Literal)) (set : List Literal) (c : ℕ) → is_closed cs set ≡ true → is_conflict cs set c ≡ false
+no-conflict : (cs : List (List Literal)) (set : List Literal) (c : ℕ) → is_saturated cs set ≡ true → is_conflict cs set c ≡ false
 no-conflict cs set c k =
     elim (cases_Bool (is_conflict cs set c)) [
       | inl t ↦ absurd (let p = and_parts (nat_lt c (length cs)) (is_falsified set (clause_at cs c)) t in
-          let test : List Literal → Bool = λ x. not (is_falsified set x) && is_none (unit_of set x) in
+          let test : List Literal → Bool = λ x. not (is_falsified set x) && is_none (unit_lit set x) in
           let at = list_all-slice_get test cs c (clause_at cs c) k (clause-there cs c (ltb-true c (length cs) p.0)) in
-          true≢false (sym p.1 ∙ not-true (is_falsified set (clause_at cs c)) (and_parts (not (is_falsified set (clause_at cs c))) (is_none (unit_of set (clause_at cs c))) at).0))
+          true≢false (sym p.1 ∙ not-true (is_falsified set (clause_at cs c)) (and_parts (not (is_falsified set (clause_at cs c))) (is_none (unit_lit set (clause_at cs c))) at).0))
       | inr t ↦ t
     ]
 
-pub none-below : (cs : List (List Literal)) (es : List Entry) (c : ℕ) → LevelsClosed cs es → 0 < level_of es → is_conflict cs (lits_of (up_to (level_of es - 1) es)) c ≡ false
-none-below cs es c h p = no-conflict cs (lits_of (up_to (level_of es - 1) es)) c (h (level_of es - 1) (omega (arith, p)))
+pub none-below : (cs : List (List Literal)) (es : List Entry) (c : ℕ) → LevelsClosed cs es → 0 < level_of es → is_conflict cs (lits_of (entries_up_to (level_of es - 1) es)) c ≡ false
+none-below cs es c h p = no-conflict cs (lits_of (entries_up_to (level_of es - 1) es)) c (h (level_of es - 1) (omega (arith, p)))
 
--- a clause that is asserting asks for a lower level
 pub back-below : (es : List Entry) (c : List Literal) → is_asserting es c ≡ true → back_level es c < level_of es
 back-below es [] a = absurd (cc)
 back-below es (l ∷ ls) a =
     let high = highest_level es ls in
-    let one = and_parts (is_falsified (lits_of es) (l ∷ ls) && is_current es l && nat_lt high (level_of es)) (begins_at es high ls) a in
+    let one = and_parts (is_falsified (lits_of es) (l ∷ ls) && is_current es l && nat_lt high (level_of es)) (has_first_at_level es high ls) a in
     let two = and_parts (is_falsified (lits_of es) (l ∷ ls) && is_current es l) (nat_lt high (level_of es)) one.0 in
     ltb-true high (level_of es) two.1
 
--- above level 0 no hints refute the formula, and what was learned is one step more
 pub stuck : (s : SearchLists) (step : Step) (k : ℕ) → IsSearch s → 0 < level_of s.view.trail.entries → IsLearned s step k → IsStuck s.formula s.log
 stuck s step k h p l = record {
-  unrefuted = λ hints. no-false-end (all_clauses s) [] (lits_of (up_to 0 s.view.trail.entries)) hints (h.closed 0 p) (λ m none. absurd (true≢false (sym none)));
+  unrefuted = λ hints. no-false-end (all_clauses s) [] (lits_of (entries_up_to 0 s.view.trail.entries)) hints (h.closed 0 p) (λ m none. absurd (true≢false (sym none)));
   next = (step, l.derived, l.fresh);
 }
 
--- what a conflict teaches, said of the search
 pub learned-here : (cs : Formula) (given : ℕ) (log : List Step) (view : ViewLists) (step : Step) (k : ℕ) →
     HoldsSearch cs given log view → is_derived cs.vars cs.clauses step ≡ true →
     is_asserting view.trail.entries step.clause ≡ true → k ≡ back_level view.trail.entries step.clause →
-    (is_closed cs.clauses (lits_of (up_to k view.trail.entries)) ≡ true → IsFresh cs.clauses step.clause) →
+    (is_saturated cs.clauses (lits_of (entries_up_to k view.trail.entries)) ≡ true → IsFresh cs.clauses step.clause) →
     IsLearned (search_of cs given log view) step k
 learned-here cs given log view step k h d a b fresh =
     let below = back-below view.trail.entries step.clause a in
@@ -71,7 +67,6 @@ learned-here cs given log view step k h d a b fresh =
       back = b;
     }
 
--- what is so of each value of a result
 pub if-ok : {T E : Type 0} (r : Result T E) (P : T → Type 0) → ((x : T) → r ≡ Ok x → P x) → IfOk r P
 if-ok (Ok x) P f = f x refl
 if-ok (Err e) P f = tt

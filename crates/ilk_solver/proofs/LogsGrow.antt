@@ -1,4 +1,4 @@
--- The log of a search with a step more.
+-- The log of a search with one more step.
 use Rattle.std.proofs.Common.{◌≡◌, ◌<◌, ℕ, Bool, true, false, not, cond, List, [], ◌∷◌, ◌++◌, length, refl, sym, ap, ◌∙◌, subst, arith, length-append}
 use Rattle.std.specs.Prelude.{count_by}
 use Rattle.std.proofs.lemmas.Bool.{and_parts, and_from, not_from_false, true≢false}
@@ -7,27 +7,25 @@ use Rattle.ilk_base.proofs.Tested.{list_all-more}
 use Rattle.ilk_cnf.specs.Literal.{Literal}
 use Rattle.ilk_cnf.specs.Formula.{Formula}
 use Rattle.ilk_log.specs.declared.step.Step.{Step}
-use Rattle.ilk_log.specs.Derived.{is_derived, is_derived_log, is_empty, is_refutation, ends_empty, step_clauses}
+use Rattle.ilk_log.specs.Derived.{is_derived, is_derived_log, is_empty, is_refutation, ends_with_empty_clause, step_clauses}
 use Rattle.ilk_log.specs.Fresh.{IsFresh, IsStuck}
 use Rattle.ilk_log.proofs.Count.{fresh_few}
 use Rattle.ilk_solver.specs.Search.{SearchLists}
-use Rattle.ilk_solver.specs.Answered.{IsLog, IsSpent, none_empty}
+use Rattle.ilk_solver.specs.Answered.{IsSearchLog, IsSpentLog, has_no_empty_step}
 use Rattle.ilk_log.proofs.Pushed.{derived-push}
 use Rattle.ilk_solver.proofs.Logs.{fresh-push, ends-push}
 use Rattle.ilk_solver.proofs.Weights.{count_by-push}
 
-pub log-start : (f : Formula) (budget : ℕ) → IsLog f budget []
+pub log-start : (f : Formula) (budget : ℕ) → IsSearchLog f budget []
 log-start f budget = record { derived = refl; fresh = tt; few = omega arith }
 
--- a fresh clause has a literal
 pub fresh-some : (cs : List (List Literal)) (c : List Literal) → IsFresh cs c → is_empty c ≡ false
 fresh-some cs [] h = absurd (true≢false (sym h.1))
 fresh-some cs (l ∷ c) h = refl
 
--- a step with a literal
-pub log-more : (f : Formula) (budget : ℕ) (log : List Step) (s : Step) → IsLog f budget log →
+pub log-more : (f : Formula) (budget : ℕ) (log : List Step) (s : Step) → IsSearchLog f budget log →
     length log < budget → is_derived f.vars (f.clauses ++ step_clauses log) s ≡ true →
-    IsFresh (f.clauses ++ step_clauses log) s.clause → IsLog f budget (log ++ s ∷ [])
+    IsFresh (f.clauses ++ step_clauses log) s.clause → IsSearchLog f budget (log ++ s ∷ [])
 log-more f budget log s h room d fr = record {
   derived = derived-push f.vars f.clauses log s h.derived d;
   fresh = fresh-push f.clauses log s h.fresh (λ _. fr);
@@ -36,14 +34,13 @@ log-more f budget log s h room d fr = record {
       omega (arith, one, size, room));
 }
 
-pub none_empty-more : (cs : List (List Literal)) (log : List Step) (s : Step) → none_empty log ≡ true → IsFresh cs s.clause → none_empty (log ++ s ∷ []) ≡ true
-none_empty-more cs log s h fr = list_all-more (λ (t : Step). not (is_empty t.clause)) log s h (not_from_false (is_empty s.clause) (fresh-some cs s.clause fr))
+pub has_no_empty_step-more : (cs : List (List Literal)) (log : List Step) (s : Step) → has_no_empty_step log ≡ true → IsFresh cs s.clause → has_no_empty_step (log ++ s ∷ []) ≡ true
+has_no_empty_step-more cs log s h fr = list_all-more (λ (t : Step). not (is_empty t.clause)) log s h (not_from_false (is_empty s.clause) (fresh-some cs s.clause fr))
 
--- the empty step
 empty-is : (c : List Literal) → c ≡ [] → is_empty c ≡ true
 empty-is c e = ap is_empty e
 
-pub log-ended : (f : Formula) (budget : ℕ) (log : List Step) (s : Step) → IsLog f budget log → is_derived f.vars (f.clauses ++ step_clauses log) s ≡ true → s.clause ≡ [] → IsLog f budget (log ++ s ∷ [])
+pub log-ended : (f : Formula) (budget : ℕ) (log : List Step) (s : Step) → IsSearchLog f budget log → is_derived f.vars (f.clauses ++ step_clauses log) s ≡ true → s.clause ≡ [] → IsSearchLog f budget (log ++ s ∷ [])
 log-ended f budget log s h d e = record {
   derived = derived-push f.vars f.clauses log s h.derived d;
   fresh = fresh-push f.clauses log s h.fresh (λ some. absurd (true≢false (sym (empty-is s.clause e) ∙ some)));
@@ -54,21 +51,20 @@ log-ended f budget log s h d e = record {
       omega (arith, more, none, few));
 }
 
-pub refuted : (f : Formula) (budget : ℕ) (log : List Step) (s : Step) → IsLog f budget log → none_empty log ≡ true → is_derived f.vars (f.clauses ++ step_clauses log) s ≡ true → s.clause ≡ [] → is_refutation f (log ++ s ∷ []) ≡ true
-refuted f budget log s h n d e = and_from (is_derived_log f (log ++ s ∷ [])) (ends_empty (log ++ s ∷ [])) (derived-push f.vars f.clauses log s h.derived d) (ends-push log s n (empty-is s.clause e))
+pub refuted : (f : Formula) (budget : ℕ) (log : List Step) (s : Step) → IsSearchLog f budget log → has_no_empty_step log ≡ true → is_derived f.vars (f.clauses ++ step_clauses log) s ≡ true → s.clause ≡ [] → is_refutation f (log ++ s ∷ []) ≡ true
+refuted f budget log s h n d e = and_from (is_derived_log f (log ++ s ∷ [])) (ends_with_empty_clause (log ++ s ∷ [])) (derived-push f.vars f.clauses log s h.derived d) (ends-push log s n (empty-is s.clause e))
 
--- a log in which each step has a literal
-count-each : (log : List Step) → none_empty log ≡ true → count_by (λ (s : Step). not (is_empty s.clause)) log ≡ length log
+count-each : (log : List Step) → has_no_empty_step log ≡ true → count_by (λ (s : Step). not (is_empty s.clause)) log ≡ length log
 count-each [] h = refl
 count-each (s ∷ log) h =
     let has : Step → Bool = λ t. not (is_empty t.clause) in
-    let p = and_parts (has s) (none_empty log) h in
+    let p = and_parts (has s) (has_no_empty_step log) h in
     let one = sum_by-cons (λ (t : Step). cond (has t) 1 0) s log in
     let here : ◌≡◌ {A = ℕ} (cond (has s) 1 0) 1 = ap (λ (b : Bool). let n : ℕ = cond b 1 0 in n) p.0 in
     let rest = count-each log p.1 in
     omega (arith, one, here, rest)
 
-pub spent : (f : Formula) (budget : ℕ) (log : List Step) → IsLog f budget log → none_empty log ≡ true → length log ≡ budget → IsStuck f log → IsSpent f budget log
+pub spent : (f : Formula) (budget : ℕ) (log : List Step) → IsSearchLog f budget log → has_no_empty_step log ≡ true → length log ≡ budget → IsStuck f log → IsSpentLog f budget log
 spent f budget log h n e st = record {
   steps = e;
   unfinished = n;
@@ -76,6 +72,5 @@ spent f budget log h n e st = record {
   small = (let few = fresh_few f log h.derived h.fresh in let each = count-each log n in omega (arith, few, each, e));
 }
 
--- what is so of the formula and the log of a search
 pub moved : (P : Formula → List Step → Type 0) (s : SearchLists) (f : Formula) (log : List Step) → s.formula ≡ f → s.log ≡ log → P s.formula s.log → P f log
 moved P s f log e k h = subst (P f) k (subst (λ (g : Formula). P g s.log) e h)

@@ -1,8 +1,8 @@
--- Why a search ends: with each step fewer are left, and between two steps the level rises.
+-- Termination of a search: each step leaves fewer, and between steps the level rises.
 use Rattle.std.proofs.Common.{◌≡◌, ◌+◌, ◌-◌, ◌*◌, ◌<◌, ◌≤◌, ℕ, ap, ◌∙◌, arith}
 use Rattle.std.proofs.Math.Nat.{add-mul}
 
--- over n variables, at this level, after so many steps of a budget
+-- A bound on the rounds left over `n` variables.
 abbrev pub rounds_left : ℕ → ℕ → ℕ → ℕ → ℕ
 rounds_left n budget steps level = (budget - steps) * (n + 2) + (n + 2 - level)
 

@@ -7,24 +7,23 @@ use Rattle.std.proofs.lemmas.Bool.{and_parts, and_from, cases_Bool, cases_eq, ca
 use Rattle.std.proofs.lemmas.Bool.Decides.{eqb_tells, nat_tests}
 use Rattle.std.proofs.lemmas.List.{get_or-set_same, get_or-set_other}
 use Rattle.std.proofs.lemmas.List.Sums.{sum_by-set}
-use Rattle.ilk_cnf.specs.Literal.{Literal, plus}
-use Rattle.ilk_cnf.specs.Formula.{lit_in}
-use Rattle.ilk_cnf.proofs.Literals.{lit_in-parts}
+use Rattle.ilk_cnf.specs.Literal.{Literal, positive_lit}
+use Rattle.ilk_cnf.specs.Formula.{is_lit_over}
+use Rattle.ilk_cnf.proofs.Literals.{is_lit_over-parts}
 use Rattle.ilk_trail.specs.declared.entry.Entry.{Entry}
-use Rattle.ilk_trail.specs.Trail.{TrailList, entry_of, up_to}
-use Rattle.ilk_trail.specs.Laws.{IsTrail, climbs, is_level_next, is_set}
+use Rattle.ilk_trail.specs.Trail.{TrailList, entry_of, entries_up_to}
+use Rattle.ilk_trail.specs.Laws.{IsTrail, has_rising_levels, is_next_level, is_set}
 use Rattle.ilk_trail.proofs.Levels.{next-level}
 use Rattle.ilk_learn.proofs.Latest.{entry-at}
 use Rattle.ilk_solver.specs.Assigned.{AllSet}
 use Rattle.ilk_solver.specs.Heaviest.{IsHeaviest}
-use Rattle.ilk_solver.specs.Order.{HasAbove, HoldsView, IsSettled, KeepsUnset}
-use Rattle.ilk_solver.specs.Tree.{IsTree, KeepsLeaves, KeepsVariables, StandsIn, leaves_of, top_of}
+use Rattle.ilk_solver.specs.Order.{HasEntriesAbove, HoldsView, HasUnsetTop, KeepsUnset}
+use Rattle.ilk_solver.specs.Tree.{IsTree, KeepsLeaves, KeepsVariables, IsAtLeaf, leaves_of, top_of}
 use Rattle.ilk_solver.specs.Word.{word_of}
 use Rattle.ilk_solver.specs.View.{ViewLists, IsView, is_unset}
 use Rattle.ilk_solver.proofs.Trees.{leaves-short, top-greatest, top-stands, top-within}
 use Rattle.ilk_solver.proofs.Words.{greater-heavier, word-positive}
 
--- one leaf fewer has a variable where the top is taken off
 pub fewer : (ws t u : List ℕ) → IsTree ws t → 0 < top_of t → leaves_of ws u ≡ set (leaves_of ws t) (top_of t) 0 → sum_by (λ (x : ℕ). cond (eqb x 0) 0 1) (leaves_of ws u) < sum_by (λ (x : ℕ). cond (eqb x 0) 0 1) (leaves_of ws t)
 fewer ws t u h p e =
     elim (top-stands ws t h) [
@@ -41,49 +40,46 @@ fewer ws t u h p e =
           omega (arith, s, one, to))
     ]
 
--- variable v is put in
-pub put-one : (ws t u : List ℕ) (v : ℕ) → IsTree ws t → v ≤ length ws → leaves_of ws u ≡ set (leaves_of ws t) v (word_of ws v) → KeepsLeaves ws t u × StandsIn ws u v
+pub put-one : (ws t u : List ℕ) (v : ℕ) → IsTree ws t → v ≤ length ws → leaves_of ws u ≡ set (leaves_of ws t) v (word_of ws v) → KeepsLeaves ws t u × IsAtLeaf ws u v
 put-one ws t u v h q e =
     let x = word_of ws v in
-    let here : StandsIn ws u v = ap (λ (ls : List ℕ). get_or ls v 0) e ∙ get_or-set_same (leaves_of ws t) v x 0 (leaves-short ws t v h q) in (
+    let here : IsAtLeaf ws u v = ap (λ (ls : List ℕ). get_or ls v 0) e ∙ get_or-set_same (leaves_of ws t) v x 0 (leaves-short ws t v h q) in (
       λ w s. elim (cases_eq w v) [
-        | inl d ↦ (let P : ℕ → Type 0 = λ j. StandsIn ws u j in subst P (sym d) here)
+        | inl d ↦ (let P : ℕ → Type 0 = λ j. IsAtLeaf ws u j in subst P (sym d) here)
         | inr d ↦ ap (λ (ls : List ℕ). get_or ls w 0) e ∙ get_or-set_other (leaves_of ws t) v w x 0 d ∙ s
       ],
       here,
     )
 
--- levels climb
-level-from : (k : ℕ) (es : List Entry) (i : ℕ) (e : Entry) → climbs k es ≡ true → slice_get es i ≡ Some e → k ≤ e.level
+level-from : (k : ℕ) (es : List Entry) (i : ℕ) (e : Entry) → has_rising_levels k es ≡ true → slice_get es i ≡ Some e → k ≤ e.level
 level-from k [] i e c s = absurd (cc)
 level-from k (x ∷ es) zero e c s =
-    let p = and_parts (is_level_next k x) (climbs x.level es) c in
+    let p = and_parts (is_next_level k x) (has_rising_levels x.level es) c in
     let n = next-level k x p.0 in
     let same : x ≡ e = cc in
     omega (arith, n.0, ap (λ (y : Entry). y.level) same)
 level-from k (x ∷ es) (suc i) e c s =
-    let p = and_parts (is_level_next k x) (climbs x.level es) c in
+    let p = and_parts (is_next_level k x) (has_rising_levels x.level es) c in
     let n = next-level k x p.0 in
     omega (arith, n.0, level-from x.level es i e p.1 s)
 
-level-between : (k : ℕ) (es : List Entry) (i j : ℕ) (e f : Entry) → climbs k es ≡ true → i ≤ j → slice_get es i ≡ Some e → slice_get es j ≡ Some f → e.level ≤ f.level
+level-between : (k : ℕ) (es : List Entry) (i j : ℕ) (e f : Entry) → has_rising_levels k es ≡ true → i ≤ j → slice_get es i ≡ Some e → slice_get es j ≡ Some f → e.level ≤ f.level
 level-between k [] i j e f c h s r = absurd (cc)
 level-between k (x ∷ es) zero zero e f c h s r = (let same : e ≡ f = cc in omega (arith, ap (λ (y : Entry). y.level) same))
 level-between k (x ∷ es) zero (suc j) e f c h s r =
-    let p = and_parts (is_level_next k x) (climbs x.level es) c in
+    let p = and_parts (is_next_level k x) (has_rising_levels x.level es) c in
     let same : x ≡ e = cc in
     omega (arith, level-from x.level es j f p.1 r, ap (λ (y : Entry). y.level) same)
 level-between k (x ∷ es) (suc i) zero e f c h s r = absurd (omega (arith, h))
 level-between k (x ∷ es) (suc i) (suc j) e f c h s r =
-    let p = and_parts (is_level_next k x) (climbs x.level es) c in
+    let p = and_parts (is_next_level k x) (has_rising_levels x.level es) c in
     level-between x.level es i j e f p.1 (omega (arith, h)) s r
 
--- the entry before place n isn't above the level: then those that are stand from n on
 pub low-above : (t : TrailList) (ws tree : List ℕ) (n level : ℕ) (x : Entry) (l : Literal) (k : ℕ) →
     IsTrail t → slice_get t.entries (n - 1) ≡ Some x → x.lit ≡ l →
     option_map (λ (e : Entry). e.level) (entry_of t.entries l.var) ≡ Some k → k ≤ level →
-    ((j : ℕ) (e : Entry) → n ≤ j → slice_get t.entries j ≡ Some e → StandsIn ws tree e.lit.var) →
-    HasAbove t.entries level ws tree
+    ((j : ℕ) (e : Entry) → n ≤ j → slice_get t.entries j ≡ Some e → IsAtLeaf ws tree e.lit.var) →
+    HasEntriesAbove t.entries level ws tree
 low-above t ws tree n level x l k h s q r low done = λ i e at above.
     let found : entry_of t.entries l.var ≡ Some x = ap (λ (m : Literal). entry_of t.entries m.var) (sym q) ∙ entry-at t.entries (n - 1) x h.once s in
     let here : Some x.level ≡ Some k = sym (ap (option_map (λ (e : Entry). e.level)) found) ∙ r in
@@ -93,31 +89,28 @@ low-above t ws tree n level x l k h s q r low done = λ i e at above.
       | inr b ↦ done i e b at
     ]
 
--- the entry before place n is put in
 pub put-done : (t : TrailList) (ws tree : List ℕ) (n : ℕ) (x : Entry) (l : Literal) (v : ℕ) →
-    slice_get t.entries (n - 1) ≡ Some x → x.lit ≡ l → v ≡ l.var → StandsIn ws tree v →
-    ((j : ℕ) (e : Entry) → n ≤ j → slice_get t.entries j ≡ Some e → StandsIn ws tree e.lit.var) →
-    (j : ℕ) (e : Entry) → n - 1 ≤ j → slice_get t.entries j ≡ Some e → StandsIn ws tree e.lit.var
+    slice_get t.entries (n - 1) ≡ Some x → x.lit ≡ l → v ≡ l.var → IsAtLeaf ws tree v →
+    ((j : ℕ) (e : Entry) → n ≤ j → slice_get t.entries j ≡ Some e → IsAtLeaf ws tree e.lit.var) →
+    (j : ℕ) (e : Entry) → n - 1 ≤ j → slice_get t.entries j ≡ Some e → IsAtLeaf ws tree e.lit.var
 put-done t ws tree n x l v s q r here done = λ j e h at.
     elim (cases_lt j n) [
       | inl b ↦ (let same : Some x ≡ Some e = sym s ∙ ap (slice_get t.entries) (omega (arith, h, b)) ∙ at in
           let one : x ≡ e = cc in
-          let P : ℕ → Type 0 = λ w. StandsIn ws tree w in
+          let P : ℕ → Type 0 = λ w. IsAtLeaf ws tree w in
           subst P (r ∙ ap (λ (m : Literal). m.var) (sym q) ∙ ap (λ (y : Entry). y.lit.var) one) here)
       | inr b ↦ done j e b at
     ]
 
--- unset variables
 pub unset-parts : (view : ViewLists) (v : ℕ) → is_unset view v ≡ true → (0 < v) × (v ≤ view.trail.vars) × (is_set view.trail.entries v ≡ false)
 unset-parts view v h =
-    let p = and_parts (lit_in view.trail.vars (plus v)) (not (is_set view.trail.entries v)) h in
-    let w = lit_in-parts view.trail.vars (plus v) p.0 in
+    let p = and_parts (is_lit_over view.trail.vars (positive_lit v)) (not (is_set view.trail.entries v)) h in
+    let w = is_lit_over-parts view.trail.vars (positive_lit v) p.0 in
     (w.0, w.1, not-true (is_set view.trail.entries v) p.1)
 
 pub unset-from : (view : ViewLists) (v : ℕ) → 0 < v → v ≤ view.trail.vars → is_set view.trail.entries v ≡ false → is_unset view v ≡ true
-unset-from view v p w h = and_from (lit_in view.trail.vars (plus v)) (not (is_set view.trail.entries v)) (and_from _ _ (lt-ltb 0 v p) (le-leb v view.trail.vars w)) (not_from_false (is_set view.trail.entries v) h)
+unset-from view v p w h = and_from (is_lit_over view.trail.vars (positive_lit v)) (not (is_set view.trail.entries v)) (and_from _ _ (lt-ltb 0 v p) (le-leb v view.trail.vars w)) (not_from_false (is_set view.trail.entries v) h)
 
--- a variable that no later entry sets was unset before
 set-take : (n : ℕ) (es : List Entry) (v : ℕ) → is_set es v ≡ false → is_set (take n es) v ≡ false
 set-take zero es v h = refl
 set-take (suc n) [] v h = refl
@@ -130,12 +123,11 @@ set-take (suc n) (x ∷ es) v h =
 pub unset-before : (old new : List Entry) (v : ℕ) → take (length old) new ≡ old → is_set new v ≡ false → is_set old v ≡ false
 unset-before old new v e h = ap (λ (es : List Entry). is_set es v) (sym e) ∙ set-take (length old) new v h
 
--- a set variable that is unset by the entries up to a level has an entry above it
-pub above-at : (k : ℕ) (es : List Entry) (v : ℕ) → is_set es v ≡ true → is_set (up_to k es) v ≡ false → (i : ℕ) × (e : Entry) × (slice_get es i ≡ Some e) × (k < e.level) × (e.lit.var ≡ v)
+pub above-at : (k : ℕ) (es : List Entry) (v : ℕ) → is_set es v ≡ true → is_set (entries_up_to k es) v ≡ false → (i : ℕ) × (e : Entry) × (slice_get es i ≡ Some e) × (k < e.level) × (e.lit.var ≡ v)
 above-at k [] v h u = absurd (true≢false (sym h))
 above-at k (x ∷ es) v h u =
     elim (cases_Bool (nat_le x.level k)) [
-      | inl t ↦ (let u1 : is_set (x ∷ up_to k es) v ≡ false = rw t at u in
+      | inl t ↦ (let u1 : is_set (x ∷ entries_up_to k es) v ≡ false = rw t at u in
           elim (cases_Bool (eqb x.lit.var v)) [
             | inl q ↦ absurd (true≢false (sym (rw q refl) ∙ u1))
             | inr q ↦ (let r = above-at k es v (rw q at h) (rw q at u1) in (suc r.0, r.1, r.2, r.3, r.4))
@@ -147,8 +139,8 @@ above-at k (x ∷ es) v h u =
           ])
     ]
 
--- a view whose tree had each unset variable, and was settled
-pub holds : (view : ViewLists) (t u : List ℕ) → IsView view → IsTree view.weights u → ((v : ℕ) → is_unset view v ≡ true → StandsIn view.weights t v) → KeepsUnset view.trail.entries view.weights t u → IsSettled view.trail.entries u → HoldsView view u
+pub holds : (view : ViewLists) (t u : List ℕ) → IsView view → IsTree view.weights u → ((v : ℕ) → is_unset view v ≡ true → IsAtLeaf view.weights t v) → KeepsUnset view.trail.entries view.weights t u → HasUnsetTop view.trail.entries u
+    → HoldsView view u
 holds view t u h w s k e = record {
   is = h;
   won = w;
@@ -156,19 +148,17 @@ holds view t u h w s k e = record {
   settled = e;
 }
 
--- the unset variables after levels are taken off
 pub stands-back : (view : ViewLists) (t u : List ℕ) (k : ℕ) → HoldsView view t →
-    KeepsLeaves view.weights t u → HasAbove view.trail.entries k view.weights u → (v : ℕ) → 0 < v →
-    v ≤ view.trail.vars → is_set (up_to k view.trail.entries) v ≡ false → StandsIn view.weights u v
+    KeepsLeaves view.weights t u → HasEntriesAbove view.trail.entries k view.weights u → (v : ℕ) → 0 < v →
+    v ≤ view.trail.vars → is_set (entries_up_to k view.trail.entries) v ≡ false → IsAtLeaf view.weights u v
 stands-back view t u k h kept above v p w e =
     elim (cases_Bool (is_set view.trail.entries v)) [
       | inl s ↦ (let r = above-at k view.trail.entries v s e in
-          let P : ℕ → Type 0 = λ j. StandsIn view.weights u j in
+          let P : ℕ → Type 0 = λ j. IsAtLeaf view.weights u j in
           subst P r.4 (above r.0 r.1 r.2 r.3))
       | inr s ↦ kept v (h.stands v (unset-from view v p w s))
     ]
 
--- the variable at the top is the heaviest unset one
 pub top-heaviest : (view : ViewLists) (t : List ℕ) → HoldsView view t → 0 < top_of t → IsHeaviest view (top_of t)
 top-heaviest view t h p = record {
   unset = elim h.settled [
@@ -199,19 +189,17 @@ top-none view t h e = λ v p w.
       ]
     ]
 
--- the view with a clause counted
 pub holds-counted : (view : ViewLists) (ws t u s : List ℕ) → HoldsView view t →
     length ws ≡ length view.weights → KeepsVariables view.weights t ws u → IsTree ws s →
-    KeepsUnset view.trail.entries ws u s → IsSettled view.trail.entries s →
+    KeepsUnset view.trail.entries ws u s → HasUnsetTop view.trail.entries s →
     HoldsView (record { trail = view.trail; weights = ws }) s
 holds-counted view ws t u s h n kept w keeps settled =
     let new : ViewLists = record { trail = view.trail; weights = ws } in
     holds new u s (record { trail = h.is.trail; weighed = n ∙ h.is.weighed }) w (λ v q. (let p = unset-parts new v q in kept.kept v p.0 (h.stands v (unset-from view v p.0 p.1 p.2)))) keeps settled
 
--- the view with a longer trail
 pub holds-longer : (view : ViewLists) (now : TrailList) (t u : List ℕ) → HoldsView view t → IsTrail now →
     now.vars ≡ view.trail.vars → take (length view.trail.entries) now.entries ≡ view.trail.entries →
-    IsTree view.weights u → KeepsUnset now.entries view.weights t u → IsSettled now.entries u →
+    IsTree view.weights u → KeepsUnset now.entries view.weights t u → HasUnsetTop now.entries u →
     HoldsView (record { trail = now; weights = view.weights }) u
 holds-longer view now t u h k n e w kept settled =
     let new : ViewLists = record { trail = now; weights = view.weights } in
@@ -220,16 +208,15 @@ holds-longer view now t u h k n e w kept settled =
     h.stands v (unset-from view v p.0 (let b = p.1 in omega (arith, b, n)) (unset-before view.trail.entries now.entries v e p.2))))
     kept settled
 
--- the view with levels taken off
 pub holds-back : (view : ViewLists) (now : TrailList) (k : ℕ) (t s u : List ℕ) → HoldsView view t →
-    IsTrail now → now ≡ record { vars = view.trail.vars; entries = up_to k view.trail.entries } →
-    KeepsLeaves view.weights t s → HasAbove view.trail.entries k view.weights s → IsTree view.weights u →
-    KeepsUnset now.entries view.weights s u → IsSettled now.entries u →
+    IsTrail now → now ≡ record { vars = view.trail.vars; entries = entries_up_to k view.trail.entries } →
+    KeepsLeaves view.weights t s → HasEntriesAbove view.trail.entries k view.weights s → IsTree view.weights u →
+    KeepsUnset now.entries view.weights s u → HasUnsetTop now.entries u →
     HoldsView (record { trail = now; weights = view.weights }) u
 holds-back view now k t s u h i e kept above w keeps settled =
     let new : ViewLists = record { trail = now; weights = view.weights } in
     let n : now.vars ≡ view.trail.vars = ap (λ (x : TrailList). x.vars) e in
-    let es : now.entries ≡ up_to k view.trail.entries = ap (λ (x : TrailList). x.entries) e in
+    let es : now.entries ≡ entries_up_to k view.trail.entries = ap (λ (x : TrailList). x.entries) e in
     holds new s u (record { trail = i; weighed = h.is.weighed ∙ sym n }) w
     (λ v q. (let p = unset-parts new v q in
     stands-back view t s k h kept above v p.0 (let b = p.1 in omega (arith, b, n)) (ap (λ (ys : List Entry). is_set ys v) (sym es) ∙ p.2)))

@@ -5,22 +5,21 @@ use Rattle.std.proofs.Math.Seq.{take-length}
 use Rattle.ilk_cnf.specs.Literal.{Literal}
 use Rattle.ilk_cnf.specs.Formula.{Formula}
 use Rattle.ilk_log.specs.declared.step.Step.{Step}
-use Rattle.ilk_log.specs.Propagation.{is_closed}
+use Rattle.ilk_log.specs.Propagation.{is_saturated}
 use Rattle.ilk_trail.specs.declared.entry.Entry.{Entry}
-use Rattle.ilk_trail.specs.Trail.{decided, level_of, up_to}
-use Rattle.ilk_trail.specs.Laws.{climbs, lits_of}
+use Rattle.ilk_trail.specs.Trail.{with_decision, level_of, entries_up_to}
+use Rattle.ilk_trail.specs.Laws.{has_rising_levels, lits_of}
 use Rattle.ilk_arena.specs.Arena.{ArenaLists}
-use Rattle.ilk_clauses.specs.Chained.{SameClauses, formula_of}
-use Rattle.ilk_clauses.specs.Reasons.{HasReasons}
-use Rattle.ilk_clauses.proofs.Forced.{reasons-none}
+use Rattle.ilk_watches.specs.Chained.{SameClauses, formula_of}
+use Rattle.ilk_watches.specs.Reasons.{HasReasons}
+use Rattle.ilk_watches.proofs.Forced.{reasons-none}
 use Rattle.ilk_watches.specs.Propagated.{IsPropagated}
 use Rattle.ilk_solver.specs.Levels.{LevelsClosed}
 use Rattle.ilk_solver.specs.View.{ViewLists, with_entries}
 use Rattle.ilk_solver.specs.Search.{all_clauses}
 use Rattle.ilk_solver.specs.Held.{search_of, HoldsSearch}
-use Rattle.ilk_solver.proofs.ClosedLevels.{closed-back, closed-decided, closed-propagated, reasons-back, reasons-decided, reasons-propagated}
+use Rattle.ilk_solver.proofs.ClosedLevels.{closed-back, closed-with_decision, closed-propagated, reasons-back, reasons-with_decision, reasons-propagated}
 
--- other entries, which have their reasons and leave the lower levels closed
 held-entries : (cs : Formula) (given : ℕ) (log : List Step) (view : ViewLists) (es : List Entry) → HoldsSearch cs given log view → HasReasons cs.clauses es → LevelsClosed cs.clauses es → HoldsSearch cs given log (with_entries view es)
 held-entries cs given log view es h r c =
     let all = all_clauses (search_of cs given log view) in
@@ -47,21 +46,21 @@ pub held-propagated : (cs : Formula) (given : ℕ) (log : List Step) (view : Vie
 held-propagated cs given log view es h p =
     held-entries cs given log view es h (reasons-propagated cs.clauses view.trail.entries es p (known-reasons cs given log view h)) (closed-propagated cs.clauses view.trail.entries es p (known-closed cs given log view h))
 
-pub held-decided : (cs : Formula) (given : ℕ) (log : List Step) (view : ViewLists) (l : Literal) →
-    HoldsSearch cs given log view → climbs 0 view.trail.entries ≡ true →
-    is_closed cs.clauses (lits_of view.trail.entries) ≡ true →
-    HoldsSearch cs given log (with_entries view (decided view.trail.entries l))
-held-decided cs given log view l h c k =
-    held-entries cs given log view (decided view.trail.entries l) h (reasons-decided cs.clauses view.trail.entries l (known-reasons cs given log view h)) (closed-decided cs.clauses view.trail.entries l c (known-closed cs given log view h) k)
+pub held-with_decision : (cs : Formula) (given : ℕ) (log : List Step) (view : ViewLists) (l : Literal) →
+    HoldsSearch cs given log view → has_rising_levels 0 view.trail.entries ≡ true →
+    is_saturated cs.clauses (lits_of view.trail.entries) ≡ true →
+    HoldsSearch cs given log (with_entries view (with_decision view.trail.entries l))
+held-with_decision cs given log view l h c k =
+    held-entries cs given log view (with_decision view.trail.entries l) h (reasons-with_decision cs.clauses view.trail.entries l (known-reasons cs given log view h))
+    (closed-with_decision cs.clauses view.trail.entries l c (known-closed cs given log view h) k)
 
 pub held-back : (cs : Formula) (given : ℕ) (log : List Step) (view : ViewLists) (m : ℕ) →
-    HoldsSearch cs given log view → climbs 0 view.trail.entries ≡ true → m ≤ level_of view.trail.entries →
-    level_of (up_to m view.trail.entries) ≡ m →
-    HoldsSearch cs given log (with_entries view (up_to m view.trail.entries))
+    HoldsSearch cs given log view → has_rising_levels 0 view.trail.entries ≡ true → m ≤ level_of view.trail.entries →
+    level_of (entries_up_to m view.trail.entries) ≡ m →
+    HoldsSearch cs given log (with_entries view (entries_up_to m view.trail.entries))
 held-back cs given log view m h c le top =
-    held-entries cs given log view (up_to m view.trail.entries) h (reasons-back cs.clauses view.trail.entries m c (known-reasons cs given log view h)) (closed-back cs.clauses view.trail.entries m le top (known-closed cs given log view h))
+    held-entries cs given log view (entries_up_to m view.trail.entries) h (reasons-back cs.clauses view.trail.entries m c (known-reasons cs given log view h)) (closed-back cs.clauses view.trail.entries m le top (known-closed cs given log view h))
 
--- nothing set and no step
 pub held-start : (cs : Formula) → HoldsSearch cs (length cs.clauses) [] (record { trail = record { vars = cs.vars; entries = [] }; weights = replicate cs.vars 0 })
 held-start cs = record {
   first = omega arith;
@@ -82,6 +81,5 @@ held-start cs = record {
     none : (n v : ℕ) → ◌≡◌ {A = ℕ} (get_or (replicate n 0) (v - 1) 0) 0
     none n v = zeros n (v - 1)
 
--- the same clauses as a formula
 pub formula-same : (a b : ArenaLists) → SameClauses a b → formula_of b ≡ formula_of a
 formula-same a b s = ap (λ (n : ℕ). let f : Formula = record { vars = n; clauses = b.clauses } in f) s.vars ∙ ap (λ (cs : List (List Literal)). let f : Formula = record { vars = a.vars; clauses = cs } in f) s.clauses

@@ -1,12 +1,11 @@
--- How many variables a trail sets: as many as it has entries, so that it sets all where it has as many
--- as there are variables, and leaves one unset where it has fewer.
+-- A trail sets as many variables as it has entries.
 use Rattle.std.proofs.Common.{◌≡◌, ◌+◌, ◌<◌, ◌≤◌, ℕ, true, false, not, zero, suc, inl, inr, cond, List, [], ◌∷◌, length, refl, sym, ap, ◌∙◌, arith}
 use Rattle.std.proofs.lemmas.Bool.{and_parts, and_from, cases_Bool, cases_eq, le-leb, lt-ltb, not-true, not_from_false}
 use Rattle.std.proofs.lemmas.Bool.Decides.{eqb_tells}
 use Rattle.std.proofs.lemmas.List.{length-map}
 use Rattle.ilk_cnf.specs.Literal.{Literal, has_var, vars_differ}
-use Rattle.ilk_cnf.specs.Formula.{clause_in, lit_in}
-use Rattle.ilk_cnf.proofs.Literals.{lit_in-parts}
+use Rattle.ilk_cnf.specs.Formula.{is_clause_over, is_lit_over}
+use Rattle.ilk_cnf.proofs.Literals.{is_lit_over-parts}
 use Rattle.ilk_trail.specs.declared.entry.Entry.{Entry}
 use Rattle.ilk_trail.specs.Trail.{level_of}
 use Rattle.ilk_trail.specs.Laws.{is_set, lits_of}
@@ -15,7 +14,7 @@ use Rattle.ilk_solver.specs.Assigned.{AllSet, SomeUnset}
 use Rattle.ilk_solver.specs.View.{ViewLists, IsView}
 use Rattle.ilk_solver.specs.Search.{SearchLists, IsSearch}
 
--- how many of the variables 1 to n the literals have
+-- The number of variables from 1 to `n` that the literals have.
 abbrev count_set : ℕ → List Literal → ℕ
 count_set zero ls = 0
 count_set (suc n) ls = count_set n ls + cond (has_var (suc n) ls) 1 0
@@ -24,7 +23,6 @@ count-none : (n : ℕ) → count_set n [] ≡ 0
 count-none zero = refl
 count-none (suc n) = (let r = count-none n in omega (arith, r))
 
--- a literal of another variable
 count-past : (n : ℕ) (l : Literal) (ls : List Literal) → n < l.var → count_set n (l ∷ ls) ≡ count_set n ls
 count-past zero l ls h = refl
 count-past (suc n) l ls h =
@@ -34,7 +32,6 @@ count-past (suc n) l ls h =
       | inr q ↦ rw (q.0, r) refl
     ]
 
--- a literal of a variable that they don't have
 count-more : (n : ℕ) (l : Literal) (ls : List Literal) → has_var l.var ls ≡ false → 0 < l.var → l.var ≤ n → count_set n (l ∷ ls) ≡ count_set n ls + 1
 count-more zero l ls apart p h = absurd (omega (arith, p, h))
 count-more (suc n) l ls apart p h =
@@ -49,12 +46,12 @@ count-more (suc n) l ls apart p h =
     below : (v n : ℕ) → v ≤ suc n → (v ≡ suc n → ⊥) → v ≤ n
     below v n h q = elim (cases_eq v (suc n)) [ inl e ↦ absurd (q e) | inr e ↦ omega (arith, h, e) ]
 
-count-all : (n : ℕ) (ls : List Literal) → clause_in n ls ≡ true → vars_differ ls ≡ true → count_set n ls ≡ length ls
+count-all : (n : ℕ) (ls : List Literal) → is_clause_over n ls ≡ true → vars_differ ls ≡ true → count_set n ls ≡ length ls
 count-all n [] h d = count-none n
 count-all n (l ∷ ls) h d =
-    let p = and_parts (lit_in n l) (clause_in n ls) h in
+    let p = and_parts (is_lit_over n l) (is_clause_over n ls) h in
     let q = and_parts (not (has_var l.var ls)) (vars_differ ls) d in
-    let w = lit_in-parts n l p.0 in
+    let w = is_lit_over-parts n l p.0 in
     let r = count-all n ls p.1 q.1 in
     let m = count-more n l ls (not-true (has_var l.var ls) q.0) w.0 w.1 in
     omega (arith, r, m)
@@ -94,7 +91,6 @@ count-entries view k =
 pub all-set : (view : ViewLists) → IsView view → view.trail.vars ≤ length view.trail.entries → AllSet view
 all-set view k h = λ v p w. each-set view.trail.vars (lits_of view.trail.entries) v (let c = count-entries view k in omega (arith, c, h)) p w
 
--- a trail has at most one entry for each variable
 pub few-entries : (view : ViewLists) → IsView view → length view.trail.entries ≤ view.trail.vars
 few-entries view k =
     let c = count-entries view k in
@@ -107,7 +103,6 @@ some-unset view k h =
     let u = one-unset view.trail.vars (lits_of view.trail.entries) (omega (arith, c, h)) in
     (u.0, and_from _ _ (and_from _ _ (lt-ltb 0 u.0 u.1) (le-leb u.0 view.trail.vars u.2)) (not_from_false (is_set view.trail.entries u.0) u.3))
 
--- and the level is at most the number of the variables
 pub level-few : (s : SearchLists) → IsSearch s → IsView s.view → level_of s.view.trail.entries ≤ s.formula.vars
 level-few s h k =
     let few = few-entries s.view k in

@@ -4,19 +4,17 @@ use Rattle.std.proofs.lemmas.Bool.{cases_eq, cases_lt}
 use Rattle.std.proofs.lemmas.List.{get_or-drop, get_or-set_same, get_or-set_other, length-set, drop-set-lt, drop-set-add, get_or_past, length-drop}
 use Rattle.ilk_solver.specs.declared.word.TheConstants.{MOST_VARIABLES}
 use Rattle.ilk_solver.specs.Word.{IsGreater, variable_of, word_of}
-use Rattle.ilk_solver.specs.Tree.{IsTree, IsTreeBut, IsWon, KeepsVariables, StandsIn, leaves_of, top_of}
+use Rattle.ilk_solver.specs.Tree.{IsTree, IsTreeExceptAt, IsWinnerNode, KeepsVariables, IsAtLeaf, leaves_of, top_of}
 use Rattle.ilk_solver.proofs.Words.{variable-is, variable-none}
 
--- a node keeps its winner where neither it nor a node below it is written
-won-other : (t : List ℕ) (i x k : ℕ) → k ≢ i → 2 * k ≢ i → 2 * k + 1 ≢ i → IsWon t k → IsWon (set t i x) k
+won-other : (t : List ℕ) (i x k : ℕ) → k ≢ i → 2 * k ≢ i → 2 * k + 1 ≢ i → IsWinnerNode t k → IsWinnerNode (set t i x) k
 won-other t i x k a b c w =
     let e = get_or-set_other t i k x 0 a in
     let f = get_or-set_other t i (2 * k) x 0 b in
     let g = get_or-set_other t i (2 * k + 1) x 0 c in
     rw (e, f, g) w
 
--- node j is decided: then the one above it may be wrong
-pub decided-node : (ws t : List ℕ) (j x : ℕ) → IsTreeBut ws t j → 0 < j → j ≤ length ws → IsGreater x (get_or t (2 * j) 0) (get_or t (2 * j + 1) 0) → IsTreeBut ws (set t j x) (j / 2)
+pub decided-node : (ws t : List ℕ) (j x : ℕ) → IsTreeExceptAt ws t j → 0 < j → j ≤ length ws → IsGreater x (get_or t (2 * j) 0) (get_or t (2 * j + 1) 0) → IsTreeExceptAt ws (set t j x) (j / 2)
 decided-node ws t j x h p q e =
     let same : leaves_of ws (set t j x) ≡ leaves_of ws t = drop-set-lt (length ws + 1) t j x (omega (arith, q)) in
     let inside : j < length t = (let s = h.size in omega (arith, s, q)) in
@@ -25,32 +23,30 @@ decided-node ws t j x h p q e =
       size = length-set t j x ∙ h.size;
       leaf = (let P : List ℕ → Type 0 = λ ls. (v : ℕ) → v ≤ length ws → (get_or ls v 0 ≡ 0) ⊎ ((0 < v) × (get_or ls v 0 ≡ word_of ws v)) in subst P (sym same) h.leaf);
       won = λ k a b c. elim (cases_eq k j) [
-        | inl d ↦ (let W : ℕ → Type 0 = IsWon (set t j x) in
+        | inl d ↦ (let W : ℕ → Type 0 = IsWinnerNode (set t j x) in
             let f = get_or-set_same t j x 0 inside in
             let g = get_or-set_other t j (2 * j) x 0 (λ y. omega (arith, y, p)) in
             let i = get_or-set_other t j (2 * j + 1) x 0 (λ y. omega (arith, y, p)) in
-            let here : IsWon (set t j x) j = rw (f, g, i) e in
+            let here : IsWinnerNode (set t j x) j = rw (f, g, i) e in
             subst W (sym d) here)
         | inr d ↦ won-other t j x k d (λ y. c (omega (arith, y))) (λ y. c (omega (arith, y))) (h.won k a b d)
       ];
     }
 
--- node j was right
-pub right-node : (ws t : List ℕ) (j : ℕ) → IsTreeBut ws t j → IsGreater (get_or t j 0) (get_or t (2 * j) 0) (get_or t (2 * j + 1) 0) → IsTree ws t
+pub right-node : (ws t : List ℕ) (j : ℕ) → IsTreeExceptAt ws t j → IsGreater (get_or t j 0) (get_or t (2 * j) 0) (get_or t (2 * j + 1) 0) → IsTree ws t
 right-node ws t j h e = record {
   numbered = h.numbered;
   size = h.size;
   leaf = h.leaf;
   won = λ k a b c. elim (cases_eq k j) [
-    | inl d ↦ (let W : ℕ → Type 0 = IsWon t in subst W (sym d) e)
+    | inl d ↦ (let W : ℕ → Type 0 = IsWinnerNode t in subst W (sym d) e)
     | inr d ↦ h.won k a b d
   ];
 }
 
--- a leaf is written where the weight of its variable alone may be another one: then the node above it may be wrong
 pub leaf-written : (ws ws2 t : List ℕ) (v x : ℕ) → IsTree ws t → length ws2 ≡ length ws → 0 < v →
     v ≤ length ws → (x ≡ 0) ⊎ (x ≡ word_of ws2 v) → ((u : ℕ) → 0 < u → u ≢ v → word_of ws2 u ≡ word_of ws u) →
-    IsTreeBut ws2 (set t (length ws + 1 + v) x) ((length ws + 1 + v) / 2)
+    IsTreeExceptAt ws2 (set t (length ws + 1 + v) x) ((length ws + 1 + v) / 2)
 leaf-written ws ws2 t v x h n p q e others =
     let i = length ws + 1 + v in
     let inside : i < length t = (let s = h.size in omega (arith, s, q)) in
@@ -68,13 +64,12 @@ leaf-written ws ws2 t v x h n p q e others =
       won = λ k a b c. won-other t i x k (λ y. omega (arith, y, b, n)) (λ y. c (omega (arith, y))) (λ y. c (omega (arith, y))) (h.won k a (omega (arith, b, n)) (λ y. omega (arith, y, a)));
     }
 
--- the leaf of variable v, as a node
 pub leaf-at : (ws t : List ℕ) (v : ℕ) → get_or (leaves_of ws t) v 0 ≡ get_or t (length ws + 1 + v) 0
 leaf-at ws t v = get_or-drop (length ws + 1) t v 0
 
--- at a node stands a variable that stands at its leaf, or none
+-- A node has a variable that is at its leaf, or none.
 abbrev pub IsOf : List ℕ → List ℕ → ℕ → Type 0
-IsOf ws t x = (x ≡ 0) ⊎ ((v : ℕ) × (0 < v) × (v ≤ length ws) × StandsIn ws t v × (x ≡ word_of ws v))
+IsOf ws t x = (x ≡ 0) ⊎ ((v : ℕ) × (0 < v) × (v ≤ length ws) × IsAtLeaf ws t v × (x ≡ word_of ws v))
 
 stands-below : (fuel : ℕ) (ws t : List ℕ) (k : ℕ) → IsTree ws t → 0 < k → 2 * length ws + 2 ≤ k + fuel → IsOf ws t (get_or t k 0)
 stands-below zero ws t k h a f = inl (get_or_past t k 0 (let s = h.size in omega (arith, s, f)))
@@ -102,21 +97,19 @@ stands-below (suc n) ws t k h a f =
       ]
     ]
 
--- the top: no variable, or one that stands at its leaf
-pub top-stands : (ws t : List ℕ) → IsTree ws t → ((get_or t 1 0 ≡ 0) × (top_of t ≡ 0)) ⊎ ((0 < top_of t) × (top_of t ≤ length ws) × StandsIn ws t (top_of t) × (get_or t 1 0 ≡ word_of ws (top_of t)))
+pub top-stands : (ws t : List ℕ) → IsTree ws t → ((get_or t 1 0 ≡ 0) × (top_of t ≡ 0)) ⊎ ((0 < top_of t) × (top_of t ≤ length ws) × IsAtLeaf ws t (top_of t) × (get_or t 1 0 ≡ word_of ws (top_of t)))
 top-stands ws t h =
     elim (stands-below (2 * length ws + 2) ws t 1 h (omega arith) (omega arith)) [
       | inl e ↦ inl (e, ap variable_of e ∙ variable-none)
       | inr z ↦ (let v = z.0 in
           let same : top_of t ≡ v = ap variable_of z.4 ∙ variable-is ws v (let n = h.numbered in let b = z.2 in omega (arith, n, b)) in
-          let P : ℕ → Type 0 = λ w. (0 < w) × (w ≤ length ws) × StandsIn ws t w × (get_or t 1 0 ≡ word_of ws w) in
+          let P : ℕ → Type 0 = λ w. (0 < w) × (w ≤ length ws) × IsAtLeaf ws t w × (get_or t 1 0 ≡ word_of ws w) in
           inr (subst P (sym same) (z.1, z.2, z.3, z.4)))
     ]
 
 pub top-within : (ws t : List ℕ) → IsTree ws t → top_of t ≤ length ws
 top-within ws t h = elim (top-stands ws t h) [ inl z ↦ omega (arith, z.1) | inr z ↦ z.1 ]
 
--- no word is greater than that at the top
 below-top : (fuel : ℕ) (ws t : List ℕ) (k : ℕ) → IsTree ws t → 0 < k → k ≤ fuel → get_or t k 0 ≤ get_or t 1 0
 below-top zero ws t k h a f = absurd (omega (arith, a, f))
 below-top (suc n) ws t k h a f =
@@ -135,18 +128,16 @@ below-top (suc n) ws t k h a f =
       ]
     ]
 
-pub top-greatest : (ws t : List ℕ) (u : ℕ) → IsTree ws t → StandsIn ws t u → word_of ws u ≤ get_or t 1 0
+pub top-greatest : (ws t : List ℕ) (u : ℕ) → IsTree ws t → IsAtLeaf ws t u → word_of ws u ≤ get_or t 1 0
 top-greatest ws t u h s =
     let k = length ws + 1 + u in
     let at : get_or t k 0 ≡ word_of ws u = sym (leaf-at ws t u) ∙ s in
     let b = below-top k ws t k h (omega arith) (omega arith) in
     omega (arith, at, b)
 
--- the words of the other variables where a weight is written
 pub word-other : (ws : List ℕ) (v x u : ℕ) → 0 < v → 0 < u → u ≢ v → word_of (set ws (v - 1) x) u ≡ word_of ws u
 word-other ws v x u p q d = (let g = get_or-set_other ws (v - 1) (u - 1) x 0 (λ y. d (omega (arith, y, p, q))) in rw g refl)
 
--- a variable that stands at no leaf is counted
 pub reweighed : (ws t : List ℕ) (v x : ℕ) → IsTree ws t → 0 < v → get_or (leaves_of ws t) v 0 ≡ 0 → IsTree (set ws (v - 1) x) t
 reweighed ws t v x h p e =
     let n = length-set ws (v - 1) x in
@@ -160,7 +151,6 @@ reweighed ws t v x h p e =
       won = λ k a b c. h.won k a (rw n at b) c;
     }
 
--- a tree of no variable
 pub empty-tree : (n : ℕ) (ws t : List ℕ) → n ≡ length ws → n ≤ MOST_VARIABLES → length t ≡ 2 * length ws + 2 → ((k : ℕ) → get_or t k 0 ≡ 0) → IsTree ws t
 empty-tree n ws t e b s z = record {
   numbered = omega (arith, e, b);
@@ -169,11 +159,9 @@ empty-tree n ws t e b s z = record {
   won = λ k a c d. (let x = z k in let y = z (2 * k) in let u = z (2 * k + 1) in (omega (arith, x, y), omega (arith, x, u), inl (x ∙ sym y)));
 }
 
--- each variable has a leaf
 pub leaves-short : (ws t : List ℕ) (v : ℕ) → IsTree ws t → v ≤ length ws → v < length (leaves_of ws t)
 leaves-short ws t v h q = (let s = h.size in let d = length-drop (length ws + 1) t in omega (arith, s, d, q))
 
--- the variables at the leaves
 pub keeps-all : (ws t : List ℕ) → KeepsVariables ws t ws t
 keeps-all ws t = record { kept = λ v p s. s; none = λ v e. e }
 
@@ -183,7 +171,6 @@ keeps-on ws t ws2 t2 ws3 t3 h k = record {
   none = λ v e. k.none v (h.none v e);
 }
 
--- a variable that stands at no leaf is counted
 pub keeps-out : (ws t : List ℕ) (v x : ℕ) → 0 < v → v ≤ MOST_VARIABLES → get_or (leaves_of ws t) v 0 ≡ 0 → KeepsVariables ws t (set ws (v - 1) x) t
 keeps-out ws t v x p b e =
     let n = length-set ws (v - 1) x in
@@ -195,7 +182,6 @@ keeps-out ws t v x p b e =
       none = rw n (λ u z. z);
     }
 
--- a variable that stands at its leaf is counted there
 pub keeps-in : (ws t t2 : List ℕ) (v x : ℕ) → 0 < v → v < length (leaves_of ws t) → get_or (leaves_of ws t) v 0 ≢ 0 → leaves_of ws t2 ≡ set (leaves_of ws t) v (word_of (set ws (v - 1) x) v) → KeepsVariables ws t (set ws (v - 1) x) t2
 keeps-in ws t t2 v x p inside full e =
     let n = length-set ws (v - 1) x in

@@ -19,11 +19,9 @@ variable-is ws v h =
       | inr p ↦ rw p.0 (omega (arith, h))
     ]
 
--- the test of variables v and w with the weights x and y
 from-not : (x y v w : ℕ) → x ≤ y → (x ≡ y → w ≤ v) → (nat_lt y x || (eqb x y && nat_lt v w)) ≡ false
 from-not x y v w h k = grind (arith, nat_tests)
 
--- the variable of the greater word isn't the less heavy one
 pub greater-heavier : (ws : List ℕ) (u v : ℕ) → u ≤ MOST_VARIABLES → v ≤ MOST_VARIABLES → word_of ws u ≤ word_of ws v → is_heavier (λ w. get_or ws (w - 1) 0) u v ≡ false
 greater-heavier ws u v a b h =
     let x = get_or ws (u - 1) 0 in

@@ -1,14 +1,15 @@
--- Only private contracts and proofs need this file: how the fields of a search hold it.
+-- Used only in private contracts and proofs: the relation between the fields of a search and the
+-- search.
 use Rattle.std.specs.Prelude.{ℕ, ◌≡◌, ◌≤◌, List, length, take}
 use Rattle.ilk_cnf.specs.Formula.{Formula}
 use Rattle.ilk_log.specs.declared.step.Step.{Step}
 use Rattle.ilk_arena.specs.Arena.{ArenaLists}
-use Rattle.ilk_clauses.specs.Chained.{formula_of}
+use Rattle.ilk_watches.specs.Chained.{formula_of}
 use Rattle.ilk_watches.specs.Watched.{IsQueue}
 use Rattle.ilk_solver.specs.View.{ViewLists}
 use Rattle.ilk_solver.specs.Search.{SearchLists, IsSearch, all_clauses}
 
--- the search whose clauses are these, of which so many are the formula's
+-- The search with these clauses, of which the first `given` are the formula's.
 abbrev pub search_of : Formula → ℕ → List Step → ViewLists → SearchLists
 search_of clauses given log view = record { formula = record { vars = clauses.vars; clauses = take given clauses.clauses }; log = log; view = view }
 
@@ -17,7 +18,7 @@ pub record HoldsSearch (clauses : Formula) (given : ℕ) (log : List Step) (view
   pub laid : clauses.clauses ≡ all_clauses (search_of clauses given log view)
   pub search : IsSearch (search_of clauses given log view)
 
--- the same over the arena of the clauses, with how far propagation has come
+-- The same over the arena of the clauses, with the progress of propagation.
 pub record HoldsWatched (clauses : ArenaLists) (head settled given : ℕ) (log : List Step) (view : ViewLists) : Type 0 where
   pub search : HoldsSearch (formula_of clauses) given log view
   pub queue : IsQueue clauses view.trail.entries head settled

@@ -1,43 +1,44 @@
--- Only private contracts and proofs need this file: the tree of winners among the variables that were put
--- into it. Over n variables it has 2n + 2 entries, which are words of variables. Node 1 is its top, and
--- below node k, from 1 to n, are the nodes 2k and 2k + 1; the greater of their words stands at node k. The
--- last n + 1 entries are the leaves, one for each variable from 0 on; 0 stands for no variable.
+-- Used only in private contracts and proofs: the tree of winners among the variables that were put
+-- into it.
+--
+-- Over n variables it has 2n + 2 entries, which are words of variables. Node 1 is its top. Below
+-- node k, from 1 to n, are the nodes 2k and 2k + 1, and node k has the greater of their words. The
+-- last n + 1 entries are the leaves, one for each variable from 0 on; 0 means no variable.
 use Rattle.std.specs.Prelude.{ℕ, ◌≡◌, ◌≢◌, ◌⊎◌, ◌+◌, ◌*◌, ◌<◌, ◌≤◌, List, drop, length, slice_index}
 use Rattle.ilk_solver.specs.declared.word.TheConstants.{MOST_VARIABLES}
 use Rattle.ilk_solver.specs.Word.{IsGreater, variable_of, word_of}
 
--- the leaves of a tree over these weights
+-- The leaves of a tree over these weights.
 abbrev pub leaves_of : List ℕ → List ℕ → List ℕ
 leaves_of weights tree = drop (length weights + 1) tree
 
--- the variable at the top
 abbrev pub top_of : List ℕ → ℕ
 top_of tree = variable_of (slice_index tree 1)
 
--- the greater word of the two nodes below stands at node k
-abbrev pub IsWon : List ℕ → ℕ → Type 0
-IsWon tree k = IsGreater (slice_index tree k) (slice_index tree (2 * k)) (slice_index tree (2 * k + 1))
+-- Holds if node `k` has the greater word of the two nodes below.
+abbrev pub IsWinnerNode : List ℕ → ℕ → Type 0
+IsWinnerNode tree k = IsGreater (slice_index tree k) (slice_index tree (2 * k)) (slice_index tree (2 * k + 1))
 
--- variable v stands at its leaf, with its weight
-abbrev pub StandsIn : List ℕ → List ℕ → ℕ → Type 0
-StandsIn weights tree v = slice_index (leaves_of weights tree) v ≡ word_of weights v
+-- Holds if variable `v` is at its leaf, with its weight.
+abbrev pub IsAtLeaf : List ℕ → List ℕ → ℕ → Type 0
+IsAtLeaf weights tree v = slice_index (leaves_of weights tree) v ≡ word_of weights v
 
--- a tree in which all nodes but j are right
-pub record IsTreeBut (weights tree : List ℕ) (j : ℕ) : Type 0 where
+-- Holds for a tree in which all nodes but `j` are right.
+pub record IsTreeExceptAt (weights tree : List ℕ) (j : ℕ) : Type 0 where
   pub numbered : length weights ≤ MOST_VARIABLES
   pub size : length tree ≡ 2 * length weights + 2
-  pub leaf : (v : ℕ) → v ≤ length weights → (slice_index (leaves_of weights tree) v ≡ 0) ⊎ ((0 < v) × StandsIn weights tree v)
-  pub won : (k : ℕ) → 0 < k → k ≤ length weights → k ≢ j → IsWon tree k
+  pub leaf : (v : ℕ) → v ≤ length weights → (slice_index (leaves_of weights tree) v ≡ 0) ⊎ ((0 < v) × IsAtLeaf weights tree v)
+  pub won : (k : ℕ) → 0 < k → k ≤ length weights → k ≢ j → IsWinnerNode tree k
 
--- no inner node has the number 0
+-- Holds for a tree in which all nodes are right, because no inner node has the number 0.
 abbrev pub IsTree : List ℕ → List ℕ → Type 0
-IsTree weights tree = IsTreeBut weights tree 0
+IsTree weights tree = IsTreeExceptAt weights tree 0
 
--- the variables that stood at their leaves stand there still
+-- Holds if the variables that were at their leaves still are.
 abbrev pub KeepsLeaves : List ℕ → List ℕ → List ℕ → Type 0
-KeepsLeaves weights old new = (v : ℕ) → StandsIn weights old v → StandsIn weights new v
+KeepsLeaves weights old new = (v : ℕ) → IsAtLeaf weights old v → IsAtLeaf weights new v
 
--- the same where a weight is another one; and no variable is put in
+-- The same after a weight has changed; in addition, no variable is put in.
 pub record KeepsVariables (old_weights old weights new : List ℕ) : Type 0 where
-  pub kept : (v : ℕ) → 0 < v → StandsIn old_weights old v → StandsIn weights new v
+  pub kept : (v : ℕ) → 0 < v → IsAtLeaf old_weights old v → IsAtLeaf weights new v
   pub none : (v : ℕ) → slice_index (leaves_of old_weights old) v ≡ 0 → slice_index (leaves_of weights new) v ≡ 0

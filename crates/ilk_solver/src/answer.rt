@@ -1,12 +1,12 @@
 use ilk_cnf::Assignment;
 use ilk_log::Log;
 
-/// What a search found.
+/// The answer of a search.
 #[derive(Drop)]
 pub enum Answer {
     /// An assignment that satisfies the formula.
     Sat(Assignment),
-    /// No assignment does: the log refutes the formula.
+    /// No assignment satisfies the formula: the log refutes it.
     Unsat,
     /// The log has as many steps as the budget allows, and another one would be due.
     Spent,
@@ -15,8 +15,8 @@ pub enum Answer {
 /// The end of a search.
 #[derive(Drop)]
 pub struct Outcome {
-    /// What was found.
+    /// The answer.
     pub answer: Answer,
-    /// Its steps.
+    /// The steps of the search.
     pub log: Log,
 }

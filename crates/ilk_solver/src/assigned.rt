@@ -5,7 +5,7 @@ use crate::view::View;
 use ilk_cnf::{Assignment, Lit};
 use std::alloc::{AllocError, Global};
 
-// The assignment that the values of a view tell, false where a variable is unset.
+/// Returns the assignment of the values of `view`. The value of an unset variable is `false`.
 pub fn assignment(alloc: Global, view: &View) -> Result<Assignment, AllocError>
     ensures { IfOk result (λ a. a ≡ assignment_of view.now) }
 {

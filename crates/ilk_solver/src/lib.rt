@@ -1,31 +1,31 @@
 //! The search for an assignment that satisfies a formula.
 //!
-//! A `Solver` is made by `new` of a formula, a `Picker` and a `Restart`, and `solve` takes it to an
-//! `Outcome`: an answer, and the log of the clauses that were learned on the way. `specs/Answered` says
-//! what each answer means, and what every log has. `propagate` alone sets what the clauses force.
+//! `Solver::new` takes a formula, a `Picker` and a `Restart`. `solve` runs the search to an
+//! `Outcome`: an answer, and the log of the learned clauses. `specs/Answered` defines the meaning
+//! of each answer, and the properties of every log. `propagate` only assigns what the clauses
+//! force.
 //!
-//! A search has its clauses by number, the steps so far, and a `View`: the trail and the weights of the
-//! variables. The view is what a `Picker` is shown when the next decision is due; a `Restart` is asked
+//! A search has its clauses by number, the steps so far, and a `View`: the trail and the weights of
+//! the variables. A `Picker` sees the view when the next decision is due. A `Restart` is asked
 //! after each learned clause whether the search goes back to its start.
 //!
-//! `specs/Search` says what a search keeps between two calls: each forced entry has its reason, each
-//! level below the current one is closed (`specs/Levels`), and the weights count the steps. That is why
-//! a learned clause is fresh, and why at most 3^n - 1 of them can be learned over n variables.
-//! Propagation goes along chains of watching clauses (`ilk_watches`), and how far it has come is kept
+//! `specs/Search` is the invariant of a search between calls: each forced entry has its reason,
+//! each level below the current one is closed (`specs/Levels`), and the weights count the steps. It
+//! follows that a learned clause is fresh, and that at most 3^n - 1 clauses can be learned over n
+//! variables. Propagation walks chains of watching clauses (`ilk_watches`); its progress is stored
 //! beside the clauses.
 //!
-//! It is the search of GRASP (J. P. Marques-Silva and K. A. Sakallah, 1996 and 1999), with the watched
-//! literals, the restarts and the weights of Chaff (M. W. Moskewicz, C. F. Madigan, Y. Zhao, L. Zhang
-//! and S. Malik, 2001). It learns at the first unique implication point (L. Zhang, C. F. Madigan,
-//! M. W. Moskewicz and S. Malik, 2001). Unlike Chaff's, a weight is of a variable and not of a literal,
-//! and is never divided; and no learned clause is taken out again.
+//! The search is that of GRASP (J. P. Marques-Silva and K. A. Sakallah, 1996 and 1999), with the
+//! watched literals, restarts and weights of Chaff (M. W. Moskewicz, C. F. Madigan, Y. Zhao, L.
+//! Zhang and S. Malik, 2001). It learns at the first unique implication point (L. Zhang, C. F.
+//! Madigan, M. W. Moskewicz and S. Malik, 2001). Unlike in Chaff, a weight belongs to a variable,
+//! not to a literal, and is never divided; and no learned clause is deleted.
 //!
-//! A decision asks for the heaviest unset variable. A view has a tree of winners among its unset
-//! variables (`specs/Tree`, `src/tree`), as in a knock-out tournament, and it stands at the top. A node
-//! has its variable and the weight in one word (`specs/Word`), so that a match looks at two words side
-//! by side, and at no weight elsewhere. A variable that is set stays in the tree until it comes to the
-//! top, and is put in again when its entry is taken off the trail (`src/order`), so that most entries
-//! don't touch the tree.
+//! A decision asks for the heaviest unset variable. It is at the top of a tree of winners, as in a
+//! knock-out tournament (`specs/Tree`, `src/tree`). A node stores its variable and the weight in
+//! one word (`specs/Word`), so a match reads only two adjacent words. A set variable stays in the
+//! tree until it comes to the top, and is put back when its entry leaves the trail (`src/order`).
+//! So most entries don't touch the tree.
 #![tactic(auto)]
 
 mod answer;

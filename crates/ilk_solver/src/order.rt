@@ -1,30 +1,30 @@
 ghost use Rattle.std.specs.Prelude.{◌≡◌, ◌⊎◌, ◌≤◌, ◌<◌, ℕ, true, false, length, IfOk};
 ghost use Rattle.ilk_trail.specs.Laws.{is_set};
-ghost use Rattle.ilk_solver.specs.Order.{HasAbove, IsSettled, KeepsUnset};
-ghost use Rattle.ilk_solver.specs.Tree.{IsTree, KeepsLeaves, StandsIn};
+ghost use Rattle.ilk_solver.specs.Order.{HasEntriesAbove, HasUnsetTop, KeepsUnset};
+ghost use Rattle.ilk_solver.specs.Tree.{IsTree, KeepsLeaves, IsAtLeaf};
 ghost use Rattle.ilk_solver.specs.declared.word.TheConstants.{MOST_VARIABLES};
 
-use crate::tree::{put, write_leaf};
+use crate::tree::{put_variable, write_leaf};
 use crate::word::variable;
 use ilk_cnf::Lit;
 use ilk_trail::Trail;
 use std::alloc::{AllocError, Global};
 
-// A tree with each variable.
-pub fn filled(alloc: Global, weights: &[u32]) -> Result<Vec<u64>, AllocError>
+/// Creates a tree that contains each variable.
+pub fn new_tree(alloc: Global, weights: &[u32]) -> Result<Vec<u64>, AllocError>
     requires { length weights.now ≤ MOST_VARIABLES }
     ensures tree { IfOk result (λ tree. IsTree weights.now tree.items) }
     ensures each { IfOk result
-        (λ tree. (v : ℕ) → 0 < v → v ≤ length weights.now → StandsIn weights.now tree.items v) }
+        (λ tree. (v : ℕ) → 0 < v → v ≤ length weights.now → IsAtLeaf weights.now tree.items v) }
 {
     let mut tree = vec![in alloc; 0; 2 * weights.len() + 2]?;
     for v in 0..weights.len() as u64 {
-        put(weights, tree.as_mut_slice(), v + 1);
+        put_variable(weights, tree.as_mut_slice(), v + 1);
     }
     Ok(tree)
 }
 
-// Whether `v` is a variable, and set.
+// Returns whether `v` is a variable, and set.
 fn is_past(trail: &Trail, v: u64) -> bool
     requires { v ≤ trail.now.vars }
     ensures variable { result ≡ true → 0 < v }
@@ -35,13 +35,13 @@ fn is_past(trail: &Trail, v: u64) -> bool
     v != 0 && trail.value(Lit::new(v, true)).is_some()
 }
 
-// Takes set variables off the top.
-pub fn settle(trail: &Trail, weights: &[u32], tree: &mut [u64])
+/// Removes variables from the top of `tree` as long as they are set.
+pub fn drop_set_from_top(trail: &Trail, weights: &[u32], tree: &mut [u64])
     requires vars { trail.now.vars ≡ length weights.now }
     requires tree { IsTree weights.now tree.old }
     ensures tree { IsTree weights.now tree.new }
     ensures kept { KeepsUnset trail.now.entries weights.now tree.old tree.new }
-    ensures settled { IsSettled trail.now.entries tree.new }
+    ensures settled { HasUnsetTop trail.now.entries tree.new }
 {
     'tops: while is_past(trail, variable(tree[1])) {
         let top = variable(tree[1]);
@@ -49,13 +49,13 @@ pub fn settle(trail: &Trail, weights: &[u32], tree: &mut [u64])
     }
 }
 
-// Puts the variables of the entries above `level` in.
-pub fn put_above(trail: &Trail, weights: &[u32], tree: &mut [u64], level: u64)
+/// Puts the variables of the entries above `level` into `tree`.
+pub fn put_back_above(trail: &Trail, weights: &[u32], tree: &mut [u64], level: u64)
     requires vars { trail.now.vars ≡ length weights.now }
     requires tree { IsTree weights.now tree.old }
     ensures tree { IsTree weights.now tree.new }
     ensures kept { KeepsLeaves weights.now tree.old tree.new }
-    ensures above { HasAbove trail.now.entries level weights.now tree.new }
+    ensures above { HasEntriesAbove trail.now.entries level weights.now tree.new }
 {
     let mut i = trail.count();
     'entries: while i > 0 {
@@ -63,7 +63,7 @@ pub fn put_above(trail: &Trail, weights: &[u32], tree: &mut [u64], level: u64)
         if trail.level_of(lit) <= level {
             return;
         }
-        put(weights, tree, lit.var());
+        put_variable(weights, tree, lit.var());
         i -= 1;
     }
 }

@@ -7,8 +7,9 @@ ghost use Rattle.ilk_solver.specs.View.{ViewLists, IsView, is_unset};
 use crate::view::View;
 use ilk_cnf::Lit;
 
-/// What chooses the next decision: a closure that may be called on every view with an unset variable,
-/// and answers a literal of one there. That it does is kept beside it, and isn't tested again.
+/// Chooses the next decision by a closure, which may be called on every view with an unset variable
+/// and returns a literal of such a variable. Ghost fields keep these two facts; no test is made at
+/// run time.
 #[derive(Drop)]
 pub struct Picker {
     picks: Box<dyn Fn(&View) -> Lit>,
@@ -19,7 +20,7 @@ pub struct Picker {
 }
 
 impl Picker {
-    /// Decides by the closure.
+    /// Creates a picker that decides by the closure `picks`.
     pub fn new(picks: Box<dyn Fn(&View) -> Lit>) -> Picker
         requires callable { (view : Bor ViewLists) (v : ℕ) → IsView view.now →
             IsTrue (is_unset view.now v) → pre picks view }
@@ -30,7 +31,7 @@ impl Picker {
         Picker { picks }
     }
 
-    // The literal that is decided next, where some variable is unset: what the closure answers.
+    // Returns the literal to decide next, as the closure chooses it. Some variable has to be unset.
     pub(crate) fn pick(&self, view: &View) -> Lit
         requires { SomeUnset view.now }
         ensures answered { post self.now.picks view.entry result }

@@ -1,8 +1,8 @@
 ghost use Rattle.std.specs.Prelude.{◌≡◌, ◌≤◌, Bool, if◌then◌else◌};
 
-/// When a search goes back to its start: a closure over the number of steps so far that have a
-/// literal. It is asked after each of them. What was learned stays, as in Chaff (M. W. Moskewicz,
-/// C. F. Madigan, Y. Zhao, L. Zhang and S. Malik, 2001).
+/// Decides when a search goes back to its start, by a closure over the number of steps so far that
+/// have a literal. It is asked after each of them. Learned clauses are kept, as in Chaff (M. W.
+/// Moskewicz, C. F. Madigan, Y. Zhao, L. Zhang and S. Malik, 2001).
 #[derive(Drop)]
 pub struct Restart {
     asks: Box<dyn Fn(u64) -> bool>,
@@ -10,7 +10,7 @@ pub struct Restart {
 }
 
 impl Restart {
-    /// Restarts where the closure says so.
+    /// Creates a restart policy by the closure `asks`.
     pub fn new(asks: Box<dyn Fn(u64) -> bool>) -> Restart
         requires { IsAlwaysCallable asks }
         ensures { result.asks ≡ asks }
@@ -18,7 +18,8 @@ impl Restart {
         Restart { asks }
     }
 
-    // The level to go back to after so many steps: the start where a restart is due, and else `level`.
+    // Returns the level to go back to after `steps` steps: 0 if a restart is due, otherwise
+    // `level`.
     pub(crate) fn level_after(&self, steps: u64, level: u64) -> u64
         ensures answered { (due : Bool) × post self.now.asks steps due ×
             result ≡ (if due then 0 else level) }
@@ -27,7 +28,7 @@ impl Restart {
         if self.is_due(steps) { 0 } else { level }
     }
 
-    // Whether the search is to go back to its start after so many steps.
+    // Returns whether a restart is due after `steps` steps.
     fn is_due(&self, steps: u64) -> bool
         ensures { post self.now.asks steps result }
     {

@@ -1,14 +1,14 @@
 ghost use Rattle.std.specs.Prelude.{◌≡◌, ◌≤◌, ◌<◌, [], ◌∷◌, false, true, IfNone, IfOk, IfSome, IsTrue};
-ghost use Rattle.ilk_clauses.specs.Reasons.{is_conflict};
+ghost use Rattle.ilk_watches.specs.Reasons.{is_conflict};
 ghost use Rattle.ilk_watches.specs.Watched.{IsAddable};
-ghost use Rattle.ilk_cnf.specs.Formula.{clause_in, lit_in};
+ghost use Rattle.ilk_cnf.specs.Formula.{is_clause_over, is_lit_over};
 ghost use Rattle.ilk_cnf.specs.Literal.{vars_differ};
 ghost use Rattle.ilk_log.specs.Derived.{is_derived};
-ghost use Rattle.ilk_log.specs.Propagation.{is_closed};
-ghost use Rattle.ilk_trail.specs.Trail.{decided, level_of, up_to};
+ghost use Rattle.ilk_log.specs.Propagation.{is_saturated};
+ghost use Rattle.ilk_trail.specs.Trail.{with_decision, level_of, entries_up_to};
 ghost use Rattle.ilk_trail.specs.Laws.{IsTrail, is_set, lits_of};
 ghost use Rattle.ilk_watches.specs.Propagated.{IsPropagated};
-ghost use Rattle.ilk_solver.specs.Search.{IsAdded, IsSearch, all_clauses, new_search, with_trail};
+ghost use Rattle.ilk_solver.specs.Search.{HasStepAdded, IsSearch, all_clauses, new_search, with_trail};
 ghost use Rattle.ilk_solver.specs.View.{IsView};
 ghost use Rattle.ilk_solver.specs.Levels.{LevelsClosed};
 ghost use Rattle.ilk_solver.specs.Assigned.{AllSet, SomeUnset};
@@ -18,20 +18,19 @@ ghost use Rattle.ilk_solver.specs.Answered.{IsSolution};
 use crate::assigned::assignment;
 use crate::view::View;
 use crate::word::WEIGHT_LIMIT;
-use ilk_clauses::Clauses;
 use ilk_cnf::{Assignment, Cnf, Lit};
 use ilk_learn::{Learned, learn, refute};
 use ilk_log::{Log, Step};
-use ilk_watches::Queue;
+use ilk_watches::{Clauses, Propagator};
 use std::alloc::{AllocError, Global};
 use std::marker::Model;
 
-// A search without what chooses for it: the clauses of the formula and of the steps, how far these were
-// propagated, how many are the formula's, the steps, and the view.
+/// A search without the choice of its decisions. It has the clauses of the formula and of the
+/// steps, their propagation queue, the number of the formula's clauses, the steps, and the view.
 #[derive(Drop)]
 pub struct Search {
     clauses: Clauses,
-    queue: Queue,
+    queue: Propagator,
     given: u64,
     log: Log,
     view: View,
@@ -39,7 +38,7 @@ pub struct Search {
 
 impl Model for Search {
     ghost use Rattle.ilk_solver.specs.Search.{SearchLists};
-    ghost use Rattle.ilk_clauses.specs.Chained.{formula_of};
+    ghost use Rattle.ilk_watches.specs.Chained.{formula_of};
     ghost use Rattle.ilk_solver.specs.Held.{search_of, HoldsWatched};
 
     ghost Value = { SearchLists };
@@ -51,14 +50,14 @@ impl Model for Search {
 }
 
 impl Search {
-    // The search at its start.
+    /// Creates the search over `cnf` at its start.
     pub fn new(alloc: Global, cnf: &Cnf) -> Result<Search, AllocError>
         ensures { IfOk result (λ s. s ≡ new_search cnf.now) }
     {
         let view = View::new(alloc, cnf.vars())?;
-        let clauses = Clauses::of(alloc, cnf)?;
+        let clauses = Clauses::from_cnf(alloc, cnf)?;
         let given = clauses.count();
-        let queue = Queue::new();
+        let queue = Propagator::new();
         let log = Log::new(alloc);
         Ok(Search {
             clauses,
@@ -69,7 +68,7 @@ impl Search {
         })
     }
 
-    // The view.
+    /// Returns the view.
     pub fn view(&self) -> &View
         ensures view { result.now ≡ self.now.view }
         ensures search { IsSearch self.now }
@@ -79,14 +78,14 @@ impl Search {
         &self.view
     }
 
-    // Sets what the clauses force until nothing is left to set, or answers a clause that is false. It
-    // takes no memory.
+    /// Sets the literals that the clauses force, until none is left. Returns a clause that is
+    /// false, or `None` if propagation is complete. It allocates no memory.
     pub fn propagate(&mut self) -> Option<u64>
         ensures conflict { IfSome result
             (λ c. IsTrue
             (is_conflict (all_clauses self.old) (lits_of self.new.view.trail.entries) c)) }
         ensures closed { IfNone result
-            (IsTrue (is_closed (all_clauses self.old) (lits_of self.new.view.trail.entries))) }
+            (IsTrue (is_saturated (all_clauses self.old) (lits_of self.new.view.trail.entries))) }
         ensures same { self.new ≡ with_trail self.old self.new.view.trail.entries }
         ensures propagated { IsPropagated (all_clauses self.old) self.old.view.trail.entries
             self.new.view.trail.entries }
@@ -95,22 +94,23 @@ impl Search {
         self.view.propagate(&mut self.queue, &mut self.clauses)
     }
 
-    // Opens the next level with `l`, where propagation is at its end.
+    /// Opens the next level with `l`, which is unset. Propagation must be complete.
     pub fn decide(&mut self, l: Lit)
-        requires within { IsTrue (lit_in self.old.formula.vars l) }
+        requires within { IsTrue (is_lit_over self.old.formula.vars l) }
         requires unset { is_set self.old.view.trail.entries l.var ≡ false }
         requires closed { IsTrue
-            (is_closed (all_clauses self.old) (lits_of self.old.view.trail.entries)) }
-        ensures { self.new ≡ with_trail self.old (decided self.old.view.trail.entries l) }
+            (is_saturated (all_clauses self.old) (lits_of self.old.view.trail.entries)) }
+        ensures { self.new ≡ with_trail self.old (with_decision self.old.view.trail.entries l) }
     {
         let _ = self.view.vars();
         self.view.decide(&mut self.queue, &mut self.clauses, l);
     }
 
-    // Takes off the levels above `level`.
+    /// Removes the levels above `level`.
     pub fn back_to(&mut self, level: u64)
         requires { level ≤ level_of self.old.view.trail.entries }
-        ensures entries { self.new ≡ with_trail self.old (up_to level self.old.view.trail.entries) }
+        ensures entries { self.new ≡ with_trail self.old
+            (entries_up_to level self.old.view.trail.entries) }
         ensures level { level_of self.new.view.trail.entries ≡ level }
     {
         let _ = self.view.vars();
@@ -119,14 +119,15 @@ impl Search {
         self.queue.back_to(self.view.trail());
     }
 
-    // Adds a step, whose clause is neither false nor a unit at any level below the current one, and may
-    // force its first literal alone. There is no memory for 2^32 clauses: a weight has no room for them.
+    /// Adds a step. Its clause is neither false nor a unit at any level below the current one, and
+    /// may force only its first literal. Returns an error if memory runs out or if there are then
+    /// 2^32 clauses, which a weight cannot count.
     pub fn add(self, step: Step) -> Result<Search, AllocError>
-        requires within { IsTrue (clause_in self.formula.vars step.clause) }
+        requires within { IsTrue (is_clause_over self.formula.vars step.clause) }
         requires differ { IsTrue (vars_differ step.clause) }
         requires closed { LevelsClosed (step.clause ∷ []) self.view.trail.entries }
         requires addable { IsAddable self.view.trail.entries step.clause }
-        ensures { IfOk result (λ s. IsAdded self step s) }
+        ensures { IfOk result (λ s. HasStepAdded self step s) }
     {
         let Search {
             mut clauses,
@@ -152,7 +153,7 @@ impl Search {
         })
     }
 
-    // Whether every variable has a value.
+    /// Returns whether every variable has a value.
     pub fn is_complete(&self) -> bool
         ensures yes { result ≡ true → AllSet self.now.view }
         ensures no { result ≡ false → SomeUnset self.now.view }
@@ -160,7 +161,7 @@ impl Search {
         self.view.is_complete()
     }
 
-    // The current level.
+    /// Returns the current level.
     pub fn level(&self) -> u64
         ensures level { result ≡ level_of self.now.view.trail.entries }
         ensures few { result ≤ self.now.formula.vars }
@@ -170,12 +171,12 @@ impl Search {
         self.view.trail().level()
     }
 
-    // The assignment that the trail tells, where every variable has a value and propagation is at its
-    // end.
+    /// Returns the assignment on the trail. Every variable has a value, and propagation is
+    /// complete.
     pub fn assignment(&self, alloc: Global) -> Result<Assignment, AllocError>
         requires set { AllSet self.now.view }
         requires closed { IsTrue
-            (is_closed (all_clauses self.now) (lits_of self.now.view.trail.entries)) }
+            (is_saturated (all_clauses self.now) (lits_of self.now.view.trail.entries)) }
         ensures { IfOk result (λ a. IsSolution self.now.formula a) }
     {
         let _ = self.view.vars();
@@ -183,7 +184,8 @@ impl Search {
         assignment(alloc, &self.view)
     }
 
-    // What clause `conflict` teaches, whose literals are all false above level 0.
+    /// Returns the step that is learned from clause `conflict`, with its level. All literals of the
+    /// clause are false, and the current level is above 0.
     pub fn learn(&self, alloc: Global, conflict: u64) -> Result<Learned, AllocError>
         requires conflict { IsTrue
             (is_conflict (all_clauses self.now) (lits_of self.now.view.trail.entries) conflict) }
@@ -194,7 +196,8 @@ impl Search {
         learn(alloc, &self.clauses, self.view.trail(), conflict)
     }
 
-    // The empty clause, where all literals of clause `conflict` are false at level 0.
+    /// Returns a step with the empty clause. All literals of clause `conflict` are false at level
+    /// 0, the current level.
     pub fn refute(&self, alloc: Global, conflict: u64) -> Result<Step, AllocError>
         requires conflict { IsTrue
             (is_conflict (all_clauses self.now) (lits_of self.now.view.trail.entries) conflict) }
@@ -207,8 +210,8 @@ impl Search {
         refute(alloc, &self.clauses, self.view.trail(), conflict)
     }
 
-    // Goes back to `level`, where the clause that was learned is open still, and adds it.
-    pub fn take_up(mut self, learned: Learned, level: u64) -> Result<Search, AllocError>
+    /// Goes back to `level`, which is at most the level of `learned_step`, and adds its step.
+    pub fn add_learned(mut self, learned: Learned, level: u64) -> Result<Search, AllocError>
         requires learned { IsLearned self learned.step learned.level }
         requires level { level ≤ learned.level }
         ensures { IfOk result (λ s. HasOneStepMore self learned.step s) }
@@ -218,7 +221,7 @@ impl Search {
         self.add(learned.step)
     }
 
-    // The steps.
+    /// Returns the steps.
     pub fn into_log(self) -> Log
         ensures { result ≡ self.log }
     {

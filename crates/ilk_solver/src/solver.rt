@@ -1,8 +1,8 @@
 ghost use Rattle.std.specs.Prelude.{◌≡◌, [], IfNone, IfOk, IfSome, IsTrue};
-ghost use Rattle.ilk_clauses.specs.Reasons.{is_conflict};
-ghost use Rattle.ilk_log.specs.Propagation.{is_closed};
+ghost use Rattle.ilk_watches.specs.Reasons.{is_conflict};
+ghost use Rattle.ilk_log.specs.Propagation.{is_saturated};
 ghost use Rattle.ilk_trail.specs.Laws.{lits_of};
-ghost use Rattle.ilk_solver.specs.Answered.{IsAnswer, IsLog};
+ghost use Rattle.ilk_solver.specs.Answered.{IsAnswer, IsSearchLog};
 ghost use Rattle.ilk_watches.specs.Propagated.{IsPropagated};
 ghost use Rattle.ilk_solver.specs.Search.{all_clauses, new_search, with_trail};
 
@@ -13,7 +13,7 @@ use crate::search::Search;
 use ilk_cnf::Cnf;
 use std::alloc::{AllocError, Global};
 
-/// A search that has no step yet, with what chooses its decisions and its restarts.
+/// A search without steps yet, with its picker and restart policy.
 #[derive(Drop)]
 pub struct Solver {
     search: Search,
@@ -24,7 +24,7 @@ pub struct Solver {
 }
 
 impl Solver {
-    /// A search for an assignment that satisfies the formula, at its start.
+    /// Creates a search for an assignment that satisfies `cnf`, at its start.
     pub fn new(
         alloc: Global,
         cnf: &Cnf,
@@ -43,8 +43,8 @@ impl Solver {
         })
     }
 
-    /// Sets what the clauses force until nothing is left to set, or answers the number of a clause
-    /// that is false, counted from 0. It takes no memory.
+    /// Assigns what the clauses force until nothing is left to assign and returns `None`, or
+    /// returns the number of a false clause, counted from 0. Takes no memory.
     pub fn propagate(&mut self) -> Option<u64>
         ensures conflict { IfSome result
             (λ c. IsTrue
@@ -52,7 +52,7 @@ impl Solver {
             (lits_of self.new.search.view.trail.entries) c)) }
         ensures closed { IfNone result
             (IsTrue
-            (is_closed (all_clauses self.old.search)
+            (is_saturated (all_clauses self.old.search)
             (lits_of self.new.search.view.trail.entries))) }
         ensures search { self.new.search
             ≡ with_trail self.old.search self.new.search.view.trail.entries }
@@ -64,14 +64,14 @@ impl Solver {
         self.search.propagate()
     }
 
-    /// Searches for an assignment that satisfies the formula, over at most `budget` steps that have a
-    /// literal. Each step is the clause that a conflict teaches. Over n variables a budget of 3^n
-    /// always suffices.
+    /// Searches for an assignment that satisfies the formula, with at most `budget` steps that have
+    /// a literal. Each step is the clause learned from a conflict. A budget of 3^n always suffices
+    /// over n variables.
     ///
-    /// After each such step the restart is asked, with the number of them so far, whether the search
-    /// goes back to its start.
+    /// After each such step the restart policy decides, from the number of these steps so far,
+    /// whether the search goes back to its start.
     pub fn solve(self, budget: u64) -> Result<Outcome, AllocError>
-        ensures log { IfOk result (λ o. IsLog self.search.formula budget o.log) }
+        ensures log { IfOk result (λ o. IsSearchLog self.search.formula budget o.log) }
         ensures answer { IfOk result (λ o. IsAnswer self.search.formula budget o.answer o.log) }
     {
         let Solver {
@@ -112,7 +112,7 @@ impl Solver {
                     }
                     steps += 1;
                     let level = restart.level_after(steps, learned.level);
-                    search = search.take_up(learned, level)?;
+                    search = search.add_learned(learned, level)?;
                 }
             }
         }

@@ -1,14 +1,14 @@
 ghost use Rattle.std.specs.Prelude.{◌≡◌, ◌⊎◌, ◌≤◌, ◌<◌, ◌+◌, ◌-◌, length, slice_index, slice_set};
 ghost use Rattle.ilk_solver.specs.Word.{word_of};
 ghost use Rattle.ilk_solver.specs.declared.word.TheConstants.{WEIGHT_LIMIT};
-ghost use Rattle.ilk_solver.specs.Tree.{IsTree, IsTreeBut, KeepsLeaves, KeepsVariables, StandsIn, leaves_of};
+ghost use Rattle.ilk_solver.specs.Tree.{IsTree, IsTreeExceptAt, KeepsLeaves, KeepsVariables, IsAtLeaf, leaves_of};
 
 use crate::word::{greater, word};
 
-// Decides node `at` again, and then those above it as far as the winner is another one.
+// Decides node `from` again, then the nodes above it, as long as the winner changes.
 fn replay(weights: &[u32], tree: &mut [u64], from: u64)
     requires from { from ≤ length weights.now }
-    requires tree { IsTreeBut weights.now tree.old from }
+    requires tree { IsTreeExceptAt weights.now tree.old from }
     ensures tree { IsTree weights.now tree.new }
     ensures leaves { leaves_of weights.now tree.new ≡ leaves_of weights.now tree.old }
 {
@@ -23,7 +23,8 @@ fn replay(weights: &[u32], tree: &mut [u64], from: u64)
     }
 }
 
-// Writes `entry`, which is the word of `v` or 0, to the leaf of variable `v`.
+/// Writes `entry` to the leaf of variable `v`, and updates the nodes above it. `entry` is the word
+/// of `v` or 0.
 pub fn write_leaf(weights: &[u32], tree: &mut [u64], v: u64, entry: u64)
     requires from_1 { 0 < v }
     requires within { v ≤ length weights.now }
@@ -41,14 +42,14 @@ pub fn write_leaf(weights: &[u32], tree: &mut [u64], v: u64, entry: u64)
     replay(weights, tree, leaf as u64 / 2);
 }
 
-// Puts variable `v` in, where it isn't.
-pub fn put(weights: &[u32], tree: &mut [u64], v: u64)
+/// Puts variable `v` into `tree`, unless it is already there.
+pub fn put_variable(weights: &[u32], tree: &mut [u64], v: u64)
     requires from_1 { 0 < v }
     requires within { v ≤ length weights.now }
     requires tree { IsTree weights.now tree.old }
     ensures tree { IsTree weights.now tree.new }
     ensures kept { KeepsLeaves weights.now tree.old tree.new }
-    ensures stands { StandsIn weights.now tree.new v }
+    ensures stands { IsAtLeaf weights.now tree.new v }
 {
     let leaf = weights.len() + 1 + v as usize;
     if tree[leaf] != 0 {
@@ -58,8 +59,8 @@ pub fn put(weights: &[u32], tree: &mut [u64], v: u64)
     write_leaf(weights, tree, v, entry);
 }
 
-// Counts variable `v` once more, and lets it rise.
-pub fn count_one(weights: &mut [u32], tree: &mut [u64], v: u64)
+/// Adds 1 to the weight of variable `v`, and updates `tree` if it contains `v`.
+pub fn add_one_weight(weights: &mut [u32], tree: &mut [u64], v: u64)
     requires from_1 { 0 < v }
     requires within { v ≤ length weights.old }
     requires room { slice_index weights.old (v - 1) + 1 < WEIGHT_LIMIT }

@@ -1,11 +1,11 @@
 ghost use Rattle.std.specs.Prelude.{◌≡◌, ◌≤◌, ◌<◌, ◌+◌, ◌^◌, ◌-◌, ℕ, [], false, true, length, not, replicate, slice_index, if◌then◌else◌, IfNone, IfOk, IfSome, IsTrue};
-ghost use Rattle.ilk_cnf.specs.Formula.{clause_in, lit_in};
+ghost use Rattle.ilk_cnf.specs.Formula.{is_clause_over, is_lit_over};
 ghost use Rattle.ilk_cnf.specs.Literal.{has_var, vars_differ};
-ghost use Rattle.ilk_trail.specs.Trail.{decided, level_of, up_to};
+ghost use Rattle.ilk_trail.specs.Trail.{with_decision, level_of, entries_up_to};
 ghost use Rattle.ilk_trail.specs.Laws.{is_set, lits_of};
-ghost use Rattle.ilk_log.specs.Propagation.{is_closed};
-ghost use Rattle.ilk_clauses.specs.Reasons.{is_conflict};
-ghost use Rattle.ilk_clauses.specs.Chained.{SameClauses};
+ghost use Rattle.ilk_log.specs.Propagation.{is_saturated};
+ghost use Rattle.ilk_watches.specs.Reasons.{is_conflict};
+ghost use Rattle.ilk_watches.specs.Chained.{SameClauses};
 ghost use Rattle.ilk_watches.specs.Propagated.{IsPropagated};
 ghost use Rattle.ilk_watches.specs.Watched.{IsQueue};
 ghost use Rattle.ilk_solver.specs.declared.word.TheConstants.{WEIGHT_LIMIT};
@@ -14,23 +14,22 @@ ghost use Rattle.ilk_solver.specs.Heaviest.{IsHeaviest};
 ghost use Rattle.ilk_solver.specs.Tree.{IsTree, KeepsVariables};
 ghost use Rattle.ilk_solver.specs.View.{IsView, weight_of, with_entries};
 
-use crate::order::{filled, put_above, settle};
-use crate::tree::count_one;
+use crate::order::{drop_set_from_top, new_tree, put_back_above};
+use crate::tree::add_one_weight;
 use crate::word::{MOST_VARIABLES, variable};
-use ilk_clauses::Clauses;
 use ilk_cnf::Lit;
 use ilk_trail::Trail;
-use ilk_watches::Queue;
+use ilk_watches::{Clauses, Propagator};
 use std::alloc::{AllocError, Global};
 use std::marker::Model;
 
-/// What a picker sees of a search: which variables are unset, and in how many of the steps so far
-/// each one stands.
+/// A picker's view of a search: the unset variables, and the number of steps so far that contain
+/// each variable.
 #[derive(Drop)]
 pub struct View {
     trail: Trail,
     weights: Vec<u32>,
-    // the tree of winners among the unset variables, each in one word with its weight
+    // The tree of winners among the unset variables, each in one word with its weight.
     tree: Vec<u64>,
 }
 
@@ -47,8 +46,8 @@ impl Model for View {
 }
 
 impl View {
-    // No entries, and no weights, over the variables 1 to `vars`. There is no memory for more than 2^31 of
-    // them: half a word has no room for their numbers.
+    // Creates a view over the variables 1 to `vars`, without entries and with weights 0. Fails if
+    // memory runs out, or for more than `MOST_VARIABLES` variables.
     pub(crate) fn new(alloc: Global, vars: u64) -> Result<View, AllocError>
         requires { vars ≤ 2 ^ 62 }
         ensures { IfOk result
@@ -62,7 +61,7 @@ impl View {
         let trail = Trail::new(alloc, vars)?;
         let _ = trail.level();
         let weights = vec![in alloc; 0; vars as usize]?;
-        let tree = filled(alloc, weights.as_slice())?;
+        let tree = new_tree(alloc, weights.as_slice())?;
         Ok(View {
             trail,
             weights,
@@ -70,7 +69,7 @@ impl View {
         })
     }
 
-    /// How many variables there are: they are 1 to this number.
+    /// Returns the number of variables, which are 1 to this number.
     pub fn vars(&self) -> u64
         ensures count { result ≡ self.now.trail.vars }
         ensures numbered { result ≤ 2 ^ 62 }
@@ -79,7 +78,7 @@ impl View {
         self.weights.len() as u64
     }
 
-    /// Whether variable `v` has no value.
+    /// Returns whether variable `v` has no value.
     pub fn unset(&self, v: u64) -> bool
         requires from_1 { 0 < v }
         requires within { v ≤ self.now.trail.vars }
@@ -89,7 +88,7 @@ impl View {
         self.trail.value(Lit::new(v, true)).is_none()
     }
 
-    /// In how many of the steps so far variable `v` stands.
+    /// Returns the number of steps so far that contain variable `v`.
     pub fn weight(&self, v: u64) -> u64
         requires from_1 { 0 < v }
         requires within { v ≤ self.now.trail.vars }
@@ -99,8 +98,8 @@ impl View {
         self.weights[v as usize - 1] as u64
     }
 
-    /// The unset variable of the greatest weight, the least one at a tie; `None` where every variable
-    /// has a value.
+    /// Returns the unset variable of the greatest weight, the least one at a tie. Returns `None` if
+    /// every variable has a value.
     pub fn heaviest(&self) -> Option<u64>
         ensures some { IfSome result (λ v. IsHeaviest self.now v) }
         ensures none { IfNone result (AllSet self.now) }
@@ -113,14 +112,12 @@ impl View {
         Some(top)
     }
 
-    // The trail.
     pub(crate) fn trail(&self) -> &Trail
         ensures { result.now ≡ self.now.trail }
     {
         &self.trail
     }
 
-    // Whether every variable has a value.
     pub(crate) fn is_complete(&self) -> bool
         ensures yes { result ≡ true → AllSet self.now }
         ensures no { result ≡ false → SomeUnset self.now }
@@ -129,16 +126,16 @@ impl View {
         self.trail.count() == self.vars()
     }
 
-    // Sets what the clauses force until nothing is left to set, or answers a clause that is false. It
-    // takes no memory.
-    pub(crate) fn propagate(&mut self, queue: &mut Queue, clauses: &mut Clauses) -> Option<u64>
+    // Assigns what the clauses force until nothing is left to assign and returns `None`, or returns
+    // the number of a false clause. Takes no memory.
+    pub(crate) fn propagate(&mut self, queue: &mut Propagator, clauses: &mut Clauses) -> Option<u64>
         requires vars { self.old.trail.vars ≡ clauses.old.vars }
         requires queued { IsQueue clauses.old self.old.trail.entries queue.old.head
             queue.old.settled }
         ensures conflict { IfSome result
             (λ c. IsTrue (is_conflict clauses.old.clauses (lits_of self.new.trail.entries) c)) }
         ensures closed { IfNone result
-            (IsTrue (is_closed clauses.old.clauses (lits_of self.new.trail.entries))) }
+            (IsTrue (is_saturated clauses.old.clauses (lits_of self.new.trail.entries))) }
         ensures entries { self.new ≡ with_entries self.old self.new.trail.entries }
         ensures propagated { IsPropagated clauses.old.clauses self.old.trail.entries
             self.new.trail.entries }
@@ -148,43 +145,46 @@ impl View {
     {
         let found = queue.propagate(clauses, &mut self.trail);
         let _ = self.trail.level();
-        settle(&self.trail, &self.weights, &mut self.tree);
+        drop_set_from_top(&self.trail, &self.weights, &mut self.tree);
         found
     }
 
-    // Opens the next level with `l`, where propagation is at its end.
-    pub(crate) fn decide(&mut self, queue: &mut Queue, clauses: &mut Clauses, l: Lit)
+    // Opens the next level with `l`, after propagation has ended.
+    pub(crate) fn decide(&mut self, queue: &mut Propagator, clauses: &mut Clauses, l: Lit)
         requires vars { self.old.trail.vars ≡ clauses.old.vars }
         requires queued { IsQueue clauses.old self.old.trail.entries queue.old.head
             queue.old.settled }
-        requires within { IsTrue (lit_in self.old.trail.vars l) }
+        requires within { IsTrue (is_lit_over self.old.trail.vars l) }
         requires unset { is_set self.old.trail.entries l.var ≡ false }
-        requires closed { IsTrue (is_closed clauses.old.clauses (lits_of self.old.trail.entries)) }
-        ensures entries { self.new ≡ with_entries self.old (decided self.old.trail.entries l) }
+        requires closed { IsTrue (is_saturated clauses.old.clauses
+            (lits_of self.old.trail.entries)) }
+        ensures entries { self.new ≡ with_entries self.old
+            (with_decision self.old.trail.entries l) }
         ensures queued { IsQueue clauses.new self.new.trail.entries queue.new.head
             queue.new.settled }
         ensures same { SameClauses clauses.old clauses.new }
     {
         queue.decide(clauses, &mut self.trail, l);
         let _ = self.trail.level();
-        settle(&self.trail, &self.weights, &mut self.tree);
+        drop_set_from_top(&self.trail, &self.weights, &mut self.tree);
     }
 
-    // Takes off the levels above `level`.
+    // Removes the levels above `level`.
     pub(crate) fn back_to(&mut self, level: u64)
         requires { level ≤ level_of self.old.trail.entries }
-        ensures entries { self.new ≡ with_entries self.old (up_to level self.old.trail.entries) }
+        ensures entries { self.new ≡ with_entries self.old
+            (entries_up_to level self.old.trail.entries) }
         ensures level { level_of self.new.trail.entries ≡ level }
     {
-        put_above(&self.trail, &self.weights, &mut self.tree, level);
+        put_back_above(&self.trail, &self.weights, &mut self.tree, level);
         self.trail.back_to(level);
         let _ = self.trail.level();
-        settle(&self.trail, &self.weights, &mut self.tree);
+        drop_set_from_top(&self.trail, &self.weights, &mut self.tree);
     }
 
-    // Counts a clause: the weight of each of its variables is 1 more.
+    // Adds 1 to the weight of each variable of `clause`.
     pub(crate) fn count(&mut self, clause: &[Lit])
-        requires within { IsTrue (clause_in self.old.trail.vars clause.now) }
+        requires within { IsTrue (is_clause_over self.old.trail.vars clause.now) }
         requires differ { IsTrue (vars_differ clause.now) }
         requires room { (i : ℕ) → slice_index self.old.weights i + 1 < WEIGHT_LIMIT }
         ensures trail { self.new.trail ≡ self.old.trail }
@@ -192,14 +192,13 @@ impl View {
             weight_of self.new v ≡ weight_of self.old v + (if has_var v clause.now then 1 else 0) }
     {
         count_in(&mut self.weights, &mut self.tree, clause);
-        settle(&self.trail, &self.weights, &mut self.tree);
+        drop_set_from_top(&self.trail, &self.weights, &mut self.tree);
     }
 }
 
-// Counts a clause: entry v - 1, that of variable v, is 1 more for each of its variables. The tree keeps
-// its variables.
+// Adds 1 to entry `v - 1` for each variable `v` of the clause. The tree keeps its variables.
 fn count_in(weights: &mut [u32], tree: &mut [u64], clause: &[Lit])
-    requires within { IsTrue (clause_in (length weights.old) clause.now) }
+    requires within { IsTrue (is_clause_over (length weights.old) clause.now) }
     requires differ { IsTrue (vars_differ clause.now) }
     requires room { (i : ℕ) → slice_index weights.old i + 1 < WEIGHT_LIMIT }
     requires tree { IsTree weights.old tree.old }
@@ -210,6 +209,6 @@ fn count_in(weights: &mut [u32], tree: &mut [u64], clause: &[Lit])
     ensures leaves { KeepsVariables weights.old tree.old weights.new tree.new }
 {
     for lit in clause {
-        count_one(weights, tree, lit.var());
+        add_one_weight(weights, tree, lit.var());
     }
 }

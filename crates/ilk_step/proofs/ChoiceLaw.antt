@@ -4,34 +4,31 @@ use Rattle.std.specs.List.{range_with_len}
 use Rattle.std.proofs.lemmas.List.{append-nil, map-append}
 use Rattle.std.proofs.lemmas.Bool.{and_from, or_from, le-leb, lt-ltb, eq-eqb, eqb-true, ne_eqb, cases_eq, false≢true}
 use Rattle.ilk_base.proofs.Ranges.{range-suc}
-use Rattle.ilk_cnf.specs.Literal.{minus, has_var}
-use Rattle.ilk_cnf.specs.Formula.{clause_in, clauses_in}
+use Rattle.ilk_cnf.specs.Literal.{negative_lit, has_var}
+use Rattle.ilk_cnf.specs.Formula.{is_clause_over, are_clauses_over}
 use Rattle.ilk_cnf.specs.Truth.{value, is_true}
-use Rattle.ilk_cnf.specs.Extends.{Extends, OnlyIf, Then}
+use Rattle.ilk_cnf.specs.Extends.{Extends, IsExactlyIf, FollowedBy}
 use Rattle.ilk_cnf.proofs.Parts.{value-new, in_turn, in_words}
 use Rattle.ilk_ints.specs.Named.{value_bits}
-use Rattle.ilk_ints.specs.OneOf.{one_of_bits, one_true, none_true}
+use Rattle.ilk_ints.specs.OneOf.{one_of_bits, exactly_one_true, none_true}
 use Rattle.ilk_ints.proofs.OneOfLaw.{one_of-law, one_of-low, part-in}
 use Rattle.ilk_ints.proofs.ValuesLaw.{length-value_bits}
 use Rattle.ilk_step.specs.Choice.{chosen_lits, choice_part, choice_bits, IsChoice, Chooses}
 
--- the literals
-
-pub chosen_lits-more : (first m : ℕ) → chosen_lits first (m + 1) ≡ chosen_lits first m ++ minus (first + m) ∷ []
+pub chosen_lits-more : (first m : ℕ) → chosen_lits first (m + 1) ≡ chosen_lits first m ++ negative_lit (first + m) ∷ []
 chosen_lits-more first m =
     let one : m + 1 ≡ suc m = omega arith in
-    ap (chosen_lits first) one ∙ ap (map minus) (range-suc first m) ∙ map-append minus (range_with_len first m) ((first + m) ∷ [])
+    ap (chosen_lits first) one ∙ ap (map negative_lit) (range-suc first m) ∙ map-append negative_lit (range_with_len first m) ((first + m) ∷ [])
 
 pub chosen_lits-away : (m first v : ℕ) → first + m ≤ v → has_var v (chosen_lits first m) ≡ false
 chosen_lits-away zero first v h = refl
 chosen_lits-away (suc m) first v h = or_from _ _ (ne_eqb first v (λ e. absurd (omega arith))) (chosen_lits-away m (first + 1) v (omega arith))
 
-pub chosen_lits-in : (m first n : ℕ) → 0 < first → first + m ≤ n + 1 → clause_in n (chosen_lits first m) ≡ true
+pub chosen_lits-in : (m first n : ℕ) → 0 < first → first + m ≤ n + 1 → is_clause_over n (chosen_lits first m) ≡ true
 chosen_lits-in zero first n low high = refl
 chosen_lits-in (suc m) first n low high =
     and_from _ _ (and_from _ _ (lt-ltb 0 first low) (le-leb first n (omega arith))) (chosen_lits-in m (first + 1) n (omega arith) (omega arith))
 
--- they are true where their variables aren't
 pub chosen_lits-say : (b a c : List Bool) (first : ℕ) → length a + 1 ≡ first → map (is_true (a ++ (b ++ c))) (chosen_lits first (length b)) ≡ map not b
 chosen_lits-say [] a c first size = refl
 chosen_lits-say (q ∷ b) a c first size =
@@ -41,8 +38,6 @@ chosen_lits-say (q ∷ b) a c first size =
     let moved : map (is_true (a ++ q ∷ (b ++ c))) (chosen_lits (first + 1) (length b)) ≡ map not b = subst (λ (u : List Bool). map (is_true u) (chosen_lits (first + 1) (length b)) ≡ map not b) (append_assoc a (q ∷ []) (b ++ c)) rest in
     rw (here, moved) refl
 
--- where exactly one is true, it is one of them
-
 none-value_bits : (qs : List Bool) (r v : ℕ) → r < v → none_true qs ≡ true → qs ≡ value_bits r v (length qs)
 none-value_bits [] r v h k = refl
 none-value_bits (true ∷ qs) r v h k = absurd (false≢true k)
@@ -51,7 +46,7 @@ none-value_bits (false ∷ qs) r v h k =
     let rest = none-value_bits qs r (v + 1) (omega arith) k in
     cc
 
-one-value_bits : (qs : List Bool) (v : ℕ) → one_true qs ≡ true → (r : ℕ) × (v ≤ r) × (r < v + length qs) × (qs ≡ value_bits r v (length qs))
+one-value_bits : (qs : List Bool) (v : ℕ) → exactly_one_true qs ≡ true → (r : ℕ) × (v ≤ r) × (r < v + length qs) × (qs ≡ value_bits r v (length qs))
 one-value_bits [] v h = absurd (false≢true h)
 one-value_bits (true ∷ qs) v h =
     let here : eqb v v ≡ true = eq-eqb v v refl in
@@ -69,7 +64,7 @@ value_bits-none : (m r v : ℕ) → r < v → none_true (value_bits r v m) ≡ t
 value_bits-none zero r v h = refl
 value_bits-none (suc m) r v h = let here = ne_eqb r v (λ e. absurd (omega arith)) in rw here (value_bits-none m r (v + 1) (omega arith))
 
-value_bits-one : (m r v : ℕ) → v ≤ r → r < v + m → one_true (value_bits r v m) ≡ true
+value_bits-one : (m r v : ℕ) → v ≤ r → r < v + m → exactly_one_true (value_bits r v m) ≡ true
 value_bits-one zero r v low high = absurd (omega arith)
 value_bits-one (suc m) r v low high =
     elim (cases_eq r v) [
@@ -86,19 +81,17 @@ length-not : (b : List Bool) → length (map not b) ≡ length b
 length-not [] = refl
 length-not (q ∷ b) = ap suc (length-not b)
 
--- the part
-
 pub choice-low : (m n : ℕ) → n + m ≤ (choice_part m n).vars
 choice-low m n = one_of-low (chosen_lits (n + 1) m) (n + m)
 
-pub choice-in : (m n : ℕ) → clauses_in (choice_part m n).vars (choice_part m n).clauses ≡ true
+pub choice-in : (m n : ℕ) → are_clauses_over (choice_part m n).vars (choice_part m n).clauses ≡ true
 choice-in m n = part-in (chosen_lits (n + 1) m) (n + m) (chosen_lits-in m (n + 1) (n + m) (omega arith) (omega arith))
 
--- new variables without clauses may have any values
+-- New variables without clauses may have any values.
 any_values : (a : List Bool) (n m : ℕ) → length a ≡ n → Extends a (n + m) [] (λ b. length b ≡ m)
 any_values a n m size = record {
   sized = λ b h. omega (arith, length-append a b, size, h);
-  does = λ b h. refl;
+  all_satisfy = λ b h. refl;
   only = λ b long sat. omega (arith, length-append a b, size, long);
 }
 
@@ -109,7 +102,7 @@ choice-law a m n size =
     (omega (arith, size)) (choice-low m n) refl (any_values a n m size) next)
   where
     one : (b : List Bool) → length b ≡ m → List Bool → Type 0
-    one b _ = OnlyIf (one_true (map not b)) (one_of_bits (map not b))
+    one b _ = IsExactlyIf (exactly_one_true (map not b)) (one_of_bits (map not b))
 
     next : (b : List Bool) → (long : length b ≡ m) → Extends (a ++ b) (choice_part m n).vars (choice_part m n).clauses (one b long)
     next b long =
@@ -121,11 +114,11 @@ choice-law a m n size =
         (chosen_lits-say b a [] (n + 1) (ap (λ (k : ℕ). k + 1) size))) in
         subst
         (λ (u : List Bool). Extends (a ++ b) (choice_part m n).vars (choice_part m n).clauses
-        (OnlyIf (one_true u) (one_of_bits u))) say
+        (IsExactlyIf (exactly_one_true u) (one_of_bits u))) say
         (one_of-law (chosen_lits (n + 1) m) (a ++ b) (n + m) here
         (chosen_lits-in m (n + 1) (n + m) (omega arith) (omega arith)))
 
-    to : (d : List Bool) → Then (λ b. length b ≡ m) one d → IsChoice m d
+    to : (d : List Bool) → FollowedBy (λ b. length b ≡ m) one d → IsChoice m d
     to d h =
         let at = one-value_bits (map not h.0) 0 h.4.0 in
         let long : length (map not h.0) ≡ m = length-not h.0 ∙ h.3 in
@@ -134,14 +127,13 @@ choice-law a m n size =
         let skips : h.0 ≡ map not (value_bits at.0 0 m) = sym (not_not h.0) ∙ ap (map not) same in
         (at.0, omega arith, h.2 ∙ ap (λ (u : List Bool). h.0 ++ u) h.4.1 ∙ ap (λ (u : List Bool). h.0 ++ one_of_bits u) same ∙ ap (λ (u : List Bool). u ++ one_of_bits (value_bits at.0 0 m)) skips)
 
-    from : (d : List Bool) → IsChoice m d → Then (λ b. length b ≡ m) one d
+    from : (d : List Bool) → IsChoice m d → FollowedBy (λ b. length b ≡ m) one d
     from d h =
         let qs = value_bits h.0 0 m in
         let less = h.1 in
         let same : qs ≡ map not (map not qs) = sym (not_not qs) in
-        (map not qs, one_of_bits qs, h.2, length-not qs ∙ length-value_bits h.0 0 m, (ap one_true (sym same) ∙ value_bits-one m h.0 0 (omega arith) (omega arith), ap one_of_bits same))
+        (map not qs, one_of_bits qs, h.2, length-not qs ∙ length-value_bits h.0 0 m, (ap exactly_one_true (sym same) ∙ value_bits-one m h.0 0 (omega arith) (omega arith), ap one_of_bits same))
 
--- the variables of a choice say it, whatever follows
 pub choice-says : (a c : List Bool) (m r n : ℕ) → length a ≡ n → map (is_true (a ++ (choice_bits m r ++ c))) (chosen_lits (n + 1) m) ≡ value_bits r 0 m
 choice-says a c m r n size =
     let qs = value_bits r 0 m in
@@ -157,7 +149,7 @@ turned true false h = refl
 turned false true h = refl
 turned false false h = absurd cc
 
--- each variable of a choice is false exactly at the chosen rule
+-- Each variable of a choice is false exactly if its rule is chosen.
 pub chosen-at : (m : ℕ) (a : List Bool) (first r u i : ℕ) → map (is_true a) (chosen_lits first m) ≡ value_bits r u m → i < m → value a (first + i) ≡ not (eqb r (u + i))
 chosen-at zero a first r u i h less = absurd (omega arith)
 chosen-at (suc m) a first r u zero h less =
@@ -171,7 +163,6 @@ chosen-at (suc m) a first r u (suc i) h less =
     let two : u + 1 + i ≡ u + suc i = omega arith in
     ap (value a) one ∙ chosen-at m a (first + 1) r (u + 1) i others (omega arith) ∙ ap (λ (k : ℕ). not (eqb r k)) two
 
--- a variable that is false is the chosen rule's, so only one rule is chosen
 pub chosen-only : (a : List Bool) (first m r i : ℕ) → Chooses a first m r → i < m → value a (first + i) ≡ false → r ≡ i
 chosen-only a first m r i h less is = by_case (eqb r (0 + i)) refl (sym (chosen-at m a first r 0 i h.1 less) ∙ is)
   where
@@ -185,7 +176,6 @@ chosen-false a first m r h = chosen-at m a first r 0 r h.1 h.0 ∙ ap not (eq-eq
 pub chosen-here : (a : List Bool) (first m i : ℕ) → (r : ℕ) × Chooses a first m r → i < m → value a (first + i) ≡ false → Chooses a first m i
 chosen-here a first m i one less is = subst (λ (r : ℕ). Chooses a first m r) (chosen-only a first m one.0 i one.1 less is) one.1
 
--- a choice isn't past its rules
 pub chosen-past : (a : List Bool) (first m i : ℕ) → (r : ℕ) × Chooses a first m r → m ≤ i → ((j : ℕ) → j < i → value a (first + j) ≡ true) → ⊥
 chosen-past a first m i one past others =
     let less = one.1.0 in

@@ -1,24 +1,24 @@
--- How many variables and clauses the parts of a step have.
+-- The number of variables and clauses of a step's parts.
 use Rattle.std.proofs.Common.{◌≡◌, ◌==◌, ℕ, suc, ◌+◌, ◌*◌, ◌≤◌, Bool, true, false, List, [], ◌∷◌, ◌++◌, length, take, cond, refl, ap, arith, length-append}
 use Rattle.std.proofs.lemmas.List.FromFn.{length-map-range_with_len}
-use Rattle.ilk_cnf.specs.Literal.{Literal, plus, minus}
+use Rattle.ilk_cnf.specs.Literal.{Literal, positive_lit, negative_lit}
 use Rattle.ilk_ints.proofs.OneOfLaw.{one_of-vars, one_of-few}
 use Rattle.ilk_ir.specs.System.{RuleTree}
 use Rattle.ilk_ir.specs.declared.system.Setting.{Setting}
-use Rattle.ilk_copy.specs.declared.copy.Column.{Column}
+use Rattle.ilk_forms.specs.declared.copy.Column.{Column}
 use Rattle.ilk_forms.specs.Size.{tree_size}
 use Rattle.ilk_forms.specs.Demand.{demand_part}
 use Rattle.ilk_forms.proofs.Few.{demand_of-few}
 use Rattle.ilk_step.specs.Choice.{chosen_lits, choice_part}
 use Rattle.ilk_step.specs.Rules.{settings_part, rules_part}
-use Rattle.ilk_step.specs.Frame.{setters, carried, carry_over, frames}
+use Rattle.ilk_step.specs.Frame.{setter_lits, carried_lits, carry_over, frames}
 use Rattle.ilk_step.specs.Step.{step_part}
 use Rattle.ilk_step.specs.Size.{guards_size, settings_count, literals_count}
 
 choice-few : (m n : ℕ) → ((choice_part m n).vars ≤ n + 2 * m) × (length (choice_part m n).clauses ≤ 4 * m + 1)
 choice-few m n =
     let ls = chosen_lits (n + 1) m in
-    let long : length ls ≡ m = length-map-range_with_len minus (n + 1) m in
+    let long : length ls ≡ m = length-map-range_with_len negative_lit (n + 1) m in
     let vars = one_of-vars ls (n + m) in
     let clauses = one_of-few ls (n + m) in
     (omega arith, omega arith)
@@ -30,7 +30,7 @@ settings-few (s ∷ sets) next skip n = let rest = settings-few sets next skip n
 rules-few : (rs : List RuleTree) (now next : List Column) (k n : ℕ) → ((rules_part now next k rs n).vars ≤ n + guards_size rs) × (length (rules_part now next k rs n).clauses ≤ 2 * guards_size rs + settings_count rs)
 rules-few [] now next k n = (omega arith, omega arith)
 rules-few (r ∷ rs) now next k n =
-    let skip = plus k in
+    let skip = positive_lit k in
     let p = demand_part now (skip ∷ []) r.guard n in
     let q = settings_part next skip r.sets p.vars in
     let rest = rules_part now next (k + 1) rs q.vars in
@@ -52,8 +52,8 @@ carry_over-few [] ms first = omega arith
 carry_over-few (l ∷ ls) [] first = omega arith
 carry_over-few (l ∷ ls) (m ∷ ms) first = let rest = carry_over-few ls ms first in omega arith
 
-carried-few : (ls : List Literal) → length (carried ls) ≤ length ls
-carried-few ls = by_case (length ls == 2)
+carried_lits-few : (ls : List Literal) → length (carried_lits ls) ≤ length ls
+carried_lits-few ls = by_case (length ls == 2)
   where
     first_few : (ls : List Literal) → length (take 1 ls) ≤ length ls
     first_few [] = omega arith
@@ -67,12 +67,12 @@ frames-few : (now next : List Column) (rs : List RuleTree) (k v : ℕ) → lengt
 frames-few [] next rs k v = omega arith
 frames-few (c ∷ now) [] rs k v = omega arith
 frames-few (c ∷ now) (d ∷ next) rs k v =
-    let first = setters v k rs in
-    let values = carry_over first (carried c.values) (carried d.values) in
+    let first = setter_lits v k rs in
+    let values = carry_over first (carried_lits c.values) (carried_lits d.values) in
     let bounds = carry_over first c.bounds d.bounds in
     let rest = frames rs k (v + 1) now next in
-    let one : length values ≤ 2 * length (carried c.values) = carry_over-few (carried c.values) (carried d.values) first in
-    let few : length (carried c.values) ≤ length c.values = carried-few c.values in
+    let one : length values ≤ 2 * length (carried_lits c.values) = carry_over-few (carried_lits c.values) (carried_lits d.values) first in
+    let few : length (carried_lits c.values) ≤ length c.values = carried_lits-few c.values in
     let two : length bounds ≤ 2 * length c.bounds = carry_over-few c.bounds d.bounds first in
     let three : length rest ≤ 2 * literals_count now = frames-few now next rs k (v + 1) in
     let here : length (values ++ bounds) ≡ length values + length bounds = length-append values bounds in

@@ -1,4 +1,4 @@
--- What a rule does to values, variable by variable.
+-- The effect of a rule on values, variable by variable.
 use Rattle.std.proofs.Common.{◌≡◌, ◌==◌, ℕ, ◌+◌, ◌<◌, zero, suc, Bool, true, false, ◌&&◌, ◌||◌, List, [], ◌∷◌, length, set, slice_get, Option, Some, None, refl, inl, inr, ◌⊎◌, sym, ap, ◌∙◌, subst, arith, eqb, ltb, length-set}
 use Rattle.std.specs.List.{list_all}
 use Rattle.std.proofs.lemmas.Bool.{and_parts, and_from, or_parts, or_from, or_cases, eqb-true, eqb-false, eq-eqb, ne_eqb, cases_eq, false≢true, not-true}
@@ -6,19 +6,19 @@ use Rattle.std.proofs.lemmas.Option.{slice_get_within}
 use Rattle.ilk_base.specs.Option.{is_some_and, only_if}
 use Rattle.ilk_base.proofs.Lists.{slice_get-set_same, slice_get-set_other, same_by_slice_get}
 use Rattle.ilk_ir.specs.Tree.{tree_holds, tree_valid, has_value, value_valid}
-use Rattle.ilk_ir.specs.System.{RuleTree, rule_valid, sets_apart, set_all, fired, in_ranges}
+use Rattle.ilk_ir.specs.System.{RuleTree, rule_valid, sets_distinct_vars, after_settings, after_rule, in_ranges}
 use Rattle.ilk_ir.specs.declared.system.Setting.{Setting}
 use Rattle.ilk_step.specs.Frame.{sets_variable}
 use Rattle.ilk_ir.proofs.Ranges.{in_ranges-length}
 
--- whether each variable, from v on, is set or has one value in both lists
+-- Returns whether each variable, from `v` on, is set or equal in both lists.
 abbrev pub kept : (ℕ → Bool) → ℕ → List ℕ → List ℕ → Bool
 kept is_set v [] [] = true
 kept is_set v [] (x ∷ xs) = false
 kept is_set v (w ∷ ws) [] = false
 kept is_set v (w ∷ ws) (x ∷ xs) = (is_set v || w == x) && kept is_set (v + 1) ws xs
 
--- whether the rule's guard holds of the one list, and the other list has what it sets
+-- Returns whether the rule's guard holds of `ws`, and `xs` has its settings.
 abbrev pub rule_met : List ℕ → List ℕ → RuleTree → Bool
 rule_met ws xs r = tree_holds ws r.guard && list_all (λ s. has_value xs s.var s.value) r.sets
 
@@ -57,12 +57,11 @@ kept-from p v (w ∷ ws) (x ∷ xs) long h =
         let same : Some w ≡ Some x = h 0 (ap p here ∙ k) in
         eq-eqb w x cc
 
-pub length-set_all : (sets : List Setting) (ws : List ℕ) → length (set_all ws sets) ≡ length ws
-length-set_all [] ws = refl
-length-set_all (s ∷ sets) ws = length-set_all sets (set ws s.var s.value) ∙ length-set ws s.var s.value
+pub length-after_settings : (sets : List Setting) (ws : List ℕ) → length (after_settings ws sets) ≡ length ws
+length-after_settings [] ws = refl
+length-after_settings (s ∷ sets) ws = length-after_settings sets (set ws s.var s.value) ∙ length-set ws s.var s.value
 
--- a variable that no setting names keeps its value
-unset-at : (sets : List Setting) (ws : List ℕ) (v : ℕ) → sets_variable v sets ≡ false → slice_get (set_all ws sets) v ≡ slice_get ws v
+unset-at : (sets : List Setting) (ws : List ℕ) (v : ℕ) → sets_variable v sets ≡ false → slice_get (after_settings ws sets) v ≡ slice_get ws v
 unset-at [] ws v h = refl
 unset-at (s ∷ sets) ws v h =
     let parts = or_parts _ _ h in
@@ -75,11 +74,10 @@ has_value-at xs v c h = by_case (slice_get xs v) refl h
     by_case None is k = absurd (false≢true k)
     by_case (Some x) is k = is ∙ ap Some (eqb-true x c k)
 
--- where other values meet the settings, a variable that is set has what they have
 met-at : (sets : List Setting) (ws xs : List ℕ) (v : ℕ) → length ws ≡ length xs →
     list_all (λ s. has_value xs s.var s.value) sets ≡ true →
     (sets_variable v sets ≡ false → slice_get ws v ≡ slice_get xs v) →
-    slice_get (set_all ws sets) v ≡ slice_get xs v
+    slice_get (after_settings ws sets) v ≡ slice_get xs v
 met-at [] ws xs v long met same = same refl
 met-at (s ∷ sets) ws xs v long met same =
     let parts = and_parts _ _ met in
@@ -102,41 +100,40 @@ value_valid-within ranges v c h = by_case (slice_get ranges v) refl h
     by_case None is k = absurd (false≢true k)
     by_case (Some range) is k = slice_get_within ranges v range is
 
--- the settings are met after them
-settings-met : (sets : List Setting) (ws ranges : List ℕ) → length ws ≡ length ranges → list_all (λ s. value_valid ranges s.var s.value) sets ≡ true → sets_apart sets ≡ true → list_all (λ s. has_value (set_all ws sets) s.var s.value) sets ≡ true
+settings-met : (sets : List Setting) (ws ranges : List ℕ) → length ws ≡ length ranges → list_all (λ s. value_valid ranges s.var s.value) sets ≡ true → sets_distinct_vars sets ≡ true
+    → list_all (λ s. has_value (after_settings ws sets) s.var s.value) sets ≡ true
 settings-met [] ws ranges long valid apart = refl
 settings-met (s ∷ sets) ws ranges long valid apart =
     let valids = and_parts _ _ valid in
     let aparts = and_parts _ _ apart in
     let next = set ws s.var s.value in
     let less : s.var < length ranges = value_valid-within ranges s.var s.value valids.0 in
-    let here : slice_get (set_all next sets) s.var ≡ Some s.value = unset-at sets next s.var (not-true _ aparts.0) ∙ slice_get-set_same ws s.var s.value (omega (arith, long, less)) in
-    let says : has_value (set_all next sets) s.var s.value ≡ true = ap (λ (o : Option ℕ). is_some_and o (λ x. x == s.value)) here ∙ eq-eqb s.value s.value refl in
+    let here : slice_get (after_settings next sets) s.var ≡ Some s.value = unset-at sets next s.var (not-true _ aparts.0) ∙ slice_get-set_same ws s.var s.value (omega (arith, long, less)) in
+    let says : has_value (after_settings next sets) s.var s.value ≡ true = ap (λ (o : Option ℕ). is_some_and o (λ x. x == s.value)) here ∙ eq-eqb s.value s.value refl in
     and_from _ _ says (settings-met sets next ranges (length-set ws s.var s.value ∙ long) valids.1 aparts.1)
 
--- the rule is met, and all that it doesn't set is kept: it was fired
-pub met-fired : (r : RuleTree) (ws xs ranges : List ℕ) → in_ranges ws ranges ≡ true → in_ranges xs ranges ≡ true → rule_met ws xs r ≡ true → kept (λ v. sets_variable v r.sets) 0 ws xs ≡ true → fired r ws ≡ Some xs
-met-fired r ws xs ranges now next met keeps =
+pub met-after_rule : (r : RuleTree) (ws xs ranges : List ℕ) → in_ranges ws ranges ≡ true → in_ranges xs ranges ≡ true → rule_met ws xs r ≡ true → kept (λ v. sets_variable v r.sets) 0 ws xs ≡ true → after_rule r ws ≡ Some xs
+met-after_rule r ws xs ranges now next met keeps =
     let parts = and_parts (tree_holds ws r.guard) (list_all (λ (s : Setting). has_value xs s.var s.value) r.sets) met in
     let long : length ws ≡ length xs = in_ranges-length ws ranges now ∙ sym (in_ranges-length xs ranges next) in
-    let same : set_all ws r.sets ≡ xs = same_by_slice_get (set_all ws r.sets) xs
+    let same : after_settings ws r.sets ≡ xs = same_by_slice_get (after_settings ws r.sets) xs
     (λ i. met-at r.sets ws xs i long parts.1
     (λ none. kept-at (λ v. sets_variable v r.sets) 0 ws xs i keeps
     (let z : 0 + i ≡ i = omega arith in ap (λ (u : ℕ). sets_variable u r.sets) z ∙ none))) in
-    ap (λ (b : Bool). only_if b (set_all ws r.sets)) parts.0 ∙ ap Some same
+    ap (λ (b : Bool). only_if b (after_settings ws r.sets)) parts.0 ∙ ap Some same
 
-pub fired-met : (r : RuleTree) (ws xs ranges : List ℕ) → in_ranges ws ranges ≡ true → rule_valid ranges r ≡ true → fired r ws ≡ Some xs → (rule_met ws xs r ≡ true) × (kept (λ v. sets_variable v r.sets) 0 ws xs ≡ true)
-fired-met r ws xs ranges now valid is = by_case (tree_holds ws r.guard) refl is
+pub after_rule-met : (r : RuleTree) (ws xs ranges : List ℕ) → in_ranges ws ranges ≡ true → rule_valid ranges r ≡ true → after_rule r ws ≡ Some xs → (rule_met ws xs r ≡ true) × (kept (λ v. sets_variable v r.sets) 0 ws xs ≡ true)
+after_rule-met r ws xs ranges now valid is = by_case (tree_holds ws r.guard) refl is
   where
-    by_case : (b : Bool) → tree_holds ws r.guard ≡ b → only_if b (set_all ws r.sets) ≡ Some xs → (rule_met ws xs r ≡ true) × (kept (λ v. sets_variable v r.sets) 0 ws xs ≡ true)
+    by_case : (b : Bool) → tree_holds ws r.guard ≡ b → only_if b (after_settings ws r.sets) ≡ Some xs → (rule_met ws xs r ≡ true) × (kept (λ v. sets_variable v r.sets) 0 ws xs ≡ true)
     by_case false holds k = absurd cc
     by_case true holds k =
-        let parts = and_parts (tree_valid ranges r.guard && list_all (λ (s : Setting). value_valid ranges s.var s.value) r.sets) (sets_apart r.sets) valid in
+        let parts = and_parts (tree_valid ranges r.guard && list_all (λ (s : Setting). value_valid ranges s.var s.value) r.sets) (sets_distinct_vars r.sets) valid in
         let sets_valid = (and_parts (tree_valid ranges r.guard) (list_all (λ (s : Setting). value_valid ranges s.var s.value) r.sets) parts.0).1 in
-        let same : set_all ws r.sets ≡ xs = cc in
+        let same : after_settings ws r.sets ≡ xs = cc in
         let met = settings-met r.sets ws ranges (in_ranges-length ws ranges now) sets_valid parts.1 in
-        let keeps : kept (λ v. sets_variable v r.sets) 0 ws (set_all ws r.sets) ≡ true = kept-from
-        (λ v. sets_variable v r.sets) 0 ws (set_all ws r.sets) (sym (length-set_all r.sets ws))
+        let keeps : kept (λ v. sets_variable v r.sets) 0 ws (after_settings ws r.sets) ≡ true = kept-from
+        (λ v. sets_variable v r.sets) 0 ws (after_settings ws r.sets) (sym (length-after_settings r.sets ws))
         (λ i none. let z : 0 + i ≡ i = omega arith in
         sym (unset-at r.sets ws i (ap (λ (u : ℕ). sets_variable u r.sets) (sym z) ∙ none))) in (
           and_from _ _ holds (subst (λ (ys : List ℕ). list_all (λ s. has_value ys s.var s.value) r.sets ≡ true) same met),

@@ -4,21 +4,19 @@ use Rattle.std.proofs.Math.Bool.{and-false, or-true, or-and_distrib_left}
 use Rattle.std.proofs.lemmas.List.{take-map, length-map}
 use Rattle.std.proofs.lemmas.List.Folds.{list_any-append, list_all-append}
 use Rattle.std.proofs.lemmas.Bool.{and_parts, cases_eq, eq-eqb, ne_eqb, eqb-true, ltb-true, false≢true}
-use Rattle.ilk_cnf.specs.Literal.{Literal, minus, opposite}
-use Rattle.ilk_cnf.specs.Truth.{is_true, some_true, satisfies}
-use Rattle.ilk_cnf.proofs.Gates.{is_true-opposite}
+use Rattle.ilk_cnf.specs.Literal.{Literal, negative_lit, negated_lit}
+use Rattle.ilk_cnf.specs.Truth.{is_true, is_clause_true, satisfies}
+use Rattle.ilk_cnf.proofs.Gates.{is_true-negated_lit}
 use Rattle.ilk_ints.specs.Bits.{same_bits}
 use Rattle.ilk_ints.specs.Named.{value_bits, bound_bits, bound_count}
 use Rattle.ilk_ints.proofs.BitsLaw.{same_bits-self}
 use Rattle.ilk_ints.proofs.ValuesLaw.{length-value_bits}
 use Rattle.ilk_ir.specs.System.{RuleTree, in_ranges}
-use Rattle.ilk_copy.specs.declared.copy.Column.{Column}
-use Rattle.ilk_copy.specs.Copy.{LiteralsSay}
+use Rattle.ilk_forms.specs.declared.copy.Column.{Column}
+use Rattle.ilk_forms.specs.Copy.{LiteralsEncode}
 use Rattle.ilk_step.specs.Choice.{chosen_lits}
-use Rattle.ilk_step.specs.Frame.{sets_variable, setters, carried, carry_over, frame, frames}
+use Rattle.ilk_step.specs.Frame.{sets_variable, setter_lits, carried_lits, carry_over, frame, frames}
 use Rattle.ilk_step.proofs.Firing.{kept}
-
--- one of the first literals is true, or two lists say the same
 
 pair_says : (f p q r : Bool) → ((f || (not p || (q || false))) && ((f || (p || (not q || false))) && (f || r))) ≡ (f || (cond q p (not p) && r))
 pair_says true p q r = refl
@@ -27,23 +25,23 @@ pair_says false true false r = refl
 pair_says false false true r = refl
 pair_says false false false r = refl
 
-carry_over-say : (a : List Bool) (first ls ms : List Literal) → length ls ≡ length ms → satisfies a (carry_over first ls ms) ≡ (some_true a first || same_bits (map (is_true a) ls) (map (is_true a) ms))
-carry_over-say a first [] [] long = sym (or-true (some_true a first))
+carry_over-say : (a : List Bool) (first ls ms : List Literal) → length ls ≡ length ms → satisfies a (carry_over first ls ms) ≡ (is_clause_true a first || same_bits (map (is_true a) ls) (map (is_true a) ms))
+carry_over-say a first [] [] long = sym (or-true (is_clause_true a first))
 carry_over-say a first [] (m ∷ ms) long = absurd (omega arith)
 carry_over-say a first (l ∷ ls) [] long = absurd (omega arith)
 carry_over-say a first (l ∷ ls) (m ∷ ms) long =
-    let one : some_true a (first ++ opposite l ∷ m ∷ [])
-    ≡ (some_true a first || (not (is_true a l) || (is_true a m || false))) =
-    list_any-append (is_true a) first (opposite l ∷ m ∷ [])
-    ∙ ap (λ (p : Bool). some_true a first || (p || (is_true a m || false))) (is_true-opposite a l) in
-    let two : some_true a (first ++ l ∷ opposite m ∷ [])
-    ≡ (some_true a first || (is_true a l || (not (is_true a m) || false))) =
-    list_any-append (is_true a) first (l ∷ opposite m ∷ [])
-    ∙ ap (λ (p : Bool). some_true a first || (is_true a l || (p || false))) (is_true-opposite a m) in
+    let one : is_clause_true a (first ++ negated_lit l ∷ m ∷ [])
+    ≡ (is_clause_true a first || (not (is_true a l) || (is_true a m || false))) =
+    list_any-append (is_true a) first (negated_lit l ∷ m ∷ [])
+    ∙ ap (λ (p : Bool). is_clause_true a first || (p || (is_true a m || false))) (is_true-negated_lit a l) in
+    let two : is_clause_true a (first ++ l ∷ negated_lit m ∷ [])
+    ≡ (is_clause_true a first || (is_true a l || (not (is_true a m) || false))) =
+    list_any-append (is_true a) first (l ∷ negated_lit m ∷ [])
+    ∙ ap (λ (p : Bool). is_clause_true a first || (is_true a l || (p || false))) (is_true-negated_lit a m) in
     let rest = carry_over-say a first ls ms (omega arith) in
-    rw (one, two, rest) (pair_says (some_true a first) (is_true a l) (is_true a m) (same_bits (map (is_true a) ls) (map (is_true a) ms)))
+    rw (one, two, rest) (pair_says (is_clause_true a first) (is_true a l) (is_true a m) (same_bits (map (is_true a) ls) (map (is_true a) ms)))
 
--- the carried literals of two columns say the same exactly where the values are equal
+-- The carried literals of two columns agree exactly if the values are equal.
 
 values-differ : (j w x v : ℕ) → v ≤ w → w < v + j → (w ≡ x → ⊥) → same_bits (value_bits w v j) (value_bits x v j) ≡ false
 values-differ zero w x v low high ne = absurd (omega arith)
@@ -57,12 +55,11 @@ values-differ (suc j) w x v low high ne =
       | inr other ↦ (let rest = values-differ j w x (v + 1) (omega arith) (omega arith) ne in rw rest (and-false (cond (eqb x v) (eqb w v) (not (eqb w v)))))
     ]
 
--- what the carried literals of a range's values say
 abbrev pub carried_bits : Bool → ℕ → ℕ → List Bool
 carried_bits two range w = cond two (take 1 (value_bits w 0 range)) (value_bits w 0 range)
 
-carried-say : (a : List Bool) (ls : List Literal) (range w : ℕ) → map (is_true a) ls ≡ value_bits w 0 range → map (is_true a) (carried ls) ≡ carried_bits (eqb range 2) range w
-carried-say a ls range w values =
+carried_lits-say : (a : List Bool) (ls : List Literal) (range w : ℕ) → map (is_true a) ls ≡ value_bits w 0 range → map (is_true a) (carried_lits ls) ≡ carried_bits (eqb range 2) range w
+carried_lits-say a ls range w values =
     let long : length ls ≡ range = sym (length-map ls (is_true a)) ∙ ap length values ∙ length-value_bits w 0 range in
     ap (λ (n : ℕ). map (is_true a) (cond (eqb n 2) (take 1 ls) ls)) long ∙ by_case (eqb range 2)
   where
@@ -75,8 +72,8 @@ length-carried_bits true zero w x = refl
 length-carried_bits true (suc range) w x = refl
 length-carried_bits false range w x = length-value_bits w 0 range ∙ sym (length-value_bits x 0 range)
 
-carried-same : (range w x : ℕ) → w < range → x < range → same_bits (carried_bits (eqb range 2) range w) (carried_bits (eqb range 2) range x) ≡ eqb w x
-carried-same range w x hw hx =
+carried_lits-same : (range w x : ℕ) → w < range → x < range → same_bits (carried_bits (eqb range 2) range w) (carried_bits (eqb range 2) range x) ≡ eqb w x
+carried_lits-same range w x hw hx =
     elim (cases_eq w x) [
       | inl same ↦ ap (λ (u : ℕ). same_bits (carried_bits (eqb range 2) range w) (carried_bits (eqb range 2) range u)) (sym same) ∙ same_bits-self (carried_bits (eqb range 2) range w) ∙ sym (eq-eqb w x same)
       | inr other ↦ apart (eqb range 2) refl other ∙ sym (ne_eqb w x other)
@@ -96,7 +93,6 @@ carried-same range w x hw hx =
     apart true is other = two_apart (eqb-true range 2 is) other
     apart false is other = values-differ range w x 0 (omega arith) (omega arith) other
 
--- where the values are equal, so are the bounds
 bounds-same : (range w x : ℕ) → (eqb w x && same_bits (bound_bits w 1 (bound_count range)) (bound_bits x 1 (bound_count range))) ≡ eqb w x
 bounds-same range w x = by_case (eqb w x) refl
   where
@@ -111,38 +107,36 @@ length-bound_bits (suc j) w k = ap suc (length-bound_bits j w (k + 1))
 same_length : (a : List Bool) (ls ms : List Literal) (ps qs : List Bool) → map (is_true a) ls ≡ ps → map (is_true a) ms ≡ qs → length ps ≡ length qs → length ls ≡ length ms
 same_length a ls ms ps qs one two long = sym (length-map ls (is_true a)) ∙ ap length one ∙ long ∙ sym (ap length two) ∙ length-map ms (is_true a)
 
--- one variable is set by a chosen rule, or has one value in both copies
 frame-say : (a : List Bool) (first : List Literal) (c d : Column) (range w x : ℕ) → w < range → x < range →
     map (is_true a) c.values ≡ value_bits w 0 range →
     map (is_true a) c.bounds ≡ bound_bits w 1 (bound_count range) →
     map (is_true a) d.values ≡ value_bits x 0 range →
     map (is_true a) d.bounds ≡ bound_bits x 1 (bound_count range) →
-    satisfies a (frame first c d) ≡ (some_true a first || w == x)
+    satisfies a (frame first c d) ≡ (is_clause_true a first || w == x)
 frame-say a first c d range w x hw hx cv cb dv db =
-    let one = carried-say a c.values range w cv in
-    let two = carried-say a d.values range x dv in
+    let one = carried_lits-say a c.values range w cv in
+    let two = carried_lits-say a d.values range x dv in
     let n = bound_count range in
-    let values : satisfies a (carry_over first (carried c.values) (carried d.values)) ≡ (some_true a first || eqb w x) =
-    carry_over-say a first (carried c.values) (carried d.values)
-    (same_length a (carried c.values) (carried d.values) _ _ one two
+    let values : satisfies a (carry_over first (carried_lits c.values) (carried_lits d.values)) ≡ (is_clause_true a first || eqb w x) =
+    carry_over-say a first (carried_lits c.values) (carried_lits d.values)
+    (same_length a (carried_lits c.values) (carried_lits d.values) _ _ one two
     (length-carried_bits (eqb range 2) range w x))
-    ∙ ap (λ (b : Bool). some_true a first || b) (rw (one, two) (carried-same range w x hw hx)) in
-    let bounds : satisfies a (carry_over first c.bounds d.bounds) ≡ (some_true a first || same_bits (bound_bits w 1 n) (bound_bits x 1 n)) =
+    ∙ ap (λ (b : Bool). is_clause_true a first || b) (rw (one, two) (carried_lits-same range w x hw hx)) in
+    let bounds : satisfies a (carry_over first c.bounds d.bounds) ≡ (is_clause_true a first || same_bits (bound_bits w 1 n) (bound_bits x 1 n)) =
     carry_over-say a first c.bounds d.bounds (same_length a c.bounds d.bounds _ _ cb db (length-bound_bits n w 1 ∙ sym (length-bound_bits n x 1))) ∙ rw (cb, db) refl in
-    list_all-append (some_true a) (carry_over first (carried c.values) (carried d.values))
+    list_all-append (is_clause_true a) (carry_over first (carried_lits c.values) (carried_lits d.values))
     (carry_over first c.bounds d.bounds)
     ∙ rw (values, bounds)
     (sym
-    (or-and_distrib_left (some_true a first) (eqb w x)
+    (or-and_distrib_left (is_clause_true a first) (eqb w x)
     (same_bits (bound_bits w 1 n) (bound_bits x 1 n)))
-    ∙ ap (λ (b : Bool). some_true a first || b) (bounds-same range w x))
+    ∙ ap (λ (b : Bool). is_clause_true a first || b) (bounds-same range w x))
 
--- every variable is
 pub frames-say :
     (now next : List Column) (ranges ws xs : List ℕ) (a : List Bool) (rs : List RuleTree) (k v : ℕ) →
     length now ≡ length ranges → length next ≡ length ranges → in_ranges ws ranges ≡ true →
-    in_ranges xs ranges ≡ true → LiteralsSay a now ranges ws → LiteralsSay a next ranges xs →
-    satisfies a (frames rs k v now next) ≡ kept (λ u. some_true a (setters u k rs)) v ws xs
+    in_ranges xs ranges ≡ true → LiteralsEncode a now ranges ws → LiteralsEncode a next ranges xs →
+    satisfies a (frames rs k v now next) ≡ kept (λ u. is_clause_true a (setter_lits u k rs)) v ws xs
 frames-say [] next [] [] [] a rs k v m n hw hx sw sx = refl
 frames-say [] next [] [] (x ∷ xs) a rs k v m n hw hx sw sx = absurd (false≢true hx)
 frames-say [] next [] (w ∷ ws) xs a rs k v m n hw hx sw sx = absurd (false≢true hw)
@@ -156,51 +150,51 @@ frames-say (c ∷ now) (d ∷ next) (r ∷ ranges) (w ∷ ws) (x ∷ xs) a rs k 
     let others = and_parts (ltb x r) (in_ranges xs ranges) hx in
     let less : w < r = ltb-true w r parts.0 in
     let less_too : x < r = ltb-true x r others.0 in
-    let here = frame-say a (setters v k rs) c d r w x less less_too sw.0 sw.1 sx.0 sx.1 in
+    let here = frame-say a (setter_lits v k rs) c d r w x less less_too sw.0 sw.1 sx.0 sx.1 in
     let rest = frames-say now next ranges ws xs a rs k (v + 1) (omega arith) (omega arith) parts.1 others.1 sw.2 sx.2 in
-    list_all-append (some_true a) (frame (setters v k rs) c d) (frames rs k (v + 1) now next) ∙ rw (here, rest) refl
+    list_all-append (is_clause_true a) (frame (setter_lits v k rs) c d) (frames rs k (v + 1) now next) ∙ rw (here, rest) refl
 
--- where one rule is chosen, the setters of a variable are true exactly where that rule sets it
+-- If one rule is chosen, the setters of a variable are true exactly if that rule sets it.
 
-setters-none : (rs : List RuleTree) (a : List Bool) (v k r u : ℕ) → map (is_true a) (chosen_lits k (length rs)) ≡ value_bits r u (length rs) → r < u → some_true a (setters v k rs) ≡ false
-setters-none [] a v k r u h less = refl
-setters-none (rule ∷ rs) a v k r u h less =
-    let here : is_true a (minus k) ≡ eqb r u = cc in
+setter_lits-none : (rs : List RuleTree) (a : List Bool) (v k r u : ℕ) → map (is_true a) (chosen_lits k (length rs)) ≡ value_bits r u (length rs) → r < u → is_clause_true a (setter_lits v k rs) ≡ false
+setter_lits-none [] a v k r u h less = refl
+setter_lits-none (rule ∷ rs) a v k r u h less =
+    let here : is_true a (negative_lit k) ≡ eqb r u = cc in
     let away : eqb r u ≡ false = ne_eqb r u (λ e. absurd (omega arith)) in
-    let unset : is_true a (minus k) ≡ false = here ∙ away in
+    let unset : is_true a (negative_lit k) ≡ false = here ∙ away in
     let others : map (is_true a) (chosen_lits (k + 1) (length rs)) ≡ value_bits r (u + 1) (length rs) = cc in
-    let rest = setters-none rs a v (k + 1) r (u + 1) others (omega arith) in
+    let rest = setter_lits-none rs a v (k + 1) r (u + 1) others (omega arith) in
     by_case (sets_variable v rule.sets) unset rest
   where
-    by_case : (b : Bool) → is_true a (minus k) ≡ false → some_true a (setters v (k + 1) rs) ≡ false → some_true a (cond b (minus k ∷ setters v (k + 1) rs) (setters v (k + 1) rs)) ≡ false
+    by_case : (b : Bool) → is_true a (negative_lit k) ≡ false → is_clause_true a (setter_lits v (k + 1) rs) ≡ false → is_clause_true a (cond b (negative_lit k ∷ setter_lits v (k + 1) rs) (setter_lits v (k + 1) rs)) ≡ false
     by_case true one rest = rw (one, rest) refl
     by_case false one rest = rest
 
-pub setters-say : (rs : List RuleTree) (a : List Bool) (v k i u : ℕ) (rule : RuleTree) →
+pub setter_lits-say : (rs : List RuleTree) (a : List Bool) (v k i u : ℕ) (rule : RuleTree) →
     map (is_true a) (chosen_lits k (length rs)) ≡ value_bits (u + i) u (length rs) →
-    slice_get rs i ≡ Some rule → some_true a (setters v k rs) ≡ sets_variable v rule.sets
-setters-say [] a v k i u rule h is = absurd cc
-setters-say (r ∷ rs) a v k zero u rule h is =
-    let here : is_true a (minus k) ≡ eqb (u + 0) u = cc in
+    slice_get rs i ≡ Some rule → is_clause_true a (setter_lits v k rs) ≡ sets_variable v rule.sets
+setter_lits-say [] a v k i u rule h is = absurd cc
+setter_lits-say (r ∷ rs) a v k zero u rule h is =
+    let here : is_true a (negative_lit k) ≡ eqb (u + 0) u = cc in
     let same : eqb (u + 0) u ≡ true = eq-eqb (u + 0) u (omega arith) in
-    let chosen : is_true a (minus k) ≡ true = here ∙ same in
+    let chosen : is_true a (negative_lit k) ≡ true = here ∙ same in
     let others : map (is_true a) (chosen_lits (k + 1) (length rs)) ≡ value_bits (u + 0) (u + 1) (length rs) = cc in
-    let rest = setters-none rs a v (k + 1) (u + 0) (u + 1) others (omega arith) in
+    let rest = setter_lits-none rs a v (k + 1) (u + 0) (u + 1) others (omega arith) in
     let one : r ≡ rule = cc in
     by_case (sets_variable v r.sets) chosen rest ∙ ap (λ (q : RuleTree). sets_variable v q.sets) one
   where
-    by_case : (b : Bool) → is_true a (minus k) ≡ true → some_true a (setters v (k + 1) rs) ≡ false → some_true a (cond b (minus k ∷ setters v (k + 1) rs) (setters v (k + 1) rs)) ≡ b
+    by_case : (b : Bool) → is_true a (negative_lit k) ≡ true → is_clause_true a (setter_lits v (k + 1) rs) ≡ false → is_clause_true a (cond b (negative_lit k ∷ setter_lits v (k + 1) rs) (setter_lits v (k + 1) rs)) ≡ b
     by_case true one rest = rw one refl
     by_case false one rest = rest
-setters-say (r ∷ rs) a v k (suc i) u rule h is =
-    let here : is_true a (minus k) ≡ eqb (u + suc i) u = cc in
+setter_lits-say (r ∷ rs) a v k (suc i) u rule h is =
+    let here : is_true a (negative_lit k) ≡ eqb (u + suc i) u = cc in
     let away : eqb (u + suc i) u ≡ false = ne_eqb (u + suc i) u (λ e. absurd (omega arith)) in
-    let unset : is_true a (minus k) ≡ false = here ∙ away in
+    let unset : is_true a (negative_lit k) ≡ false = here ∙ away in
     let others : map (is_true a) (chosen_lits (k + 1) (length rs)) ≡ value_bits (u + suc i) (u + 1) (length rs) = cc in
     let next : u + suc i ≡ u + 1 + i = omega arith in
-    let rest = setters-say rs a v (k + 1) i (u + 1) rule (others ∙ ap (λ (n : ℕ). value_bits n (u + 1) (length rs)) next) is in
+    let rest = setter_lits-say rs a v (k + 1) i (u + 1) rule (others ∙ ap (λ (n : ℕ). value_bits n (u + 1) (length rs)) next) is in
     by_case (sets_variable v r.sets) unset ∙ rest
   where
-    by_case : (b : Bool) → is_true a (minus k) ≡ false → some_true a (cond b (minus k ∷ setters v (k + 1) rs) (setters v (k + 1) rs)) ≡ some_true a (setters v (k + 1) rs)
+    by_case : (b : Bool) → is_true a (negative_lit k) ≡ false → is_clause_true a (cond b (negative_lit k ∷ setter_lits v (k + 1) rs) (setter_lits v (k + 1) rs)) ≡ is_clause_true a (setter_lits v (k + 1) rs)
     by_case true one = rw one refl
     by_case false one = refl

@@ -1,62 +1,63 @@
--- What the clauses of the frames are over, and one more pair of literals or variable in the loops that add them.
+-- The variables of the frames' clauses, and the steps of the loops that add them.
 use Rattle.std.proofs.Common.{◌≡◌, ◌==◌, ℕ, ◌+◌, ◌<◌, ◌≤◌, Bool, true, false, ◌&&◌, List, [], ◌∷◌, ◌++◌, length, take, drop, ◌⊎◌, inl, inr, cond, refl, sym, ap, ◌∙◌, arith, append_assoc}
 use Rattle.std.proofs.lemmas.List.{append-nil, drop_all}
 use Rattle.std.proofs.lemmas.List.Folds.{list_all-append}
 use Rattle.std.proofs.lemmas.Bool.{and_parts, and_from, cond_both, lt-ltb, le-leb}
-use Rattle.ilk_cnf.specs.Literal.{Literal, minus, opposite}
-use Rattle.ilk_cnf.specs.Formula.{Formula, grown, lit_in, clause_in, clauses_in}
+use Rattle.ilk_cnf.specs.Literal.{Literal, negative_lit, negated_lit}
+use Rattle.ilk_cnf.specs.Formula.{Formula, with_clauses, is_lit_over, is_clause_over, are_clauses_over}
 use Rattle.ilk_cnf.specs.Part.{as_clauses}
 use Rattle.ilk_cnf.proofs.Gates.{as_clauses-append, grown_more}
 use Rattle.ilk_ir.specs.System.{RuleTree}
-use Rattle.ilk_copy.specs.declared.copy.Column.{Column}
+use Rattle.ilk_forms.specs.declared.copy.Column.{Column}
 use Rattle.ilk_forms.specs.Leaf.{columns_in}
 use Rattle.ilk_forms.proofs.DemandLaw.{joined-in}
-use Rattle.ilk_step.specs.Frame.{sets_variable, setters, carry_over, carried, frame, frames}
+use Rattle.ilk_step.specs.Frame.{sets_variable, setter_lits, carry_over, carried_lits, frame, frames}
 
-pub setters-in : (rs : List RuleTree) (v k n : ℕ) → 0 < k → k + length rs ≤ n + 1 → clause_in n (setters v k rs) ≡ true
-setters-in [] v k n low high = refl
-setters-in (r ∷ rs) v k n low high =
-    let rest = setters-in rs v (k + 1) n (omega arith) (omega arith) in
-    cond_both (sets_variable v r.sets) (minus k ∷ setters v (k + 1) rs) (setters v (k + 1) rs) (λ ls. clause_in n ls ≡ true) (λ _. and_from _ _ (and_from _ _ (lt-ltb 0 k low) (le-leb k n (omega arith))) rest) (λ _. rest)
+pub setter_lits-in : (rs : List RuleTree) (v k n : ℕ) → 0 < k → k + length rs ≤ n + 1 → is_clause_over n (setter_lits v k rs) ≡ true
+setter_lits-in [] v k n low high = refl
+setter_lits-in (r ∷ rs) v k n low high =
+    let rest = setter_lits-in rs v (k + 1) n (omega arith) (omega arith) in
+    cond_both (sets_variable v r.sets) (negative_lit k ∷ setter_lits v (k + 1) rs) (setter_lits v (k + 1) rs) (λ ls. is_clause_over n ls ≡ true) (λ _. and_from _ _ (and_from _ _ (lt-ltb 0 k low) (le-leb k n (omega arith))) rest) (λ _. rest)
 
-pub carried-in : (n : ℕ) (ls : List Literal) → clause_in n ls ≡ true → clause_in n (carried ls) ≡ true
-carried-in n ls h = by_case (length ls == 2)
+pub carried_lits-in : (n : ℕ) (ls : List Literal) → is_clause_over n ls ≡ true → is_clause_over n (carried_lits ls) ≡ true
+carried_lits-in n ls h = by_case (length ls == 2)
   where
-    first_in : (ls : List Literal) → clause_in n ls ≡ true → clause_in n (take 1 ls) ≡ true
+    first_in : (ls : List Literal) → is_clause_over n ls ≡ true → is_clause_over n (take 1 ls) ≡ true
     first_in [] h = refl
     first_in (l ∷ ls) h = and_from _ _ (and_parts _ _ h).0 refl
 
-    by_case : (b : Bool) → clause_in n (cond b (take 1 ls) ls) ≡ true
+    by_case : (b : Bool) → is_clause_over n (cond b (take 1 ls) ls) ≡ true
     by_case true = first_in ls h
     by_case false = h
 
-carry_over-in : (ls ms first : List Literal) (n : ℕ) → clause_in n first ≡ true → clause_in n ls ≡ true → clause_in n ms ≡ true → clauses_in n (carry_over first ls ms) ≡ true
+carry_over-in : (ls ms first : List Literal) (n : ℕ) → is_clause_over n first ≡ true → is_clause_over n ls ≡ true → is_clause_over n ms ≡ true → are_clauses_over n (carry_over first ls ms) ≡ true
 carry_over-in [] ms first n f h k = refl
 carry_over-in (l ∷ ls) [] first n f h k = refl
 carry_over-in (l ∷ ls) (m ∷ ms) first n f h k =
-    let one = and_parts (lit_in n l) (clause_in n ls) h in
-    let two = and_parts (lit_in n m) (clause_in n ms) k in
-    and_from _ _ (joined-in first (opposite l ∷ m ∷ []) n f (and_from _ _ one.0 (and_from _ _ two.0 refl)))
+    let one = and_parts (is_lit_over n l) (is_clause_over n ls) h in
+    let two = and_parts (is_lit_over n m) (is_clause_over n ms) k in
+    and_from _ _ (joined-in first (negated_lit l ∷ m ∷ []) n f (and_from _ _ one.0 (and_from _ _ two.0 refl)))
     (and_from _ _
-    (joined-in first (l ∷ opposite m ∷ []) n f (and_from _ _ one.0 (and_from _ _ two.0 refl)))
+    (joined-in first (l ∷ negated_lit m ∷ []) n f (and_from _ _ one.0 (and_from _ _ two.0 refl)))
     (carry_over-in ls ms first n f one.1 two.1))
 
-frame-in : (first : List Literal) (c d : Column) (n : ℕ) → clause_in n first ≡ true → (clause_in n c.values && clause_in n c.bounds) ≡ true → (clause_in n d.values && clause_in n d.bounds) ≡ true → clauses_in n (frame first c d) ≡ true
+frame-in : (first : List Literal) (c d : Column) (n : ℕ) → is_clause_over n first ≡ true → (is_clause_over n c.values && is_clause_over n c.bounds) ≡ true → (is_clause_over n d.values && is_clause_over n d.bounds) ≡ true
+    → are_clauses_over n (frame first c d) ≡ true
 frame-in first c d n f h k =
-    let one = and_parts (clause_in n c.values) (clause_in n c.bounds) h in
-    let two = and_parts (clause_in n d.values) (clause_in n d.bounds) k in
-    list_all-append (clause_in n) (carry_over first (carried c.values) (carried d.values)) (carry_over first c.bounds d.bounds)
-    ∙ and_from _ _ (carry_over-in (carried c.values) (carried d.values) first n f (carried-in n c.values one.0) (carried-in n d.values two.0)) (carry_over-in c.bounds d.bounds first n f one.1 two.1)
+    let one = and_parts (is_clause_over n c.values) (is_clause_over n c.bounds) h in
+    let two = and_parts (is_clause_over n d.values) (is_clause_over n d.bounds) k in
+    list_all-append (is_clause_over n) (carry_over first (carried_lits c.values) (carried_lits d.values)) (carry_over first c.bounds d.bounds)
+    ∙ and_from _ _ (carry_over-in (carried_lits c.values) (carried_lits d.values) first n f (carried_lits-in n c.values one.0) (carried_lits-in n d.values two.0)) (carry_over-in c.bounds d.bounds first n f one.1 two.1)
 
-pub frames-in : (now next : List Column) (rs : List RuleTree) (k v n : ℕ) → 0 < k → k + length rs ≤ n + 1 → columns_in n now ≡ true → columns_in n next ≡ true → clauses_in n (frames rs k v now next) ≡ true
+pub frames-in : (now next : List Column) (rs : List RuleTree) (k v n : ℕ) → 0 < k → k + length rs ≤ n + 1 → columns_in n now ≡ true → columns_in n next ≡ true → are_clauses_over n (frames rs k v now next) ≡ true
 frames-in [] next rs k v n low high h x = refl
 frames-in (c ∷ now) [] rs k v n low high h x = refl
 frames-in (c ∷ now) (d ∷ next) rs k v n low high h x =
-    let one = and_parts (clause_in n c.values && clause_in n c.bounds) (columns_in n now) h in
-    let two = and_parts (clause_in n d.values && clause_in n d.bounds) (columns_in n next) x in
-    list_all-append (clause_in n) (frame (setters v k rs) c d) (frames rs k (v + 1) now next) ∙ and_from _ _ (frame-in (setters v k rs) c d n (setters-in rs v k n low high) one.0 two.0) (frames-in now next rs k (v + 1) n low high one.1 two.1)
+    let one = and_parts (is_clause_over n c.values && is_clause_over n c.bounds) (columns_in n now) h in
+    let two = and_parts (is_clause_over n d.values && is_clause_over n d.bounds) (columns_in n next) x in
+    list_all-append (is_clause_over n) (frame (setter_lits v k rs) c d) (frames rs k (v + 1) now next)
+    ∙ and_from _ _ (frame-in (setter_lits v k rs) c d n (setter_lits-in rs v k n low high) one.0 two.0) (frames-in now next rs k (v + 1) n low high one.1 two.1)
 
--- what is left to add after some of it
 pub rest_of : (old done : List (List Literal)) (added rest all : List (List Literal)) (whole : List (List Literal)) → all ≡ added ++ rest → done ≡ old ++ as_clauses added → old ++ as_clauses all ≡ whole → done ++ as_clauses rest ≡ whole
 rest_of old done added rest all whole split made h =
     ap (λ (cs : List (List Literal)). cs ++ as_clauses rest) made
@@ -72,7 +73,7 @@ pub carry_over-end : (i : ℕ) (first ls ms : List Literal) → (length ls ≤ i
 carry_over-end i first ls ms (inl h) = ap (λ (ks : List Literal). carry_over first ks (drop i ms)) (drop_all i ls h)
 carry_over-end i first ls ms (inr h) = ap (carry_over first (drop i ls)) (drop_all i ms h) ∙ carry_over-none first (drop i ls)
 
-pub as_grown : (f g : Formula) (cs : List (List Literal)) → g.vars ≡ f.vars → g.clauses ≡ f.clauses ++ cs → g ≡ grown f f.vars cs
+pub as_grown : (f g : Formula) (cs : List (List Literal)) → g.vars ≡ f.vars → g.clauses ≡ f.clauses ++ cs → g ≡ with_clauses f f.vars cs
 as_grown f g cs vars clauses =
     ap (λ (n : ℕ). let h : Formula = record { vars = n; clauses = g.clauses } in h) vars ∙ ap (λ (ds : List (List Literal)). let h : Formula = record { vars = f.vars; clauses = ds } in h) clauses
 
@@ -80,28 +81,27 @@ pub carried_all : (f g : Formula) (i : ℕ) (first ls ms : List Literal) → (le
     g.vars ≡ f.vars →
     g.clauses ++ as_clauses (carry_over first (drop i ls) (drop i ms))
     ≡ f.clauses ++ as_clauses (carry_over first ls ms) →
-    g ≡ grown f f.vars (as_clauses (carry_over first ls ms))
+    g ≡ with_clauses f f.vars (as_clauses (carry_over first ls ms))
 carried_all f g i first ls ms past vars rest =
     as_grown f g (as_clauses (carry_over first ls ms)) vars (sym (append-nil g.clauses) ∙ sym (ap (λ (cs : List (List Literal)). g.clauses ++ as_clauses cs) (carry_over-end i first ls ms past)) ∙ rest)
 
-pub frame_made : (f g h : Formula) (first ls ms ks js : List Literal) (c d : Column) → ls ≡ carried c.values →
-    ms ≡ carried d.values → ks ≡ c.bounds → js ≡ d.bounds →
-    g ≡ grown f f.vars (as_clauses (carry_over first ls ms)) →
-    h ≡ grown g g.vars (as_clauses (carry_over first ks js)) →
-    h ≡ grown f f.vars (as_clauses (frame first c d))
+pub frame_made : (f g h : Formula) (first ls ms ks js : List Literal) (c d : Column) → ls ≡ carried_lits c.values →
+    ms ≡ carried_lits d.values → ks ≡ c.bounds → js ≡ d.bounds →
+    g ≡ with_clauses f f.vars (as_clauses (carry_over first ls ms)) →
+    h ≡ with_clauses g g.vars (as_clauses (carry_over first ks js)) →
+    h ≡ with_clauses f f.vars (as_clauses (frame first c d))
 frame_made f g h first ls ms ks js c d one two three four made more =
-    grown_more f g h (carry_over first (carried c.values) (carried d.values)) (carry_over first c.bounds d.bounds) (made ∙ rw (one, two) refl) (more ∙ rw (three, four) refl)
+    grown_more f g h (carry_over first (carried_lits c.values) (carried_lits d.values)) (carry_over first c.bounds d.bounds) (made ∙ rw (one, two) refl) (more ∙ rw (three, four) refl)
 
--- one more variable
 pub frames_step :
     (f g : Formula) (rs : List RuleTree) (k v : ℕ) (now next later after : List Column) (c d : Column)
     (ls : List Literal) (whole : List (List Literal)) →
-    now ≡ c ∷ later → next ≡ d ∷ after → ls ≡ setters v k rs →
-    g ≡ grown f f.vars (as_clauses (frame ls c d)) →
+    now ≡ c ∷ later → next ≡ d ∷ after → ls ≡ setter_lits v k rs →
+    g ≡ with_clauses f f.vars (as_clauses (frame ls c d)) →
     f.clauses ++ as_clauses (frames rs k v now next) ≡ whole →
     g.clauses ++ as_clauses (frames rs k (v + 1) later after) ≡ whole
 frames_step f g rs k v now next later after c d ls whole one two three made h =
-    let first : frame (setters v k rs) c d ≡ frame ls c d = ap (λ (ks : List Literal). frame ks c d) (sym three) in
+    let first : frame (setter_lits v k rs) c d ≡ frame ls c d = ap (λ (ks : List Literal). frame ks c d) (sym three) in
     let split : frames rs k v now next ≡ frame ls c d ++ frames rs k (v + 1) later after =
     ap (λ (u : List Column). frames rs k v u next) one ∙ ap (frames rs k v (c ∷ later)) two ∙ ap (λ (cs : List (List Literal)). cs ++ frames rs k (v + 1) later after) first in
     rest_of f.clauses g.clauses (frame ls c d) (frames rs k (v + 1) later after) (frames rs k v now next) whole split (ap (λ (u : Formula). u.clauses) made) h

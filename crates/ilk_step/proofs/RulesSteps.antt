@@ -1,8 +1,8 @@
--- One more setting, rule or part in the calls that add them, and the parts of a step together.
+-- The steps of the calls that add settings, rules and parts, and the whole step.
 use Rattle.std.proofs.Common.{◌≡◌, ℕ, ◌+◌, ◌≤◌, true, List, [], ◌∷◌, length, map, sym, ap, ◌∙◌, arith}
 use Rattle.std.specs.List.{list_all}
 use Rattle.std.proofs.lemmas.List.{length-map}
-use Rattle.ilk_cnf.specs.Literal.{Literal, plus}
+use Rattle.ilk_cnf.specs.Literal.{Literal, positive_lit}
 use Rattle.ilk_cnf.specs.Formula.{Formula}
 use Rattle.ilk_cnf.specs.Part.{Part, with_part, and_then}
 use Rattle.ilk_cnf.proofs.Gates.{with_part-and_then}
@@ -10,7 +10,7 @@ use Rattle.ilk_ir.specs.Tree.{is}
 use Rattle.ilk_ir.specs.System.{RuleTree, rule_tree, rule_valid}
 use Rattle.ilk_ir.specs.declared.system.Rule.{Rule}
 use Rattle.ilk_ir.specs.declared.system.Setting.{Setting}
-use Rattle.ilk_copy.specs.declared.copy.Column.{Column}
+use Rattle.ilk_forms.specs.declared.copy.Column.{Column}
 use Rattle.ilk_forms.specs.Demand.{demand_part}
 use Rattle.ilk_forms.specs.Leaf.{columns_in, ranges_of}
 use Rattle.ilk_forms.proofs.Reading.{columns_in-more}
@@ -21,7 +21,6 @@ use Rattle.ilk_step.specs.Step.{step_part}
 use Rattle.ilk_step.proofs.ChoiceLaw.{choice-low}
 use Rattle.ilk_step.proofs.RulesLaw.{rules-fits}
 
--- a part, and then the one that begins where it ends
 pub next_part : (f g h : Formula) (p : Part) (q : ℕ → Part) → g ≡ with_part f p → h ≡ with_part g (q g.vars) → h ≡ with_part f (and_then p q)
 next_part f g h p q first next = next ∙ ap (λ (k : Formula). with_part k (q k.vars)) first ∙ with_part-and_then f p q
 
@@ -35,14 +34,13 @@ settings_step f g next skip s all rest split made =
     ∙ ap (λ (ss : List Setting). with_part f (settings_part next skip ss f.vars)) (sym split)
 
 pub rules_step : (f g : Formula) (now next : List Column) (k : ℕ) (r : RuleTree) (all rest : List RuleTree) →
-    all ≡ r ∷ rest → g ≡ with_part f (rule_part now next (plus k) r f.vars) →
+    all ≡ r ∷ rest → g ≡ with_part f (rule_part now next (positive_lit k) r f.vars) →
     with_part g (rules_part now next (k + 1) rest g.vars) ≡ with_part f (rules_part now next k all f.vars)
 rules_step f g now next k r all rest split made =
     ap (λ (u : Formula). with_part u (rules_part now next (k + 1) rest u.vars)) made
-    ∙ with_part-and_then f (rule_part now next (plus k) r f.vars) (rules_part now next (k + 1) rest)
+    ∙ with_part-and_then f (rule_part now next (positive_lit k) r f.vars) (rules_part now next (k + 1) rest)
     ∙ ap (λ (rs : List RuleTree). with_part f (rules_part now next k rs f.vars)) (sym split)
 
--- the choice, the rules and the frames are a step
 pub step_made : (f g h e : Formula) (rs : List RuleTree) (now next : List Column) →
     g ≡ with_part f (choice_part (length rs) f.vars) →
     h ≡ with_part g (rules_part now next (f.vars + 1) rs g.vars) →
@@ -54,7 +52,6 @@ step_made f g h e rs now next choice asked carried =
     (next_part g h e (rules_part now next (f.vars + 1) rs g.vars) (frames_part rs (f.vars + 1) now next)
     asked carried)
 
--- in the words of the calls that add them
 pub choice_made : (f g : Formula) (rules : List Rule) (m : ℕ) → m ≡ length rules → g ≡ with_part f (choice_part m f.vars) → g ≡ with_part f (choice_part (length (map rule_tree rules)) f.vars)
 choice_made f g rules m count made = made ∙ ap (λ (k : ℕ). with_part f (choice_part k f.vars)) (count ∙ sym (length-map rules rule_tree))
 
@@ -76,11 +73,9 @@ frames_made f h e now next rules us first begins same made =
     ∙ ap (λ (k : ℕ). with_part h (frames_part (map rule_tree us) (k + 1) now next h.vars)) begins
     ∙ ap (λ (vs : List Rule). with_part h (frames_part (map rule_tree vs) (f.vars + 1) now next h.vars)) same
 
--- there is room for the choice
 pub choice_room : (f g : Formula) (rs : List RuleTree) → g ≡ with_part f (choice_part (length rs) f.vars) → f.vars + length rs ≤ g.vars
 choice_room f g rs made = let vars = ap (λ (u : Formula). u.vars) made in let low = choice-low (length rs) f.vars in omega (arith, vars, low)
 
--- no variable is taken away
 pub rules_room : (f g h : Formula) (rs : List RuleTree) (now next : List Column) →
     g ≡ with_part f (choice_part (length rs) f.vars) →
     h ≡ with_part g (rules_part now next (f.vars + 1) rs g.vars) → columns_in f.vars now ≡ true →

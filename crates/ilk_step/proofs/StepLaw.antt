@@ -1,4 +1,5 @@
--- A step extends an assignment in exactly one way for each rule that leads from the one copy's values to the next's.
+-- A step extends an assignment in exactly one way for each rule that leads from one copy's values
+-- to the next's.
 use Rattle.std.proofs.Common.{◌≡◌, ℕ, ◌+◌, ◌<◌, ◌≤◌, Bool, true, ◌&&◌, List, [], ◌∷◌, ◌++◌, length, map, slice_get, Option, Some, None, refl, sym, ap, ◌∙◌, subst, arith, append_assoc}
 use Rattle.std.specs.List.{list_all}
 use Rattle.std.specs.Prelude.{option_and_then}
@@ -7,53 +8,51 @@ use Rattle.std.proofs.lemmas.Bool.{and_parts, and_from}
 use Rattle.std.proofs.lemmas.Option.{slice_get_within, same_Some}
 use Rattle.ilk_base.proofs.Lists.{item_at}
 use Rattle.ilk_base.proofs.Tested.{list_all-slice_get}
-use Rattle.ilk_cnf.specs.Formula.{clause_in}
-use Rattle.ilk_cnf.specs.Truth.{is_true, some_true, satisfies}
-use Rattle.ilk_cnf.specs.Extends.{Extends, OnlyIf, Then}
+use Rattle.ilk_cnf.specs.Formula.{is_clause_over}
+use Rattle.ilk_cnf.specs.Truth.{is_true, is_clause_true, satisfies}
+use Rattle.ilk_cnf.specs.Extends.{Extends, IsExactlyIf, FollowedBy}
 use Rattle.ilk_cnf.specs.Part.{Part, and_then}
 use Rattle.ilk_cnf.proofs.Parts.{in_turn, in_words}
 use Rattle.ilk_cnf.proofs.Extending.{no_more_if}
 use Rattle.ilk_ints.specs.Named.{value_bits}
 use Rattle.ilk_ints.proofs.OneOfLaw.{map-left}
-use Rattle.ilk_ir.specs.System.{RuleTree, rule_valid, fired, in_ranges}
-use Rattle.ilk_copy.specs.declared.copy.Column.{Column}
-use Rattle.ilk_copy.specs.Copy.{LiteralsSay}
+use Rattle.ilk_ir.specs.System.{RuleTree, rule_valid, after_rule, in_ranges}
+use Rattle.ilk_forms.specs.declared.copy.Column.{Column}
+use Rattle.ilk_forms.specs.Copy.{LiteralsEncode}
 use Rattle.ilk_forms.specs.Leaf.{columns_in, ranges_of}
 use Rattle.ilk_forms.proofs.Reading.{Reads, reads, columns_in-more}
 use Rattle.ilk_forms.proofs.DemandLaw.{PartFits}
 use Rattle.ilk_step.specs.Choice.{chosen_lits, choice_part, choice_bits, IsChoice}
 use Rattle.ilk_step.specs.Rules.{rules_part, rules_bits}
-use Rattle.ilk_step.specs.Frame.{sets_variable, setters, frames, frames_part}
-use Rattle.ilk_step.specs.Step.{step_part, step_values, step_bits, IsStep}
+use Rattle.ilk_step.specs.Frame.{sets_variable, setter_lits, frames, frames_part}
+use Rattle.ilk_step.specs.Step.{step_part, values_after_rule, step_bits, IsStep}
 use Rattle.ilk_step.proofs.ChoiceLaw.{chosen_lits-in, choice-low, choice-in, choice-law, choice-says}
-use Rattle.ilk_step.proofs.Firing.{kept, kept-congr, rule_met, met-fired, fired-met}
-use Rattle.ilk_step.proofs.FrameLaw.{frames-say, setters-say}
+use Rattle.ilk_step.proofs.Firing.{kept, kept-congr, rule_met, met-after_rule, after_rule-met}
+use Rattle.ilk_step.proofs.FrameLaw.{frames-say, setter_lits-say}
 use Rattle.ilk_step.proofs.FrameSteps.{frames-in}
 use Rattle.ilk_step.proofs.RulesLaw.{then-fits, then-law, rules-fits, rules-law, one_met}
 
--- the literals of a copy say its values, whatever follows
-pub says-left : (columns : List Column) (ranges ws : List ℕ) (a e : List Bool) (n : ℕ) → length a ≡ n → columns_in n columns ≡ true → LiteralsSay a columns ranges ws → LiteralsSay (a ++ e) columns ranges ws
+pub says-left : (columns : List Column) (ranges ws : List ℕ) (a e : List Bool) (n : ℕ) → length a ≡ n → columns_in n columns ≡ true → LiteralsEncode a columns ranges ws → LiteralsEncode (a ++ e) columns ranges ws
 says-left [] ranges ws a e n size inside h = tt
 says-left (column ∷ columns) [] ws a e n size inside h = absurd h
 says-left (column ∷ columns) (range ∷ ranges) [] a e n size inside h = absurd h
 says-left (column ∷ columns) (range ∷ ranges) (w ∷ ws) a e n size inside h =
-    let parts = and_parts (clause_in n column.values && clause_in n column.bounds) (columns_in n columns) inside in
-    let two = and_parts (clause_in n column.values) (clause_in n column.bounds) parts.0 in (
+    let parts = and_parts (is_clause_over n column.values && is_clause_over n column.bounds) (columns_in n columns) inside in
+    let two = and_parts (is_clause_over n column.values) (is_clause_over n column.bounds) parts.0 in (
       map-left a e column.values (rw size two.0) ∙ h.0,
       map-left a e column.bounds (rw size two.1) ∙ h.1,
       says-left columns ranges ws a e n size parts.1 h.2,
     )
 
--- two copies of variables with the same ranges, and what their literals say at an assignment
+-- Two copies with the same ranges, and the values that their literals say.
 pub record Copies (a : List Bool) (n : ℕ) (now next : List Column) (ws xs : List ℕ) : Type 0 where
   pub size : length a ≡ n
   pub now_in : columns_in n now ≡ true
   pub next_in : columns_in n next ≡ true
   pub same : ranges_of next ≡ ranges_of now
-  pub now_say : LiteralsSay a now (ranges_of now) ws
-  pub next_say : LiteralsSay a next (ranges_of now) xs
+  pub now_say : LiteralsEncode a now (ranges_of now) ws
+  pub next_say : LiteralsEncode a next (ranges_of now) xs
 
--- the copies at a longer assignment
 copies-left : (a e : List Bool) (n m : ℕ) (now next : List Column) (ws xs : List ℕ) → n ≤ m → length (a ++ e) ≡ m → Copies a n now next ws xs → Copies (a ++ e) m now next ws xs
 copies-left a e n m now next ws xs le size c = record {
   size = size;
@@ -67,11 +66,11 @@ copies-left a e n m now next ws xs le size c = record {
 frames-fits : (rs : List RuleTree) (now next : List Column) (k n : ℕ) → 0 < k → k + length rs ≤ n + 1 → columns_in n now ≡ true → columns_in n next ≡ true → PartFits n (frames_part rs k now next n)
 frames-fits rs now next k n low high h x = record { low = omega arith; inside = frames-in now next rs k 0 n low high h x }
 
--- what follows the choice of a rule
+-- The part that follows the choice of a rule.
 abbrev pub after_choice : List RuleTree → List Column → List Column → ℕ → ℕ → Part
 after_choice rs now next k m = and_then (rules_part now next k rs m) (frames_part rs k now next)
 
--- whether the rule is met, and what it doesn't set is kept
+-- Returns whether the rule is met, and everything that it does not set is unchanged.
 abbrev pub leads : List ℕ → List ℕ → RuleTree → Bool
 leads ws xs rule = rule_met ws xs rule && kept (λ v. sets_variable v rule.sets) 0 ws xs
 
@@ -93,7 +92,7 @@ after-law :
     in_ranges xs (ranges_of now) ≡ true →
     map (is_true a) (chosen_lits k (length rs)) ≡ value_bits r 0 (length rs) → slice_get rs r ≡ Some rule →
     Extends a (after_choice rs now next k m).vars (after_choice rs now next k m).clauses
-    (OnlyIf (leads ws xs rule) (rules_bits (ranges_of now) ws rs))
+    (IsExactlyIf (leads ws xs rule) (rules_bits (ranges_of now) ws rs))
 after-law rs now next ws xs a k m r rule c low high valid hw hx chosen at =
     let p = rules_part now next k rs m in
     let e = rules_bits (ranges_of now) ws rs in
@@ -106,12 +105,12 @@ after-law rs now next ws xs a k m r rule c low high valid hw hx chosen at =
     let rx : Reads a next (ranges_of now) xs = reads a next (ranges_of now) xs m c.size c.next_in c.next_say hx in
     let place : r ≡ 0 + r = omega arith in
     let here : map (is_true a) (chosen_lits k (length rs)) ≡ value_bits (0 + r) 0 (length rs) = chosen ∙ ap (λ (i : ℕ). value_bits i 0 (length rs)) place in
-    let first : Extends a p.vars p.clauses (OnlyIf met e) = subst
-    (λ (b : Bool). Extends a p.vars p.clauses (OnlyIf b e)) (one_met rs a k r 0 rule ws xs here at)
+    let first : Extends a p.vars p.clauses (IsExactlyIf met e) = subst
+    (λ (b : Bool). Extends a p.vars p.clauses (IsExactlyIf b e)) (one_met rs a k r 0 rule ws xs here at)
     (rules-law rs now next ws xs k a m c.size rn rx c.now_in c.next_in c.same low high valid) in
-    let second : length (a ++ e) ≡ p.vars → Extends (a ++ e) p.vars (frames rs k 0 now next) (OnlyIf keeps []) = λ long.
+    let second : length (a ++ e) ≡ p.vars → Extends (a ++ e) p.vars (frames rs k 0 now next) (IsExactlyIf keeps []) = λ long.
     let d = copies-left a e m p.vars now next ws xs grows long c in
-    let inside : clause_in m (chosen_lits k (length rs)) ≡ true = chosen_lits-in (length rs) k m low high in
+    let inside : is_clause_over m (chosen_lits k (length rs)) ≡ true = chosen_lits-in (length rs) k m low high in
     let size = c.size in
     let still : map (is_true (a ++ e)) (chosen_lits k (length rs)) ≡ value_bits (0 + r) 0 (length rs) = map-left a e (chosen_lits k (length rs)) (rw size inside) ∙ here in
     let now_long : length now ≡ length (ranges_of now) = sym (length-map now (λ (column : Column). length column.values)) in
@@ -119,13 +118,11 @@ after-law rs now next ws xs a k m r rule c low high valid hw hx chosen at =
     let says : satisfies (a ++ e) (frames rs k 0 now next) ≡ keeps =
     frames-say now next (ranges_of now) ws xs (a ++ e) rs k 0 now_long next_long hw hx d.now_say
     d.next_say
-    ∙ kept-congr (λ u. some_true (a ++ e) (setters u k rs)) (λ u. sets_variable u rule.sets) 0 ws xs
-    (λ u. setters-say rs (a ++ e) u k r 0 rule still at) in
+    ∙ kept-congr (λ u. is_clause_true (a ++ e) (setter_lits u k rs)) (λ u. sets_variable u rule.sets) 0 ws xs
+    (λ u. setter_lits-say rs (a ++ e) u k r 0 rule still at) in
     no_more_if (a ++ e) p.vars (frames rs k 0 now next) keeps long says in
     let both = then-law a e [] met keeps m p (frames_part rs k now next) c.size one (frames-fits rs now next k p.vars low fits (columns_in-more m p.vars now grows c.now_in) (columns_in-more m p.vars next grows c.next_in)) first second in
-    subst (λ (d : List Bool). Extends a p.vars (p.clauses ++ frames rs k 0 now next) (OnlyIf (met && keeps) d)) (append-nil e) both
-
--- the whole step
+    subst (λ (d : List Bool). Extends a p.vars (p.clauses ++ frames rs k 0 now next) (IsExactlyIf (met && keeps) d)) (append-nil e) both
 
 pub step-fits : (rules : List RuleTree) (now next : List Column) (n : ℕ) → columns_in n now ≡ true →
     columns_in n next ≡ true → ranges_of next ≡ ranges_of now →
@@ -168,7 +165,7 @@ step-law rules now next ws xs a n c valid hw hx =
     fits = after-fits rules now next (n + 1) p.vars (columns_in-more n p.vars now more c.now_in) (columns_in-more n p.vars next more c.next_in) c.same (omega arith) reach valid
 
     after : (b : List Bool) → IsChoice count b → List Bool → Type 0
-    after b h = OnlyIf (leads ws xs (item_at rules h.0 h.1).0) (rules_bits (ranges_of now) ws rules)
+    after b h = IsExactlyIf (leads ws xs (item_at rules h.0 h.1).0) (rules_bits (ranges_of now) ws rules)
 
     first : Extends a p.vars p.clauses (IsChoice count)
     first = choice-law a count n c.size
@@ -180,36 +177,35 @@ step-law rules now next ws xs a n c valid hw hx =
         let chosen : map (is_true (a ++ b)) (chosen_lits (n + 1) count) ≡ value_bits h.0 0 count = subst (λ (u : List Bool). map (is_true u) (chosen_lits (n + 1) count) ≡ value_bits h.0 0 count) whole (choice-says a [] count h.0 n c.size) in
         after-law rules now next ws xs (a ++ b) (n + 1) p.vars h.0 (item_at rules h.0 h.1).0 (copies-left a b n p.vars now next ws xs more long c) (omega arith) reach valid hw hx chosen (item_at rules h.0 h.1).1
 
-    to : (d : List Bool) → Then (IsChoice count) after d → IsStep (ranges_of now) rules ws xs d
+    to : (d : List Bool) → FollowedBy (IsChoice count) after d → IsStep (ranges_of now) rules ws xs d
     to d h =
         let r = h.3.0 in
         let item = item_at rules r h.3.1 in
         let parts = and_parts (rule_met ws xs item.0) (kept (λ v. sets_variable v item.0.sets) 0 ws xs) h.4.0 in
-        let fires : fired item.0 ws ≡ Some xs = met-fired item.0 ws xs (ranges_of now) hw hx parts.0 parts.1 in
-        (r, ap (λ (o : Option RuleTree). option_and_then (λ rule. fired rule ws) o) item.1 ∙ fires, h.2 ∙ ap (λ (u : List Bool). u ++ h.1) h.3.2 ∙ ap (λ (u : List Bool). choice_bits count r ++ u) h.4.1)
+        let fires : after_rule item.0 ws ≡ Some xs = met-after_rule item.0 ws xs (ranges_of now) hw hx parts.0 parts.1 in
+        (r, ap (λ (o : Option RuleTree). option_and_then (λ rule. after_rule rule ws) o) item.1 ∙ fires, h.2 ∙ ap (λ (u : List Bool). u ++ h.1) h.3.2 ∙ ap (λ (u : List Bool). choice_bits count r ++ u) h.4.1)
 
-    from : (d : List Bool) → IsStep (ranges_of now) rules ws xs d → Then (IsChoice count) after d
+    from : (d : List Bool) → IsStep (ranges_of now) rules ws xs d → FollowedBy (IsChoice count) after d
     from d h = by_case (slice_get rules h.0) refl h.1
       where
-        by_case : (o : Option RuleTree) → slice_get rules h.0 ≡ o → option_and_then (λ rule. fired rule ws) o ≡ Some xs → Then (IsChoice count) after d
+        by_case : (o : Option RuleTree) → slice_get rules h.0 ≡ o → option_and_then (λ rule. after_rule rule ws) o ≡ Some xs → FollowedBy (IsChoice count) after d
         by_case None is fires = absurd cc
         by_case (Some rule) is fires =
             let less : h.0 < length rules = slice_get_within rules h.0 rule is in
             let item = item_at rules h.0 less in
             let same : rule ≡ item.0 = same_Some rule item.0 (sym is ∙ item.1) in
-            let fires_too : fired item.0 ws ≡ Some xs = ap (λ (u : RuleTree). fired u ws) (sym same) ∙ fires in
-            let both = fired-met item.0 ws xs (ranges_of now) hw (list_all-slice_get (rule_valid (ranges_of now)) rules h.0 item.0 valid item.1) fires_too in
+            let fires_too : after_rule item.0 ws ≡ Some xs = ap (λ (u : RuleTree). after_rule u ws) (sym same) ∙ fires in
+            let both = after_rule-met item.0 ws xs (ranges_of now) hw (list_all-slice_get (rule_valid (ranges_of now)) rules h.0 item.0 valid item.1) fires_too in
             (choice_bits count h.0, rules_bits (ranges_of now) ws rules, h.2, (h.0, less, refl), (and_from _ _ both.0 both.1, refl))
 
--- the step's variables say which rule is chosen, whatever follows
 pub step-says : (ranges : List ℕ) (rules : List RuleTree) (ws : List ℕ) (a c : List Bool) (n r : ℕ) → length a ≡ n → map (is_true (a ++ (step_bits ranges rules ws r ++ c))) (chosen_lits (n + 1) (length rules)) ≡ value_bits r 0 (length rules)
 step-says ranges rules ws a c n r size =
     let whole : a ++ (choice_bits (length rules) r ++ (rules_bits ranges ws rules ++ c)) ≡ a ++ (step_bits ranges rules ws r ++ c) = ap (λ (u : List Bool). a ++ u) (sym (append_assoc (choice_bits (length rules) r) (rules_bits ranges ws rules) c)) in
     subst (λ (u : List Bool). map (is_true u) (chosen_lits (n + 1) (length rules)) ≡ value_bits r 0 (length rules)) whole (choice-says a (rules_bits ranges ws rules ++ c) (length rules) r n size)
 
-pub step-below : (rules : List RuleTree) (ws xs : List ℕ) (r : ℕ) → step_values rules ws r ≡ Some xs → r < length rules
+pub step-below : (rules : List RuleTree) (ws xs : List ℕ) (r : ℕ) → values_after_rule rules ws r ≡ Some xs → r < length rules
 step-below rules ws xs r h = by_case (slice_get rules r) refl h
   where
-    by_case : (o : Option RuleTree) → slice_get rules r ≡ o → option_and_then (λ rule. fired rule ws) o ≡ Some xs → r < length rules
+    by_case : (o : Option RuleTree) → slice_get rules r ≡ o → option_and_then (λ rule. after_rule rule ws) o ≡ Some xs → r < length rules
     by_case None is fires = absurd cc
     by_case (Some rule) is fires = slice_get_within rules r rule is

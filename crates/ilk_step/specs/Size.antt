@@ -1,10 +1,10 @@
--- How large a step is: what its numbers of variables and clauses are counted by.
+-- The size of a step, in which its numbers of variables and clauses are measured.
 use Rattle.std.specs.Prelude.{ℕ, ◌+◌, List, [], ◌∷◌, length}
 use Rattle.ilk_ir.specs.System.{RuleTree}
-use Rattle.ilk_copy.specs.declared.copy.Column.{Column}
+use Rattle.ilk_forms.specs.declared.copy.Column.{Column}
 use Rattle.ilk_forms.specs.Size.{tree_size}
 
--- the constructors of the rules' guards, and the rules' settings
+-- The constructors of the rules' guards, and the rules' settings.
 abbrev pub guards_size : List RuleTree → ℕ
 guards_size [] = 0
 guards_size (r ∷ rs) = tree_size r.guard + guards_size rs
@@ -13,7 +13,7 @@ abbrev pub settings_count : List RuleTree → ℕ
 settings_count [] = 0
 settings_count (r ∷ rs) = length r.sets + settings_count rs
 
--- the literals of a copy
+-- The number of literals of a copy.
 abbrev pub literals_count : List Column → ℕ
 literals_count [] = 0
 literals_count (c ∷ cs) = length c.values + length c.bounds + literals_count cs

@@ -7,16 +7,14 @@ use ilk_cnf::{Assignment, Clause, Cnf, Lit};
 use ilk_ints::one_of;
 use std::alloc::{AllocError, Global};
 
-/// The variables of a step that say which rule is chosen: one for each of `rules` rules, from
-/// `first` on, true where its rule is not chosen.
+/// The variables that say which rule of a step is chosen: one for each of `rules` rules, from
+/// `first` on, true if its rule is not chosen.
 #[derive(Clone, Copy)]
 pub struct Choice {
     pub first: u64,
     pub rules: u32,
 }
 
-// Adds a variable for each of so many rules, and answers the literals that say that a rule is
-// chosen.
 fn add_variables(alloc: Global, cnf: &mut Cnf, rules: u64) -> Result<Clause, AllocError>
     ensures lits { IfOk result (λ lits. lits ≡ chosen_lits (cnf.old.vars + 1) rules) }
     ensures made { OnOk result (cnf.new ≡ with_part cnf.old (new_variables rules cnf.old.vars)) }
@@ -28,8 +26,8 @@ fn add_variables(alloc: Global, cnf: &mut Cnf, rules: u64) -> Result<Clause, All
     Ok(chosen)
 }
 
-// Adds a variable for each of so many rules, true where the rule is not chosen, and demands that
-// exactly one rule is chosen.
+/// Adds a variable for each of `rules` rules, true if the rule is not chosen, and demands that
+/// exactly one rule is chosen.
 pub fn add_choice(alloc: Global, cnf: &mut Cnf, rules: u64) -> Result<(), AllocError>
     ensures made { OnOk result (cnf.new ≡ with_part cnf.old (choice_part rules cnf.old.vars)) }
     ensures law { OnOk result
@@ -41,8 +39,8 @@ pub fn add_choice(alloc: Global, cnf: &mut Cnf, rules: u64) -> Result<(), AllocE
     Ok(())
 }
 
-/// The number of the chosen rule. One is chosen and no other, as wherever the assignment satisfies
-/// the clauses of the step.
+/// Returns the number of the chosen rule. Exactly one has to be chosen, as in every assignment that
+/// satisfies the clauses of the step.
 pub fn chosen_rule(a: &Assignment, choice: Choice) -> u32
     requires numbered { choice.first ≤ 2 ^ 62 + 1 }
     requires one { (r : ℕ) × Chooses a.now choice.first choice.rules r }

@@ -1,28 +1,27 @@
 ghost use Rattle.std.specs.Prelude.{◌≡◌, ◌+◌, ◌≤◌, ◌<◌, ◌^◌, ◌++◌, ◌∷◌, [], length, map, OnOk, IfOk, IsTrue};
-ghost use Rattle.ilk_cnf.specs.Formula.{grown, as_clause, clause_in};
+ghost use Rattle.ilk_cnf.specs.Formula.{with_clauses, as_clause, is_clause_over};
 ghost use Rattle.ilk_cnf.specs.Part.{with_part, as_clauses};
 ghost use Rattle.ilk_ir.specs.System.{rule_tree};
 ghost use Rattle.ilk_forms.specs.Leaf.{columns_in, ranges_of};
-ghost use Rattle.ilk_step.specs.Frame.{sets_variable, setters, carry_over, carried, frame, frames_part};
+ghost use Rattle.ilk_step.specs.Frame.{sets_variable, setter_lits, carry_over, carried_lits, frame, frames_part};
 
 use ilk_cnf::{Cnf, Lit, Lits};
-use ilk_copy::{Column, Table};
+use ilk_forms::{Column, Table};
 use ilk_ir::{Rule, Setting};
 use std::alloc::{AllocError, Global};
 
-// Whether one of the settings sets the variable.
 fn sets_variable(v: u64, sets: &[Setting]) -> bool
     ensures { result ≡ sets_variable v sets.now }
 {
     sets.iter().any(|s| u64::from(s.var) == v)
 }
 
-// The literals that say that a rule is chosen that sets the variable `v`. The variables of the
-// rules stand from `first` on.
+// Returns the literals that say that a chosen rule sets variable `v`. The variables of the rules
+// begin at `first`.
 fn setters(alloc: Global, v: u64, first: u64, rules: &[Rule]) -> Result<Lits, AllocError>
     requires from_1 { 0 < first }
     requires numbered { first + length rules.now ≤ 2 ^ 62 + 1 }
-    ensures { IfOk result (λ lits. lits ≡ setters v first (map rule_tree rules.now)) }
+    ensures { IfOk result (λ lits. lits ≡ setter_lits v first (map rule_tree rules.now)) }
 {
     let mut lits = Lits::new(alloc);
     for (i, rule) in rules.iter().enumerate() {
@@ -33,35 +32,32 @@ fn setters(alloc: Global, v: u64, first: u64, rules: &[Rule]) -> Result<Lits, Al
     Ok(lits)
 }
 
-// Demands that one of the first literals or of the two is true.
 fn add_pair(alloc: Global, cnf: &mut Cnf, first: &Lits, l: Lit, m: Lit) -> Result<(), AllocError>
-    requires first { IsTrue (clause_in cnf.old.vars first.now) }
-    requires pair { IsTrue (clause_in cnf.old.vars (l ∷ m ∷ [])) }
+    requires first { IsTrue (is_clause_over cnf.old.vars first.now) }
+    requires pair { IsTrue (is_clause_over cnf.old.vars (l ∷ m ∷ [])) }
     ensures { OnOk result
-        (cnf.new ≡ grown cnf.old cnf.old.vars (as_clause (first.now ++ l ∷ m ∷ []))) }
+        (cnf.new ≡ with_clauses cnf.old cnf.old.vars (as_clause (first.now ++ l ∷ m ∷ []))) }
 {
     let mut lits = first.copy()?;
     lits.push(l)?;
     lits.push(m)?;
-    cnf.add_lits(lits.as_slice())?;
+    cnf.add_clause_of(lits.as_slice())?;
     Ok(())
 }
 
-// Demands that one of the first literals is true, or the two are true in the same case.
 fn add_same(alloc: Global, cnf: &mut Cnf, first: &Lits, l: Lit, m: Lit) -> Result<(), AllocError>
-    requires first { IsTrue (clause_in cnf.old.vars first.now) }
-    requires pair { IsTrue (clause_in cnf.old.vars (l ∷ m ∷ [])) }
+    requires first { IsTrue (is_clause_over cnf.old.vars first.now) }
+    requires pair { IsTrue (is_clause_over cnf.old.vars (l ∷ m ∷ [])) }
     ensures { OnOk result
         (cnf.new
-        ≡ grown cnf.old cnf.old.vars (as_clauses (carry_over first.now (l ∷ []) (m ∷ [])))) }
+        ≡ with_clauses cnf.old cnf.old.vars (as_clauses (carry_over first.now (l ∷ []) (m ∷ [])))) }
 {
     add_pair(alloc, cnf, first, l.negated(), m)?;
     add_pair(alloc, cnf, first, l, m.negated())?;
     Ok(())
 }
 
-// Demands that one of the first literals is true, or each of the one list is true exactly where
-// that of the other is.
+// Demands that a literal of `first` is true, or `now` and `next` are equal item by item.
 fn carry_over(
     alloc: Global,
     cnf: &mut Cnf,
@@ -69,12 +65,12 @@ fn carry_over(
     now: &[Lit],
     next: &[Lit],
 ) -> Result<(), AllocError>
-    requires first { IsTrue (clause_in cnf.old.vars first.now) }
-    requires now { IsTrue (clause_in cnf.old.vars now.now) }
-    requires next { IsTrue (clause_in cnf.old.vars next.now) }
+    requires first { IsTrue (is_clause_over cnf.old.vars first.now) }
+    requires now { IsTrue (is_clause_over cnf.old.vars now.now) }
+    requires next { IsTrue (is_clause_over cnf.old.vars next.now) }
     ensures { OnOk result
         (cnf.new
-        ≡ grown cnf.old cnf.old.vars (as_clauses (carry_over first.now now.now next.now))) }
+        ≡ with_clauses cnf.old cnf.old.vars (as_clauses (carry_over first.now now.now next.now))) }
 {
     for i in 0..now.len().min(next.len()) {
         add_same(alloc, cnf, first, now[i], next[i])?;
@@ -82,9 +78,9 @@ fn carry_over(
     Ok(())
 }
 
-// The literals of a variable's values that are carried over.
+// Returns the literals of a variable's values that are carried over.
 fn carried(values: &[Lit]) -> &[Lit]
-    ensures { result.now ≡ carried values.now }
+    ensures { result.now ≡ carried_lits values.now }
 {
     if values.len() == 2 {
         &values[..1]
@@ -93,7 +89,7 @@ fn carried(values: &[Lit]) -> &[Lit]
     }
 }
 
-// Demands that one of the first literals is true, or the variable keeps its value.
+// Demands that a literal of `first` is true, or the variable keeps its value.
 fn add_frame(
     alloc: Global,
     cnf: &mut Cnf,
@@ -101,10 +97,11 @@ fn add_frame(
     now: &Column,
     next: &Column,
 ) -> Result<(), AllocError>
-    requires first { IsTrue (clause_in cnf.old.vars first.now) }
+    requires first { IsTrue (is_clause_over cnf.old.vars first.now) }
     requires columns { IsTrue (columns_in cnf.old.vars (now.now ∷ next.now ∷ [])) }
     ensures { OnOk result
-        (cnf.new ≡ grown cnf.old cnf.old.vars (as_clauses (frame first.now now.now next.now))) }
+        (cnf.new ≡ with_clauses cnf.old cnf.old.vars
+        (as_clauses (frame first.now now.now next.now))) }
 {
     carry_over(
         alloc,
@@ -123,8 +120,8 @@ fn add_frame(
     Ok(())
 }
 
-// Demands of each variable that a rule is chosen that sets it, or it keeps its value. The
-// variables of the rules stand from `first` on.
+/// Demands that each variable is set by a chosen rule or keeps its value. The variables of the
+/// rules begin at `first`.
 pub fn add_frames(
     alloc: Global,
     cnf: &mut Cnf,

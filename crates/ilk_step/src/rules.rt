@@ -1,6 +1,6 @@
 ghost use Rattle.std.specs.Prelude.{◌≡◌, ◌+◌, ◌≤◌, ◌<◌, ◌∷◌, [], length, map, OnOk, IsTrue};
 ghost use Rattle.std.specs.List.{list_all};
-ghost use Rattle.ilk_cnf.specs.Formula.{clause_in};
+ghost use Rattle.ilk_cnf.specs.Formula.{is_clause_over};
 ghost use Rattle.ilk_cnf.specs.Part.{with_part};
 ghost use Rattle.ilk_ir.specs.System.{rule_tree, rule_valid};
 ghost use Rattle.ilk_ir.specs.Form.{tree_of};
@@ -9,12 +9,10 @@ ghost use Rattle.ilk_forms.specs.Leaf.{columns_in, ranges_of};
 ghost use Rattle.ilk_step.specs.Rules.{settings_part, rule_part, rules_part};
 
 use ilk_cnf::{Cnf, Lit};
-use ilk_copy::Table;
-use ilk_forms::demand;
+use ilk_forms::{Table, demand};
 use ilk_ir::{Form, Rule, Setting};
 use std::alloc::{AllocError, Global};
 
-// The form that says that the variable has the value that is set.
 fn set_form(s: Setting) -> Form
     ensures { tree_of result ≡ is s.var s.value }
 {
@@ -30,7 +28,7 @@ fn add_settings(
     sets: &[Setting],
 ) -> Result<(), AllocError>
     requires next { IsTrue (columns_in cnf.old.vars next.now) }
-    requires skip { IsTrue (clause_in cnf.old.vars (skip ∷ [])) }
+    requires skip { IsTrue (is_clause_over cnf.old.vars (skip ∷ [])) }
     requires valid { IsTrue
         (list_all (λ s. value_valid (ranges_of next.now) s.var s.value) sets.now) }
     ensures { OnOk result
@@ -42,8 +40,7 @@ fn add_settings(
     Ok(())
 }
 
-// Demands that `skip` is true, or the rule's guard holds in the one copy and its settings are in
-// the next.
+// Demands that `skip` is true, or the rule's guard holds in `now` and its settings are in `next`.
 fn add_rule(
     alloc: Global,
     cnf: &mut Cnf,
@@ -55,7 +52,7 @@ fn add_rule(
     requires now { IsTrue (columns_in cnf.old.vars now.now) }
     requires next { IsTrue (columns_in cnf.old.vars next.now) }
     requires same { ranges_of next.now ≡ ranges_of now.now }
-    requires skip { IsTrue (clause_in cnf.old.vars (skip ∷ [])) }
+    requires skip { IsTrue (is_clause_over cnf.old.vars (skip ∷ [])) }
     requires valid { IsTrue (rule_valid (ranges_of now.now) (rule_tree rule.now)) }
     ensures { OnOk result
         (cnf.new
@@ -67,8 +64,8 @@ fn add_rule(
     Ok(())
 }
 
-// The same of each rule, whose variables stand from `first` on: each is true where its rule isn't
-// chosen.
+/// Demands that the guard of a chosen rule holds in `now`, and that what it sets holds in `next`.
+/// The variables of the rules begin at `first`, and each is true if its rule is not chosen.
 pub fn add_rules(
     alloc: Global,
     cnf: &mut Cnf,

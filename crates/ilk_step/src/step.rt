@@ -3,25 +3,24 @@ ghost use Rattle.std.specs.List.{list_all};
 ghost use Rattle.ilk_cnf.specs.Extends.{PartExtends};
 ghost use Rattle.ilk_cnf.specs.Part.{with_part};
 ghost use Rattle.ilk_ir.specs.System.{rule_tree, rule_valid, in_ranges};
-ghost use Rattle.ilk_copy.specs.Copy.{LiteralsSay};
+ghost use Rattle.ilk_forms.specs.Copy.{LiteralsEncode};
 ghost use Rattle.ilk_forms.specs.Leaf.{columns_in, ranges_of};
 ghost use Rattle.ilk_step.specs.Choice.{Chooses};
 ghost use Rattle.ilk_step.specs.Size.{guards_size, settings_count, literals_count};
-ghost use Rattle.ilk_step.specs.Step.{step_part, step_bits, step_values, IsStep};
+ghost use Rattle.ilk_step.specs.Step.{step_part, step_bits, values_after_rule, IsStep};
 
 use crate::choice::{Choice, add_choice};
 use crate::frame::add_frames;
 use crate::rules::add_rules;
 use ilk_cnf::Cnf;
-use ilk_copy::Table;
+use ilk_forms::Table;
 use ilk_ir::Rules;
 use std::alloc::{AllocError, Global};
 
-/// Adds one step from the copy with the literals `now` to the copy with the literals `next`, by
-/// exactly one of the rules: the rule's guard holds in the one copy, the next has what it sets, and
-/// all else keeps its value. The copies are of the same ranges, and the rules are valid over them.
-/// It answers the variables that say which rule is chosen. Where memory runs out the formula may
-/// have grown, and its owner drops it.
+/// Adds one step from the copy `now` to the copy `next`, by exactly one of the rules. The rule's
+/// guard holds in `now`, `next` has its settings, and everything else keeps its value. Both copies
+/// have the same ranges, and the rules are valid over them. Returns the variables that say which
+/// rule is chosen. If memory runs out, `cnf` may have grown.
 pub fn add_step(
     alloc: Global,
     cnf: &mut Cnf,
@@ -41,27 +40,28 @@ pub fn add_step(
         ≡ with_part cnf.old
         (step_part (map rule_tree rules.now) now.now next.now cnf.old.vars)) }
 
-    // Where the one copy has the values ws and the next the values xs, in exactly one way for each
-    // rule that leads from ws to xs.
+    // If the copies have the values `ws` and `xs`, there is exactly one extension for each rule
+    // that leads from `ws` to `xs`.
     ensures law { OnOk result
         ((a : List Bool) (ws xs : List ℕ) → length a ≡ cnf.old.vars →
-        LiteralsSay a now.now (ranges_of now.now) ws →
-        LiteralsSay a next.now (ranges_of now.now) xs →
+        LiteralsEncode a now.now (ranges_of now.now) ws →
+        LiteralsEncode a next.now (ranges_of now.now) xs →
         IsTrue (in_ranges ws (ranges_of now.now)) →
         IsTrue (in_ranges xs (ranges_of now.now)) →
         PartExtends a (step_part (map rule_tree rules.now) now.now next.now cnf.old.vars)
         (IsStep (ranges_of now.now) (map rule_tree rules.now) ws xs)) }
 
-    // There the variables of the choice say that it is that rule, whatever follows the step.
+    // The variables of the choice then say that it is that rule, regardless of what follows the
+    // step.
     ensures exact { OnOk result
         ((a c : List Bool) (ws xs : List ℕ) (r : ℕ) → length a ≡ cnf.old.vars →
-        step_values (map rule_tree rules.now) ws r ≡ Some xs →
+        values_after_rule (map rule_tree rules.now) ws r ≡ Some xs →
         Chooses (a ++ (step_bits (ranges_of now.now) (map rule_tree rules.now) ws r ++ c))
         (cnf.old.vars + 1) (length rules.now) r) }
 
-    // At most two variables and four clauses for each rule and one clause more, a variable and two
-    // clauses for each constructor of a guard, a clause for each setting, two for each literal of a
-    // copy.
+    // For each rule at most two variables and four clauses, and one clause more in all. For each
+    // constructor of a guard a variable and two clauses. A clause for each setting, and two for
+    // each literal of a copy.
     ensures vars { OnOk result
         (cnf.new.vars
         ≤ cnf.old.vars + 2 * length rules.now + guards_size (map rule_tree rules.now)) }

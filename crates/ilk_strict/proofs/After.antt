@@ -1,5 +1,5 @@
--- Lists after a change: routes where the state of one changes, locks where some sections are given one, trains where one
--- changes, joins or leaves. And what each family reads: it is kept by whatever leaves that alone.
+-- Lists after a change of one route, of some locks or of trains. A family is kept by any change
+-- outside the parts of the state that it reads.
 use Rattle.std.proofs.Common.{◌≡◌, ℕ, ◌<◌, Bool, true, false, Option, Some, None, option_map, List, inl, inr, ◌⊎◌, length, set, slice_get, refl, sym, ap, ◌∙◌, subst}
 use Rattle.std.specs.Prelude.{if◌then◌else◌}
 use Rattle.std.proofs.lemmas.Bool.{cases_eq}
@@ -18,18 +18,16 @@ use Rattle.ilk_plant.specs.declared.state.Train.{Train}
 use Rattle.ilk_plant.specs.declared.table.Route.{Route}
 use Rattle.ilk_routes.specs.Locks.{with_locks}
 use Rattle.ilk_model.specs.Families.{keeps_v1, keeps_v2, keeps_v3, keeps_v4, keeps_v5, keeps_v6, keeps_v7, keeps_v8, keeps_v9}
-use Rattle.ilk_model.specs.Hazard.{is_two, is_wrong}
+use Rattle.ilk_model.specs.Hazard.{has_two_trains, is_wrong_under_train}
 use Rattle.ilk_model.proofs.RouteFrames.{ChangesRoute}
 use Rattle.ilk_strict.proofs.Reading.{RouteIn}
 
--- an item after a write is the one that was written, or stood there before
 pub set-cases : {X : Type 0} (xs : List X) (i j : ℕ) (x y z : X) → slice_get xs i ≡ Some x → slice_get (set xs i y) j ≡ Some z → ((j ≡ i) × (z ≡ y)) ⊎ ((j ≡ i → ⊥) × (slice_get xs j ≡ Some z))
 set-cases xs i j x y z there at = elim (cases_eq j i) [
   | inl same ↦ inl (same, same_Some z y (sym at ∙ ap (slice_get (set xs i y)) same ∙ slice_get-set_same xs i y (slice_get_within xs i x there)))
   | inr apart ↦ inr (apart, sym (slice_get-set_other xs i j y (λ e. apart (sym e))) ∙ at)
 ]
 
--- the route whose state changes, and the others
 pub before-change : (p : PlantLists) (s t : State) (r : ℕ) (route : Route) (now new : RouteState) → ChangesRoute p s t r route now new → RouteIn p s r route now
 before-change p s t r route now new changes = record { known = changes.known; state = changes.state }
 
@@ -54,14 +52,12 @@ after-cases p s t r route now new changes q one its it =
       | inr other ↦ inr (other.0, record { known = it.known; state = other.1 })
     ]
 
--- what holds of a route and its state holds of those that are the same
 pub same-here : (P : Route → RouteState → Type 0) (one route : Route) (its new : RouteState) → one ≡ route → its ≡ new → P route new → P one its
 same-here P one route its new e f h =
     let Q : RouteState → Type 0 = λ u. P route u in
     let R : Route → Type 0 = λ u. P u its in
     subst R (sym e) (subst Q (sym f) h)
 
--- where routes stay, each is as it was
 pub same-route : (p : PlantLists) (s t : State) → t.routes ≡ s.routes → (q : ℕ) (one : Route) (its : RouteState) → RouteIn p t q one its → RouteIn p s q one its
 same-route p s t e q one its it = record {
   known = it.known;
@@ -74,12 +70,10 @@ route-stays p s t e q one its it = record {
   state = ap (λ (routes : List RouteState). slice_get routes q) e ∙ it.state;
 }
 
--- two states of one route are one
 pub one-state : (p : PlantLists) (s : State) (q r : ℕ) (one other : Route) (its now : RouteState) → RouteIn p s q one its → RouteIn p s r other now → q ≡ r → (one ≡ other) × (its ≡ now)
 one-state p s q r one other its now it that e =
     (same_Some one other (sym it.known ∙ ap (slice_get p.routes) e ∙ that.known), same_Some its now (sym it.state ∙ ap (slice_get s.routes) e ∙ that.state))
 
--- locks, where some sections have been given one
 pub given-lock : (locks : List Hold) (xs : List ℕ) (hold : Hold) (x : ℕ) → has_section x xs ≡ true → x < length locks → slice_get (with_locks locks xs hold) x ≡ Some hold
 given-lock locks xs hold x among within =
     let lock = item_at locks x within in
@@ -93,12 +87,11 @@ other-lock locks xs hold x away =
     kept None b e = refl
     kept (Some lock) b e = rw e refl
 
--- where trains stay, so does what they occupy
 pub same-occupied : (s t : State) → t.trains ≡ s.trains → (x : ℕ) → is_occupied t x ≡ is_occupied s x
 same-occupied s t e x =
     ap (λ (trains : List Train). is_occupied (record s { trains = trains }) x) e
 
--- what each family reads
+-- The parts of the state that each family reads
 module _ (p : PlantLists) (s t : State) where
   pub v1-reads : t.routes ≡ s.routes → keeps_v1 p s ≡ true → keeps_v1 p t ≡ true
   v1-reads routes kept =
@@ -152,12 +145,12 @@ module _ (p : PlantLists) (s t : State) where
       let Q : List Aspect → Type 0 = λ now. keeps_v9 p (record s { routes = t.routes; boards = now }) ≡ true in
       subst Q (sym boards) (subst P (sym routes) kept)
 
-  pub two-reads : (x : ℕ) → t.trains ≡ s.trains → is_two s x ≡ false → is_two t x ≡ false
+  pub two-reads : (x : ℕ) → t.trains ≡ s.trains → has_two_trains s x ≡ false → has_two_trains t x ≡ false
   two-reads x trains none =
-      let P : List Train → Type 0 = λ now. is_two (record s { trains = now }) x ≡ false in subst P (sym trains) none
+      let P : List Train → Type 0 = λ now. has_two_trains (record s { trains = now }) x ≡ false in subst P (sym trains) none
 
-  pub wrong-reads : (x : ℕ) → t.points ≡ s.points → t.trains ≡ s.trains → is_wrong p s x ≡ false → is_wrong p t x ≡ false
+  pub wrong-reads : (x : ℕ) → t.points ≡ s.points → t.trains ≡ s.trains → is_wrong_under_train p s x ≡ false → is_wrong_under_train p t x ≡ false
   wrong-reads x points trains none =
-      let P : List PointState → Type 0 = λ now. is_wrong p (record s { points = now }) x ≡ false in
-      let Q : List Train → Type 0 = λ now. is_wrong p (record s { points = t.points; trains = now }) x ≡ false in
+      let P : List PointState → Type 0 = λ now. is_wrong_under_train p (record s { points = now }) x ≡ false in
+      let Q : List Train → Type 0 = λ now. is_wrong_under_train p (record s { points = t.points; trains = now }) x ≡ false in
       subst Q (sym trains) (subst P (sym points) none)

@@ -1,4 +1,4 @@
--- What lies ahead of a section, and which of its neighbours is the one; the legs and the stem of a point.
+-- The section ahead of a section; the legs and the stem of a point.
 use Rattle.std.proofs.Common.{◌≡◌, ℕ, Bool, true, false, ◌==◌, ◌&&◌, Option, Some, None, option_to_list, List, [], ◌∷◌, ◌++◌, inl, inr, ◌⊎◌, slice_get, refl, sym, ap, ◌∙◌, arith}
 use Rattle.std.specs.Prelude.{if◌then◌else◌}
 use Rattle.std.specs.List.{list_any}
@@ -9,11 +9,11 @@ use Rattle.ilk_base.specs.Option.{◌>>=◌, is_some_and}
 use Rattle.ilk_base.proofs.Options.{bind_some, some-and}
 use Rattle.ilk_base.proofs.Tested.{list_any-at}
 use Rattle.ilk_plant.specs.ColumnRules.{is_leg, is_listed_towards}
-use Rattle.ilk_plant.specs.Network.{beside, board_on, has_section, same_direction}
+use Rattle.ilk_plant.specs.Network.{neighbours_on, board_on, has_section, same_direction}
 use Rattle.ilk_plant.specs.NetworkRules.{opposite_direction}
-use Rattle.ilk_plant.specs.Once.{none_twice}
+use Rattle.ilk_plant.specs.Once.{numbers_differ}
 use Rattle.ilk_plant.specs.Plant.{IsPlant, PlantLists, board_of, next_to}
-use Rattle.ilk_plant.specs.State.{lie_of}
+use Rattle.ilk_plant.specs.State.{detected_position}
 use Rattle.ilk_plant.specs.declared.network.Dir.{Dir}
 use Rattle.ilk_plant.specs.declared.network.Dir.TheVariants.{Up, Down}
 use Rattle.ilk_plant.specs.declared.network.Position.{Position}
@@ -26,30 +26,28 @@ use Rattle.ilk_plant.specs.declared.table.Listed.{Listed}
 use Rattle.ilk_plant.proofs.Sides.{back-opposite}
 use Rattle.ilk_plant.proofs.InLists.{only-one}
 use Rattle.ilk_plant.proofs.Alike.{one_direction}
-use Rattle.ilk_motion.specs.Ahead.{ahead, leads_to, leg_at}
-use Rattle.ilk_routes.specs.Lies.{lie_in, lies_as_listed, lies_at}
-use Rattle.ilk_model.specs.Hazard.{has_pair, strays}
+use Rattle.ilk_motion.specs.Ahead.{ahead, section_led_to, leg_by_lie}
+use Rattle.ilk_routes.specs.Lies.{lie_from_position, is_detected_as_listed, is_lie_at_position}
+use Rattle.ilk_model.specs.Hazard.{are_adjacent_in, is_wrong_under_body}
 use Rattle.ilk_model.proofs.Alike.{one_lie}
 
--- two of an option are one
 only-value : (o : Option ℕ) (a b : ℕ) → has_section a (option_to_list o) ≡ true → has_section b (option_to_list o) ≡ true → a ≡ b
 only-value None a b h g = cc
 only-value (Some y) a b h g = sym (only-one a y h) ∙ only-one b y g
 
--- a section with a board has one neighbour on its side
 pub board-one : (p : PlantLists) (x m a b : ℕ) (d : Dir) → board_of p x d ≡ Some m → has_section a (next_to p x d) ≡ true → has_section b (next_to p x d) ≡ true → a ≡ b
 board-one p x m a b d board first second =
     let section = bind_some (slice_get p.sections x) (λ it. board_on it d) m board in
-    let one : has_section a (beside section.0 d) ≡ true = rw section.1 at first in
-    let two : has_section b (beside section.0 d) ≡ true = rw section.1 at second in
+    let one : has_section a (neighbours_on section.0 d) ≡ true = rw section.1 at first in
+    let two : has_section b (neighbours_on section.0 d) ≡ true = rw section.1 at second in
     of_section section.0 d section.2 one two
   where
-    of_section : (it : Section) (d : Dir) → board_on it d ≡ Some m → has_section a (beside it d) ≡ true → has_section b (beside it d) ≡ true → a ≡ b
+    of_section : (it : Section) (d : Dir) → board_on it d ≡ Some m → has_section a (neighbours_on it d) ≡ true → has_section b (neighbours_on it d) ≡ true → a ≡ b
     of_section (Linear down up board_down board_up) Down e h g = only-value down a b h g
     of_section (Linear down up board_down board_up) Up e h g = only-value up a b h g
     of_section (Point stem plus minus faces) d e h g = cc
 
--- the leg of a point at a position, and the other leg
+-- The leg of a point at a position. The other leg follows.
 abbrev pub leg : ℕ → ℕ → Position → ℕ
 leg plus minus Plus = plus
 leg plus minus Minus = minus
@@ -58,19 +56,18 @@ abbrev pub other_leg : ℕ → ℕ → Position → ℕ
 other_leg plus minus Plus = minus
 other_leg plus minus Minus = plus
 
-pub leg_at-lie_in : (plus minus : ℕ) (at : Position) → leg_at plus minus (lie_in at) ≡ Some (leg plus minus at)
-leg_at-lie_in plus minus Plus = refl
-leg_at-lie_in plus minus Minus = refl
+pub leg_by_lie-lie_from_position : (plus minus : ℕ) (at : Position) → leg_by_lie plus minus (lie_from_position at) ≡ Some (leg plus minus at)
+leg_by_lie-lie_from_position plus minus Plus = refl
+leg_by_lie-lie_from_position plus minus Minus = refl
 
-pub strays-lie_in : (x plus minus : ℕ) (at : Position) (body : List ℕ) → strays x plus minus (Some (lie_in at)) body ≡ has_pair x (other_leg plus minus at) body
-strays-lie_in x plus minus Plus body = refl
-strays-lie_in x plus minus Minus body = refl
+pub is_wrong_under_body-lie_from_position : (x plus minus : ℕ) (at : Position) (body : List ℕ) → is_wrong_under_body x plus minus (Some (lie_from_position at)) body ≡ are_adjacent_in x (other_leg plus minus at) body
+is_wrong_under_body-lie_from_position x plus minus Plus body = refl
+is_wrong_under_body-lie_from_position x plus minus Minus body = refl
 
 pub leg-is : (at : Position) (w stem plus minus : ℕ) (faces : Dir) → is_leg at w (Point stem plus minus faces) ≡ true → leg plus minus at ≡ w
 leg-is Plus w stem plus minus faces h = eqb-true plus w h
 leg-is Minus w stem plus minus faces h = eqb-true minus w h
 
--- the stem and the legs of a point differ
 pub record LegsDiffer (stem plus minus : ℕ) : Type 0 where
   pub stem_plus : stem ≡ plus → ⊥
   pub stem_minus : stem ≡ minus → ⊥
@@ -78,10 +75,10 @@ pub record LegsDiffer (stem plus minus : ℕ) : Type 0 where
 
 pub legs-differ : (p : PlantLists) → IsPlant p → (x stem plus minus : ℕ) (faces : Dir) → slice_get p.sections x ≡ Some (Point stem plus minus faces) → LegsDiffer stem plus minus
 legs-differ p plant x stem plus minus faces section =
-    let once : none_twice (beside (Point stem plus minus faces) Down ++ beside (Point stem plus minus faces) Up) ≡ true = rw section at (plant.neighbours_once x) in
+    let once : numbers_differ (neighbours_on (Point stem plus minus faces) Down ++ neighbours_on (Point stem plus minus faces) Up) ≡ true = rw section at (plant.neighbours_once x) in
     by_side faces once
   where
-    by_side : (faces : Dir) → none_twice (beside (Point stem plus minus faces) Down ++ beside (Point stem plus minus faces) Up) ≡ true → LegsDiffer stem plus minus
+    by_side : (faces : Dir) → numbers_differ (neighbours_on (Point stem plus minus faces) Down ++ neighbours_on (Point stem plus minus faces) Up) ≡ true → LegsDiffer stem plus minus
     by_side Up once = record {
       stem_plus = λ e. grind (arith, nat_tests);
       stem_minus = λ e. grind (arith, nat_tests);
@@ -105,7 +102,6 @@ pub leg-no_other : (stem plus minus : ℕ) (at : Position) → LegsDiffer stem p
 leg-no_other stem plus minus Plus differ e = differ.plus_minus e
 leg-no_other stem plus minus Minus differ e = differ.plus_minus (sym e)
 
--- on the side of its stem a point has its stem alone
 pub stem-side : (p : PlantLists) (x stem plus minus : ℕ) (faces d : Dir) (z : ℕ) → slice_get p.sections x ≡ Some (Point stem plus minus faces) → same_direction faces d ≡ false → has_section z (next_to p x d) ≡ true → stem ≡ z
 stem-side p x stem plus minus faces d z section turned h =
     let one : has_section z (if same_direction faces d then plus ∷ minus ∷ [] else stem ∷ []) ≡ true = rw section at h in
@@ -115,13 +111,13 @@ opposite-turned : (d : Dir) → same_direction d (opposite_direction d) ≡ fals
 opposite-turned Up = refl
 opposite-turned Down = refl
 
--- before a point that faces d stands its stem
 pub stem-before : (p : PlantLists) → IsPlant p → (before x stem plus minus : ℕ) (faces d : Dir) → slice_get p.sections x ≡ Some (Point stem plus minus faces) → faces ≡ d → has_section x (next_to p before d) ≡ true → stem ≡ before
 stem-before p plant before x stem plus minus faces d section same h =
     let turned : same_direction faces (opposite_direction d) ≡ false = rw same (opposite-turned d) in
     stem-side p x stem plus minus faces (opposite_direction d) before section turned (back-opposite p plant before x d h)
 
--- what lies ahead is any neighbour ahead, but of a point that faces ahead: that leads to the leg at which it lies
+-- The section ahead of x is any neighbour ahead, unless x is a point that faces ahead. Then it is
+-- the leg at the point's position.
 pub record LeadsToLeg (p : PlantLists) (s : State) (x : ℕ) (d : Dir) (y : ℕ) : Type 0 where
   pub stem : ℕ
   pub plus : ℕ
@@ -130,24 +126,24 @@ pub record LeadsToLeg (p : PlantLists) (s : State) (x : ℕ) (d : Dir) (y : ℕ)
   pub section : slice_get p.sections x ≡ Some (Point stem plus minus faces)
   pub same : faces ≡ d
   pub lie : Lie
-  pub lies : lie_of p s x ≡ Some lie
-  pub to_leg : leg_at plus minus lie ≡ Some y
+  pub lies : detected_position p s x ≡ Some lie
+  pub to_leg : leg_by_lie plus minus lie ≡ Some y
 
 pub ahead-cases : (p : PlantLists) (s : State) (x y z : ℕ) (d : Dir) → ahead p s x d ≡ Some y → has_section z (next_to p x d) ≡ true → (y ≡ z) ⊎ LeadsToLeg p s x d y
 ahead-cases p s x y z d e h =
-    let section = bind_some (slice_get p.sections x) (λ it. leads_to it d (lie_of p s x)) y e in
-    let one : has_section z (beside section.0 d) ≡ true = rw section.1 at h in
+    let section = bind_some (slice_get p.sections x) (λ it. section_led_to it d (detected_position p s x)) y e in
+    let one : has_section z (neighbours_on section.0 d) ≡ true = rw section.1 at h in
     of_section section.0 d section.1 section.2 one
   where
-    of_section : (it : Section) (d : Dir) → slice_get p.sections x ≡ Some it → leads_to it d (lie_of p s x) ≡ Some y → has_section z (beside it d) ≡ true → (y ≡ z) ⊎ LeadsToLeg p s x d y
+    of_section : (it : Section) (d : Dir) → slice_get p.sections x ≡ Some it → section_led_to it d (detected_position p s x) ≡ Some y → has_section z (neighbours_on it d) ≡ true → (y ≡ z) ⊎ LeadsToLeg p s x d y
     of_section (Linear down up board_down board_up) Down at leads h =
         let one : has_section z (y ∷ []) ≡ true = rw leads at h in inl (only-one z y one)
     of_section (Linear down up board_down board_up) Up at leads h =
         let one : has_section z (y ∷ []) ≡ true = rw leads at h in inl (only-one z y one)
     of_section (Point stem plus minus faces) d at leads h = elim (cases_Bool (same_direction faces d)) [
       | inl same ↦
-          (let by_lie : (lie_of p s x >>= leg_at plus minus) ≡ Some y = rw same at leads in
-          let lie = bind_some (lie_of p s x) (leg_at plus minus) y by_lie in
+          (let by_lie : (detected_position p s x >>= leg_by_lie plus minus) ≡ Some y = rw same at leads in
+          let lie = bind_some (detected_position p s x) (leg_by_lie plus minus) y by_lie in
           inr (record {
             stem = stem;
             plus = plus;
@@ -165,7 +161,7 @@ ahead-cases p s x y z d e h =
           inl (sym (same_Some stem y to_stem) ∙ only-one z stem one))
     ]
 
--- a point that is listed towards one of some sections: the entry, and the section to which its leg leads
+-- A point is listed towards one of some sections: the entry, and the section of its leg.
 pub record IsListedTo (p : PlantLists) (points : List Listed) (sections : List ℕ) (x : ℕ) : Type 0 where
   pub k : ℕ
   pub listed : Listed
@@ -195,8 +191,7 @@ listed_towards-at p points sections x h =
     towards : Listed → Bool
     towards listed = list_any (λ y. is_some_and (slice_get p.sections x) (is_leg listed.at y)) sections
 
--- a listed point that lies as listed
-pub lies-listed : (p : PlantLists) (s : State) (listed : Listed) (x : ℕ) → lies_as_listed p s listed ≡ true → listed.point ≡ x → lie_of p s x ≡ Some (lie_in listed.at)
+pub lies-listed : (p : PlantLists) (s : State) (listed : Listed) (x : ℕ) → is_detected_as_listed p s listed ≡ true → listed.point ≡ x → detected_position p s x ≡ Some (lie_from_position listed.at)
 lies-listed p s listed x h same =
-    let lie = some-and (lie_of p s listed.point) (λ it. lies_at it listed.at) h in
-    ap (lie_of p s) (sym same) ∙ lie.1 ∙ ap Some (one_lie lie.0 listed.at lie.2)
+    let lie = some-and (detected_position p s listed.point) (λ it. is_lie_at_position it listed.at) h in
+    ap (detected_position p s) (sym same) ∙ lie.1 ∙ ap Some (one_lie lie.0 listed.at lie.2)

@@ -1,4 +1,4 @@
--- Boards after a change: where some are closed, what is Closed stays so, and what is Open was Open before.
+-- If boards are only closed, Closed boards stay Closed, and Open boards were Open before.
 use Rattle.std.proofs.Common.{◌≡◌, ℕ, Bool, true, false, ◌==◌, Option, Some, None, List, inl, inr, set, slice_get, refl, sym, ap, ◌∙◌}
 use Rattle.std.specs.Prelude.{if◌then◌else◌}
 use Rattle.std.proofs.lemmas.Bool.{cases_eq}
@@ -12,7 +12,6 @@ use Rattle.ilk_motion.specs.Trains.{with_board_closed}
 use Rattle.ilk_model.proofs.RouteFrames.{IsSensed}
 use Rattle.ilk_model.proofs.TrainFrames.{IsHeaded}
 
--- one board is closed
 pub still-closed : (boards : List Aspect) (k m : ℕ) → slice_get boards m ≡ Some Closed → slice_get (set boards k Closed) m ≡ Some Closed
 still-closed boards k m at = elim (cases_eq m k) [
   | inl same ↦ ap (slice_get (set boards k Closed)) same ∙ slice_get-set_same boards k Closed (slice_get_within boards k Closed (ap (slice_get boards) (sym same) ∙ at))
@@ -33,11 +32,9 @@ open-before boards k m at = elim (slice_get_set boards k m Closed Open at) [
   )
 ]
 
--- another board isn't
 pub other-board : (boards : List Aspect) (k m : ℕ) (aspect : Aspect) → (m ≡ k → ⊥) → slice_get (set boards k aspect) m ≡ slice_get boards m
 other-board boards k m aspect apart = slice_get-set_other boards k m aspect (λ e. apart (sym e))
 
--- after a sense
 pub sense-closed : (p : PlantLists) (s t : State) (n : ℕ) → IsSensed p s t n → (m : ℕ) → slice_get s.boards m ≡ Some Closed → slice_get t.boards m ≡ Some Closed
 sense-closed p s t n it m at = ap (λ (boards : List Aspect). slice_get boards m) it.boards ∙ by_test (it.now.seen == 0)
   where
@@ -52,7 +49,6 @@ sense-open p s t n it m at = by_test (it.now.seen == 0) (sym (ap (λ (boards : L
     by_test true shown = (open-before s.boards it.route.source m shown).0
     by_test false shown = shown
 
--- after a head has gone on
 pub head-closed : (p : PlantLists) (s t : State) (x : ℕ) → IsHeaded p s t x → (m : ℕ) → slice_get s.boards m ≡ Some Closed → slice_get t.boards m ≡ Some Closed
 head-closed p s t x it m at = ap (λ (boards : List Aspect). slice_get boards m) it.boards ∙ by_board (board_of p x it.train.dir)
   where

@@ -25,7 +25,6 @@ use Rattle.ilk_strict.proofs.KeepsTrainsApart.{allocate-keeps_apart, cancel-keep
 use Rattle.ilk_strict.proofs.KeepsPointsRight.{allocate-keeps_right, cancel-keeps_right, enter-keeps_right, finish-keeps_right, head-keeps_right, leave-keeps_right, lock-keeps_right, mark-keeps_right, release-keeps_right, sense-keeps_right, settle-keeps_right, tail-keeps_right, throw-keeps_right}
 use Rattle.ilk_strict.proofs.TrainFacts.{Keeps}
 
--- each event keeps every part of the invariant
 module _ (p : PlantLists) (plant : IsPlant p) (strict : IsStrict p) (s t : State) (keeps : Keeps p s) (n : ℕ) where
   mark-keeps : HasShape p t → IsMarked p s t n → Keeps p t
   mark-keeps shape it = record {

@@ -1,7 +1,8 @@
--- Strict safety on worked plants: a table that is strict, one that is although routes list no conflicts, and for each rule
--- that is asked a plant that breaks it alone, with a run that leads to a hazard or out of the invariant.
+-- Strict safety on example plants: a strict table, and one that is strict without listed conflicts.
+-- For each rule that is used, a plant that breaks it alone, with a run to a hazard or out of the
+-- invariant.
 use Rattle.std.proofs.Common.{◌≡◌, ℕ, ◌<◌, Bool, true, false, not, Option, Some, None, List, [], ◌∷◌, option_map, codes, is_some, map, unwrap_or, refl}
-use Rattle.ilk_base.specs.Each.{each_below}
+use Rattle.ilk_base.specs.Each.{all_below}
 use Rattle.ilk_base.proofs.Truth.{fails}
 use Rattle.ilk_plant.specs.ColumnRules.{breaks_columns, column_rules_broken}
 use Rattle.ilk_plant.specs.Plant.{PlantLists}
@@ -18,40 +19,39 @@ use Rattle.ilk_plant.specs.declared.state.State.{State}
 use Rattle.ilk_plant.specs.declared.table.Route.{Route}
 use Rattle.ilk_model.specs.Event.{next}
 use Rattle.ilk_model.specs.Hazard.{hazard}
-use Rattle.ilk_model.specs.Meets.{least_broken}
+use Rattle.ilk_model.specs.Meets.{least_broken_family}
 use Rattle.ilk_model.specs.Run.{run}
 use Rattle.ilk_model.specs.declared.event.Event.{Event}
 use Rattle.ilk_model.specs.declared.event.Event.TheVariants.{Mark, Allocate, Lock, Enter, Head}
 use Rattle.ilk_model.specs.declared.hazards.HazardAt.{HazardAt}
 use Rattle.ilk_model.specs.declared.hazards.HazardAt.TheVariants.{Two, Wrong}
 use Rattle.ilk_model.proofs.Examples.{station}
-use Rattle.ilk_strict.specs.IsStrict.{IsStrict, path_end_is_not_plain, path_points_are_set}
-use Rattle.ilk_strict.proofs.Reading.{each_below-at}
+use Rattle.ilk_strict.specs.IsStrict.{IsStrict, ends_at_board_or_limit, path_points_are_listed}
+use Rattle.ilk_strict.proofs.Reading.{all_below-at}
 use Rattle.ilk_strict.proofs.Strict.{strict_from_list, strict_from_rules}
 
--- the station breaks no rule of the columns
 station_is_clean : column_rules_broken station ≡ []
 station_is_clean = refl
 
 station_is_strict : IsStrict station
 station_is_strict = strict_from_list station station_is_clean
 
--- where its routes list no conflicts it breaks rules, but none that is asked
+-- Without conflicts the station breaks column rules, but none that strictness needs.
 abbrev without_conflicts : PlantLists
 without_conflicts = record station { routes = map (λ (route : Route). record route { conflicts = [] }) station.routes }
 
-kept-below : (n : ℕ) (test : ℕ → Bool) → each_below n (λ i. not (test i)) ≡ true → (i : ℕ) → i < n → test i ≡ false
-kept-below n test h i less = fails (test i) (each_below-at n (λ j. not (test j)) h i less)
+kept-below : (n : ℕ) (test : ℕ → Bool) → all_below n (λ i. not (test i)) ≡ true → (i : ℕ) → i < n → test i ≡ false
+kept-below n test h i less = fails (test i) (all_below-at n (λ j. not (test j)) h i less)
 
 without_conflicts_is_strict : IsStrict without_conflicts
 without_conflicts_is_strict = strict_from_rules without_conflicts (record {
   c1 = kept-below 8 (breaks_columns without_conflicts C1) refl;
-  c2 = kept-below 8 (route_fails without_conflicts (path_end_is_not_plain without_conflicts)) refl;
-  c3 = kept-below 8 (route_fails without_conflicts (path_points_are_set without_conflicts)) refl;
+  c2 = kept-below 8 (route_fails without_conflicts (ends_at_board_or_limit without_conflicts)) refl;
+  c3 = kept-below 8 (route_fails without_conflicts (path_points_are_listed without_conflicts)) refl;
   c7 = kept-below 6 (breaks_columns without_conflicts C7) refl;
 })
 
--- where its routes have no destination it breaks C2 at the first, but not in its part on the end of a path
+-- Without destinations it breaks C2 at the first route, but not the part about the end of a path.
 abbrev without_destinations : PlantLists
 without_destinations = record station { routes = map (λ (route : Route). record route { destination = None }) station.routes }
 
@@ -61,15 +61,15 @@ first_breaks_c2 = refl
 without_destinations_is_strict : IsStrict without_destinations
 without_destinations_is_strict = strict_from_rules without_destinations (record {
   c1 = kept-below 8 (breaks_columns without_destinations C1) refl;
-  c2 = kept-below 8 (route_fails without_destinations (path_end_is_not_plain without_destinations)) refl;
-  c3 = kept-below 8 (route_fails without_destinations (path_points_are_set without_destinations)) refl;
+  c2 = kept-below 8 (route_fails without_destinations (ends_at_board_or_limit without_destinations)) refl;
+  c3 = kept-below 8 (route_fails without_destinations (path_points_are_listed without_destinations)) refl;
   c7 = kept-below 6 (breaks_columns without_destinations C7) refl;
 })
 
 abbrev board : ℕ → Dir → Board
 board x d = record { section = x; dir = d }
 
--- a route to the end of the line, or to where it shouldn't end, with no point listed
+-- A route without listed points.
 abbrev route : ℕ → List ℕ → Route
 route source path = record {
   source = source;
@@ -82,8 +82,8 @@ route source path = record {
   protecting_boards = [];
 }
 
--- a line of two sections with a board at each end, and a route from each to the other: which events are done in turn, where
--- one that isn't enabled leaves the state as it was
+-- A line of two sections with a board at each end, and a route each way. A run skips the events
+-- that aren't enabled.
 abbrev line_with_boards : PlantLists
 line_with_boards = record {
   sections = Linear None (Some 1) None (Some 0) ∷ Linear (Some 0) None (Some 1) None ∷ [];
@@ -101,14 +101,14 @@ are_done p s (event ∷ rest) = is_some (next p s event) ∷ are_done p (unwrap_
 second_train_has_no_room : are_done line_with_boards (start line_with_boards) (Enter 0 ∷ Mark 0 ∷ Allocate 0 ∷ Lock 0 ∷ Head 0 ∷ Enter 1 ∷ []) ≡ true ∷ true ∷ true ∷ true ∷ true ∷ false ∷ []
 second_train_has_no_room = refl
 
--- one rule, broken at one place
 abbrev broken_alone : Rule → ℕ → List Broken
 broken_alone rule i = record { rule = rule; first = i; second = None } ∷ []
 
 abbrev ends_in : PlantLists → List Event → Option (Option HazardAt)
 ends_in p events = option_map (hazard p) (run p (start p) events)
 
--- C1: a line of three sections, where the route from the first leaves out the second: a train there is led by no route
+-- C1: on a line of three sections, the route from the first omits the second. No route leads a
+-- train there.
 abbrev leaves_out : PlantLists
 leaves_out = record {
   sections =
@@ -123,10 +123,11 @@ leaves_out = record {
 leaves_out_breaks_c1 : column_rules_broken leaves_out ≡ broken_alone C1 0
 leaves_out_breaks_c1 = refl
 
-leaves_out_breaks_v7 : option_map (least_broken leaves_out) (run leaves_out (start leaves_out) (Mark 0 ∷ Allocate 0 ∷ Lock 0 ∷ Enter 0 ∷ Head 0 ∷ [])) ≡ Some (Some 7)
+leaves_out_breaks_v7 : option_map (least_broken_family leaves_out) (run leaves_out (start leaves_out) (Mark 0 ∷ Allocate 0 ∷ Lock 0 ∷ Enter 0 ∷ Head 0 ∷ [])) ≡ Some (Some 7)
 leaves_out_breaks_v7 = refl
 
--- C1: two lines of two sections, where the route from the first section of one leads to the end of the other
+-- C1: on two lines of two sections, the route from the first section of one leads to the end of the
+-- other.
 abbrev goes_elsewhere : PlantLists
 goes_elsewhere = record {
   sections =
@@ -148,7 +149,7 @@ goes_elsewhere_breaks_c1 = refl
 goes_elsewhere_is_unsafe : ends_in goes_elsewhere (Mark 0 ∷ Allocate 0 ∷ Lock 0 ∷ Enter 0 ∷ Enter 1 ∷ Head 0 ∷ []) ≡ Some (Some (Two 1))
 goes_elsewhere_is_unsafe = refl
 
--- C2: a line of three sections, where the route from the first ends at the second, which has no board
+-- C2: on a line of three sections, the route from the first ends at the second, which has no board.
 abbrev ends_openly : PlantLists
 ends_openly = record leaves_out { routes = route 0 (1 ∷ []) ∷ [] }
 
@@ -158,7 +159,7 @@ ends_openly_breaks_c2 = refl
 ends_openly_is_unsafe : ends_in ends_openly (Mark 0 ∷ Allocate 0 ∷ Lock 0 ∷ Enter 0 ∷ Enter 2 ∷ Head 0 ∷ Head 1 ∷ []) ≡ Some (Some (Two 2))
 ends_openly_is_unsafe = refl
 
--- C3 on the path: a point with a section at each end, where the route from its minus leg doesn't list it
+-- C3 on the path: the route from the minus leg of a point doesn't list the point.
 abbrev lists_no_point : PlantLists
 lists_no_point = record {
   sections =
@@ -180,7 +181,7 @@ lists_no_point_breaks_c3 = refl
 lists_no_point_is_unsafe : ends_in lists_no_point (Mark 0 ∷ Allocate 0 ∷ Lock 0 ∷ Enter 3 ∷ Head 3 ∷ []) ≡ Some (Some (Wrong 1))
 lists_no_point_is_unsafe = refl
 
--- C7: a line of two sections, with a board at one end alone
+-- C7: a line of two sections with a board at only one end.
 abbrev enters_freely : PlantLists
 enters_freely = record {
   sections = Linear None (Some 1) None None ∷ Linear (Some 0) None (Some 0) None ∷ [];

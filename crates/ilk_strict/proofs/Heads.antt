@@ -1,5 +1,6 @@
--- Where a train's head may go on in a state that meets the invariant: the section ahead is the next one of the path of a
--- route that holds it, it is vacant, and if it is a point it lies as that route needs it.
+-- The next section of a train's head in a state that meets the invariant. It is the next one on the
+-- path of a route that holds it. It is vacant, and if it is a point, its position is the one that
+-- the route needs.
 use Rattle.std.proofs.Common.{◌≡◌, ℕ, suc, ◌+◌, ◌<◌, ◌≤◌, Bool, true, false, Option, Some, None, List, [], ◌∷◌, inl, inr, ◌⊎◌, length, nat_lt, slice_get, refl, sym, ap, ◌∙◌, subst, arith}
 use Rattle.std.specs.List.{last_or}
 use Rattle.std.proofs.lemmas.Bool.{and_from, both_ways}
@@ -10,7 +11,7 @@ use Rattle.ilk_base.proofs.Lists.{item_at}
 use Rattle.ilk_plant.specs.ColumnRules.{has_no_board}
 use Rattle.ilk_plant.specs.Network.{has_section, same_direction}
 use Rattle.ilk_plant.specs.Plant.{IsPlant, PlantLists, board_of, next_to}
-use Rattle.ilk_plant.specs.State.{is_occupied, lie_of}
+use Rattle.ilk_plant.specs.State.{is_occupied, detected_position}
 use Rattle.ilk_plant.specs.declared.network.Board.{Board}
 use Rattle.ilk_plant.specs.declared.network.Dir.{Dir}
 use Rattle.ilk_plant.specs.declared.network.Position.{Position}
@@ -24,13 +25,13 @@ use Rattle.ilk_plant.specs.declared.state.State.{State}
 use Rattle.ilk_plant.specs.declared.state.Train.{Train}
 use Rattle.ilk_plant.specs.declared.table.Route.{Route}
 use Rattle.ilk_plant.proofs.Alike.{one_direction}
-use Rattle.ilk_motion.specs.Ahead.{ahead, leg_at}
+use Rattle.ilk_motion.specs.Ahead.{ahead, leg_by_lie}
 use Rattle.ilk_motion.specs.Trains.{is_open, may_pass}
 use Rattle.ilk_motion.proofs.Shape.{ahead-next_to}
-use Rattle.ilk_routes.specs.Lies.{lie_in}
-use Rattle.ilk_model.specs.Holding.{is_locked_or_occupied, is_plain}
-use Rattle.ilk_strict.specs.IsStrict.{IsFrom, IsStrict}
-use Rattle.ilk_strict.proofs.Ahead.{LeadsToLeg, LegsDiffer, ahead-cases, board-one, leg, leg-no_other, leg_at-lie_in, legs-differ, other_leg, stem-before, stem-no_leg, stem-no_other, stem-side}
+use Rattle.ilk_routes.specs.Lies.{lie_from_position}
+use Rattle.ilk_model.specs.Holding.{is_locked_or_occupied, is_plain_for_direction}
+use Rattle.ilk_strict.specs.IsStrict.{IsRouteFromBoard, IsStrict}
+use Rattle.ilk_strict.proofs.Ahead.{LeadsToLeg, LegsDiffer, ahead-cases, board-one, leg, leg-no_other, leg_by_lie-lie_from_position, legs-differ, other_leg, stem-before, stem-no_leg, stem-no_other, stem-side}
 use Rattle.ilk_strict.proofs.HeldPoints.{IsSet, held-point, set-leg}
 use Rattle.ilk_strict.proofs.Reading.{RouteIn}
 use Rattle.ilk_strict.proofs.BoardFacts.{IsOpenFor, open-at}
@@ -38,7 +39,7 @@ use Rattle.ilk_strict.proofs.RouteFacts.{idle, locked-is, rel-led}
 use Rattle.ilk_strict.proofs.Table.{route-source}
 use Rattle.ilk_strict.proofs.TrainFacts.{IsLedBy, Keeps, head-led, led-locked_or_occupied, runs-source}
 
--- the route on whose path y is the next section after x in direction d
+-- The route on whose path y follows x in direction d.
 pub record GoesOn (p : PlantLists) (s : State) (x : ℕ) (d : Dir) (y : ℕ) : Type 0 where
   pub r : ℕ
   pub route : Route
@@ -54,8 +55,8 @@ pub record GoesOn (p : PlantLists) (s : State) (x : ℕ) (d : Dir) (y : ℕ) : T
   pub least : now.rel ≤ k
   pub seen : now.seen ≤ k
   pub vacant : (j z : ℕ) → k ≤ j → slice_get route.path j ≡ Some z → is_occupied s z ≡ false
-  -- a train at the board passes it while it is Open, and it is that of the route, which is Locked; without a board the
-  -- route is Occupied, or Locked with its source Closed
+  -- With a board: the board is Open, and is the source of the Locked route. Without a board: the
+  -- route is Occupied, or Locked with its source Closed.
   pub board :
       ((board_of p x d ≡ Some route.source) × (now.mode ≡ Locked) × (k ≡ 0) ×
       (slice_get s.boards route.source ≡ Some Open))
@@ -76,14 +77,13 @@ some-length : (x : ℕ) (xs : List ℕ) → has_section x xs ≡ true → 0 < le
 some-length x [] h = cc
 some-length x (y ∷ xs) h = omega arith
 
--- a point that lies at a position leads to its leg there
-leg-ahead : (plus minus : ℕ) (lie : Lie) (to : Position) (y : ℕ) (o : Option Lie) → o ≡ Some lie → o ≡ Some (lie_in to) → leg_at plus minus lie ≡ Some y → leg plus minus to ≡ y
+leg-ahead : (plus minus : ℕ) (lie : Lie) (to : Position) (y : ℕ) (o : Option Lie) → o ≡ Some lie → o ≡ Some (lie_from_position to) → leg_by_lie plus minus lie ≡ Some y → leg plus minus to ≡ y
 leg-ahead plus minus lie to y o lies set_to goes =
-    let same : lie ≡ lie_in to = same_Some lie (lie_in to) (sym lies ∙ set_to) in
-    same_Some (leg plus minus to) y (sym (leg_at-lie_in plus minus to) ∙ (rw same at goes))
+    let same : lie ≡ lie_from_position to = same_Some lie (lie_from_position to) (sym lies ∙ set_to) in
+    same_Some (leg plus minus to) y (sym (leg_by_lie-lie_from_position plus minus to) ∙ (rw same at goes))
 
 module _ (p : PlantLists) (plant : IsPlant p) (strict : IsStrict p) (s : State) (keeps : Keeps p s) where
-  -- with a board, which is Open for a route
+  -- With a board that is Open for a route.
   open-for : (x y m : ℕ) (d : Dir) → board_of p x d ≡ Some m → slice_get s.boards m ≡ Some Open → ahead p s x d ≡ Some y → (open_for : IsOpenFor p s m) → (z : ℕ) → slice_get open_for.route.path 0 ≡ Some z → GoesOn p s x d y
   open-for x y m d board shown leads open_for z first =
       let here : Board = record { section = x; dir = d } in
@@ -119,8 +119,7 @@ module _ (p : PlantLists) (plant : IsPlant p) (strict : IsStrict p) (s : State) 
       let first = item_at open_for.route.path 0 (plant.routes_known open_for.r open_for.route open_for.it.known).path_begins in
       open-for x y m d board shown leads open_for first.0 first.1
 
-  -- a point that faces ahead on a path leads to the next section of the path
-  facing-set : (r : ℕ) (route : Route) (source : Board) → IsFrom p r route source → (before i x y z : ℕ) →
+  facing-set : (r : ℕ) (route : Route) (source : Board) → IsRouteFromBoard p r route source → (before i x y z : ℕ) →
       slice_get (source.section ∷ route.path) i ≡ Some before → slice_get route.path i ≡ Some x →
       slice_get route.path (suc i) ≡ Some z → (to_leg : LeadsToLeg p s x source.dir y) →
       IsSet p s route before i x → y ≡ z
@@ -130,14 +129,14 @@ module _ (p : PlantLists) (plant : IsPlant p) (strict : IsStrict p) (s : State) 
       let leads_to = set-leg p s route before i x to_leg.stem plus minus to_leg.faces set_to to_leg.section in
       let stem = stem-before p plant before x to_leg.stem plus minus to_leg.faces source.dir to_leg.section to_leg.same (strict.leads r route source from i before x earlier at) in
       let differ = legs-differ p plant x to_leg.stem plus minus to_leg.faces to_leg.section in
-      let goes = leg-ahead plus minus to_leg.lie set_to.to y (lie_of p s x) to_leg.lies set_to.lies to_leg.to_leg in
+      let goes = leg-ahead plus minus to_leg.lie set_to.to y (detected_position p s x) to_leg.lies set_to.lies to_leg.to_leg in
       elim set_to.towards [
         | inl back ↦ absurd (stem-no_leg to_leg.stem plus minus set_to.to differ (stem ∙ back ∙ sym leads_to))
         | inr forth ↦ sym goes ∙ leads_to ∙ same_Some set_to.w z (sym forth ∙ next)
       ]
 
   facing-next : (r : ℕ) (route : Route) (now : RouteState) → RouteIn p s r route now → (source : Board) →
-      IsFrom p r route source → is_locked_or_occupied now ≡ true → (i x y z : ℕ) → now.rel ≤ i →
+      IsRouteFromBoard p r route source → is_locked_or_occupied now ≡ true → (i x y z : ℕ) → now.rel ≤ i →
       slice_get route.path i ≡ Some x → slice_get route.path (suc i) ≡ Some z →
       LeadsToLeg p s x source.dir y → y ≡ z
   facing-next r route now it source from mode i x y z least at next to_leg =
@@ -145,15 +144,15 @@ module _ (p : PlantLists) (plant : IsPlant p) (strict : IsStrict p) (s : State) 
       let earlier = item_at (source.section ∷ route.path) i (omega (arith, within)) in
       facing-set r route source from earlier.0 i x y z earlier.1 at next to_leg (held-point p strict s keeps.v6 r route now it mode source from earlier.0 i x least earlier.1 at (rw to_leg.section refl))
 
-  -- without a board, where a route leads the train
-  without-board : (x y : ℕ) (d : Dir) → board_of p x d ≡ None → is_plain p d x ≡ true → ahead p s x d ≡ Some y → IsLedBy p s d x → GoesOn p s x d y
+  -- Without a board, if a route leads the train.
+  without-board : (x y : ℕ) (d : Dir) → board_of p x d ≡ None → is_plain_for_direction p d x ≡ true → ahead p s x d ≡ Some y → IsLedBy p s d x → GoesOn p s x d y
   without-board x y d none plain leads led =
       let route = led.route in
       let source = route-source p route (plant.routes_known led.r route led.it.known) in
-      let from : IsFrom p led.r route source.0 = record { known = led.it.known; begins = source.1 } in
+      let from : IsRouteFromBoard p led.r route source.0 = record { known = led.it.known; begins = source.1 } in
       let same : source.0.dir ≡ d = runs-source p d route source.0 led.runs source.1 in
       let within = slice_get_within route.path led.i x led.at in
-      let not_last : led.i + 1 ≡ length route.path → ⊥ = λ last. both_ways (is_plain p d x) (subst (λ (e : Dir). is_plain p e x ≡ false) same (strict.ends led.r route source.0 from led.i x led.at last)) plain in
+      let not_last : led.i + 1 ≡ length route.path → ⊥ = λ last. both_ways (is_plain_for_direction p d x) (subst (λ (e : Dir). is_plain_for_direction p e x ≡ false) same (strict.ends led.r route source.0 from led.i x led.at last)) plain in
       let next = item_at route.path (suc led.i) (omega (arith, within, not_last)) in
       let beside = strict.leads led.r route source.0 from (suc led.i) x next.0 led.at next.1 in
       let ahead_of : ahead p s x source.0.dir ≡ Some y = subst (λ (e : Dir). ahead p s x e ≡ Some y) (sym same) leads in
@@ -182,7 +181,7 @@ module _ (p : PlantLists) (plant : IsPlant p) (strict : IsStrict p) (s : State) 
         board = inr (none, led.mode);
       }
 
--- the lemma on heads
+-- Main lemma on heads.
 pub goes-on : (p : PlantLists) → IsPlant p → IsStrict p → (s : State) → Keeps p s →
     (i : ℕ) (train : Train) (x y : ℕ) → slice_get s.trains i ≡ Some train → last_or None train.body ≡ Some x →
     ahead p s x train.dir ≡ Some y → may_pass s (board_of p x train.dir) ≡ true → GoesOn p s x train.dir y
@@ -191,23 +190,24 @@ goes-on p plant strict s keeps i train x y at last leads passes = by_board (boar
     by_board : (o : Option ℕ) → board_of p x train.dir ≡ o → GoesOn p s x train.dir y
     by_board (Some m) board = from-board p plant strict s keeps x y m train.dir board passes leads
     by_board None board =
-        let plain : is_plain p train.dir x ≡ true = and_from (has_no_board p train.dir x)
+        let plain : is_plain_for_direction p train.dir x ≡ true = and_from (has_no_board p train.dir x)
         (nat_lt 0 (length (next_to p x train.dir))) (rw board refl)
         (more-than_none (length (next_to p x train.dir))
         (some-length y (next_to p x train.dir) (ahead-next_to p s x y train.dir leads))) in
         without-board p plant strict s keeps x y train.dir board plain leads (head-led p s keeps.v7 i train x at last plain)
 
--- the section ahead, where it is a point: it lies at a position, and the section before it is on no other leg
+-- The section ahead, if it is a point: its position, and that the section before it isn't on the
+-- other leg.
 pub record LiesAhead (p : PlantLists) (s : State) (x y plus minus : ℕ) : Type 0 where
   pub to : Position
-  pub lies : lie_of p s y ≡ Some (lie_in to)
+  pub lies : detected_position p s y ≡ Some (lie_from_position to)
   pub apart : x ≡ other_leg plus minus to → ⊥
 
 pub lies-ahead : (p : PlantLists) → IsPlant p → IsStrict p → (s : State) → Keeps p s → (x y : ℕ) (d : Dir) →
     GoesOn p s x d y → (stem plus minus : ℕ) (faces : Dir) →
     slice_get p.sections y ≡ Some (Point stem plus minus faces) → LiesAhead p s x y plus minus
 lies-ahead p plant strict s keeps x y d on stem plus minus faces section =
-    let from : IsFrom p on.r on.route on.source = record { known = on.it.known; begins = on.begins } in
+    let from : IsRouteFromBoard p on.r on.route on.source = record { known = on.it.known; begins = on.begins } in
     let set_to = held-point p strict s keeps.v6 on.r on.route on.now on.it on.mode on.source from x on.k y on.least on.before on.at (rw section refl) in
     let leads_to = set-leg p s on.route x on.k y stem plus minus faces set_to section in
     let differ = legs-differ p plant y stem plus minus faces section in
@@ -220,7 +220,7 @@ lies-ahead p plant strict s keeps x y d on stem plus minus faces section =
   where
     by_side : (to : Position) (w : ℕ) → leg plus minus to ≡ w → LegsDiffer stem plus minus →
         x ≡ other_leg plus minus to → has_section y (next_to p x on.source.dir) ≡ true →
-        (x ≡ w) ⊎ (slice_get on.route.path (suc on.k) ≡ Some w) → IsFrom p on.r on.route on.source →
+        (x ≡ w) ⊎ (slice_get on.route.path (suc on.k) ≡ Some w) → IsRouteFromBoard p on.r on.route on.source →
         (b : Bool) → same_direction faces on.source.dir ≡ b → ⊥
     by_side to w leads_to differ other beside to_which from true facing =
         let stem_is = stem-before p plant x y stem plus minus faces on.source.dir section (one_direction faces on.source.dir facing) beside in

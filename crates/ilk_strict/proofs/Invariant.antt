@@ -1,5 +1,5 @@
--- The start meets the invariant, and an event leads from a state that meets it only to states that meet it, where the table
--- has what strict safety uses. So every run from the start, of whatever length, ends in a state that meets it.
+-- For a strict table, the initial state meets the invariant, each event keeps it, and so every run
+-- from the start ends in a state that meets it.
 use Rattle.std.proofs.Common.{◌≡◌, ℕ, Bool, true, Some, List, [], ◌∷◌, IfOk, OnErr, OnOk, unwrap_or, Result, Ok, Err, is_none, length, refl, sym, ap, ◌∙◌, subst}
 use Rattle.std.proofs.lemmas.Option.{cond_some, option_and_then_some, same_Some}
 use Rattle.std.specs.declared.alloc.AllocError.{AllocError}
@@ -17,37 +17,33 @@ use Rattle.ilk_model.specs.Event.{next}
 use Rattle.ilk_model.specs.Hazard.{hazard}
 use Rattle.ilk_model.specs.Holding.{holds_sections}
 use Rattle.ilk_model.specs.Meets.{Meets}
-use Rattle.ilk_model.specs.Run.{run, step}
+use Rattle.ilk_model.specs.Run.{run, next_if_no_hazard}
 use Rattle.ilk_model.specs.declared.event.Event.{Event}
 use Rattle.ilk_strict.specs.IsStrict.{IsStrict}
 use Rattle.ilk_strict.proofs.BoardFacts.{open-from, points-from, protected-from}
 use Rattle.ilk_strict.proofs.RouteFacts.{alone-from, counts_right, holds-cases, locked-holds, locks-from, vacant-from}
-use Rattle.ilk_strict.proofs.Reading.{RouteIn, each_route-from}
+use Rattle.ilk_strict.proofs.Reading.{RouteIn, all_routes_pass-from}
 use Rattle.ilk_strict.proofs.TrainFacts.{keeps-of, meets-from, wrong-from}
 use Rattle.ilk_strict.proofs.EventsKeep.{keeps-next}
 
--- what one event leads to meets the invariant
 pub meets-next : (p : PlantLists) → IsPlant p → IsStrict p → (s t : State) (event : Event) → Meets p s → next p s event ≡ Some t → Meets p t
 meets-next p plant strict s t event meets e = meets-from p t (keeps-next p plant strict s t event (keeps-of p s meets) e)
 
--- so does what a run leads to
 pub meets-run : (p : PlantLists) → IsPlant p → IsStrict p → (events : List Event) (s t : State) → Meets p s → run p s events ≡ Some t → Meets p t
 meets-run p plant strict [] s t meets e = subst (Meets p) (same_Some s t e) meets
 meets-run p plant strict (event ∷ rest) s t meets e =
-    option_and_then_some (λ u. run p u rest) (step p s event) t e (λ u first later.
+    option_and_then_some (λ u. run p u rest) (next_if_no_hazard p s event) t e (λ u first later.
     option_and_then_some (λ safe. next p safe event) _ u first (λ safe is_safe after.
     let same : s ≡ safe = (cond_some (is_none (hazard p s)) s safe is_safe).1 in
     let leads : next p s event ≡ Some u = ap (λ (v : State). next p v event) same ∙ after in
     meets-run p plant strict rest u t (meets-next p plant strict s u event meets leads) later))
 
--- at the start every route is free
 start-free : (p : PlantLists) (r : ℕ) (route : Route) (now : RouteState) → RouteIn p (start p) r route now → free_route ≡ now
 start-free p r route now it = copied (length p.routes) r free_route now it.state
 
 start-mode : (p : PlantLists) (r : ℕ) (route : Route) (now : RouteState) → RouteIn p (start p) r route now → now.mode ≡ Free
 start-mode p r route now it = ap (λ (v : RouteState). v.mode) (sym (start-free p r route now it))
 
--- and holds nothing
 start-holds_none : (p : PlantLists) (r : ℕ) (route : Route) (now : RouteState) → RouteIn p (start p) r route now → holds_sections now ≡ true → ⊥
 start-holds_none p r route now it holds =
     let none : holds_sections free_route ≡ true = subst (λ (v : RouteState). holds_sections v ≡ true) (sym (start-free p r route now it)) holds in cc
@@ -55,7 +51,7 @@ start-holds_none p r route now it holds =
 pub start-meets : (p : PlantLists) → Meets p (start p)
 start-meets p = meets-from p (start p) (record {
   shape = start-shape p;
-  v1 = each_route-from p (start p) counts_right (start-shape p).routes (λ r route now it. subst (λ (v : RouteState). counts_right route v ≡ true) (start-free p r route now it) refl);
+  v1 = all_routes_pass-from p (start p) counts_right (start-shape p).routes (λ r route now it. subst (λ (v : RouteState). counts_right route v ≡ true) (start-free p r route now it) refl);
   v2 = alone-from p (start p) (λ r route now it q other its that x within first second. absurd (start-holds_none p r route now it (holds-cases route now x first).0));
   v3 = locks-from p (start p) (start-shape p).routes (λ r route now it holds. absurd (start-holds_none p r route now it holds));
   v4 = vacant-from p (start p) (start-shape p).routes (λ r route now it mode i x at. refl);
@@ -71,16 +67,13 @@ start-meets p = meets-from p (start p) (record {
   right_point = λ x within. wrong-from p (start p) x (λ stem plus minus faces section i train at. cc);
 })
 
--- every run from the start ends in a state that meets the invariant
 pub forever-safe : (p : PlantLists) → IsPlant p → IsStrict p → (events : List Event) (t : State) → run p (start p) events ≡ Some t → Meets p t
 forever-safe p plant strict events t e = meets-run p plant strict events (start p) t (start-meets p) e
 
--- a start that was made meets the invariant
 pub begun_meets : (p : PlantLists) (r : Result State AllocError) → IfOk r (λ s. s ≡ start p) → IfOk r (Meets p)
 begun_meets p (Ok s) e = subst (Meets p) (sym e) (start-meets p)
 begun_meets p (Err e) h = tt
 
--- so does the state after an event that was done, or couldn't be
 pub advanced_meets : (p : PlantLists) (s new : State) (event : Event) (r : Result Bool AllocError) → IsPlant p → IsStrict p → Meets p s → OnOk r (new ≡ unwrap_or (next p s event) s) → OnErr r (new ≡ s) → Meets p new
 advanced_meets p s new event r plant strict meets done undone =
     after_step (Meets p) r (next p s event) s new meets (λ t e. meets-next p plant strict s t event meets e) done undone

@@ -1,4 +1,4 @@
--- No event brings two trains into one section: a train enters and goes on only where it is vacant.
+-- No event brings two trains into one section: a train enters or moves only into a vacant section.
 use Rattle.std.proofs.Common.{◌≡◌, ℕ, ◌<◌, true, false, Some, inl, inr, length, slice_get, sym, ◌∙◌, ap, subst, arith}
 use Rattle.std.proofs.lemmas.Bool.{both_ways}
 use Rattle.ilk_plant.specs.Network.{has_section}
@@ -7,8 +7,8 @@ use Rattle.ilk_plant.specs.State.{is_occupied}
 use Rattle.ilk_plant.specs.declared.state.State.{State}
 use Rattle.ilk_plant.specs.declared.state.Train.{Train}
 use Rattle.ilk_plant.proofs.InLists.{only-one, rest-has}
-use Rattle.ilk_motion.specs.Body.{train_on, with_new_head}
-use Rattle.ilk_model.specs.Hazard.{is_two}
+use Rattle.ilk_motion.specs.Body.{new_train_on, with_new_head}
+use Rattle.ilk_model.specs.Hazard.{has_two_trains}
 use Rattle.ilk_strict.specs.IsStrict.{IsStrict}
 use Rattle.ilk_strict.proofs.After.{two-reads}
 use Rattle.ilk_model.proofs.PointFrames.{IsSettled, IsThrown}
@@ -19,9 +19,8 @@ use Rattle.ilk_strict.proofs.Reading.{occupied-from}
 use Rattle.ilk_strict.proofs.TrainFacts.{Keeps, two-at, two-from}
 use Rattle.ilk_strict.proofs.Trains.{enter-trains, head-trains, leave-trains, longer-has, removed-once, tail-trains}
 
--- no section has two trains
 abbrev pub AreApart : PlantLists → State → Type 0
-AreApart p s = (x : ℕ) → x < length p.sections → is_two s x ≡ false
+AreApart p s = (x : ℕ) → x < length p.sections → has_two_trains s x ≡ false
 
 module _ (p : PlantLists) (plant : IsPlant p) (strict : IsStrict p) (s t : State) (keeps : Keeps p s) (n : ℕ) where
   same-trains : t.trains ≡ s.trains → AreApart p t
@@ -64,7 +63,7 @@ module _ (p : PlantLists) (plant : IsPlant p) (strict : IsStrict p) (s t : State
         ]
       ])
     where
-      here : (train : Train) (x : ℕ) → train ≡ train_on n it.inward → has_section x train.body ≡ true → n ≡ x
+      here : (train : Train) (x : ℕ) → train ≡ new_train_on n it.inward → has_section x train.body ≡ true → n ≡ x
       here train x new has = only-one x n (subst (λ (one : Train). has_section x one.body ≡ true) new has)
 
       vacant-still : (i : ℕ) (train : Train) (x : ℕ) → slice_get s.trains i ≡ Some train → has_section x train.body ≡ true → n ≡ x → ⊥
@@ -83,7 +82,6 @@ module _ (p : PlantLists) (plant : IsPlant p) (strict : IsStrict p) (s t : State
         ]
       ])
     where
-      -- a train that stands where the longer body does is the one that has it
       meets : (j : ℕ) (other one : Train) (x : ℕ) → x < length p.sections → one ≡ with_new_head it.y it.train → slice_get s.trains j ≡ Some other → has_section x one.body ≡ true → has_section x other.body ≡ true → it.i ≡ j
       meets j other one x within moved old first second =
           elim (longer-has x it.y it.train.body (subst (λ (train : Train). has_section x train.body ≡ true) moved first)) [

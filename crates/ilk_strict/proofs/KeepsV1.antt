@@ -1,5 +1,5 @@
--- No event breaks V1: a route that isn't Occupied has seen = rel = 0; an Occupied one has rel below seen, and seen is at most
--- the path's length.
+-- No event breaks V1: a route that isn't Occupied has seen = rel = 0; an Occupied one has rel <
+-- seen <= the path's length.
 use Rattle.std.proofs.Common.{◌≡◌, ℕ, ◌+◌, true, false, inl, inr, refl, arith}
 use Rattle.std.proofs.lemmas.Option.{slice_get_within}
 use Rattle.ilk_base.proofs.Truth.{either}
@@ -17,20 +17,18 @@ use Rattle.ilk_model.proofs.Alike.{one_mode}
 use Rattle.ilk_model.proofs.PointFrames.{IsSettled, IsThrown}
 use Rattle.ilk_model.proofs.RouteFrames.{ChangesRoute, IsAllocated, IsCancelled, IsFinished, IsLocked, IsMarked, IsReleased, IsSensed}
 use Rattle.ilk_model.proofs.TrainFrames.{IsEntered, IsHeaded, IsLeft, IsTailed}
-use Rattle.ilk_strict.proofs.Reading.{each_route-at, each_route-from}
+use Rattle.ilk_strict.proofs.Reading.{all_routes_pass-at, all_routes_pass-from}
 use Rattle.ilk_strict.proofs.RouteFacts.{counts-idle, counts-in_use, counts_right, idle, in_use, rel-seen}
 use Rattle.ilk_strict.proofs.TrainFacts.{Keeps}
 
 module _ (p : PlantLists) (s t : State) (keeps : Keeps p s) (shape : HasShape p t) (n : ℕ) where
-  -- one route changes
   changed : (route : Route) (now new : RouteState) → ChangesRoute p s t n route now new → counts_right route new ≡ true → keeps_v1 p t ≡ true
   changed route now new changes right =
-      each_route-from p t counts_right shape.routes (λ q one its it. elim (after-cases p s t n route now new changes q one its it) [
+      all_routes_pass-from p t counts_right shape.routes (λ q one its it. elim (after-cases p s t n route now new changes q one its it) [
         | inl here ↦ same-here (λ u v. counts_right u v ≡ true) one route its new here.1 here.2 right
-        | inr other ↦ each_route-at p s counts_right keeps.v1 q one its other.1
+        | inr other ↦ all_routes_pass-at p s counts_right keeps.v1 q one its other.1
       ])
 
-  -- a route that isn't Occupied before or after
   still-idle : (route : Route) (now : RouteState) (mode : Mode) → ChangesRoute p s t n route now (record now { mode = mode }) → same_mode now.mode Occupied ≡ false → same_mode mode Occupied ≡ false → keeps_v1 p t ≡ true
   still-idle route now mode changes before after =
       let counts = idle p s keeps.v1 n route now (before-change p s t n route now (record now { mode = mode }) changes) before in

@@ -1,5 +1,5 @@
--- No event breaks V2: no two routes hold one section. Only an allocation lets a route hold more, and the locks of what it
--- takes were Free, while V3 says that what is held isn't.
+-- No event breaks V2: no two routes hold one section. Only an allocation adds held sections. Their
+-- locks were Free, and by V3 no held section has lock Free.
 use Rattle.std.proofs.Common.{◌≡◌, ℕ, ◌+◌, ◌<◌, ◌≤◌, true, false, Some, inl, inr, length, slice_get, refl, sym, ◌∙◌, ap, arith}
 use Rattle.std.specs.List.{list_all}
 use Rattle.std.proofs.lemmas.Bool.{and_parts, both_ways, cases_eq}
@@ -26,14 +26,13 @@ use Rattle.ilk_strict.proofs.RouteFacts.{allocating-holds, alone, alone-from, he
 use Rattle.ilk_strict.proofs.Table.{beside-locked_for, path-locked_for}
 use Rattle.ilk_strict.proofs.TrainFacts.{Keeps}
 
--- what is asked of the sections that a route takes: each had lock Free, and was vacant
+-- An allocated section had lock Free and was vacant.
 pub cleared : (s : State) (route : Route) → list_all (is_clear s) (sections_locked_for route) ≡ true → (x : ℕ) → has_section x (sections_locked_for route) ≡ true → (slice_get s.locks x ≡ Some FreeLock) × (is_occupied s x ≡ false)
 cleared s route clear x among =
     let found = section-at x (sections_locked_for route) among in
     let both = and_parts (has_lock s x FreeLock) _ (list_all-slice_get (is_clear s) (sections_locked_for route) found.0 x clear found.1) in
     (has_lock-at s x FreeLock both.0, fails (is_occupied s x) both.1)
 
--- what a route holds is locked for it
 pub held-locked_for : (route : Route) (now : RouteState) (x : ℕ) → holds_section x route now ≡ true → has_section x (sections_locked_for route) ≡ true
 held-locked_for route now x held = elim (holds-cases route now x held).1 [
   | inl beside ↦ beside-locked_for route x beside
@@ -41,7 +40,6 @@ held-locked_for route now x held = elim (holds-cases route now x held).1 [
 ]
 
 module _ (p : PlantLists) (s t : State) (keeps : Keeps p s) (n : ℕ) where
-  -- a route that holds no more than before
   shrinks : (route : Route) (now new : RouteState) → ChangesRoute p s t n route now new → ((x : ℕ) → holds_section x route new ≡ true → holds_section x route now ≡ true) → keeps_v2 p t ≡ true
   shrinks route now new changes less =
       alone-from p t (λ q one its it r other their that x within first second.
@@ -58,12 +56,10 @@ module _ (p : PlantLists) (s t : State) (keeps : Keeps p s) (n : ℕ) where
         | inr other ↦ (its, other.1, h)
       ]
 
-  -- a route that holds nothing
   drops : (route : Route) (now new : RouteState) → ChangesRoute p s t n route now new → holds_sections new ≡ false → keeps_v2 p t ≡ true
   drops route now new changes none =
       shrinks route now new changes (λ x held. let holds = (holds-cases route new x held).0 in absurd (both_ways (holds_sections new) none holds))
 
-  -- a route that goes on holding, and releases no less
   goes-on_holding : (route : Route) (now new : RouteState) → ChangesRoute p s t n route now new → holds_sections now ≡ true → now.rel ≤ new.rel → keeps_v2 p t ≡ true
   goes-on_holding route now new changes holds more =
       shrinks route now new changes (λ x held. elim (holds-cases route new x held).1 [
@@ -84,7 +80,6 @@ module _ (p : PlantLists) (s t : State) (keeps : Keeps p s) (n : ℕ) where
       new : RouteState
       new = let now = it.now in record now { mode = Allocating }
 
-      -- what the route takes was held by no other
       taken : (q : ℕ) (one : Route) (its : RouteState) → RouteIn p s q one its → (x : ℕ) → holds_section x one its ≡ true → holds_section x it.route new ≡ true → ⊥
       taken q one its that x theirs mine =
           held-not_free p s keeps.v3 q one its that x theirs (cleared s it.route it.clear x (held-locked_for it.route new x mine)).0

@@ -1,6 +1,6 @@
--- No event breaks V3: a section that a route holds as path[i] has lock Used where i is below seen; every other section that
--- it holds has lock Locked. An event gives a lock to sections alone that its own route holds, or that were free; by V2 no
--- other route holds them.
+-- No event breaks V3: a held path[i] has lock Used if i < seen; every other held section has lock
+-- Locked. An event changes locks only of sections that its own route holds, or that were free. By
+-- V2 no other route holds them.
 use Rattle.std.proofs.Common.{◌≡◌, ℕ, ◌+◌, ◌<◌, ◌≤◌, true, false, Some, List, inl, inr, ◌⊎◌, length, nat_lt, set, slice_get, refl, sym, ◌∙◌, ap, subst, arith}
 use Rattle.std.specs.Prelude.{if◌then◌else◌}
 use Rattle.std.proofs.lemmas.Bool.{cases_Bool, cases_eq, false_from_ne_true}
@@ -19,10 +19,10 @@ use Rattle.ilk_plant.specs.declared.state.State.{State}
 use Rattle.ilk_plant.specs.declared.table.Route.{Route}
 use Rattle.ilk_plant.proofs.InLists.{section-at}
 use Rattle.ilk_routes.proofs.Shape.{beside-known}
-use Rattle.ilk_routes.specs.Claims.{sections_beside}
+use Rattle.ilk_routes.specs.Claims.{sections_beside_path}
 use Rattle.ilk_routes.specs.Locks.{with_locks}
 use Rattle.ilk_routes.specs.Modes.{same_mode}
-use Rattle.ilk_model.specs.Families.{keeps_v3, lock_on_path}
+use Rattle.ilk_model.specs.Families.{keeps_v3, path_section_lock}
 use Rattle.ilk_model.specs.Holding.{holds_section, holds_sections}
 use Rattle.ilk_strict.proofs.After.{after-cases, before-change, given-lock, other-lock, same-here, v3-reads}
 use Rattle.ilk_model.proofs.Alike.{one_mode}
@@ -35,13 +35,12 @@ use Rattle.ilk_strict.proofs.RouteFacts.{allocating-holds, alone, held-not_free,
 use Rattle.ilk_strict.proofs.Table.{beside-locked_for, locked_for-cases, path-apart, path-locked_for, path-once, path-section}
 use Rattle.ilk_strict.proofs.TrainFacts.{Keeps}
 
--- the locks of the sections that a route in this state holds
+-- The locks of the sections that a route holds.
 pub record HasItsLocks (t : State) (route : Route) (new : RouteState) : Type 0 where
-  pub on_path : (i x : ℕ) → new.rel ≤ i → slice_get route.path i ≡ Some x → slice_get t.locks x ≡ Some (lock_on_path new i)
-  pub beside : (x : ℕ) → has_section x (sections_beside route) ≡ true → slice_get t.locks x ≡ Some LockedLock
+  pub on_path : (i x : ℕ) → new.rel ≤ i → slice_get route.path i ≡ Some x → slice_get t.locks x ≡ Some (path_section_lock new i)
+  pub beside : (x : ℕ) → has_section x (sections_beside_path route) ≡ true → slice_get t.locks x ≡ Some LockedLock
 
 module _ (p : PlantLists) (plant : IsPlant p) (s t : State) (keeps : Keeps p s) (shape : HasShape p t) (n : ℕ) where
-  -- one route changes, and locks where no other route holds a section
   changed : (route : Route) (now new : RouteState) → ChangesRoute p s t n route now new →
       (Touched : ℕ → Type 0) → ((x : ℕ) → (Touched x → ⊥) → slice_get t.locks x ≡ slice_get s.locks x) →
       ((q : ℕ) (one : Route) (its : RouteState) → (q ≡ n → ⊥) → RouteIn p s q one its → (x : ℕ) →
@@ -52,8 +51,8 @@ module _ (p : PlantLists) (plant : IsPlant p) (s t : State) (keeps : Keeps p s) 
         | inl here ↦ same-here
             (λ u v. holds_sections v ≡ true →
             ((i x : ℕ) → v.rel ≤ i → slice_get u.path i ≡ Some x →
-            slice_get t.locks x ≡ Some (lock_on_path v i)) ×
-            ((x : ℕ) → has_section x (sections_beside u) ≡ true →
+            slice_get t.locks x ≡ Some (path_section_lock v i)) ×
+            ((x : ℕ) → has_section x (sections_beside_path u) ≡ true →
             slice_get t.locks x ≡ Some LockedLock)) one route its new here.1 here.2
             (λ h. let all = mine h in (all.on_path, all.beside)) holds
         | inr other ↦ (
@@ -62,12 +61,10 @@ module _ (p : PlantLists) (plant : IsPlant p) (s t : State) (keeps : Keeps p s) 
         )
       ])
 
-  -- locks stay
   unlocked : (route : Route) (now new : RouteState) → ChangesRoute p s t n route now new → t.locks ≡ s.locks → (holds_sections new ≡ true → HasItsLocks t route new) → keeps_v3 p t ≡ true
   unlocked route now new changes locks mine =
       changed route now new changes (λ x. ⊥) (λ x none. ap (λ (l : List Hold). slice_get l x) locks) (λ q one its apart it x held none. none) mine
 
-  -- what route n holds no other holds
   not-others : (route : Route) (now : RouteState) → RouteIn p s n route now → (x : ℕ) →
       x < length p.sections → holds_section x route now ≡ true → (q : ℕ) (one : Route) (its : RouteState) →
       (q ≡ n → ⊥) → RouteIn p s q one its → holds_section x one its ≡ true → ⊥
@@ -84,7 +81,7 @@ module _ (p : PlantLists) (plant : IsPlant p) (s t : State) (keeps : Keeps p s) 
       (λ q one its apart that x held taken. held-not_free p s keeps.v3 q one its that x held (cleared s it.route it.clear x taken).0)
       (λ holds. record {
         on_path = λ i x least at. given x (path-locked_for it.route i x at) (path-section p it.route of i x at) ∙ ap Some (sym (unseen i));
-        beside = λ x beside. (let found = section-at x (sections_beside it.route) beside in given x (beside-locked_for it.route x beside) (beside-known p it.route of found.0 x found.1));
+        beside = λ x beside. (let found = section-at x (sections_beside_path it.route) beside in given x (beside-locked_for it.route x beside) (beside-known p it.route of found.0 x found.1));
       })
     where
       new : RouteState
@@ -98,7 +95,7 @@ module _ (p : PlantLists) (plant : IsPlant p) (s t : State) (keeps : Keeps p s) 
           let count = keeps.shape.locks in
           ap (λ (l : List Hold). slice_get l x) it.locks ∙ given-lock s.locks (sections_locked_for it.route) LockedLock x among (omega (arith, count, within))
 
-      unseen : (i : ℕ) → lock_on_path new i ≡ LockedLock
+      unseen : (i : ℕ) → path_section_lock new i ≡ LockedLock
       unseen i =
           let counts = idle p s keeps.v1 n it.route it.now (before-change p s t n it.route it.now new it.changes) (rw it.was refl) in
           none_seen it.now.seen counts.0
@@ -125,7 +122,7 @@ module _ (p : PlantLists) (plant : IsPlant p) (s t : State) (keeps : Keeps p s) 
         beside =
             λ y beside. away y
             (λ is. path-apart p it.route of it.now.seen it.x it.next
-            (subst (λ z. has_section z (sections_beside it.route) ≡ true) is beside))
+            (subst (λ z. has_section z (sections_beside_path it.route) ≡ true) is beside))
             ∙ lock-beside p s keeps.v3 n it.route it.now was (locked-holds it.now it.was) y beside;
       })
     where
@@ -153,7 +150,7 @@ module _ (p : PlantLists) (plant : IsPlant p) (s t : State) (keeps : Keeps p s) 
       seen-here : (i seen : ℕ) → i ≡ seen → UsedLock ≡ (if nat_lt i (seen + 1) then UsedLock else LockedLock)
       seen-here i seen same = let less : nat_lt i (seen + 1) ≡ true = grind (arith, nat_tests) in rw less refl
 
-      on_path : (i y : ℕ) → new.rel ≤ i → slice_get it.route.path i ≡ Some y → slice_get t.locks y ≡ Some (lock_on_path new i)
+      on_path : (i y : ℕ) → new.rel ≤ i → slice_get it.route.path i ≡ Some y → slice_get t.locks y ≡ Some (path_section_lock new i)
       on_path i y least at = elim (cases_eq i it.now.seen) [
         | inl here ↦
             (let same : y ≡ it.x = same_Some y it.x (sym at ∙ ap (slice_get it.route.path) here ∙ it.next) in
@@ -177,7 +174,7 @@ module _ (p : PlantLists) (plant : IsPlant p) (s t : State) (keeps : Keeps p s) 
         on_path = λ i y least at.
             away y (λ is. let here = path-once p it.route of i it.now.rel y at (it.first ∙ ap Some (sym is)) in absurd (omega (arith, here, least)))
             ∙ lock-path p s keeps.v3 n it.route it.now was holds_now i y (omega (arith, least)) at;
-        beside = λ y beside. away y (λ is. path-apart p it.route of it.now.rel it.x it.first (subst (λ z. has_section z (sections_beside it.route) ≡ true) is beside)) ∙ lock-beside p s keeps.v3 n it.route it.now was holds_now y beside;
+        beside = λ y beside. away y (λ is. path-apart p it.route of it.now.rel it.x it.first (subst (λ z. has_section z (sections_beside_path it.route) ≡ true) is beside)) ∙ lock-beside p s keeps.v3 n it.route it.now was holds_now y beside;
       })
     where
       new : RouteState
@@ -197,7 +194,7 @@ module _ (p : PlantLists) (plant : IsPlant p) (s t : State) (keeps : Keeps p s) 
 
   pub finish-keeps_v3 : IsFinished p s t n → keeps_v3 p t ≡ true
   finish-keeps_v3 it =
-      changed it.route it.now new it.changes (λ y. (y ≡ it.x) ⊎ (has_section y (sections_beside it.route) ≡ true)) away others (λ holds. cc)
+      changed it.route it.now new it.changes (λ y. (y ≡ it.x) ⊎ (has_section y (sections_beside_path it.route) ≡ true)) away others (λ holds. cc)
     where
       new : RouteState
       new = record { mode = Free; seen = 0; rel = 0 }
@@ -211,17 +208,17 @@ module _ (p : PlantLists) (plant : IsPlant p) (s t : State) (keeps : Keeps p s) 
       holds_now : holds_sections it.now ≡ true
       holds_now = rw it.was refl
 
-      away : (y : ℕ) → ((y ≡ it.x) ⊎ (has_section y (sections_beside it.route) ≡ true) → ⊥) → slice_get t.locks y ≡ slice_get s.locks y
+      away : (y : ℕ) → ((y ≡ it.x) ⊎ (has_section y (sections_beside_path it.route) ≡ true) → ⊥) → slice_get t.locks y ≡ slice_get s.locks y
       away y apart =
           ap (λ (l : List Hold). slice_get l y) it.locks
-          ∙ other-lock (set s.locks it.x FreeLock) (sections_beside it.route) FreeLock y (false_from_ne_true (has_section y (sections_beside it.route)) (λ beside. apart (inr beside)))
+          ∙ other-lock (set s.locks it.x FreeLock) (sections_beside_path it.route) FreeLock y (false_from_ne_true (has_section y (sections_beside_path it.route)) (λ beside. apart (inr beside)))
           ∙ slice_get-set_other s.locks it.x y FreeLock (λ e. apart (inl (sym e)))
 
-      others : (q : ℕ) (one : Route) (its : RouteState) → (q ≡ n → ⊥) → RouteIn p s q one its → (y : ℕ) → holds_section y one its ≡ true → (y ≡ it.x) ⊎ (has_section y (sections_beside it.route) ≡ true) → ⊥
+      others : (q : ℕ) (one : Route) (its : RouteState) → (q ≡ n → ⊥) → RouteIn p s q one its → (y : ℕ) → holds_section y one its ≡ true → (y ≡ it.x) ⊎ (has_section y (sections_beside_path it.route) ≡ true) → ⊥
       others q one its apart that y held (inl is) =
           not-others it.route it.now was it.x (path-section p it.route of it.now.rel it.x it.last) (holds-path it.route it.now it.now.rel it.x holds_now (omega arith) it.last) q one its apart that (subst (λ z. holds_section z one its ≡ true) is held)
       others q one its apart that y held (inr beside) =
-          let found = section-at y (sections_beside it.route) beside in
+          let found = section-at y (sections_beside_path it.route) beside in
           not-others it.route it.now was y (beside-known p it.route of found.0 y found.1) (holds-beside it.route it.now y holds_now beside) q one its apart that held
 
   pub throw-keeps_v3 : IsThrown p s t n → keeps_v3 p t ≡ true
@@ -268,6 +265,6 @@ module _ (p : PlantLists) (plant : IsPlant p) (s t : State) (keeps : Keeps p s) 
             let none = counts.1 in
             not-others it.route it.now was y (path-section p it.route of place.0 y place.1) (holds-path it.route it.now place.0 y (allocating-holds it.now mode) (omega (arith, none)) place.1) q one its apart that held)
         | inr beside ↦
-            (let found = section-at y (sections_beside it.route) beside in
+            (let found = section-at y (sections_beside_path it.route) beside in
             not-others it.route it.now was y (beside-known p it.route of found.0 y found.1) (holds-beside it.route it.now y (allocating-holds it.now mode) beside) q one its apart that held)
       ]

@@ -1,5 +1,6 @@
--- No event breaks V4: every path section of an Allocating route is vacant. Trains come only to sections that no Allocating
--- route holds: they enter where the lock is Free, and go on to what a Locked or Occupied route holds.
+-- No event breaks V4: every path section of an Allocating route is vacant. Trains reach only
+-- sections that no Allocating route holds: they enter if the lock is Free, or move to sections of
+-- Locked or Occupied routes.
 use Rattle.std.proofs.Common.{◌≡◌, ℕ, ◌+◌, ◌≤◌, true, false, Some, None, inl, inr, slice_get, refl, sym, ◌∙◌, ap, arith}
 use Rattle.ilk_plant.specs.Plant.{IsPlant, PlantLists}
 use Rattle.ilk_plant.specs.Shape.{HasShape}
@@ -23,13 +24,12 @@ use Rattle.ilk_strict.proofs.Table.{path-locked_for, path-section}
 use Rattle.ilk_strict.proofs.TrainFacts.{Keeps}
 use Rattle.ilk_strict.proofs.Trains.{enter-vacant, head-vacant, last-is, leave-vacant, tail-vacant}
 
--- the route that leads on a train whose head goes on
+-- The route that leads the moving train.
 pub headed-goes_on : (p : PlantLists) → IsPlant p → IsStrict p → (s t : State) → Keeps p s → (x : ℕ) → (it : IsHeaded p s t x) → GoesOn p s x it.train.dir it.y
 headed-goes_on p plant strict s t keeps x it =
     goes-on p plant strict s keeps it.i it.train x it.y it.at (last-is x it.train.body it.heads None) it.leads it.passes
 
 module _ (p : PlantLists) (plant : IsPlant p) (strict : IsStrict p) (s t : State) (keeps : Keeps p s) (shape : HasShape p t) (n : ℕ) where
-  -- one route changes, and trains stay
   changed : (route : Route) (now new : RouteState) → ChangesRoute p s t n route now new → t.trains ≡ s.trains → (new.mode ≡ Allocating → (i x : ℕ) → slice_get route.path i ≡ Some x → is_occupied s x ≡ false) → keeps_v4 p t ≡ true
   changed route now new changes trains mine =
       vacant-from p t shape.routes (λ q one its it mode i x at. same-occupied s t trains x ∙ elim (after-cases p s t n route now new changes q one its it) [
@@ -37,7 +37,6 @@ module _ (p : PlantLists) (plant : IsPlant p) (strict : IsStrict p) (s t : State
         | inr other ↦ vacant-path p s keeps.v4 q one its other.1 mode i x at
       ])
 
-  -- routes stay, and the sections that Allocating routes hold stay vacant
   trains-come : t.routes ≡ s.routes →
       ((q : ℕ) (one : Route) (its : RouteState) → RouteIn p s q one its → its.mode ≡ Allocating → (i x : ℕ) →
       its.rel ≤ i → slice_get one.path i ≡ Some x → is_occupied s x ≡ false → is_occupied t x ≡ false) →

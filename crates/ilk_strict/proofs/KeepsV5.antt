@@ -1,5 +1,6 @@
--- No event breaks V5: each Open board is the source of a Locked route whose path sections are all vacant. A board opens as
--- the source of an Allocating route, whose path is vacant; a train that comes to a path closes its source, or is on another.
+-- No event breaks V5: each Open board is the source of a Locked route whose path sections are all
+-- vacant. A board opens as the source of an Allocating route with a vacant path. A train that
+-- reaches the path closes the source, or is on another route.
 use Rattle.std.proofs.Common.{◌≡◌, ℕ, ◌+◌, true, false, ◌||◌, Some, List, inl, inr, slice_get, refl, sym, ◌∙◌, ap, arith}
 use Rattle.std.proofs.lemmas.Bool.{both_ways, cases_eq}
 use Rattle.ilk_plant.specs.Plant.{IsPlant, PlantLists, board_of}
@@ -29,7 +30,6 @@ use Rattle.ilk_strict.proofs.TrainFacts.{Keeps}
 use Rattle.ilk_strict.proofs.Trains.{enter-vacant, head-vacant, leave-vacant, tail-vacant}
 
 module _ (p : PlantLists) (plant : IsPlant p) (strict : IsStrict p) (s t : State) (keeps : Keeps p s) (n : ℕ) where
-  -- one route changes that isn't Locked before, and trains stay: a board that was Open is so for the same route
   other-open : (route : Route) (now new : RouteState) → ChangesRoute p s t n route now new → t.trains ≡ s.trains → (m : ℕ) → (open_for : IsOpenFor p s m) → (open_for.r ≡ n → ⊥) → IsOpenFor p t m
   other-open route now new changes trains m open_for apart = record {
     r = open_for.r;
@@ -41,13 +41,11 @@ module _ (p : PlantLists) (plant : IsPlant p) (strict : IsStrict p) (s t : State
     vacant = λ i x at. same-occupied s t trains x ∙ open_for.vacant i x at;
   }
 
-  -- the route for which a board is Open is another than one that isn't Locked
   is-another : (route : Route) (now new : RouteState) → ChangesRoute p s t n route now new → (now.mode ≡ Locked → ⊥) → (m : ℕ) → (open_for : IsOpenFor p s m) → open_for.r ≡ n → ⊥
   is-another route now new changes unlocked m open_for same =
       let is = one-state p s open_for.r n open_for.route route open_for.now now open_for.it (before-change p s t n route now new changes) same in
       unlocked (ap (λ (v : RouteState). v.mode) (sym is.1) ∙ open_for.mode)
 
-  -- boards stay
   same-boards : (route : Route) (now new : RouteState) → ChangesRoute p s t n route now new → t.trains ≡ s.trains → t.boards ≡ s.boards → (now.mode ≡ Locked → ⊥) → keeps_v5 p t ≡ true
   same-boards route now new changes trains boards unlocked =
       open-from p t (λ m within shown.
@@ -90,7 +88,6 @@ module _ (p : PlantLists) (plant : IsPlant p) (strict : IsStrict p) (s t : State
       new : RouteState
       new = let now = it.now in record now { mode = Occupied; seen = now.seen + 1 }
 
-      -- the first section of a path that is sensed is occupied
       apart : (m : ℕ) → (open_for : IsOpenFor p s m) → open_for.r ≡ n → ⊥
       apart m open_for same =
           let is = one-state p s open_for.r n open_for.route it.route open_for.now it.now open_for.it (before-change p s t n it.route it.now new it.changes) same in
@@ -109,7 +106,6 @@ module _ (p : PlantLists) (plant : IsPlant p) (strict : IsStrict p) (s t : State
   pub settle-keeps_v5 : IsSettled p s t n → keeps_v5 p t ≡ true
   settle-keeps_v5 it = v5-reads p s t it.routes it.boards it.trains keeps.v5
 
-  -- routes stay, and what was Open was so; the paths of the Locked routes stay vacant
   still-open : t.routes ≡ s.routes → (m : ℕ) → (open_for : IsOpenFor p s m) → ((i x : ℕ) → slice_get open_for.route.path i ≡ Some x → is_occupied s x ≡ false → is_occupied t x ≡ false) → IsOpenFor p t m
   still-open routes m open_for stay = record {
     r = open_for.r;
@@ -121,7 +117,6 @@ module _ (p : PlantLists) (plant : IsPlant p) (strict : IsStrict p) (s t : State
     vacant = λ i x at. stay i x at (open_for.vacant i x at);
   }
 
-  -- a Locked route holds its whole path
   holds-whole : (m : ℕ) → (open_for : IsOpenFor p s m) → (i x : ℕ) → slice_get open_for.route.path i ≡ Some x → holds_section x open_for.route open_for.now ≡ true
   holds-whole m open_for i x at =
       let counts = idle p s keeps.v1 open_for.r open_for.route open_for.now open_for.it (rw open_for.mode refl) in
@@ -142,7 +137,6 @@ module _ (p : PlantLists) (plant : IsPlant p) (strict : IsStrict p) (s t : State
       let open_for = open-at p s keeps.v5 m within was.0 in
       still-open it.routes m open_for (λ i x at vacant. head-vacant p s t n it x vacant (λ same. clash m was.0 was.1 open_for i x at same)))
     where
-      -- the route on which the train goes on is another
       clash : (m : ℕ) → slice_get s.boards m ≡ Some Open → (board_of p n it.train.dir ≡ Some m → ⊥) → (open_for : IsOpenFor p s m) → (i x : ℕ) → slice_get open_for.route.path i ≡ Some x → x ≡ it.y → ⊥
       clash m shown elsewhere open_for i x at same =
           let on = headed-goes_on p plant strict s t keeps n it in

@@ -1,6 +1,7 @@
--- No event breaks V6: a listed point of an Allocating route's path is commanded to its listed position; a listed point that a
--- Locked or Occupied route holds on its path is commanded to that position and lies there. An allocation commands points
--- alone whose locks were Free; a point that lies where it is commanded isn't thrown, and one that moves lies nowhere.
+-- No event breaks V6. A listed point of an Allocating route's path is commanded to its listed
+-- position. A listed point that a Locked or Occupied route holds on its path is commanded to that
+-- position and is in it. An allocation commands only points whose locks were Free. A point in its
+-- commanded position isn't thrown, and a moving point is in no position.
 use Rattle.std.proofs.Common.{◌≡◌, ℕ, ◌+◌, ◌<◌, ◌≤◌, true, false, Some, IsSome, List, ◌++◌, inl, inr, length, map, set, slice_get, refl, sym, ◌∙◌, ap, arith}
 use Rattle.std.proofs.lemmas.Bool.{both_ways}
 use Rattle.std.proofs.lemmas.Option.{same_Some}
@@ -11,7 +12,7 @@ use Rattle.ilk_base.proofs.Tested.{list_all-slice_get}
 use Rattle.ilk_plant.specs.Network.{has_section}
 use Rattle.ilk_plant.specs.Plant.{IsPlant, IsRouteOf, PlantLists, point_number}
 use Rattle.ilk_plant.specs.Shape.{HasShape}
-use Rattle.ilk_plant.specs.State.{lie_of}
+use Rattle.ilk_plant.specs.State.{detected_position}
 use Rattle.ilk_plant.specs.declared.network.Position.{Position}
 use Rattle.ilk_plant.specs.declared.network.Position.TheVariants.{Plus, Minus}
 use Rattle.ilk_plant.specs.declared.state.Lie.TheVariants.{Moving}
@@ -21,14 +22,14 @@ use Rattle.ilk_plant.specs.declared.state.RouteState.{RouteState}
 use Rattle.ilk_plant.specs.declared.state.State.{State}
 use Rattle.ilk_plant.specs.declared.table.Listed.{Listed}
 use Rattle.ilk_plant.specs.declared.table.Route.{Route}
-use Rattle.ilk_plant.proofs.Once.{none_twice-places}
+use Rattle.ilk_plant.proofs.Once.{numbers_differ-places}
 use Rattle.ilk_plant.proofs.PointNumbers.{point_number-below}
 use Rattle.ilk_plant.proofs.InLists.{section-at}
-use Rattle.ilk_routes.specs.Claims.{wanted_points}
-use Rattle.ilk_routes.specs.Lies.{is_moving, lie_in, lies_as_listed, lies_at, lists_point}
+use Rattle.ilk_routes.specs.Claims.{required_points}
+use Rattle.ilk_routes.specs.Lies.{is_moving, lie_from_position, is_detected_as_listed, is_lie_at_position, lists_point}
 use Rattle.ilk_model.specs.Commanded.{commanded_position, is_commanded_as_listed}
 use Rattle.ilk_model.specs.Families.{keeps_v6}
-use Rattle.ilk_model.specs.Holding.{holds_section, is_kept_on_path, is_locked_or_occupied}
+use Rattle.ilk_model.specs.Holding.{holds_section, is_unreleased_on_path, is_locked_or_occupied}
 use Rattle.ilk_strict.proofs.After.{after-cases, before-change, same-here, same-route, v6-reads}
 use Rattle.ilk_strict.proofs.Ahead.{lies-listed}
 use Rattle.ilk_model.proofs.Alike.{own_lie}
@@ -44,19 +45,18 @@ use Rattle.ilk_strict.proofs.RouteFacts.{allocating-holds, held-not_free, holds-
 use Rattle.ilk_strict.proofs.Table.{listed-mapped, listed-none, listed-passed, listed-position, wanted-locked}
 use Rattle.ilk_strict.proofs.TrainFacts.{Keeps}
 
--- what V6 asks of a listed point of a route
+-- The V6 condition for a listed point of a route.
 pub record PointFits (p : PlantLists) (s : State) (route : Route) (now : RouteState) (listed : Listed) : Type 0 where
   pub commanded : now.mode ≡ Allocating → has_section listed.point route.path ≡ true → is_commanded_as_listed p s listed ≡ true
-  pub lies : is_locked_or_occupied now ≡ true → is_kept_on_path route now listed.point ≡ true → (is_commanded_as_listed p s listed ≡ true) × (lies_as_listed p s listed ≡ true)
+  pub lies : is_locked_or_occupied now ≡ true → is_unreleased_on_path route now listed.point ≡ true → (is_commanded_as_listed p s listed ≡ true) × (is_detected_as_listed p s listed ≡ true)
 
 module _ (p : PlantLists) (plant : IsPlant p) (s t : State) (keeps : Keeps p s) (shape : HasShape p t) (n : ℕ) where
-  -- a point of another route fits as before, where it is commanded and lies as before
   fits-still : (q : ℕ) (one : Route) (its : RouteState) → RouteIn p s q one its → (k : ℕ) (listed : Listed) →
       slice_get one.points k ≡ Some listed →
       (holds_section listed.point one its ≡ true →
       commanded_position p t listed.point ≡ commanded_position p s listed.point) →
-      (is_locked_or_occupied its ≡ true → is_kept_on_path one its listed.point ≡ true →
-      lie_of p t listed.point ≡ lie_of p s listed.point) →
+      (is_locked_or_occupied its ≡ true → is_unreleased_on_path one its listed.point ≡ true →
+      detected_position p t listed.point ≡ detected_position p s listed.point) →
       PointFits p t one its listed
   fits-still q one its it k listed at same_command same_lie = record {
     commanded = λ mode on.
@@ -78,7 +78,6 @@ module _ (p : PlantLists) (plant : IsPlant p) (s t : State) (keeps : Keeps p s) 
   from-fits each =
       points-from p t shape.routes (λ q one its it k listed at. let fits = each q one its it k listed at in (fits.commanded, fits.lies))
 
-  -- one route changes, and points stay
   changed : (route : Route) (now new : RouteState) → ChangesRoute p s t n route now new → t.points ≡ s.points → ((k : ℕ) (listed : Listed) → slice_get route.points k ≡ Some listed → PointFits p t route new listed) → keeps_v6 p t ≡ true
   changed route now new changes points mine =
       from-fits (λ q one its it k listed at. elim (after-cases p s t n route now new changes q one its it) [
@@ -89,10 +88,9 @@ module _ (p : PlantLists) (plant : IsPlant p) (s t : State) (keeps : Keeps p s) 
       command : (x : ℕ) → commanded_position p t x ≡ commanded_position p s x
       command x = commanded-alike p s t x (λ m number. ap (λ (l : List PointState). slice_get l m) points)
 
-      lie : (x : ℕ) → lie_of p t x ≡ lie_of p s x
+      lie : (x : ℕ) → detected_position p t x ≡ detected_position p s x
       lie x = lie-alike p s t x (λ m number. ap (λ (l : List PointState). slice_get l m) points)
 
-  -- the route holds nothing afterwards
   drops : (route : Route) (now new : RouteState) → ChangesRoute p s t n route now new → t.points ≡ s.points → (new.mode ≡ Allocating → ⊥) → is_locked_or_occupied new ≡ false → keeps_v6 p t ≡ true
   drops route now new changes points unallocated none =
       changed route now new changes points (λ k listed at. record {
@@ -100,7 +98,6 @@ module _ (p : PlantLists) (plant : IsPlant p) (s t : State) (keeps : Keeps p s) 
         lies = λ mode kept. absurd (both_ways (is_locked_or_occupied new) none mode);
       })
 
-  -- it was Locked or Occupied, and keeps no more than before
   goes_on : (route : Route) (now new : RouteState) → ChangesRoute p s t n route now new → t.points ≡ s.points → (new.mode ≡ Allocating → ⊥) → is_locked_or_occupied now ≡ true → now.rel ≤ new.rel → keeps_v6 p t ≡ true
   goes_on route now new changes points unallocated mode more =
       changed route now new changes points (λ k listed at. record {
@@ -122,7 +119,7 @@ module _ (p : PlantLists) (plant : IsPlant p) (s t : State) (keeps : Keeps p s) 
   allocate-keeps_v6 it =
       from-fits (λ q one its that k listed at. elim (after-cases p s t n it.route it.now new it.changes q one its that) [
         | inl here ↦ same-here (λ u v. (k : ℕ) (listed : Listed) → slice_get u.points k ≡ Some listed → PointFits p t u v listed) one it.route its new here.1 here.2 mine k listed at
-        | inr other ↦ fits-still q one its other.1 k listed at (others q one its other.1 k listed at) (λ mode kept. lie-kept p s t (wanted_points it.route) it.points listed.point)
+        | inr other ↦ fits-still q one its other.1 k listed at (others q one its other.1 k listed at) (λ mode kept. lie-kept p s t (required_points it.route) it.points listed.point)
       ])
     where
       new : RouteState
@@ -135,15 +132,15 @@ module _ (p : PlantLists) (plant : IsPlant p) (s t : State) (keeps : Keeps p s) 
       numbered route of_plant k listed at =
           some-is (point_number p listed.point) (all-at (λ one. IsSome (point_number p one.point)) route.points k listed of_plant.points_are_points at)
 
-      -- all entries of the route that list a point list it at one position
+      -- All entries of the route for one point have the same position.
       alike : (k : ℕ) (listed : Listed) → slice_get it.route.points k ≡ Some listed → (m : ℕ) →
           point_number p listed.point ≡ Some m → (j : ℕ) (one : Listed) →
-          slice_get (wanted_points it.route) j ≡ Some one → lists_point p m one ≡ true → one.at ≡ listed.at
+          slice_get (required_points it.route) j ≡ Some one → lists_point p m one ≡ true → one.at ≡ listed.at
       alike k listed at m number j one there lists =
           let same = lists-named p one listed.point m number lists in
           elim (at-either it.route.points it.route.protecting_points j one there) [
             | inl first ↦
-                (let place : first.0 ≡ k = none_twice-places
+                (let place : first.0 ≡ k = numbers_differ-places
                 (map (λ (one : Listed). one.point) it.route.points) of.points_once first.0 k listed.point
                 (listed-mapped it.route.points first.0 one first.1 ∙ ap Some same)
                 (listed-mapped it.route.points k listed at) in
@@ -162,22 +159,21 @@ module _ (p : PlantLists) (plant : IsPlant p) (s t : State) (keeps : Keeps p s) 
             let below : number.0 < length s.points = (let known = point_number-below p listed.point in let less = rw number.1 at known in let count = keeps.shape.points in omega (arith, less, count)) in
             let point = item_at s.points number.0 below in
             let among = at-before it.route.points it.route.protecting_points k listed at in
-            let lists = listed-position p number.0 listed.at (wanted_points it.route) (alike k listed at number.0 number.1) k listed among (lists-own p listed number.0 number.1) in
-            commanded-from p t listed (commanded-new p s t (wanted_points it.route) it.points listed.point number.0 point.0 listed.at number.1 point.1 lists));
+            let lists = listed-position p number.0 listed.at (required_points it.route) (alike k listed at number.0 number.1) k listed among (lists-own p listed number.0 number.1) in
+            commanded-from p t listed (commanded-new p s t (required_points it.route) it.points listed.point number.0 point.0 listed.at number.1 point.1 lists));
         lies = λ mode kept. absurd (both_ways false refl mode);
       }
 
-      -- no point of what another route holds is commanded
       others : (q : ℕ) (one : Route) (its : RouteState) → RouteIn p s q one its → (k : ℕ) (listed : Listed) →
           slice_get one.points k ≡ Some listed → holds_section listed.point one its ≡ true →
           commanded_position p t listed.point ≡ commanded_position p s listed.point
       others q one its that k listed at held =
           let number = numbered one (plant.routes_known q one that.known) k listed at in
-          let none = listed-none p number.0 (wanted_points it.route) (λ j entry there lists.
+          let none = listed-none p number.0 (required_points it.route) (λ j entry there lists.
           (let same = lists-named p entry listed.point number.0 number.1 lists in
           let among = wanted-locked p it.route of j entry there in
           held-not_free p s keeps.v3 q one its that listed.point held (cleared s it.route it.clear listed.point (rw same at among)).0)) in
-          commanded-kept p s t (wanted_points it.route) it.points listed.point number.0 number.1 none
+          commanded-kept p s t (required_points it.route) it.points listed.point number.0 number.1 none
 
   pub lock-keeps_v6 : IsLocked p s t n → keeps_v6 p t ≡ true
   lock-keeps_v6 it =
@@ -197,7 +193,7 @@ module _ (p : PlantLists) (plant : IsPlant p) (s t : State) (keeps : Keeps p s) 
               (lie-alike p s t listed.point
               (λ m number. ap (λ (l : List PointState). slice_get l m) it.points)
               ∙ lies-listed p s listed listed.point
-              (list_all-slice_get (lies_as_listed p s) (wanted_points it.route) k listed it.lie
+              (list_all-slice_get (is_detected_as_listed p s) (required_points it.route) k listed it.lie
               (at-before it.route.points it.route.protecting_points k listed at)) refl),
         );
       })
@@ -211,10 +207,10 @@ module _ (p : PlantLists) (plant : IsPlant p) (s t : State) (keeps : Keeps p s) 
   pub finish-keeps_v6 : IsFinished p s t n → keeps_v6 p t ≡ true
   finish-keeps_v6 it = drops it.route it.now (record { mode = Free; seen = 0; rel = 0 }) it.changes it.points (λ e. cc) refl
 
-  -- one point changes how it lies, which isn't as a route that keeps it needs it
+  -- A point that isn't in its commanded position changes its detected position.
   point-changes : (x m : ℕ) (point new : PointState) → point_number p x ≡ Some m →
       slice_get s.points m ≡ Some point → t.points ≡ set s.points m new → t.routes ≡ s.routes →
-      new.to ≡ point.to → ((at : Position) → point.to ≡ at → point.at ≡ lie_in at → ⊥) → keeps_v6 p t ≡ true
+      new.to ≡ point.to → ((at : Position) → point.to ≡ at → point.at ≡ lie_from_position at → ⊥) → keeps_v6 p t ≡ true
   point-changes x m point new number at points routes same elsewhere =
       from-fits (λ q one its it k listed there.
       let was = same-route p s t routes q one its it in
@@ -223,27 +219,28 @@ module _ (p : PlantLists) (plant : IsPlant p) (s t : State) (keeps : Keeps p s) 
       (λ mode kept. lie-other p s t x m point new number at points listed.point
       (λ here. needed q one its was k listed there mode kept here)))
     where
-      needed : (q : ℕ) (one : Route) (its : RouteState) → RouteIn p s q one its → (k : ℕ) (listed : Listed) → slice_get one.points k ≡ Some listed → is_locked_or_occupied its ≡ true → is_kept_on_path one its listed.point ≡ true → listed.point ≡ x → ⊥
+      needed : (q : ℕ) (one : Route) (its : RouteState) → RouteIn p s q one its → (k : ℕ) (listed : Listed) → slice_get one.points k ≡ Some listed → is_locked_or_occupied its ≡ true → is_unreleased_on_path one its listed.point ≡ true
+          → listed.point ≡ x → ⊥
       needed q one its was k listed there mode kept here =
           let both = lies-at p s keeps.v6 q one its was k listed there mode kept in
           let command = commanded-at_listed p s listed both.0 in
           let to : point.to ≡ listed.at = same_Some point.to listed.at (sym (commanded-is p s x m point number at) ∙ ap (commanded_position p s) (sym here) ∙ command) in
-          let lie : point.at ≡ lie_in listed.at = same_Some point.at (lie_in listed.at) (sym (lie-is p s x m point number at) ∙ lies-listed p s listed x both.1 here) in
+          let lie : point.at ≡ lie_from_position listed.at = same_Some point.at (lie_from_position listed.at) (sym (lie-is p s x m point number at) ∙ lies-listed p s listed x both.1 here) in
           elsewhere listed.at to lie
 
   pub throw-keeps_v6 : IsThrown p s t n → keeps_v6 p t ≡ true
   throw-keeps_v6 it =
       let point = it.point in
       point-changes n it.n point (record point { at = Moving }) it.number it.state it.points it.routes refl (λ at to lie.
-      let lies : lies_at point.at point.to ≡ true = rw (lie, to) (own_lie at) in both_ways (lies_at point.at point.to) it.elsewhere lies)
+      let lies : is_lie_at_position point.at point.to ≡ true = rw (lie, to) (own_lie at) in both_ways (is_lie_at_position point.at point.to) it.elsewhere lies)
 
   pub settle-keeps_v6 : IsSettled p s t n → keeps_v6 p t ≡ true
   settle-keeps_v6 it =
       let point = it.point in
-      point-changes n it.n point (record point { at = lie_in point.to }) it.number it.state it.points it.routes refl (λ at to lie.
+      point-changes n it.n point (record point { at = lie_from_position point.to }) it.number it.state it.points it.routes refl (λ at to lie.
       let still : is_moving point.at ≡ false = rw lie (still_in at) in both_ways (is_moving point.at) still it.moved)
     where
-      still_in : (at : Position) → is_moving (lie_in at) ≡ false
+      still_in : (at : Position) → is_moving (lie_from_position at) ≡ false
       still_in Plus = refl
       still_in Minus = refl
 

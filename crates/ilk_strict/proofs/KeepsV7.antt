@@ -1,5 +1,6 @@
--- No event breaks V7: a train's head at a section that is plain for it is path[i] of a route of the train's direction that is
--- Occupied, or Locked with its source Closed; seen is at most i + 1; each later path section is vacant.
+-- No event breaks V7. A train's head at a section that is plain for it is path[i] of a route of the
+-- train's direction. The route is Occupied, or Locked with its source Closed; seen is at most i +
+-- 1; each later path section is vacant.
 use Rattle.std.proofs.Common.{◌≡◌, ℕ, zero, suc, ◌+◌, ◌<◌, ◌≤◌, true, false, Some, None, List, ◌∷◌, inl, inr, length, slice_get, refl, sym, ◌∙◌, ap, subst, arith}
 use Rattle.std.specs.List.{last_or}
 use Rattle.std.proofs.lemmas.Bool.{both_ways, cases_eq}
@@ -22,7 +23,7 @@ use Rattle.ilk_plant.specs.declared.state.Train.{Train}
 use Rattle.ilk_plant.specs.declared.table.Route.{Route}
 use Rattle.ilk_routes.specs.Modes.{same_mode}
 use Rattle.ilk_model.specs.Families.{keeps_v7}
-use Rattle.ilk_model.specs.Holding.{holds_section, is_plain, runs_in}
+use Rattle.ilk_model.specs.Holding.{holds_section, is_plain_for_direction, route_runs_in}
 use Rattle.ilk_strict.specs.IsStrict.{IsStrict}
 use Rattle.ilk_strict.proofs.After.{after-change, before-change, one-state, route-stays, same-occupied, v7-reads}
 use Rattle.ilk_strict.proofs.Ahead.{board-one}
@@ -56,7 +57,6 @@ module _ (p : PlantLists) (plant : IsPlant p) (strict : IsStrict p) (s t : State
       new : RouteState
       new = let now = it.now in record now { mode = Locked }
 
-      -- routes that begin at one board begin with one section, which only one of them holds
       another-source : (q : ℕ) (one : Route) (its : RouteState) → RouteIn p s q one its → its.mode ≡ Locked → (q ≡ n → ⊥) → one.source ≡ it.route.source → ⊥
       another-source q one its that mode apart same =
           let was = before-change p s t n it.route it.now new it.changes in
@@ -85,7 +85,7 @@ module _ (p : PlantLists) (plant : IsPlant p) (strict : IsStrict p) (s t : State
       new : RouteState
       new = let now = it.now in record now { mode = Occupied; seen = now.seen + 1 }
 
-      -- the section that is sensed isn't behind the head
+      -- The sensed section isn't behind the head.
       not-later : (d : Dir) (x : ℕ) → (led : IsLedBy p s d x) → led.route ≡ it.route → it.now.seen ≤ led.i
       not-later d x led same = elim (below_or_past led.i it.now.seen) [
         | inl less ↦ absurd (both_ways (is_occupied s it.x) (led.later it.now.seen it.x less (ap (λ (route : Route). slice_get route.path it.now.seen) same ∙ it.next)) it.occupied)
@@ -103,7 +103,7 @@ module _ (p : PlantLists) (plant : IsPlant p) (strict : IsStrict p) (s t : State
             it = after-change p s t n it.route it.now new it.changes;
             i = led.i;
             at = ap (λ (route : Route). slice_get route.path led.i) (sym is.0) ∙ led.at;
-            runs = subst (λ (route : Route). runs_in p d route ≡ true) is.0 led.runs;
+            runs = subst (λ (route : Route). route_runs_in p d route ≡ true) is.0 led.runs;
             mode = inl refl;
             seen = omega (arith, few);
             later = λ j y less at. same-occupied s t it.trains y ∙ led.later j y less (ap (λ (route : Route). slice_get route.path j) is.0 ∙ at);
@@ -126,7 +126,7 @@ module _ (p : PlantLists) (plant : IsPlant p) (strict : IsStrict p) (s t : State
             it = after-change p s t n it.route it.now new it.changes;
             i = led.i;
             at = ap (λ (route : Route). slice_get route.path led.i) (sym is.0) ∙ led.at;
-            runs = subst (λ (route : Route). runs_in p d route ≡ true) is.0 led.runs;
+            runs = subst (λ (route : Route). route_runs_in p d route ≡ true) is.0 led.runs;
             mode = inl it.was;
             seen = subst (λ (v : RouteState). v.seen ≤ led.i + 1) is.1 led.seen;
             later = λ j y less at. same-occupied s t it.trains y ∙ led.later j y less (ap (λ (route : Route). slice_get route.path j) is.0 ∙ at);
@@ -142,8 +142,8 @@ module _ (p : PlantLists) (plant : IsPlant p) (strict : IsStrict p) (s t : State
       new : RouteState
       new = record { mode = Free; seen = 0; rel = 0 }
 
-      -- the head would be at the end of the path, which isn't plain
-      at-end : (d : Dir) (x : ℕ) → is_plain p d x ≡ true → (led : IsLedBy p s d x) → led.r ≡ n → ⊥
+      -- The head would be at the end of the path, which isn't plain.
+      at-end : (d : Dir) (x : ℕ) → is_plain_for_direction p d x ≡ true → (led : IsLedBy p s d x) → led.r ≡ n → ⊥
       at-end d x plain led same =
           let is = one-state p s led.r n led.route it.route led.now it.now led.it (before-change p s t n it.route it.now new it.changes) same in
           let at : slice_get it.route.path led.i ≡ Some x = ap (λ (route : Route). slice_get route.path led.i) (sym is.0) ∙ led.at in
@@ -152,9 +152,9 @@ module _ (p : PlantLists) (plant : IsPlant p) (strict : IsStrict p) (s t : State
           let all_seen = it.all_seen in
           let last : led.i + 1 ≡ length it.route.path = omega (arith, seen, within, all_seen) in
           let source = route-source p it.route (plant.routes_known n it.route it.changes.known) in
-          let dir : source.0.dir ≡ d = runs-source p d it.route source.0 (subst (λ (route : Route). runs_in p d route ≡ true) is.0 led.runs) source.1 in
+          let dir : source.0.dir ≡ d = runs-source p d it.route source.0 (subst (λ (route : Route). route_runs_in p d route ≡ true) is.0 led.runs) source.1 in
           let ends = strict.ends n it.route source.0 (record { known = it.changes.known; begins = source.1 }) led.i x at last in
-          both_ways (is_plain p d x) (subst (λ (e : Dir). is_plain p e x ≡ false) dir ends) plain
+          both_ways (is_plain_for_direction p d x) (subst (λ (e : Dir). is_plain_for_direction p e x ≡ false) dir ends) plain
 
   pub throw-keeps_v7 : IsThrown p s t n → keeps_v7 p t ≡ true
   throw-keeps_v7 it = v7-reads p s t it.routes it.boards it.trains keeps.v7
@@ -162,7 +162,6 @@ module _ (p : PlantLists) (plant : IsPlant p) (strict : IsStrict p) (s t : State
   pub settle-keeps_v7 : IsSettled p s t n → keeps_v7 p t ≡ true
   settle-keeps_v7 it = v7-reads p s t it.routes it.boards it.trains keeps.v7
 
-  -- routes stay, closed boards stay so, and the sections that the route has later on its path stay vacant
   still-led : t.routes ≡ s.routes →
       ((m : ℕ) → slice_get s.boards m ≡ Some Closed → slice_get t.boards m ≡ Some Closed) →
       (d : Dir) (x : ℕ) → (led : IsLedBy p s d x) →
@@ -181,7 +180,6 @@ module _ (p : PlantLists) (plant : IsPlant p) (strict : IsStrict p) (s t : State
     later = λ j y less at. stay j y less at (led.later j y less at);
   }
 
-  -- the route that leads a train holds what it has later on its path
   holds-later : (d : Dir) (x : ℕ) → (led : IsLedBy p s d x) → (j y : ℕ) → led.i < j → slice_get led.route.path j ≡ Some y → holds_section y led.route led.now ≡ true
   holds-later d x led j y less at =
       let least = rel-led p s keeps.v1 led.r led.route led.now led.it led.i led.seen in
@@ -198,7 +196,7 @@ module _ (p : PlantLists) (plant : IsPlant p) (strict : IsStrict p) (s t : State
             (let dir : train.dir ≡ it.inward = ap (λ (one : Train). one.dir) new.1 in
             let here : n ≡ x = same_Some n x (sym (ap (λ (one : Train). last_or None one.body) new.1) ∙ last) in
             let ends = board-not_plain p it.inward n (strict.borders n it.inward it.borders) in
-            absurd (both_ways (is_plain p train.dir x) (rw (dir, ← here) ends) plain))
+            absurd (both_ways (is_plain_for_direction p train.dir x) (rw (dir, ← here) ends) plain))
       ])
 
   pub head-keeps_v7 : IsHeaded p s t n → keeps_v7 p t ≡ true
@@ -222,7 +220,7 @@ module _ (p : PlantLists) (plant : IsPlant p) (strict : IsStrict p) (s t : State
       head-at : last_or None it.train.body ≡ Some n
       head-at = last-is n it.train.body it.heads None
 
-      -- the train that has gone on is led by the route that held what lay ahead
+      -- The route that held the section ahead leads the train after the move.
       led-on : IsLedBy p t it.train.dir it.y
       led-on =
           let few = on.seen in
@@ -242,7 +240,6 @@ module _ (p : PlantLists) (plant : IsPlant p) (strict : IsStrict p) (s t : State
             later = λ j z less at. head-vacant p s t n it z (on.vacant j z (omega (arith, less)) at) (λ same. let place = path-once p on.route of j on.k z at (on.at ∙ ap Some (sym same)) in absurd (omega (arith, place, less)));
           }
 
-      -- no other train is led to where it has gone
       clash : (i : ℕ) (train : Train) (x : ℕ) → (i ≡ it.i → ⊥) → slice_get s.trains i ≡ Some train → last_or None train.body ≡ Some x → (led : IsLedBy p s train.dir x) → (j y : ℕ) → led.i < j → slice_get led.route.path j ≡ Some y → y ≡ it.y → ⊥
       clash i train x apart at last led j y less there same =
           let mine = holds-path on.route on.now on.k y (locked-holds on.now on.mode) on.least (on.at ∙ ap Some (sym same)) in
@@ -256,7 +253,6 @@ module _ (p : PlantLists) (plant : IsPlant p) (strict : IsStrict p) (s t : State
             | inr none ↦ behind on.k (omega (arith, place, less)) on.before head later
           ]
         where
-          -- the train stands between the head of the other and where it has gone, or in the same section
           behind : (k : ℕ) → led.i < k → slice_get (on.source.section ∷ on.route.path) k ≡ Some n → slice_get on.route.path led.i ≡ Some x → ((l z : ℕ) → led.i < l → slice_get on.route.path l ≡ Some z → is_occupied s z ≡ false) → ⊥
           behind zero more before head later = absurd (omega (arith, more))
           behind (suc k) more before head later = elim (cases_eq led.i k) [
@@ -275,11 +271,11 @@ module _ (p : PlantLists) (plant : IsPlant p) (strict : IsStrict p) (s t : State
         | inl moved ↦
             (let dir : it.train.dir ≡ train.dir = ap (λ (one : Train). one.dir) (sym moved.1) in
             let head : last_or None it.train.body ≡ Some x = sym (last-shorter n it.train.body it.several) ∙ sym (ap (λ (one : Train). last_or None one.body) moved.1) ∙ last in
-            subst (λ (e : Dir). IsLedBy p t e x) dir (on it.i it.train x it.at head (subst (λ (e : Dir). is_plain p e x ≡ true) (sym dir) plain)))
+            subst (λ (e : Dir). IsLedBy p t e x) dir (on it.i it.train x it.at head (subst (λ (e : Dir). is_plain_for_direction p e x ≡ true) (sym dir) plain)))
         | inr other ↦ on i train x other.1 last plain
       ])
     where
-      on : (i : ℕ) (train : Train) (x : ℕ) → slice_get s.trains i ≡ Some train → last_or None train.body ≡ Some x → is_plain p train.dir x ≡ true → IsLedBy p t train.dir x
+      on : (i : ℕ) (train : Train) (x : ℕ) → slice_get s.trains i ≡ Some train → last_or None train.body ≡ Some x → is_plain_for_direction p train.dir x ≡ true → IsLedBy p t train.dir x
       on i train x at last plain =
           let led = head-led p s keeps.v7 i train x at last plain in
           still-led it.routes (λ m closed. ap (λ (l : List Aspect). slice_get l m) it.boards ∙ closed) train.dir x led (λ j y less there vacant. tail-vacant p s t n it y vacant)

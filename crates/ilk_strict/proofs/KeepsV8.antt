@@ -1,5 +1,6 @@
--- No event breaks V8: each section of a body that is plain for its train is path[i], with i at least rel, of a Locked or
--- Occupied route of the train's direction. A route gives back only what is vacant, and at its end what isn't plain.
+-- No event breaks V8. Each section of a body that is plain for its train is path[i], i >= rel, of a
+-- Locked or Occupied route of the train's direction. A route releases only vacant sections, and at
+-- its end a section that isn't plain.
 use Rattle.std.proofs.Common.{◌≡◌, ℕ, suc, ◌+◌, ◌≤◌, true, false, Some, List, [], ◌∷◌, ◌++◌, inl, inr, length, remove, slice_get, refl, sym, ◌∙◌, ap, subst, arith}
 use Rattle.std.proofs.lemmas.Bool.{both_ways, cases_eq}
 use Rattle.std.proofs.lemmas.Option.{same_Some, slice_get_within}
@@ -17,7 +18,7 @@ use Rattle.ilk_plant.specs.declared.table.Route.{Route}
 use Rattle.ilk_plant.proofs.InLists.{section-from, only-one}
 use Rattle.ilk_routes.specs.Modes.{same_mode}
 use Rattle.ilk_model.specs.Families.{keeps_v8}
-use Rattle.ilk_model.specs.Holding.{is_locked_or_occupied, is_plain, runs_in}
+use Rattle.ilk_model.specs.Holding.{is_locked_or_occupied, is_plain_for_direction, route_runs_in}
 use Rattle.ilk_strict.specs.IsStrict.{IsStrict}
 use Rattle.ilk_strict.proofs.After.{after-change, before-change, one-state, other-stays, route-stays, v8-reads}
 use Rattle.ilk_model.proofs.Alike.{one_mode}
@@ -32,10 +33,9 @@ use Rattle.ilk_strict.proofs.TrainFacts.{IsKeptBy, Keeps, bodies-from, body-kept
 use Rattle.ilk_strict.proofs.Trains.{enter-trains, head-trains, leave-trains, shorter-at, tail-trains}
 
 module _ (p : PlantLists) (plant : IsPlant p) (strict : IsStrict p) (s t : State) (keeps : Keeps p s) (n : ℕ) where
-  -- one route changes, and trains stay
   changed : (route : Route) (now new : RouteState) → ChangesRoute p s t n route now new →
       t.trains ≡ s.trains →
-      ((d : Dir) (x : ℕ) → is_plain p d x ≡ true → is_occupied s x ≡ true → (kept : IsKeptBy p s d x) →
+      ((d : Dir) (x : ℕ) → is_plain_for_direction p d x ≡ true → is_occupied s x ≡ true → (kept : IsKeptBy p s d x) →
       kept.r ≡ n → IsKeptBy p t d x) →
       keeps_v8 p t ≡ true
   changed route now new changes trains mine =
@@ -57,14 +57,12 @@ module _ (p : PlantLists) (plant : IsPlant p) (strict : IsStrict p) (s t : State
         }
       ])
 
-  -- the route kept nothing
   idle-changed : (route : Route) (now new : RouteState) → ChangesRoute p s t n route now new → t.trains ≡ s.trains → is_locked_or_occupied now ≡ false → keeps_v8 p t ≡ true
   idle-changed route now new changes trains idle =
       changed route now new changes trains (λ d x plain occupied kept same.
       let is = one-state p s kept.r n kept.route route kept.now now kept.it (before-change p s t n route now new changes) same in
       absurd (both_ways (is_locked_or_occupied now) idle (subst (λ (v : RouteState). is_locked_or_occupied v ≡ true) is.1 kept.mode)))
 
-  -- the route goes on keeping the section
   keeps-on : (route : Route) (now new : RouteState) → ChangesRoute p s t n route now new →
       is_locked_or_occupied new ≡ true → (d : Dir) (x : ℕ) → (kept : IsKeptBy p s d x) → kept.r ≡ n →
       (kept.now ≡ now → kept.route ≡ route → new.rel ≤ kept.i) → IsKeptBy p t d x
@@ -77,7 +75,7 @@ module _ (p : PlantLists) (plant : IsPlant p) (strict : IsStrict p) (s t : State
         it = after-change p s t n route now new changes;
         i = kept.i;
         at = ap (λ (one : Route). slice_get one.path kept.i) (sym is.0) ∙ kept.at;
-        runs = subst (λ (one : Route). runs_in p d one ≡ true) is.0 kept.runs;
+        runs = subst (λ (one : Route). route_runs_in p d one ≡ true) is.0 kept.runs;
         mode = mode;
         least = least is.1 is.0;
       }
@@ -106,7 +104,6 @@ module _ (p : PlantLists) (plant : IsPlant p) (strict : IsStrict p) (s t : State
       new : RouteState
       new = let now = it.now in record now { rel = now.rel + 1 }
 
-      -- the section that is given back is vacant
       not-first : (d : Dir) (x : ℕ) → is_occupied s x ≡ true → (kept : IsKeptBy p s d x) → kept.now ≡ it.now → kept.route ≡ it.route → it.now.rel + 1 ≤ kept.i
       not-first d x occupied kept is route = elim (cases_eq kept.i it.now.rel) [
         | inl first ↦
@@ -123,8 +120,8 @@ module _ (p : PlantLists) (plant : IsPlant p) (strict : IsStrict p) (s t : State
       new : RouteState
       new = record { mode = Free; seen = 0; rel = 0 }
 
-      -- the route kept the end of its path alone, which isn't plain
-      at-end : (d : Dir) (x : ℕ) → is_plain p d x ≡ true → (kept : IsKeptBy p s d x) → kept.r ≡ n → ⊥
+      -- The route held only the end of its path, which isn't plain.
+      at-end : (d : Dir) (x : ℕ) → is_plain_for_direction p d x ≡ true → (kept : IsKeptBy p s d x) → kept.r ≡ n → ⊥
       at-end d x plain kept same =
           let is = one-state p s kept.r n kept.route it.route kept.now it.now kept.it (before-change p s t n it.route it.now new it.changes) same in
           let at : slice_get it.route.path kept.i ≡ Some x = ap (λ (one : Route). slice_get one.path kept.i) (sym is.0) ∙ kept.at in
@@ -133,9 +130,9 @@ module _ (p : PlantLists) (plant : IsPlant p) (strict : IsStrict p) (s t : State
           let rest = it.rest in
           let last : kept.i + 1 ≡ length it.route.path = omega (arith, least, within, rest) in
           let source = route-source p it.route (plant.routes_known n it.route it.changes.known) in
-          let dir : source.0.dir ≡ d = runs-source p d it.route source.0 (subst (λ (one : Route). runs_in p d one ≡ true) is.0 kept.runs) source.1 in
+          let dir : source.0.dir ≡ d = runs-source p d it.route source.0 (subst (λ (one : Route). route_runs_in p d one ≡ true) is.0 kept.runs) source.1 in
           let ends = strict.ends n it.route source.0 (record { known = it.changes.known; begins = source.1 }) kept.i x at last in
-          both_ways (is_plain p d x) (subst (λ (e : Dir). is_plain p e x ≡ false) dir ends) plain
+          both_ways (is_plain_for_direction p d x) (subst (λ (e : Dir). is_plain_for_direction p e x ≡ false) dir ends) plain
 
   pub throw-keeps_v8 : IsThrown p s t n → keeps_v8 p t ≡ true
   throw-keeps_v8 it = v8-reads p s t it.routes it.trains keeps.v8
@@ -143,7 +140,6 @@ module _ (p : PlantLists) (plant : IsPlant p) (strict : IsStrict p) (s t : State
   pub settle-keeps_v8 : IsSettled p s t n → keeps_v8 p t ≡ true
   settle-keeps_v8 it = v8-reads p s t it.routes it.trains keeps.v8
 
-  -- routes stay
   still-kept : t.routes ≡ s.routes → (d : Dir) (x : ℕ) → IsKeptBy p s d x → IsKeptBy p t d x
   still-kept routes d x kept = record {
     r = kept.r;
@@ -165,7 +161,7 @@ module _ (p : PlantLists) (plant : IsPlant p) (strict : IsStrict p) (s t : State
             (let dir : train.dir ≡ it.inward = ap (λ (one : Train). one.dir) new.1 in
             let here : n ≡ x = only-one x n (subst (λ (one : Train). has_section x one.body ≡ true) new.1 (section-from train.body k x place)) in
             let ends = board-not_plain p it.inward n (strict.borders n it.inward it.borders) in
-            absurd (both_ways (is_plain p train.dir x) (rw (dir, ← here) ends) plain))
+            absurd (both_ways (is_plain_for_direction p train.dir x) (rw (dir, ← here) ends) plain))
       ])
 
   pub head-keeps_v8 : IsHeaded p s t n → keeps_v8 p t ≡ true
@@ -174,7 +170,7 @@ module _ (p : PlantLists) (plant : IsPlant p) (strict : IsStrict p) (s t : State
         | inl moved ↦
             (let dir : it.train.dir ≡ train.dir = ap (λ (one : Train). one.dir) (sym moved.1) in
             let there : slice_get (it.train.body ++ it.y ∷ []) k ≡ Some x = ap (λ (one : Train). slice_get one.body k) (sym moved.1) ∙ place in
-            let as_before : is_plain p it.train.dir x ≡ true = subst (λ (e : Dir). is_plain p e x ≡ true) (sym dir) plain in
+            let as_before : is_plain_for_direction p it.train.dir x ≡ true = subst (λ (e : Dir). is_plain_for_direction p e x ≡ true) (sym dir) plain in
             subst (λ (e : Dir). IsKeptBy p t e x) dir (elim (slice_get-push_cases it.train.body it.y x k there) [
               | inl old ↦ still-kept it.routes it.train.dir x (body-kept p s keeps.v8 it.i it.train it.at k x old as_before)
               | inr new ↦ subst (λ (y : ℕ). IsKeptBy p t it.train.dir y) new.1 kept-on
@@ -182,7 +178,6 @@ module _ (p : PlantLists) (plant : IsPlant p) (strict : IsStrict p) (s t : State
         | inr other ↦ still-kept it.routes train.dir x (body-kept p s keeps.v8 i train other.1 k x place plain)
       ])
     where
-      -- the section ahead is kept by the route that held it
       kept-on : IsKeptBy p t it.train.dir it.y
       kept-on =
           let on = headed-goes_on p plant strict s t keeps n it in
@@ -204,7 +199,8 @@ module _ (p : PlantLists) (plant : IsPlant p) (strict : IsStrict p) (s t : State
         | inl moved ↦
             (let dir : it.train.dir ≡ train.dir = ap (λ (one : Train). one.dir) (sym moved.1) in
             let there : slice_get (remove it.train.body 0) k ≡ Some x = ap (λ (one : Train). slice_get one.body k) (sym moved.1) ∙ place in
-            subst (λ (e : Dir). IsKeptBy p t e x) dir (still-kept it.routes it.train.dir x (body-kept p s keeps.v8 it.i it.train it.at (suc k) x (shorter-at it.train.body k x there) (subst (λ (e : Dir). is_plain p e x ≡ true) (sym dir) plain))))
+            subst (λ (e : Dir). IsKeptBy p t e x) dir (still-kept it.routes it.train.dir x (body-kept p s keeps.v8 it.i it.train it.at (suc k) x (shorter-at it.train.body k x there)
+            (subst (λ (e : Dir). is_plain_for_direction p e x ≡ true) (sym dir) plain))))
         | inr other ↦ still-kept it.routes train.dir x (body-kept p s keeps.v8 i train other.1 k x place plain)
       ])
 

@@ -1,5 +1,5 @@
--- No event breaks V9: each protecting board of a Locked route is Closed. A board is opened as a source alone, where no Locked
--- route protects itself by it.
+-- No event breaks V9: each protecting board of a Locked route is Closed. Only a source is opened,
+-- and only if no Locked route has it as a protecting board.
 use Rattle.std.proofs.Common.{◌≡◌, ℕ, ◌+◌, true, ◌==◌, ◌&&◌, Some, List, inl, inr, length, slice_get, refl, sym, ◌∙◌, ap}
 use Rattle.std.specs.List.{list_any}
 use Rattle.std.proofs.lemmas.Bool.{and_from, both_ways, eq-eqb}
@@ -14,7 +14,7 @@ use Rattle.ilk_plant.specs.declared.state.Mode.TheVariants.{Free, Marked, Alloca
 use Rattle.ilk_plant.specs.declared.state.RouteState.{RouteState}
 use Rattle.ilk_plant.specs.declared.state.State.{State}
 use Rattle.ilk_plant.specs.declared.table.Route.{Route}
-use Rattle.ilk_routes.specs.Boards.{has_aspect, is_protecting, protects_by}
+use Rattle.ilk_routes.specs.Boards.{has_aspect, is_held_closed, has_protecting_board}
 use Rattle.ilk_routes.specs.Modes.{has_mode}
 use Rattle.ilk_model.specs.Families.{keeps_v9}
 use Rattle.ilk_strict.proofs.After.{after-cases, same-here, same-route, v9-reads}
@@ -22,12 +22,11 @@ use Rattle.ilk_strict.proofs.Boards.{head-closed, other-board, sense-closed}
 use Rattle.ilk_model.proofs.PointFrames.{IsSettled, IsThrown}
 use Rattle.ilk_model.proofs.RouteFrames.{ChangesRoute, IsAllocated, IsCancelled, IsFinished, IsLocked, IsMarked, IsReleased, IsSensed}
 use Rattle.ilk_model.proofs.TrainFrames.{IsEntered, IsHeaded, IsLeft, IsTailed}
-use Rattle.ilk_strict.proofs.Reading.{RouteIn, has_aspect-at, some_below-from}
+use Rattle.ilk_strict.proofs.Reading.{RouteIn, has_aspect-at, any_below-from}
 use Rattle.ilk_strict.proofs.BoardFacts.{protected-at, protected-from}
 use Rattle.ilk_strict.proofs.TrainFacts.{Keeps}
 
 module _ (p : PlantLists) (plant : IsPlant p) (s t : State) (keeps : Keeps p s) (shape : HasShape p t) (n : ℕ) where
-  -- one route changes, and boards so that those of the Locked routes stay Closed
   changed : (route : Route) (now new : RouteState) → ChangesRoute p s t n route now new →
       ((q : ℕ) (one : Route) (its : RouteState) → RouteIn p s q one its → its.mode ≡ Locked → (k m : ℕ) →
       slice_get one.protecting_boards k ≡ Some m → slice_get s.boards m ≡ Some Closed →
@@ -41,7 +40,6 @@ module _ (p : PlantLists) (plant : IsPlant p) (s t : State) (keeps : Keeps p s) 
         | inr other ↦ stay q one its other.1 mode k m at (protected-at p s keeps.v9 q one its other.1 mode k m at)
       ])
 
-  -- boards stay, and the route isn't Locked afterwards
   unlocked : (route : Route) (now new : RouteState) → ChangesRoute p s t n route now new → t.boards ≡ s.boards → (new.mode ≡ Locked → ⊥) → keeps_v9 p t ≡ true
   unlocked route now new changes boards apart =
       changed route now new changes (λ q one its it mode k m at closed. ap (λ (l : List Aspect). slice_get l m) boards ∙ closed) (λ mode. absurd (apart mode))
@@ -68,14 +66,14 @@ module _ (p : PlantLists) (plant : IsPlant p) (s t : State) (keeps : Keeps p s) 
       elsewhere : (m : ℕ) → (m ≡ it.route.source → ⊥) → slice_get s.boards m ≡ Some Closed → slice_get t.boards m ≡ Some Closed
       elsewhere m apart closed = ap (λ (l : List Aspect). slice_get l m) it.boards ∙ other-board s.boards it.route.source m Open apart ∙ closed
 
-      -- no Locked route has the source among its protecting boards
       unprotected : (q : ℕ) (one : Route) (its : RouteState) → RouteIn p s q one its → its.mode ≡ Locked → (k m : ℕ) → slice_get one.protecting_boards k ≡ Some m → m ≡ it.route.source → ⊥
       unprotected q one its that mode k m at same =
           let is_locked : has_mode s q Locked ≡ true = rw (that.state, mode) refl in
           let among : list_any (λ b. b == it.route.source) one.protecting_boards ≡ true = list_any-from (λ b. b == it.route.source) one.protecting_boards k m at (eq-eqb m it.route.source same) in
-          let protects : protects_by p q it.route.source ≡ true = rw that.known among in
-          both_ways (is_protecting p s it.route.source) it.unprotecting
-          (some_below-from (length p.routes) (λ q. has_mode s q Locked && protects_by p q it.route.source) q (slice_get_within p.routes q one that.known) (and_from (has_mode s q Locked) (protects_by p q it.route.source) is_locked protects))
+          let protects : has_protecting_board p q it.route.source ≡ true = rw that.known among in
+          both_ways (is_held_closed p s it.route.source) it.unprotecting
+          (any_below-from (length p.routes) (λ q. has_mode s q Locked && has_protecting_board p q it.route.source) q (slice_get_within p.routes q one that.known)
+          (and_from (has_mode s q Locked) (has_protecting_board p q it.route.source) is_locked protects))
 
   pub sense-keeps_v9 : IsSensed p s t n → keeps_v9 p t ≡ true
   sense-keeps_v9 it =

@@ -1,4 +1,4 @@
--- A route that leads a train's head leads it still where another route changes, or none.
+-- A route still leads a train's head if another route changes, or none.
 use Rattle.std.proofs.Common.{◌≡◌, ℕ, true, false, Option, Some, None, List, inl, inr, ◌⊎◌, length, slice_get, nat_lt, refl, sym, ◌∙◌, ap, subst}
 use Rattle.std.specs.List.{last_or}
 use Rattle.std.proofs.lemmas.Bool.{and_left, both_ways, cases_eq}
@@ -17,18 +17,16 @@ use Rattle.ilk_plant.specs.declared.state.Train.{Train}
 use Rattle.ilk_plant.specs.declared.table.Route.{Route}
 use Rattle.ilk_plant.proofs.InLists.{section-from}
 use Rattle.ilk_model.specs.Families.{keeps_v7}
-use Rattle.ilk_model.specs.Holding.{is_locked_or_occupied, is_plain}
+use Rattle.ilk_model.specs.Holding.{is_locked_or_occupied, is_plain_for_direction}
 use Rattle.ilk_strict.specs.IsStrict.{IsStrict}
 use Rattle.ilk_strict.proofs.After.{before-change, one-state, other-stays, same-occupied}
 use Rattle.ilk_model.proofs.RouteFrames.{ChangesRoute}
 use Rattle.ilk_strict.proofs.RouteFacts.{idle}
 use Rattle.ilk_strict.proofs.TrainFacts.{IsLedBy, Keeps, head-led, heads-from, led-locked_or_occupied}
 
--- a section with a board isn't plain
-pub board-not_plain : (p : PlantLists) (d : Dir) (x : ℕ) → has_no_board p d x ≡ false → is_plain p d x ≡ false
+pub board-not_plain : (p : PlantLists) (d : Dir) (x : ℕ) → has_no_board p d x ≡ false → is_plain_for_direction p d x ≡ false
 board-not_plain p d x board = and_left (has_no_board p d x) (nat_lt 0 (length (next_to p x d))) board
 
--- the last of a list stands in it
 last-within : (xs : List ℕ) (x : ℕ) (o : Option ℕ) → last_or o xs ≡ Some x → (o ≡ Some x) ⊎ (has_section x xs ≡ true)
 last-within xs x o e = elim (last-at o xs x e) [ inl none ↦ inl none | inr found ↦ inr (section-from xs found.0 x found.1) ]
 
@@ -36,14 +34,12 @@ pub head-within : (xs : List ℕ) (x : ℕ) → last_or None xs ≡ Some x → h
 head-within xs x e = elim (last-within xs x None e) [ inl none ↦ cc | inr found ↦ found ]
 
 module _ (p : PlantLists) (plant : IsPlant p) (strict : IsStrict p) (s t : State) (keeps : Keeps p s) (shape : HasShape p t) (n : ℕ) where
-  -- a route that leads a train isn't in any of the other modes
   pub not-leading : (route : Route) (now new : RouteState) → ChangesRoute p s t n route now new → is_locked_or_occupied now ≡ false → (d : Dir) (x : ℕ) → (led : IsLedBy p s d x) → led.r ≡ n → ⊥
   not-leading route now new changes idle d x led same =
       let is = one-state p s led.r n led.route route led.now now led.it (before-change p s t n route now new changes) same in
       let leading = led-locked_or_occupied s led.route led.now led.mode in
       both_ways (is_locked_or_occupied now) idle (subst (λ (v : RouteState). is_locked_or_occupied v ≡ true) is.1 leading)
 
-  -- another route leads on, where its source stays Closed
   other-leads : (route : Route) (now new : RouteState) → ChangesRoute p s t n route now new →
       t.trains ≡ s.trains → (d : Dir) (x : ℕ) → (led : IsLedBy p s d x) → (led.r ≡ n → ⊥) →
       (led.now.mode ≡ Locked → slice_get s.boards led.route.source ≡ Some Closed →
@@ -61,13 +57,12 @@ module _ (p : PlantLists) (plant : IsPlant p) (strict : IsStrict p) (s t : State
     later = λ j y less at. same-occupied s t trains y ∙ led.later j y less at;
   }
 
-  -- one route changes, and trains stay
   pub changed : (route : Route) (now new : RouteState) → ChangesRoute p s t n route now new →
       t.trains ≡ s.trains →
       ((d : Dir) (x : ℕ) → (led : IsLedBy p s d x) → (led.r ≡ n → ⊥) → led.now.mode ≡ Locked →
       slice_get s.boards led.route.source ≡ Some Closed →
       slice_get t.boards led.route.source ≡ Some Closed) →
-      ((d : Dir) (x : ℕ) → is_plain p d x ≡ true → (led : IsLedBy p s d x) → led.r ≡ n → IsLedBy p t d x) →
+      ((d : Dir) (x : ℕ) → is_plain_for_direction p d x ≡ true → (led : IsLedBy p s d x) → led.r ≡ n → IsLedBy p t d x) →
       keeps_v7 p t ≡ true
   changed route now new changes trains stay mine =
       heads-from p t shape (λ i train x at last plain.
@@ -77,7 +72,6 @@ module _ (p : PlantLists) (plant : IsPlant p) (strict : IsStrict p) (s t : State
         | inr apart ↦ other-leads route now new changes trains train.dir x led apart (stay train.dir x led apart)
       ])
 
-  -- boards stay, and the route led no train
   pub idle-changed : (route : Route) (now new : RouteState) → ChangesRoute p s t n route now new → t.trains ≡ s.trains → t.boards ≡ s.boards → is_locked_or_occupied now ≡ false → keeps_v7 p t ≡ true
   idle-changed route now new changes trains boards idle =
       changed route now new changes trains

@@ -1,12 +1,11 @@
--- What the families that speak of a route's modes and sections say, route by route, and what has to be shown
--- of each route for a state to meet them: V1 to V4.
+-- V1 to V4 for each route: their statements, and sufficient conditions for a state to meet them.
 use Rattle.std.proofs.Common.{◌≡◌, ℕ, ◌+◌, ◌<◌, ◌≤◌, Bool, true, false, not, ◌==◌, ◌&&◌, ◌||◌, Some, List, inl, inr, ◌⊎◌, length, nat_le, nat_lt, slice_get, refl, sym, ◌∙◌, arith}
 use Rattle.std.specs.Prelude.{if◌then◌else◌}
 use Rattle.std.specs.List.{list_all}
 use Rattle.std.proofs.lemmas.Bool.{and_from, and_parts, both_ways, cases_Bool, eqb-true, eq-eqb, or_left, or_right}
 use Rattle.std.proofs.lemmas.Bool.Decides.{nat_tests}
 use Rattle.std.proofs.lemmas.Option.{same_Some, slice_get_within}
-use Rattle.ilk_base.specs.Each.{each_below}
+use Rattle.ilk_base.specs.Each.{all_below}
 use Rattle.ilk_base.proofs.Tested.{all-pass, list_all-slice_get}
 use Rattle.ilk_base.proofs.Truth.{either, fails, if-passes, passes-if}
 use Rattle.ilk_plant.specs.Network.{has_section}
@@ -18,21 +17,19 @@ use Rattle.ilk_plant.specs.declared.state.RouteState.{RouteState}
 use Rattle.ilk_plant.specs.declared.state.State.{State}
 use Rattle.ilk_plant.specs.declared.table.Route.{Route}
 use Rattle.ilk_plant.proofs.InLists.{section-at, section-from}
-use Rattle.ilk_routes.specs.Claims.{sections_beside}
+use Rattle.ilk_routes.specs.Claims.{sections_beside_path}
 use Rattle.ilk_routes.specs.Modes.{same_mode}
-use Rattle.ilk_model.specs.Families.{has_its_locks, keeps_v1, keeps_v2, keeps_v3, keeps_v4, lock_on_path}
-use Rattle.ilk_model.specs.Holding.{each_place, holds_section, holds_sections, is_kept_on_path, is_locked_or_occupied, is_vacant, route_holds}
+use Rattle.ilk_model.specs.Families.{has_required_locks, keeps_v1, keeps_v2, keeps_v3, keeps_v4, path_section_lock}
+use Rattle.ilk_model.specs.Holding.{all_path_indices_pass, holds_section, holds_sections, is_unreleased_on_path, is_locked_or_occupied, is_vacant, route_holds}
 use Rattle.ilk_model.proofs.Alike.{one_mode}
-use Rattle.ilk_strict.proofs.Reading.{RouteIn, each_below-at, each_below-from, each_place-at, each_place-from, each_route-at, each_route-from, has_lock-at, has_lock-from, kept-at, kept-from, passes-at, passes-from}
+use Rattle.ilk_strict.proofs.Reading.{RouteIn, all_below-at, all_below-from, all_path_indices_pass-at, all_path_indices_pass-from, all_routes_pass-at, all_routes_pass-from, has_lock-at, has_lock-from, kept-at, kept-from, passes-at, passes-from}
 
--- sections that are all vacant
 pub all_vacant-at : (s : State) (xs : List ℕ) → list_all (is_vacant s) xs ≡ true → (i x : ℕ) → slice_get xs i ≡ Some x → is_occupied s x ≡ false
 all_vacant-at s xs h i x at = fails (is_occupied s x) (list_all-slice_get (is_vacant s) xs i x h at)
 
 pub all_vacant-from : (s : State) (xs : List ℕ) → ((i x : ℕ) → slice_get xs i ≡ Some x → is_occupied s x ≡ false) → list_all (is_vacant s) xs ≡ true
 all_vacant-from s xs each = all-pass (is_vacant s) xs (λ i x at. rw (each i x at) refl)
 
--- modes
 pub locked-or_occupied : (now : RouteState) → is_locked_or_occupied now ≡ true → (now.mode ≡ Locked) ⊎ (now.mode ≡ Occupied)
 locked-or_occupied now h =
     elim (either (same_mode now.mode Locked) (same_mode now.mode Occupied) h) [
@@ -52,26 +49,24 @@ allocating-holds now e = rw e refl
 pub locked-holds : (now : RouteState) → is_locked_or_occupied now ≡ true → holds_sections now ≡ true
 locked-holds now h = or_right (same_mode now.mode Allocating) (is_locked_or_occupied now) h
 
--- a section that a route holds
 pub holds-path : (route : Route) (now : RouteState) (i x : ℕ) → holds_sections now ≡ true → now.rel ≤ i → slice_get route.path i ≡ Some x → holds_section x route now ≡ true
 holds-path route now i x holds least at =
-    and_from (holds_sections now) (has_section x (sections_beside route) || is_kept_on_path route now x) holds (or_right (has_section x (sections_beside route)) (is_kept_on_path route now x) (kept-from route now i x least at))
+    and_from (holds_sections now) (has_section x (sections_beside_path route) || is_unreleased_on_path route now x) holds (or_right (has_section x (sections_beside_path route)) (is_unreleased_on_path route now x) (kept-from route now i x least at))
 
-pub holds-beside : (route : Route) (now : RouteState) (x : ℕ) → holds_sections now ≡ true → has_section x (sections_beside route) ≡ true → holds_section x route now ≡ true
+pub holds-beside : (route : Route) (now : RouteState) (x : ℕ) → holds_sections now ≡ true → has_section x (sections_beside_path route) ≡ true → holds_section x route now ≡ true
 holds-beside route now x holds beside =
-    and_from (holds_sections now) (has_section x (sections_beside route) || is_kept_on_path route now x) holds (or_left (has_section x (sections_beside route)) (is_kept_on_path route now x) beside)
+    and_from (holds_sections now) (has_section x (sections_beside_path route) || is_unreleased_on_path route now x) holds (or_left (has_section x (sections_beside_path route)) (is_unreleased_on_path route now x) beside)
 
-pub holds-cases : (route : Route) (now : RouteState) (x : ℕ) → holds_section x route now ≡ true → (holds_sections now ≡ true) × ((has_section x (sections_beside route) ≡ true) ⊎ ((i : ℕ) × (now.rel ≤ i) × (slice_get route.path i ≡ Some x)))
+pub holds-cases : (route : Route) (now : RouteState) (x : ℕ) → holds_section x route now ≡ true → (holds_sections now ≡ true) × ((has_section x (sections_beside_path route) ≡ true) ⊎ ((i : ℕ) × (now.rel ≤ i) × (slice_get route.path i ≡ Some x)))
 holds-cases route now x h =
-    let parts = and_parts (holds_sections now) (has_section x (sections_beside route) || is_kept_on_path route now x) h in (
+    let parts = and_parts (holds_sections now) (has_section x (sections_beside_path route) || is_unreleased_on_path route now x) h in (
       parts.0,
-      elim (either (has_section x (sections_beside route)) (is_kept_on_path route now x) parts.1) [
+      elim (either (has_section x (sections_beside_path route)) (is_unreleased_on_path route now x) parts.1) [
         | inl beside ↦ inl beside
         | inr kept ↦ inr (kept-at route now x kept)
       ],
     )
 
--- V1, of a route
 abbrev pub counts_right : Route → RouteState → Bool
 counts_right route now =
     if same_mode now.mode Occupied
@@ -89,22 +84,21 @@ counts-in_use route now busy behind within =
     rw busy (and_from (nat_lt now.rel now.seen) (nat_le now.seen (length route.path)) first second)
 
 module _ (p : PlantLists) (s : State) where
-  -- V1
   pub idle : keeps_v1 p s ≡ true → (r : ℕ) (route : Route) (now : RouteState) → RouteIn p s r route now → same_mode now.mode Occupied ≡ false → (now.seen ≡ 0) × (now.rel ≡ 0)
   idle kept r route now it mode =
-      let here : (now.seen == 0 && now.rel == 0) ≡ true = rw mode at (each_route-at p s counts_right kept r route now it) in
+      let here : (now.seen == 0 && now.rel == 0) ≡ true = rw mode at (all_routes_pass-at p s counts_right kept r route now it) in
       let parts = and_parts (now.seen == 0) (now.rel == 0) here in
       (eqb-true now.seen 0 parts.0, eqb-true now.rel 0 parts.1)
 
   pub in_use : keeps_v1 p s ≡ true → (r : ℕ) (route : Route) (now : RouteState) → RouteIn p s r route now → same_mode now.mode Occupied ≡ true → (now.rel < now.seen) × (now.seen ≤ length route.path)
   in_use kept r route now it mode =
-      let here : (nat_lt now.rel now.seen && nat_le now.seen (length route.path)) ≡ true = rw mode at (each_route-at p s counts_right kept r route now it) in
+      let here : (nat_lt now.rel now.seen && nat_le now.seen (length route.path)) ≡ true = rw mode at (all_routes_pass-at p s counts_right kept r route now it) in
       let parts = and_parts (nat_lt now.rel now.seen) (nat_le now.seen (length route.path)) here in
       let first : nat_lt now.rel now.seen ≡ true = parts.0 in
       let second : nat_le now.seen (length route.path) ≡ true = parts.1 in
       (grind (arith, nat_tests), grind (arith, nat_tests))
 
-  -- no more is released than seen; and where as many are seen as a place and one more, no more is released than the place
+  -- At most `seen` sections are released.
   pub rel-seen : keeps_v1 p s ≡ true → (r : ℕ) (route : Route) (now : RouteState) → RouteIn p s r route now → now.rel ≤ now.seen
   rel-seen kept r route now it = elim (cases_Bool (same_mode now.mode Occupied)) [
     | inl busy ↦ (let counts = in_use kept r route now it busy in let less = counts.0 in omega (arith, less))
@@ -117,17 +111,16 @@ module _ (p : PlantLists) (s : State) where
     | inr away ↦ (let counts = idle kept r route now it away in let none = counts.1 in omega (arith, none))
   ]
 
-  -- V2
   pub alone : keeps_v2 p s ≡ true → (r : ℕ) (route : Route) (now : RouteState) → RouteIn p s r route now →
       (q : ℕ) (other : Route) (its : RouteState) → RouteIn p s q other its → (x : ℕ) → x < length p.sections →
       holds_section x route now ≡ true → holds_section x other its ≡ true → r ≡ q
   alone kept r route now it q other its that x within here there =
-      let row = each_below-at (length p.routes) (λ a. each_below (length p.routes) (λ b. a == b || each_below (length p.sections) (λ y. not (route_holds p s a y && route_holds p s b y)))) kept r (slice_get_within p.routes r route it.known) in
-      let cell = each_below-at (length p.routes) (λ b. r == b || each_below (length p.sections) (λ y. not (route_holds p s r y && route_holds p s b y))) row q (slice_get_within p.routes q other that.known) in
-      elim (either (r == q) (each_below (length p.sections) (λ y. not (route_holds p s r y && route_holds p s q y))) cell) [
+      let row = all_below-at (length p.routes) (λ a. all_below (length p.routes) (λ b. a == b || all_below (length p.sections) (λ y. not (route_holds p s a y && route_holds p s b y)))) kept r (slice_get_within p.routes r route it.known) in
+      let cell = all_below-at (length p.routes) (λ b. r == b || all_below (length p.sections) (λ y. not (route_holds p s r y && route_holds p s b y))) row q (slice_get_within p.routes q other that.known) in
+      elim (either (r == q) (all_below (length p.sections) (λ y. not (route_holds p s r y && route_holds p s q y))) cell) [
         | inl same ↦ eqb-true r q same
         | inr apart ↦
-            (let none = each_below-at (length p.sections) (λ y. not (route_holds p s r y && route_holds p s q y)) apart x within in
+            (let none = all_below-at (length p.sections) (λ y. not (route_holds p s r y && route_holds p s q y)) apart x within in
             let both = and_from (route_holds p s r x) (route_holds p s q x) (passes-from p s r (holds_section x) route now it here) (passes-from p s q (holds_section x) other its that there) in
             absurd (both_ways (route_holds p s r x && route_holds p s q x) (fails (route_holds p s r x && route_holds p s q x) none) both))
       ]
@@ -139,57 +132,60 @@ module _ (p : PlantLists) (s : State) where
       →
       keeps_v2 p s ≡ true
   alone-from each =
-      each_below-from (length p.routes) (λ a. each_below (length p.routes) (λ b. a == b || each_below (length p.sections) (λ y. not (route_holds p s a y && route_holds p s b y)))) (λ r less.
-      each_below-from (length p.routes) (λ b. r == b || each_below (length p.sections) (λ y. not (route_holds p s r y && route_holds p s b y))) (λ q fewer. pair r q))
+      all_below-from (length p.routes) (λ a. all_below (length p.routes) (λ b. a == b || all_below (length p.sections) (λ y. not (route_holds p s a y && route_holds p s b y)))) (λ r less.
+      all_below-from (length p.routes) (λ b. r == b || all_below (length p.sections) (λ y. not (route_holds p s r y && route_holds p s b y))) (λ q fewer. pair r q))
     where
       not_both : (a b : Bool) → (a ≡ true → b ≡ true → ⊥) → not (a && b) ≡ true
       not_both true true apart = absurd (apart refl refl)
       not_both true false apart = refl
       not_both false b apart = refl
 
-      pair : (r q : ℕ) → (r == q || each_below (length p.sections) (λ y. not (route_holds p s r y && route_holds p s q y))) ≡ true
+      pair : (r q : ℕ) → (r == q || all_below (length p.sections) (λ y. not (route_holds p s r y && route_holds p s q y))) ≡ true
       pair r q = elim (cases_Bool (r == q)) [
-        | inl same ↦ or_left (r == q) (each_below (length p.sections) (λ y. not (route_holds p s r y && route_holds p s q y))) same
-        | inr differ ↦ or_right (r == q) (each_below (length p.sections) (λ y. not (route_holds p s r y && route_holds p s q y)))
-            (each_below-from (length p.sections) (λ y. not (route_holds p s r y && route_holds p s q y)) (λ x within. not_both (route_holds p s r x) (route_holds p s q x) (λ first second.
+        | inl same ↦ or_left (r == q) (all_below (length p.sections) (λ y. not (route_holds p s r y && route_holds p s q y))) same
+        | inr differ ↦ or_right (r == q) (all_below (length p.sections) (λ y. not (route_holds p s r y && route_holds p s q y)))
+            (all_below-from (length p.sections) (λ y. not (route_holds p s r y && route_holds p s q y)) (λ x within. not_both (route_holds p s r x) (route_holds p s q x) (λ first second.
             let one = passes-at p s r (holds_section x) first in
             let two = passes-at p s q (holds_section x) second in
             let same = each r one.0 one.1 one.2 q two.0 two.1 two.2 x within one.3 two.3 in
             both_ways (r == q) differ (eq-eqb r q same))))
       ]
 
-  -- V3
-  pub lock-path : keeps_v3 p s ≡ true → (r : ℕ) (route : Route) (now : RouteState) → RouteIn p s r route now → holds_sections now ≡ true → (i x : ℕ) → now.rel ≤ i → slice_get route.path i ≡ Some x → slice_get s.locks x ≡ Some (lock_on_path now i)
+  pub lock-path : keeps_v3 p s ≡ true → (r : ℕ) (route : Route) (now : RouteState) → RouteIn p s r route now → holds_sections now ≡ true → (i x : ℕ) → now.rel ≤ i → slice_get route.path i ≡ Some x
+      → slice_get s.locks x ≡ Some (path_section_lock now i)
   lock-path kept r route now it holds i x least at =
-      let locks : has_its_locks s route now ≡ true = if-passes (holds_sections now) (has_its_locks s route now) (each_route-at p s (λ route now. if holds_sections now then has_its_locks s route now else true) kept r route now it) holds in
-      let places = (and_parts (each_place route (λ i x. not (nat_le now.rel i) || has_lock s x (lock_on_path now i))) (list_all (λ x. has_lock s x LockedLock) (sections_beside route)) locks).0 in
+      let locks : has_required_locks s route now ≡ true = if-passes (holds_sections now) (has_required_locks s route now) (all_routes_pass-at p s (λ route now. if holds_sections now then has_required_locks s route now else true) kept r route now it)
+      holds in
+      let places = (and_parts (all_path_indices_pass route (λ i x. not (nat_le now.rel i) || has_lock s x (path_section_lock now i))) (list_all (λ x. has_lock s x LockedLock) (sections_beside_path route)) locks).0 in
       let test : nat_le now.rel i ≡ true = grind (arith, nat_tests) in
-      has_lock-at s x (lock_on_path now i) (counted (nat_le now.rel i) (has_lock s x (lock_on_path now i)) test (each_place-at route (λ i x. not (nat_le now.rel i) || has_lock s x (lock_on_path now i)) places i x at))
+      has_lock-at s x (path_section_lock now i) (counted (nat_le now.rel i) (has_lock s x (path_section_lock now i)) test (all_path_indices_pass-at route (λ i x. not (nat_le now.rel i) || has_lock s x (path_section_lock now i)) places i x at))
     where
       counted : (a b : Bool) → a ≡ true → (not a || b) ≡ true → b ≡ true
       counted a b e h = rw e at h
 
-  pub lock-beside : keeps_v3 p s ≡ true → (r : ℕ) (route : Route) (now : RouteState) → RouteIn p s r route now → holds_sections now ≡ true → (x : ℕ) → has_section x (sections_beside route) ≡ true → slice_get s.locks x ≡ Some LockedLock
+  pub lock-beside : keeps_v3 p s ≡ true → (r : ℕ) (route : Route) (now : RouteState) → RouteIn p s r route now → holds_sections now ≡ true → (x : ℕ) → has_section x (sections_beside_path route) ≡ true → slice_get s.locks x ≡ Some LockedLock
   lock-beside kept r route now it holds x beside =
-      let locks : has_its_locks s route now ≡ true = if-passes (holds_sections now) (has_its_locks s route now) (each_route-at p s (λ route now. if holds_sections now then has_its_locks s route now else true) kept r route now it) holds in
-      let others = (and_parts (each_place route (λ i x. not (nat_le now.rel i) || has_lock s x (lock_on_path now i))) (list_all (λ x. has_lock s x LockedLock) (sections_beside route)) locks).1 in
-      let found = section-at x (sections_beside route) beside in
-      has_lock-at s x LockedLock (list_all-slice_get (λ x. has_lock s x LockedLock) (sections_beside route) found.0 x others found.1)
+      let locks : has_required_locks s route now ≡ true = if-passes (holds_sections now) (has_required_locks s route now) (all_routes_pass-at p s (λ route now. if holds_sections now then has_required_locks s route now else true) kept r route now it)
+      holds in
+      let others = (and_parts (all_path_indices_pass route (λ i x. not (nat_le now.rel i) || has_lock s x (path_section_lock now i))) (list_all (λ x. has_lock s x LockedLock) (sections_beside_path route)) locks).1 in
+      let found = section-at x (sections_beside_path route) beside in
+      has_lock-at s x LockedLock (list_all-slice_get (λ x. has_lock s x LockedLock) (sections_beside_path route) found.0 x others found.1)
 
   pub locks-from : length s.routes ≡ length p.routes →
       ((r : ℕ) (route : Route) (now : RouteState) → RouteIn p s r route now → holds_sections now ≡ true →
       ((i x : ℕ) → now.rel ≤ i → slice_get route.path i ≡ Some x →
-      slice_get s.locks x ≡ Some (lock_on_path now i)) ×
-      ((x : ℕ) → has_section x (sections_beside route) ≡ true →
+      slice_get s.locks x ≡ Some (path_section_lock now i)) ×
+      ((x : ℕ) → has_section x (sections_beside_path route) ≡ true →
       slice_get s.locks x ≡ Some LockedLock)) →
       keeps_v3 p s ≡ true
   locks-from count each =
-      each_route-from p s (λ route now. if holds_sections now then has_its_locks s route now else true) count (λ r route now it.
-      passes-if (holds_sections now) (has_its_locks s route now) (λ holds.
+      all_routes_pass-from p s (λ route now. if holds_sections now then has_required_locks s route now else true) count (λ r route now it.
+      passes-if (holds_sections now) (has_required_locks s route now) (λ holds.
       let both = each r route now it holds in
-      and_from (each_place route (λ i x. not (nat_le now.rel i) || has_lock s x (lock_on_path now i))) (list_all (λ x. has_lock s x LockedLock) (sections_beside route))
-      (each_place-from route (λ i x. not (nat_le now.rel i) || has_lock s x (lock_on_path now i)) (λ i x at. at_place now.rel i (has_lock s x (lock_on_path now i)) (λ least. has_lock-from s x (lock_on_path now i) (both.0 i x least at))))
-      (all-pass (λ x. has_lock s x LockedLock) (sections_beside route) (λ k x at. has_lock-from s x LockedLock (both.1 x (section-from (sections_beside route) k x at))))))
+      and_from (all_path_indices_pass route (λ i x. not (nat_le now.rel i) || has_lock s x (path_section_lock now i))) (list_all (λ x. has_lock s x LockedLock) (sections_beside_path route))
+      (all_path_indices_pass-from route (λ i x. not (nat_le now.rel i) || has_lock s x (path_section_lock now i))
+      (λ i x at. at_place now.rel i (has_lock s x (path_section_lock now i)) (λ least. has_lock-from s x (path_section_lock now i) (both.0 i x least at))))
+      (all-pass (λ x. has_lock s x LockedLock) (sections_beside_path route) (λ k x at. has_lock-from s x LockedLock (both.1 x (section-from (sections_beside_path route) k x at))))))
     where
       at_place : (rel i : ℕ) (b : Bool) → (rel ≤ i → b ≡ true) → (not (nat_le rel i) || b) ≡ true
       at_place rel i b f = elim (cases_Bool (nat_le rel i)) [
@@ -197,7 +193,6 @@ module _ (p : PlantLists) (s : State) where
         | inr test ↦ (rw test refl)
       ]
 
-  -- what a route holds isn't free
   pub held-not_free : keeps_v3 p s ≡ true → (r : ℕ) (route : Route) (now : RouteState) → RouteIn p s r route now → (x : ℕ) → holds_section x route now ≡ true → slice_get s.locks x ≡ Some FreeLock → ⊥
   held-not_free kept r route now it x held free =
       let cases = holds-cases route now x held in
@@ -210,16 +205,15 @@ module _ (p : PlantLists) (s : State) where
       used-or_locked true e = cc
       used-or_locked false e = cc
 
-  -- V4
   pub vacant-path : keeps_v4 p s ≡ true → (r : ℕ) (route : Route) (now : RouteState) → RouteIn p s r route now → now.mode ≡ Allocating → (i x : ℕ) → slice_get route.path i ≡ Some x → is_occupied s x ≡ false
   vacant-path kept r route now it mode i x at =
       all_vacant-at s route.path
       (if-passes (same_mode now.mode Allocating) (list_all (is_vacant s) route.path)
-      (each_route-at p s
+      (all_routes_pass-at p s
       (λ route now. if same_mode now.mode Allocating then list_all (is_vacant s) route.path
       else true) kept r route now it) (rw mode refl)) i x at
 
   pub vacant-from : length s.routes ≡ length p.routes → ((r : ℕ) (route : Route) (now : RouteState) → RouteIn p s r route now → now.mode ≡ Allocating → (i x : ℕ) → slice_get route.path i ≡ Some x → is_occupied s x ≡ false) → keeps_v4 p s ≡ true
   vacant-from count each =
-      each_route-from p s (λ route now. if same_mode now.mode Allocating then list_all (is_vacant s) route.path else true) count (λ r route now it.
+      all_routes_pass-from p s (λ route now. if same_mode now.mode Allocating then list_all (is_vacant s) route.path else true) count (λ r route now it.
       passes-if (same_mode now.mode Allocating) (list_all (is_vacant s) route.path) (λ mode. all_vacant-from s route.path (each r route now it (one_mode now.mode Allocating mode))))

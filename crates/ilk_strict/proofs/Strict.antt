@@ -1,5 +1,5 @@
--- A table in which C1, C2 in its part on the end of a path, C3 in its part on the path, and C7 are broken at no place has
--- what strict safety uses; so has one in which no rule of the columns is broken.
+-- A table is strict if it keeps C1, C7 and the used parts of C2 and C3, and so if it breaks no
+-- column rule.
 use Rattle.std.proofs.Common.{◌≡◌, ℕ, zero, suc, ◌+◌, Bool, true, false, not, ◌==◌, ◌&&◌, ◌||◌, Option, Some, None, List, [], ◌∷◌, drop, length, nat_lt, slice_get, take, refl, sym, ap, ◌∙◌, subst, arith}
 use Rattle.std.proofs.lemmas.Bool.{and_parts, eqb-true}
 use Rattle.std.proofs.lemmas.Option.{same_Some, slice_get_within}
@@ -7,10 +7,10 @@ use Rattle.ilk_base.specs.Option.{is_some_and}
 use Rattle.ilk_base.proofs.FlatMaps.{flat_map-none}
 use Rattle.ilk_base.proofs.Lists.{last_or-at}
 use Rattle.ilk_base.proofs.Options.{some-and}
-use Rattle.ilk_plant.specs.ColumnRules.{breaks_columns, column_rule_broken, column_rules, column_rules_broken, ends_path, has_no_board, is_between_boards, is_border_without_board, is_listed_towards, path_ends_at_board, path_leads_on, points_are_set, points_lead_along, source_passes}
+use Rattle.ilk_plant.specs.ColumnRules.{breaks_columns, column_rule_broken, column_rules, column_rules_broken, ends_at_destination, has_no_board, is_between_boards, is_border_without_board, is_listed_towards, path_ends_at_board, path_is_connected, points_are_listed, points_lead_along, source_passes}
 use Rattle.ilk_plant.specs.Network.{has_section, last_of}
 use Rattle.ilk_plant.specs.Plant.{PlantLists, border, board_of, is_point_section, next_to}
-use Rattle.ilk_plant.specs.Shape.{leads_on}
+use Rattle.ilk_plant.specs.Shape.{is_connected}
 use Rattle.ilk_plant.specs.TableRules.{route_fails}
 use Rattle.ilk_plant.specs.declared.broken.Rule.{Rule}
 use Rattle.ilk_plant.specs.declared.broken.Rule.TheVariants.{C1, C2, C3, C7}
@@ -21,27 +21,24 @@ use Rattle.ilk_plant.specs.declared.table.Route.{Route}
 use Rattle.ilk_plant.proofs.RoutesOf.{route-passes}
 use Rattle.ilk_plant.proofs.Rules.{rule-kept}
 use Rattle.ilk_motion.proofs.Shape.{border-known}
-use Rattle.ilk_model.specs.Holding.{is_plain}
-use Rattle.ilk_strict.specs.IsStrict.{IsFrom, IsStrict, KeepsPathRules, path_end_is_not_plain, path_points_are_set}
+use Rattle.ilk_model.specs.Holding.{is_plain_for_direction}
+use Rattle.ilk_strict.specs.IsStrict.{IsRouteFromBoard, IsStrict, KeepsPathRules, ends_at_board_or_limit, path_points_are_listed}
 
--- a route that passes a test of its source
-source-passes : (p : PlantLists) (r : ℕ) (route : Route) (source : Board) (test : Board → Bool) → IsFrom p r route source → source_passes p route test ≡ true → test source ≡ true
+source-passes : (p : PlantLists) (r : ℕ) (route : Route) (source : Board) (test : Board → Bool) → IsRouteFromBoard p r route source → source_passes p route test ≡ true → test source ≡ true
 source-passes p r route source test it h = rw it.begins at h
 
--- sections that lead on, by place
-leads-at : (p : PlantLists) (d : Dir) (x : ℕ) (rest : List ℕ) → leads_on p d x rest ≡ true → (k y z : ℕ) → slice_get (x ∷ rest) k ≡ Some y → slice_get rest k ≡ Some z → has_section z (next_to p y d) ≡ true
+leads-at : (p : PlantLists) (d : Dir) (x : ℕ) (rest : List ℕ) → is_connected p d x rest ≡ true → (k y z : ℕ) → slice_get (x ∷ rest) k ≡ Some y → slice_get rest k ≡ Some z → has_section z (next_to p y d) ≡ true
 leads-at p d x [] h k y z at also = cc
 leads-at p d x (w ∷ rest) h zero y z at also =
     let here : x ≡ y = same_Some x y at in
     let there : w ≡ z = same_Some w z also in
-    rw (here, there) at (and_parts (has_section w (next_to p x d)) (leads_on p d w rest) h).0
+    rw (here, there) at (and_parts (has_section w (next_to p x d)) (is_connected p d w rest) h).0
 leads-at p d x (w ∷ rest) h (suc k) y z at also =
-    leads-at p d w rest (and_parts (has_section w (next_to p x d)) (leads_on p d w rest) h).1 k y z at also
+    leads-at p d w rest (and_parts (has_section w (next_to p x d)) (is_connected p d w rest) h).1 k y z at also
 
 listed_if : (a b : Bool) → a ≡ true → (not a || b) ≡ true → b ≡ true
 listed_if a b e h = rw e at h
 
--- the points of a path that lead along it, by place
 points-at : (p : PlantLists) (points : List Listed) (before : ℕ) (path : List ℕ) →
     points_lead_along p points before path ≡ true → (k b x : ℕ) → slice_get (before ∷ path) k ≡ Some b →
     slice_get path k ≡ Some x → is_point_section p x ≡ true →
@@ -57,8 +54,7 @@ points-at p points before (y ∷ path) h zero b x at also is_point =
 points-at p points before (y ∷ path) h (suc k) b x at also is_point =
     points-at p points y path (and_parts (not (is_point_section p y) || is_listed_towards p points (before ∷ take 1 path) y) (points_lead_along p points y path) h).1 k b x at also is_point
 
--- where a path ends rightly, its last section isn't plain
-end-not_plain : (p : PlantLists) (d : Dir) (destination : Option ℕ) (x : ℕ) → ends_path p d destination x ≡ true → is_plain p d x ≡ false
+end-not_plain : (p : PlantLists) (d : Dir) (destination : Option ℕ) (x : ℕ) → ends_at_destination p d destination x ≡ true → is_plain_for_direction p d x ≡ false
 end-not_plain p d (Some m) x h =
     let board = some-and (board_of p x d) (λ n. n == m) h in rw board.1 refl
 end-not_plain p d None x h =
@@ -69,18 +65,16 @@ end-not_plain p d None x h =
     nothing true n e = rw e refl
     nothing false n e = refl
 
--- the last section of a path whose end isn't plain, by place
-last-not_plain : (p : PlantLists) (d : Dir) (path : List ℕ) → is_some_and (last_of path) (λ y. not (is_plain p d y)) ≡ true → (k x : ℕ) → slice_get path k ≡ Some x → k + 1 ≡ length path → is_plain p d x ≡ false
+last-not_plain : (p : PlantLists) (d : Dir) (path : List ℕ) → is_some_and (last_of path) (λ y. not (is_plain_for_direction p d y)) ≡ true → (k x : ℕ) → slice_get path k ≡ Some x → k + 1 ≡ length path → is_plain_for_direction p d x ≡ false
 last-not_plain p d path h k x at last =
-    let ending = some-and (last_of path) (λ y. not (is_plain p d y)) h in
+    let ending = some-and (last_of path) (λ y. not (is_plain_for_direction p d y)) h in
     let same : ending.0 ≡ x = same_Some ending.0 x (sym ending.1 ∙ last_or-at None path k x last at) in
-    isnt (is_plain p d x) (rw same at ending.2)
+    isnt (is_plain_for_direction p d x) (rw same at ending.2)
   where
     isnt : (b : Bool) → not b ≡ true → b ≡ false
     isnt true h = sym h
     isnt false h = refl
 
--- a border that isn't without a board has one
 border-has_board : (p : PlantLists) (x : ℕ) (d : Dir) → is_border_without_board p x ≡ false → border p x ≡ Some d → has_no_board p d x ≡ false
 border-has_board p x d h at = rw at at h
 
@@ -88,14 +82,14 @@ pub strict_from_rules : (p : PlantLists) → KeepsPathRules p → IsStrict p
 strict_from_rules p rules = record {
   leads = λ r route source it k x y at also.
       leads-at p source.dir source.section route.path
-      (source-passes p r route source (λ b. leads_on p b.dir b.section route.path) it
-      (route-passes p (path_leads_on p) r route
+      (source-passes p r route source (λ b. is_connected p b.dir b.section route.path) it
+      (route-passes p (path_is_connected p) r route
       (rules.c1 r (slice_get_within p.routes r route it.known)) it.known)) k x y at also;
   ends = λ r route source it k x at last.
       last-not_plain p source.dir route.path
       (source-passes p r route source
-      (λ b. is_some_and (last_of route.path) (λ y. not (is_plain p b.dir y))) it
-      (route-passes p (path_end_is_not_plain p) r route
+      (λ b. is_some_and (last_of route.path) (λ y. not (is_plain_for_direction p b.dir y))) it
+      (route-passes p (ends_at_board_or_limit p) r route
       (rules.c2 r (slice_get_within p.routes r route it.known)) it.known)) k x at last;
   points = λ r route source it k before x at also is_point.
       let Next : ℕ → Type 0 = λ n. is_listed_towards p route.points (before ∷ take 1 (drop n route.path)) x ≡ true in
@@ -104,43 +98,44 @@ strict_from_rules p rules = record {
       (points-at p route.points source.section route.path
       (source-passes p r route source (λ b. points_lead_along p route.points b.section route.path)
       it
-      (route-passes p (path_points_are_set p) r route
+      (route-passes p (path_points_are_listed p) r route
       (rules.c3 r (slice_get_within p.routes r route it.known)) it.known)) k before x at
       also is_point);
   borders = λ x d at. border-has_board p x d (rules.c7 x (border-known p x d at)) at;
 }
 
--- C3 asks more than its part on the path
-part-fails : (p : PlantLists) (i : ℕ) → route_fails p (points_are_set p) i ≡ false → route_fails p (path_points_are_set p) i ≡ false
+-- C3 implies its part about the path.
+part-fails : (p : PlantLists) (i : ℕ) → route_fails p (points_are_listed p) i ≡ false → route_fails p (path_points_are_listed p) i ≡ false
 part-fails p i h = of_route (slice_get p.routes i) h
   where
     first : (a b : Bool) → not (a && b) ≡ false → not a ≡ false
     first true b h = refl
     first false b h = h
 
-    of_route : (o : Option Route) → is_some_and o (λ route. not (points_are_set p route)) ≡ false → is_some_and o (λ route. not (path_points_are_set p route)) ≡ false
+    of_route : (o : Option Route) → is_some_and o (λ route. not (points_are_listed p route)) ≡ false → is_some_and o (λ route. not (path_points_are_listed p route)) ≡ false
     of_route None h = refl
-    of_route (Some route) h = first (path_points_are_set p route) _ h
+    of_route (Some route) h = first (path_points_are_listed p route) _ h
 
--- C2 asks more than its part on the end
-end-fails : (p : PlantLists) (i : ℕ) → route_fails p (path_ends_at_board p) i ≡ false → route_fails p (path_end_is_not_plain p) i ≡ false
+-- C2 implies its part about the end.
+end-fails : (p : PlantLists) (i : ℕ) → route_fails p (path_ends_at_board p) i ≡ false → route_fails p (ends_at_board_or_limit p) i ≡ false
 end-fails p i h = of_route (slice_get p.routes i) h
   where
-    of_last : (d : Dir) (destination : Option ℕ) (o : Option ℕ) → is_some_and o (ends_path p d destination) ≡ true → is_some_and o (λ y. not (is_plain p d y)) ≡ true
+    of_last : (d : Dir) (destination : Option ℕ) (o : Option ℕ) → is_some_and o (ends_at_destination p d destination) ≡ true → is_some_and o (λ y. not (is_plain_for_direction p d y)) ≡ true
     of_last d destination None h = h
     of_last d destination (Some x) h = ap not (end-not_plain p d destination x h)
 
-    of_source : (destination : Option ℕ) (path : List ℕ) (o : Option Board) → is_some_and o (λ b. is_between_boards p b.dir destination path) ≡ true → is_some_and o (λ b. is_some_and (last_of path) (λ y. not (is_plain p b.dir y))) ≡ true
+    of_source : (destination : Option ℕ) (path : List ℕ) (o : Option Board) → is_some_and o (λ b. is_between_boards p b.dir destination path) ≡ true
+        → is_some_and o (λ b. is_some_and (last_of path) (λ y. not (is_plain_for_direction p b.dir y))) ≡ true
     of_source destination path None h = h
-    of_source destination path (Some b) h = of_last b.dir destination (last_of path) (and_parts _ (is_some_and (last_of path) (ends_path p b.dir destination)) h).1
+    of_source destination path (Some b) h = of_last b.dir destination (last_of path) (and_parts _ (is_some_and (last_of path) (ends_at_destination p b.dir destination)) h).1
 
     passes : (a b : Bool) → (a ≡ true → b ≡ true) → not a ≡ false → not b ≡ false
     passes true b leads h = ap not (leads refl)
     passes false b leads h = cc
 
-    of_route : (o : Option Route) → is_some_and o (λ route. not (path_ends_at_board p route)) ≡ false → is_some_and o (λ route. not (path_end_is_not_plain p route)) ≡ false
+    of_route : (o : Option Route) → is_some_and o (λ route. not (path_ends_at_board p route)) ≡ false → is_some_and o (λ route. not (ends_at_board_or_limit p route)) ≡ false
     of_route None h = refl
-    of_route (Some route) h = passes (path_ends_at_board p route) (path_end_is_not_plain p route) (of_source route.destination route.path (slice_get p.boards route.source)) h
+    of_route (Some route) h = passes (path_ends_at_board p route) (ends_at_board_or_limit p route) (of_source route.destination route.path (slice_get p.boards route.source)) h
 
 pub rules-from_list : (p : PlantLists) → column_rules_broken p ≡ [] → KeepsPathRules p
 rules-from_list p e = record {

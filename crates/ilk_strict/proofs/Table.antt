@@ -1,4 +1,4 @@
--- What a route of a plant has, by the places of its path and of its points.
+-- Facts on the path and the listed points of a route.
 use Rattle.std.proofs.Common.{◌≡◌, ℕ, zero, suc, ◌+◌, ◌<◌, true, false, ◌==◌, ◌||◌, Option, Some, None, List, [], ◌∷◌, ◌++◌, inl, inr, ◌⊎◌, length, map, slice_get, refl, sym, ap, ◌∙◌}
 use Rattle.std.specs.Option.{option_or}
 use Rattle.std.proofs.lemmas.Bool.{or_left, or_right, both_ways}
@@ -16,26 +16,23 @@ use Rattle.ilk_plant.specs.declared.network.Board.{Board}
 use Rattle.ilk_plant.specs.declared.network.Position.{Position}
 use Rattle.ilk_plant.specs.declared.table.Listed.{Listed}
 use Rattle.ilk_plant.specs.declared.table.Route.{Route}
-use Rattle.ilk_plant.proofs.Once.{none_twice-places}
+use Rattle.ilk_plant.proofs.Once.{numbers_differ-places}
 use Rattle.ilk_plant.proofs.Sides.{once-apart}
 use Rattle.ilk_plant.proofs.InLists.{section-at, section-from}
-use Rattle.ilk_routes.specs.Claims.{sections_beside, wanted_points}
+use Rattle.ilk_routes.specs.Claims.{sections_beside_path, required_points}
 use Rattle.ilk_routes.specs.Lies.{listed_position, lists_point}
 
--- the points of some entries
 pub listed-mapped : (entries : List Listed) (j : ℕ) (one : Listed) → slice_get entries j ≡ Some one → slice_get (map (λ (it : Listed). it.point) entries) j ≡ Some one.point
 listed-mapped [] j one at = cc
 listed-mapped (y ∷ entries) zero one at = ap (λ (it : Listed). Some it.point) (same_Some y one at)
 listed-mapped (y ∷ entries) (suc j) one at = listed-mapped entries j one at
 
 module _ (p : PlantLists) (route : Route) (of : IsRouteOf p route) where
-  -- a section stands at one place of a path alone
   pub path-once : (i j x : ℕ) → slice_get route.path i ≡ Some x → slice_get route.path j ≡ Some x → i ≡ j
   path-once i j x here there =
-      none_twice-places (route.path ++ route.overlap) of.sections_once i j x (at-before route.path route.overlap i x here) (at-before route.path route.overlap j x there)
+      numbers_differ-places (route.path ++ route.overlap) of.sections_once i j x (at-before route.path route.overlap i x here) (at-before route.path route.overlap j x there)
 
-  -- and isn't beside the path
-  pub path-apart : (i x : ℕ) → slice_get route.path i ≡ Some x → has_section x (sections_beside route) ≡ true → ⊥
+  pub path-apart : (i x : ℕ) → slice_get route.path i ≡ Some x → has_section x (sections_beside_path route) ≡ true → ⊥
   path-apart i x here beside =
       let cases : (has_section x route.overlap || has_section x (protecting_points_of route)) ≡ true = sym (list_any-append (λ y. y == x) route.overlap (protecting_points_of route)) ∙ beside in
       elim (either (has_section x route.overlap) (has_section x (protecting_points_of route)) cases) [
@@ -48,20 +45,16 @@ module _ (p : PlantLists) (route : Route) (of : IsRouteOf p route) where
             both_ways (has_section x (route.path ++ route.overlap)) (rw listed.2 at away) on)
       ]
 
-  -- it is a section of the plant
   pub path-section : (i x : ℕ) → slice_get route.path i ≡ Some x → x < length p.sections
   path-section i x here = all-at (λ y. y < length p.sections) route.path i x of.path here
 
-  -- the board at which the route begins
   pub route-source : (source : Board) × (slice_get p.boards route.source ≡ Some source)
   route-source = item_at p.boards route.source of.source
 
-  -- a listed point is on the path or on the overlap
   pub listed-passed : (k : ℕ) (listed : Listed) → slice_get route.points k ≡ Some listed → has_section listed.point (sections_of route) ≡ true
   listed-passed k listed here = all-at (λ one. has_section one.point (route.path ++ route.overlap) ≡ true) route.points k listed of.points_passed here
 
-  -- a wanted point is one of the sections that are locked for the route
-  pub wanted-locked : (k : ℕ) (listed : Listed) → slice_get (wanted_points route) k ≡ Some listed → has_section listed.point (sections_locked_for route) ≡ true
+  pub wanted-locked : (k : ℕ) (listed : Listed) → slice_get (required_points route) k ≡ Some listed → has_section listed.point (sections_locked_for route) ≡ true
   wanted-locked k listed here = elim (at-either route.points route.protecting_points k listed here) [
     | inl first ↦ list_any-append (λ y. y == listed.point) (sections_of route) (protecting_points_of route)
         ∙ or_left (has_section listed.point (sections_of route))
@@ -73,32 +66,30 @@ module _ (p : PlantLists) (route : Route) (of : IsRouteOf p route) where
         (listed-mapped route.protecting_points second.0 listed second.1))
   ]
 
--- a section of the path, or beside it, is one of those that are locked for the route
 pub path-locked_for : (route : Route) (i x : ℕ) → slice_get route.path i ≡ Some x → has_section x (sections_locked_for route) ≡ true
 path-locked_for route i x here =
     section-from (sections_locked_for route) i x (at-before (sections_of route) (protecting_points_of route) i x (at-before route.path route.overlap i x here))
 
-pub beside-locked_for : (route : Route) (x : ℕ) → has_section x (sections_beside route) ≡ true → has_section x (sections_locked_for route) ≡ true
+pub beside-locked_for : (route : Route) (x : ℕ) → has_section x (sections_beside_path route) ≡ true → has_section x (sections_locked_for route) ≡ true
 beside-locked_for route x beside =
-    let found = section-at x (sections_beside route) beside in
+    let found = section-at x (sections_beside_path route) beside in
     elim (at-either route.overlap (protecting_points_of route) found.0 x found.1) [
       | inl overlap ↦ section-from (sections_locked_for route) (length route.path + overlap.0) x (at-before (sections_of route) (protecting_points_of route) (length route.path + overlap.0) x (at-past route.path route.overlap overlap.0 x overlap.1))
       | inr protecting ↦ section-from (sections_locked_for route) (length (sections_of route) + protecting.0) x (at-past (sections_of route) (protecting_points_of route) protecting.0 x protecting.1)
     ]
 
--- and the sections that are locked for a route are no others
-pub locked_for-cases : (route : Route) (x : ℕ) → has_section x (sections_locked_for route) ≡ true → ((i : ℕ) × (slice_get route.path i ≡ Some x)) ⊎ (has_section x (sections_beside route) ≡ true)
+pub locked_for-cases : (route : Route) (x : ℕ) → has_section x (sections_locked_for route) ≡ true → ((i : ℕ) × (slice_get route.path i ≡ Some x)) ⊎ (has_section x (sections_beside_path route) ≡ true)
 locked_for-cases route x h =
     let found = section-at x (sections_locked_for route) h in
     elim (at-either (sections_of route) (protecting_points_of route) found.0 x found.1) [
       | inl of_route ↦ elim (at-either route.path route.overlap of_route.0 x of_route.1) [
         | inl path ↦ inl (path.0, path.1)
-        | inr overlap ↦ inr (section-from (sections_beside route) overlap.0 x (at-before route.overlap (protecting_points_of route) overlap.0 x overlap.1))
+        | inr overlap ↦ inr (section-from (sections_beside_path route) overlap.0 x (at-before route.overlap (protecting_points_of route) overlap.0 x overlap.1))
       ]
-      | inr protecting ↦ inr (section-from (sections_beside route) (length route.overlap + protecting.0) x (at-past route.overlap (protecting_points_of route) protecting.0 x protecting.1))
+      | inr protecting ↦ inr (section-from (sections_beside_path route) (length route.overlap + protecting.0) x (at-past route.overlap (protecting_points_of route) protecting.0 x protecting.1))
     ]
 
--- the position that counts for a point is one at which an entry lists it
+-- The effective position of a point is one that an entry lists.
 counts-at : (p : PlantLists) (n : ℕ) (entries : List Listed) (to : Position) → listed_position p n entries ≡ Some to → (j : ℕ) × (one : Listed) × (slice_get entries j ≡ Some one) × (lists_point p n one ≡ true) × (one.at ≡ to)
 counts-at p n [] to e = cc
 counts-at p n (one ∷ rest) to e =
@@ -106,7 +97,6 @@ counts-at p n (one ∷ rest) to e =
     (λ later. let found = counts-at p n rest to later in (suc found.0, found.1, found.2, found.3, found.4))
     (λ here. let first = cond_some (lists_point p n one) one.at to here in (zero, one, refl, first.0, first.1))
 
--- where an entry lists a point, some position counts for it
 counts-some : (p : PlantLists) (n : ℕ) (entries : List Listed) (k : ℕ) (listed : Listed) → slice_get entries k ≡ Some listed → lists_point p n listed ≡ true → (to : Position) × (listed_position p n entries ≡ Some to)
 counts-some p n [] k listed at lists = cc
 counts-some p n (one ∷ rest) zero listed at lists =
@@ -120,7 +110,6 @@ counts-some p n (one ∷ rest) zero listed at lists =
 counts-some p n (one ∷ rest) (suc k) listed at lists =
     let later = counts-some p n rest k listed at lists in (later.0, rw later.1 refl)
 
--- where entries list a point, each of them at one position, that counts
 pub listed-position : (p : PlantLists) (n : ℕ) (to : Position) (entries : List Listed) →
     ((j : ℕ) (one : Listed) → slice_get entries j ≡ Some one → lists_point p n one ≡ true → one.at ≡ to) →
     (k : ℕ) (listed : Listed) → slice_get entries k ≡ Some listed → lists_point p n listed ≡ true →
@@ -130,7 +119,6 @@ listed-position p n to entries alike k listed at lists =
     let from = counts-at p n entries some.0 some.1 in
     some.1 ∙ ap Some (sym from.4 ∙ alike from.0 from.1 from.2 from.3)
 
--- where no entry lists it, none counts
 pub listed-none : (p : PlantLists) (n : ℕ) (entries : List Listed) → ((j : ℕ) (one : Listed) → slice_get entries j ≡ Some one → lists_point p n one ≡ true → ⊥) → listed_position p n entries ≡ None
 listed-none p n entries none = by_position (listed_position p n entries) refl
   where

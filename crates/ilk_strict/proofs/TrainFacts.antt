@@ -1,5 +1,5 @@
--- What the families that speak of trains, and the absence of hazards, say of each train, and what has to be shown of each
--- train for a state to keep them: V7, V8, two trains in one section, a train on a wrong point.
+-- V7, V8 and the two hazards for each train: their statements, and sufficient conditions for a
+-- state to meet them.
 use Rattle.std.proofs.Common.{◌≡◌, ℕ, ◌+◌, ◌-◌, ◌<◌, ◌≤◌, Bool, true, false, ◌==◌, ◌&&◌, ◌||◌, Option, Some, None, option_map, List, inl, inr, ◌⊎◌, count_by, drop, find, length, nat_le, nat_lt, slice_get, refl, sym, ap, ◌∙◌, arith}
 use Rattle.std.specs.Prelude.{if◌then◌else◌}
 use Rattle.std.specs.List.{last_or, list_all, list_any, range_with_len}
@@ -13,8 +13,8 @@ use Rattle.ilk_base.proofs.Truth.{either, if-passes, passes-if}
 use Rattle.ilk_base.proofs.Options.{mapped-None}
 use Rattle.ilk_plant.specs.Network.{has_section}
 use Rattle.ilk_plant.specs.Plant.{PlantLists}
-use Rattle.ilk_plant.specs.Shape.{HasShape, is_body}
-use Rattle.ilk_plant.specs.State.{is_occupied, lie_of}
+use Rattle.ilk_plant.specs.Shape.{HasShape, has_valid_body}
+use Rattle.ilk_plant.specs.State.{is_occupied, detected_position}
 use Rattle.ilk_plant.specs.declared.network.Board.{Board}
 use Rattle.ilk_plant.specs.declared.network.Dir.{Dir}
 use Rattle.ilk_plant.specs.declared.network.Section.{Section}
@@ -29,22 +29,21 @@ use Rattle.ilk_plant.proofs.Alike.{one_direction, own_direction}
 use Rattle.ilk_plant.proofs.Shapes.{body-last}
 use Rattle.ilk_routes.specs.Boards.{has_aspect}
 use Rattle.ilk_routes.specs.Modes.{same_mode}
-use Rattle.ilk_model.specs.Families.{is_kept_for, is_led, keeps_v1, keeps_v2, keeps_v3, keeps_v4, keeps_v5, keeps_v6, keeps_v7, keeps_v8, keeps_v9}
-use Rattle.ilk_model.specs.Hazard.{is_hazardous, is_two, is_wrong, strays}
-use Rattle.ilk_model.specs.Holding.{is_kept_on_path, is_locked_or_occupied, is_plain, is_vacant, runs_in, some_place}
+use Rattle.ilk_model.specs.Families.{section_is_kept_by_route, head_is_led_by_route, keeps_v1, keeps_v2, keeps_v3, keeps_v4, keeps_v5, keeps_v6, keeps_v7, keeps_v8, keeps_v9}
+use Rattle.ilk_model.specs.Hazard.{is_hazardous, has_two_trains, is_wrong_under_train, is_wrong_under_body}
+use Rattle.ilk_model.specs.Holding.{is_unreleased_on_path, is_locked_or_occupied, is_plain_for_direction, is_vacant, route_runs_in, any_path_index_passes}
 use Rattle.ilk_model.specs.Meets.{Meets}
 use Rattle.ilk_model.proofs.Alike.{one_mode}
-use Rattle.ilk_strict.proofs.Reading.{RouteIn, has_aspect-at, has_aspect-from, kept-at, kept-from, some_place-at, some_place-from, some_route-at, some_route-from}
+use Rattle.ilk_strict.proofs.Reading.{RouteIn, has_aspect-at, has_aspect-from, kept-at, kept-from, any_path_index_passes-at, any_path_index_passes-from, any_route_passes-at, any_route_passes-from}
 use Rattle.ilk_strict.proofs.RouteFacts.{all_vacant-at, all_vacant-from, locked-is, occupied-is}
 
--- the direction of a route is that of its source
-pub runs-source : (p : PlantLists) (d : Dir) (route : Route) (source : Board) → runs_in p d route ≡ true → slice_get p.boards route.source ≡ Some source → source.dir ≡ d
+pub runs-source : (p : PlantLists) (d : Dir) (route : Route) (source : Board) → route_runs_in p d route ≡ true → slice_get p.boards route.source ≡ Some source → source.dir ≡ d
 runs-source p d route source h at = one_direction source.dir d (rw at at h)
 
-pub runs-from : (p : PlantLists) (d : Dir) (route : Route) (source : Board) → slice_get p.boards route.source ≡ Some source → source.dir ≡ d → runs_in p d route ≡ true
+pub runs-from : (p : PlantLists) (d : Dir) (route : Route) (source : Board) → slice_get p.boards route.source ≡ Some source → source.dir ≡ d → route_runs_in p d route ≡ true
 runs-from p d route source at same = rw (at, same) (own_direction d)
 
--- the route that leads a train's head at x in direction d, which is path[i]
+-- The route that leads a train's head at x = path[i] in direction d.
 pub record IsLedBy (p : PlantLists) (s : State) (d : Dir) (x : ℕ) : Type 0 where
   pub r : ℕ
   pub route : Route
@@ -52,17 +51,16 @@ pub record IsLedBy (p : PlantLists) (s : State) (d : Dir) (x : ℕ) : Type 0 whe
   pub it : RouteIn p s r route now
   pub i : ℕ
   pub at : slice_get route.path i ≡ Some x
-  pub runs : runs_in p d route ≡ true
+  pub runs : route_runs_in p d route ≡ true
   pub mode : (now.mode ≡ Occupied) ⊎ ((now.mode ≡ Locked) × (slice_get s.boards route.source ≡ Some Closed))
   pub seen : now.seen ≤ i + 1
   pub later : (j y : ℕ) → i < j → slice_get route.path j ≡ Some y → is_occupied s y ≡ false
 
--- it is Locked or Occupied
 pub led-locked_or_occupied : (s : State) (route : Route) (now : RouteState) → (now.mode ≡ Occupied) ⊎ ((now.mode ≡ Locked) × (slice_get s.boards route.source ≡ Some Closed)) → is_locked_or_occupied now ≡ true
 led-locked_or_occupied s route now (inl e) = occupied-is now e
 led-locked_or_occupied s route now (inr e) = locked-is now e.0
 
--- the route that keeps section x for trains in direction d, which is path[i]
+-- The route that keeps x = path[i] for trains in direction d.
 pub record IsKeptBy (p : PlantLists) (s : State) (d : Dir) (x : ℕ) : Type 0 where
   pub r : ℕ
   pub route : Route
@@ -70,27 +68,26 @@ pub record IsKeptBy (p : PlantLists) (s : State) (d : Dir) (x : ℕ) : Type 0 wh
   pub it : RouteIn p s r route now
   pub i : ℕ
   pub at : slice_get route.path i ≡ Some x
-  pub runs : runs_in p d route ≡ true
+  pub runs : route_runs_in p d route ≡ true
   pub mode : is_locked_or_occupied now ≡ true
   pub least : now.rel ≤ i
 
 module _ (p : PlantLists) (s : State) where
-  -- V7
   abbrev may_lead : Route → RouteState → Bool
   may_lead route now = same_mode now.mode Occupied || (same_mode now.mode Locked && has_aspect s route.source Closed)
 
   abbrev leads : Dir → ℕ → Route → RouteState → ℕ → ℕ → Bool
   leads d x route now i y =
-      (y == x) && runs_in p d route && may_lead route now && nat_le now.seen (i + 1) && list_all (is_vacant s) (drop (i + 1) route.path)
+      (y == x) && route_runs_in p d route && may_lead route now && nat_le now.seen (i + 1) && list_all (is_vacant s) (drop (i + 1) route.path)
 
-  led-at : (d : Dir) (x : ℕ) → is_led p s d x ≡ true → IsLedBy p s d x
+  led-at : (d : Dir) (x : ℕ) → head_is_led_by_route p s d x ≡ true → IsLedBy p s d x
   led-at d x h =
-      let found = some_route-at p s (λ route now. some_place route (leads d x route now)) h in
-      let place = some_place-at found.1 (leads d x found.1 found.2) found.4 in
-      let four = and_parts ((place.1 == x) && runs_in p d found.1 && may_lead found.1 found.2 && nat_le found.2.seen (place.0 + 1)) (list_all (is_vacant s) (drop (place.0 + 1) found.1.path)) place.3 in
-      let three = and_parts ((place.1 == x) && runs_in p d found.1 && may_lead found.1 found.2) (nat_le found.2.seen (place.0 + 1)) four.0 in
-      let two = and_parts ((place.1 == x) && runs_in p d found.1) (may_lead found.1 found.2) three.0 in
-      let one = and_parts (place.1 == x) (runs_in p d found.1) two.0 in
+      let found = any_route_passes-at p s (λ route now. any_path_index_passes route (leads d x route now)) h in
+      let place = any_path_index_passes-at found.1 (leads d x found.1 found.2) found.4 in
+      let four = and_parts ((place.1 == x) && route_runs_in p d found.1 && may_lead found.1 found.2 && nat_le found.2.seen (place.0 + 1)) (list_all (is_vacant s) (drop (place.0 + 1) found.1.path)) place.3 in
+      let three = and_parts ((place.1 == x) && route_runs_in p d found.1 && may_lead found.1 found.2) (nat_le found.2.seen (place.0 + 1)) four.0 in
+      let two = and_parts ((place.1 == x) && route_runs_in p d found.1) (may_lead found.1 found.2) three.0 in
+      let one = and_parts (place.1 == x) (route_runs_in p d found.1) two.0 in
       record {
         r = found.0;
         route = found.1;
@@ -118,10 +115,10 @@ module _ (p : PlantLists) (s : State) where
           let place : i + 1 + (j - (i + 1)) ≡ j = omega (arith, less) in
           all_vacant-at s (drop (i + 1) path) h (j - (i + 1)) y (get-dropped path (i + 1) (j - (i + 1)) ∙ ap (slice_get path) place ∙ at)
 
-  led-from : (d : Dir) (x : ℕ) → IsLedBy p s d x → is_led p s d x ≡ true
+  led-from : (d : Dir) (x : ℕ) → IsLedBy p s d x → head_is_led_by_route p s d x ≡ true
   led-from d x led =
-      some_route-from p s (λ route now. some_place route (leads d x route now)) led.r led.route led.now led.it
-      (some_place-from led.route (leads d x led.route led.now) led.i x led.at
+      any_route_passes-from p s (λ route now. any_path_index_passes route (leads d x route now)) led.r led.route led.now led.it
+      (any_path_index_passes-from led.route (leads d x led.route led.now) led.i x led.at
       (all_of (may led.mode) (at_most led.now.seen (led.i + 1) led.seen) later))
     where
       at_most : (n m : ℕ) → n ≤ m → nat_le n m ≡ true
@@ -137,30 +134,29 @@ module _ (p : PlantLists) (s : State) where
       all_of : may_lead led.route led.now ≡ true → nat_le led.now.seen (led.i + 1) ≡ true → list_all (is_vacant s) (drop (led.i + 1) led.route.path) ≡ true → leads d x led.route led.now led.i x ≡ true
       all_of mode seen vacant = and_from _ _ (and_from _ _ (and_from _ _ (and_from _ _ (eq-eqb x x refl) led.runs) mode) seen) vacant
 
-  pub head-led : keeps_v7 p s ≡ true → (i : ℕ) (train : Train) (x : ℕ) → slice_get s.trains i ≡ Some train → last_or None train.body ≡ Some x → is_plain p train.dir x ≡ true → IsLedBy p s train.dir x
+  pub head-led : keeps_v7 p s ≡ true → (i : ℕ) (train : Train) (x : ℕ) → slice_get s.trains i ≡ Some train → last_or None train.body ≡ Some x → is_plain_for_direction p train.dir x ≡ true → IsLedBy p s train.dir x
   head-led kept i train x at last plain =
-      let here : (if is_plain p train.dir x then is_led p s train.dir x else true) ≡ true = rw last at
+      let here : (if is_plain_for_direction p train.dir x then head_is_led_by_route p s train.dir x else true) ≡ true = rw last at
       (list_all-slice_get
       (λ train. is_some_and (last_or None train.body)
-      (λ x. if is_plain p train.dir x then is_led p s train.dir x else true)) s.trains i train
+      (λ x. if is_plain_for_direction p train.dir x then head_is_led_by_route p s train.dir x else true)) s.trains i train
       kept at) in
-      led-at train.dir x (if-passes (is_plain p train.dir x) (is_led p s train.dir x) here plain)
+      led-at train.dir x (if-passes (is_plain_for_direction p train.dir x) (head_is_led_by_route p s train.dir x) here plain)
 
-  pub heads-from : HasShape p s → ((i : ℕ) (train : Train) (x : ℕ) → slice_get s.trains i ≡ Some train → last_or None train.body ≡ Some x → is_plain p train.dir x ≡ true → IsLedBy p s train.dir x) → keeps_v7 p s ≡ true
+  pub heads-from : HasShape p s → ((i : ℕ) (train : Train) (x : ℕ) → slice_get s.trains i ≡ Some train → last_or None train.body ≡ Some x → is_plain_for_direction p train.dir x ≡ true → IsLedBy p s train.dir x) → keeps_v7 p s ≡ true
   heads-from shape each =
-      all-pass (λ train. is_some_and (last_or None train.body) (λ x. if is_plain p train.dir x then is_led p s train.dir x else true)) s.trains (λ i train at.
-      let last = body-last p train (list_all-slice_get (is_body p) s.trains i train shape.bodies at) in
-      rw last.1 (passes-if (is_plain p train.dir last.0) (is_led p s train.dir last.0) (λ plain. led-from train.dir last.0 (each i train last.0 at last.1 plain))))
+      all-pass (λ train. is_some_and (last_or None train.body) (λ x. if is_plain_for_direction p train.dir x then head_is_led_by_route p s train.dir x else true)) s.trains (λ i train at.
+      let last = body-last p train (list_all-slice_get (has_valid_body p) s.trains i train shape.bodies at) in
+      rw last.1 (passes-if (is_plain_for_direction p train.dir last.0) (head_is_led_by_route p s train.dir last.0) (λ plain. led-from train.dir last.0 (each i train last.0 at last.1 plain))))
 
-  -- V8
   abbrev keeps_for : Dir → ℕ → Route → RouteState → Bool
-  keeps_for d x route now = runs_in p d route && is_locked_or_occupied now && is_kept_on_path route now x
+  keeps_for d x route now = route_runs_in p d route && is_locked_or_occupied now && is_unreleased_on_path route now x
 
-  kept_for-at : (d : Dir) (x : ℕ) → is_kept_for p s d x ≡ true → IsKeptBy p s d x
+  kept_for-at : (d : Dir) (x : ℕ) → section_is_kept_by_route p s d x ≡ true → IsKeptBy p s d x
   kept_for-at d x h =
-      let found = some_route-at p s (keeps_for d x) h in
-      let two = and_parts (runs_in p d found.1 && is_locked_or_occupied found.2) (is_kept_on_path found.1 found.2 x) found.4 in
-      let one = and_parts (runs_in p d found.1) (is_locked_or_occupied found.2) two.0 in
+      let found = any_route_passes-at p s (keeps_for d x) h in
+      let two = and_parts (route_runs_in p d found.1 && is_locked_or_occupied found.2) (is_unreleased_on_path found.1 found.2 x) found.4 in
+      let one = and_parts (route_runs_in p d found.1) (is_locked_or_occupied found.2) two.0 in
       let place = kept-at found.1 found.2 x two.1 in
       record {
         r = found.0;
@@ -174,35 +170,34 @@ module _ (p : PlantLists) (s : State) where
         least = place.1;
       }
 
-  kept_for-from : (d : Dir) (x : ℕ) → IsKeptBy p s d x → is_kept_for p s d x ≡ true
+  kept_for-from : (d : Dir) (x : ℕ) → IsKeptBy p s d x → section_is_kept_by_route p s d x ≡ true
   kept_for-from d x kept =
-      some_route-from p s (keeps_for d x) kept.r kept.route kept.now kept.it
-      (and_from (runs_in p d kept.route && is_locked_or_occupied kept.now)
-      (is_kept_on_path kept.route kept.now x)
-      (and_from (runs_in p d kept.route) (is_locked_or_occupied kept.now) kept.runs kept.mode)
+      any_route_passes-from p s (keeps_for d x) kept.r kept.route kept.now kept.it
+      (and_from (route_runs_in p d kept.route && is_locked_or_occupied kept.now)
+      (is_unreleased_on_path kept.route kept.now x)
+      (and_from (route_runs_in p d kept.route) (is_locked_or_occupied kept.now) kept.runs kept.mode)
       (kept-from kept.route kept.now kept.i x kept.least kept.at))
 
   abbrev is_kept_if_plain : Dir → ℕ → Bool
-  is_kept_if_plain d x = if is_plain p d x then is_kept_for p s d x else true
+  is_kept_if_plain d x = if is_plain_for_direction p d x then section_is_kept_by_route p s d x else true
 
-  pub body-kept : keeps_v8 p s ≡ true → (i : ℕ) (train : Train) → slice_get s.trains i ≡ Some train → (k x : ℕ) → slice_get train.body k ≡ Some x → is_plain p train.dir x ≡ true → IsKeptBy p s train.dir x
+  pub body-kept : keeps_v8 p s ≡ true → (i : ℕ) (train : Train) → slice_get s.trains i ≡ Some train → (k x : ℕ) → slice_get train.body k ≡ Some x → is_plain_for_direction p train.dir x ≡ true → IsKeptBy p s train.dir x
   body-kept kept i train at k x place plain =
       let body = list_all-slice_get (λ train. list_all (is_kept_if_plain train.dir) train.body) s.trains i train kept at in
-      kept_for-at train.dir x (if-passes (is_plain p train.dir x) (is_kept_for p s train.dir x) (list_all-slice_get (is_kept_if_plain train.dir) train.body k x body place) plain)
+      kept_for-at train.dir x (if-passes (is_plain_for_direction p train.dir x) (section_is_kept_by_route p s train.dir x) (list_all-slice_get (is_kept_if_plain train.dir) train.body k x body place) plain)
 
-  pub bodies-from : ((i : ℕ) (train : Train) → slice_get s.trains i ≡ Some train → (k x : ℕ) → slice_get train.body k ≡ Some x → is_plain p train.dir x ≡ true → IsKeptBy p s train.dir x) → keeps_v8 p s ≡ true
+  pub bodies-from : ((i : ℕ) (train : Train) → slice_get s.trains i ≡ Some train → (k x : ℕ) → slice_get train.body k ≡ Some x → is_plain_for_direction p train.dir x ≡ true → IsKeptBy p s train.dir x) → keeps_v8 p s ≡ true
   bodies-from each =
       all-pass (λ train. list_all (is_kept_if_plain train.dir) train.body) s.trains (λ i train at.
       all-pass (is_kept_if_plain train.dir) train.body (λ k x place.
-      passes-if (is_plain p train.dir x) (is_kept_for p s train.dir x) (λ plain. kept_for-from train.dir x (each i train at k x place plain))))
+      passes-if (is_plain_for_direction p train.dir x) (section_is_kept_by_route p s train.dir x) (λ plain. kept_for-from train.dir x (each i train at k x place plain))))
 
-  -- two trains in one section
-  pub two-at : (x : ℕ) → is_two s x ≡ false → (i j : ℕ) (one other : Train) → slice_get s.trains i ≡ Some one → slice_get s.trains j ≡ Some other → has_section x one.body ≡ true → has_section x other.body ≡ true → i ≡ j
+  pub two-at : (x : ℕ) → has_two_trains s x ≡ false → (i j : ℕ) (one other : Train) → slice_get s.trains i ≡ Some one → slice_get s.trains j ≡ Some other → has_section x one.body ≡ true → has_section x other.body ≡ true → i ≡ j
   two-at x none i j one other at also first second =
       let few : count_by (λ train. has_section x train.body) s.trains ≤ 1 = grind (arith, nat_tests) in
       count-one (λ train. has_section x train.body) s.trains few i j one other at also first second
 
-  pub two-from : (x : ℕ) → ((i j : ℕ) (one other : Train) → slice_get s.trains i ≡ Some one → slice_get s.trains j ≡ Some other → has_section x one.body ≡ true → has_section x other.body ≡ true → i ≡ j) → is_two s x ≡ false
+  pub two-from : (x : ℕ) → ((i j : ℕ) (one other : Train) → slice_get s.trains i ≡ Some one → slice_get s.trains j ≡ Some other → has_section x one.body ≡ true → has_section x other.body ≡ true → i ≡ j) → has_two_trains s x ≡ false
   two-from x each =
       let few = few-from_places (λ train. has_section x train.body) s.trains each in
       not_more (count_by (λ train. has_section x train.body) s.trains) few
@@ -210,28 +205,27 @@ module _ (p : PlantLists) (s : State) where
       not_more : (n : ℕ) → n ≤ 1 → nat_lt 1 n ≡ false
       not_more n few = grind (arith, nat_tests)
 
-  -- a train on a wrong point
-  pub wrong-at : (x : ℕ) → is_wrong p s x ≡ false → (stem plus minus : ℕ) (faces : Dir) →
+  pub wrong-at : (x : ℕ) → is_wrong_under_train p s x ≡ false → (stem plus minus : ℕ) (faces : Dir) →
       slice_get p.sections x ≡ Some (Point stem plus minus faces) → (i : ℕ) (train : Train) →
-      slice_get s.trains i ≡ Some train → strays x plus minus (lie_of p s x) train.body ≡ false
+      slice_get s.trains i ≡ Some train → is_wrong_under_body x plus minus (detected_position p s x) train.body ≡ false
   wrong-at x none stem plus minus faces section i train at =
-      let each : list_any (λ train. strays x plus minus (lie_of p s x) train.body) s.trains ≡ false = rw section at none in
-      list_any-none (λ train. strays x plus minus (lie_of p s x) train.body) s.trains i train each at
+      let each : list_any (λ train. is_wrong_under_body x plus minus (detected_position p s x) train.body) s.trains ≡ false = rw section at none in
+      list_any-none (λ train. is_wrong_under_body x plus minus (detected_position p s x) train.body) s.trains i train each at
 
   pub wrong-from : (x : ℕ) →
       ((stem plus minus : ℕ) (faces : Dir) → slice_get p.sections x ≡ Some (Point stem plus minus faces) →
       (i : ℕ) (train : Train) → slice_get s.trains i ≡ Some train →
-      strays x plus minus (lie_of p s x) train.body ≡ false) →
-      is_wrong p s x ≡ false
+      is_wrong_under_body x plus minus (detected_position p s x) train.body ≡ false) →
+      is_wrong_under_train p s x ≡ false
   wrong-from x each = by_section (slice_get p.sections x) refl
     where
-      by_section : (o : Option Section) → slice_get p.sections x ≡ o → is_wrong p s x ≡ false
+      by_section : (o : Option Section) → slice_get p.sections x ≡ o → is_wrong_under_train p s x ≡ false
       by_section None e = rw e refl
       by_section (Some (Linear down up board_down board_up)) e = rw e refl
       by_section (Some (Point stem plus minus faces)) e =
-          rw e (none-pass (λ train. strays x plus minus (lie_of p s x) train.body) s.trains (each stem plus minus faces e))
+          rw e (none-pass (λ train. is_wrong_under_body x plus minus (detected_position p s x) train.body) s.trains (each stem plus minus faces e))
 
--- what a state has that meets the invariant, part by part
+-- A state that meets the invariant, part by part.
 pub record Keeps (p : PlantLists) (s : State) : Type 0 where
   pub shape : HasShape p s
   pub v1 : keeps_v1 p s ≡ true
@@ -243,8 +237,8 @@ pub record Keeps (p : PlantLists) (s : State) : Type 0 where
   pub v7 : keeps_v7 p s ≡ true
   pub v8 : keeps_v8 p s ≡ true
   pub v9 : keeps_v9 p s ≡ true
-  pub one_train : (x : ℕ) → x < length p.sections → is_two s x ≡ false
-  pub right_point : (x : ℕ) → x < length p.sections → is_wrong p s x ≡ false
+  pub one_train : (x : ℕ) → x < length p.sections → has_two_trains s x ≡ false
+  pub right_point : (x : ℕ) → x < length p.sections → is_wrong_under_train p s x ≡ false
 
 pub keeps-of : (p : PlantLists) (s : State) → Meets p s → Keeps p s
 keeps-of p s meets =
@@ -270,8 +264,8 @@ keeps-of p s meets =
       v7 = seven.0;
       v8 = eight.0;
       v9 = nine.0;
-      one_train = λ x within. (or_parts (is_two s x) (is_wrong p s x) (calm x within)).0;
-      right_point = λ x within. (or_parts (is_two s x) (is_wrong p s x) (calm x within)).1;
+      one_train = λ x within. (or_parts (has_two_trains s x) (is_wrong_under_train p s x) (calm x within)).0;
+      right_point = λ x within. (or_parts (has_two_trains s x) (is_wrong_under_train p s x) (calm x within)).1;
     }
 
 pub meets-from : (p : PlantLists) (s : State) → Keeps p s → Meets p s
@@ -280,7 +274,7 @@ meets-from p s keeps = record {
   no_hazard = ap (option_map _)
       (find-none-from (is_hazardous p s) (range_with_len 0 (length p.sections))
       (λ i x at. let within = range_within (length p.sections) i x at in
-      or_from (is_two s x) (is_wrong p s x) (keeps.one_train x within.1)
+      or_from (has_two_trains s x) (is_wrong_under_train p s x) (keeps.one_train x within.1)
       (keeps.right_point x within.1)));
   families_kept = and_from _ _ keeps.v1 (and_from _ _ keeps.v2 (and_from _ _ keeps.v3 (and_from _ _ keeps.v4 (and_from _ _ keeps.v5 (and_from _ _ keeps.v6 (and_from _ _ keeps.v7 (and_from _ _ keeps.v8 (and_from _ _ keeps.v9 refl))))))));
 }

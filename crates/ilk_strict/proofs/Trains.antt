@@ -1,4 +1,4 @@
--- Trains after an event of a train: which there are, what they occupy, and their heads.
+-- Trains after a train event: their number, sections and heads.
 use Rattle.std.proofs.Common.{◌≡◌, ℕ, zero, suc, ◌<◌, ◌≤◌, true, false, Option, Some, None, List, [], ◌∷◌, ◌++◌, inl, inr, ◌⊎◌, length, remove, slice_get, refl, sym, ap, ◌∙◌, subst, arith}
 use Rattle.std.specs.List.{last_or}
 use Rattle.std.proofs.lemmas.Bool.{both_ways, eqb-true, false_from_ne_true}
@@ -9,13 +9,12 @@ use Rattle.ilk_plant.specs.State.{is_occupied}
 use Rattle.ilk_plant.specs.declared.state.State.{State}
 use Rattle.ilk_plant.specs.declared.state.Train.{Train}
 use Rattle.ilk_plant.proofs.InLists.{section-at, section-from, only-one, rest-has}
-use Rattle.ilk_motion.specs.Body.{is_first_of_several, is_last, train_on, with_new_head, without_tail}
+use Rattle.ilk_motion.specs.Body.{is_first_of_several, is_last_section, new_train_on, with_new_head, without_tail}
 use Rattle.ilk_strict.proofs.After.{set-cases}
 use Rattle.ilk_model.proofs.TrainFrames.{IsEntered, IsHeaded, IsLeft, IsTailed}
 use Rattle.ilk_strict.proofs.Reading.{occupied-at, occupied-from}
 
--- the head of a train is its last section
-pub last-is : (x : ℕ) (xs : List ℕ) → is_last x xs ≡ true → (o : Option ℕ) → last_or o xs ≡ Some x
+pub last-is : (x : ℕ) (xs : List ℕ) → is_last_section x xs ≡ true → (o : Option ℕ) → last_or o xs ≡ Some x
 last-is x [] h o = cc
 last-is x (y ∷ []) h o = ap Some (eqb-true y x h)
 last-is x (y ∷ z ∷ rest) h o = last-is x (z ∷ rest) h (Some y)
@@ -24,18 +23,15 @@ pub last-pushed : (xs : List ℕ) (y : ℕ) (o : Option ℕ) → last_or o (xs +
 last-pushed [] y o = refl
 last-pushed (x ∷ xs) y o = last-pushed xs y (Some x)
 
--- a body without its tail has the same head
 pub last-shorter : (x : ℕ) (body : List ℕ) → is_first_of_several x body ≡ true → last_or None (remove body 0) ≡ last_or None body
 last-shorter x [] h = cc
 last-shorter x (y ∷ []) h = cc
 last-shorter x (y ∷ z ∷ rest) h = refl
 
--- and no other sections
 pub shorter-at : (body : List ℕ) (k y : ℕ) → slice_get (remove body 0) k ≡ Some y → slice_get body (suc k) ≡ Some y
 shorter-at [] k y at = cc
 shorter-at (z ∷ rest) k y at = at
 
--- what stands in a list without one of its items stood in the list, before the item or behind it
 pub removed-at : {X : Type 0} (xs : List X) (i j : ℕ) (z : X) → slice_get (remove xs i) j ≡ Some z → (k : ℕ) × (slice_get xs k ≡ Some z) × (((j < i) × (k ≡ j)) ⊎ ((i ≤ j) × (k ≡ suc j)))
 removed-at [] zero j z at = cc
 removed-at [] (suc i) j z at = cc
@@ -57,10 +53,9 @@ removed-once i j l a b (inl e) (inr f) same = omega (arith, e.0, e.1, f.0, f.1, 
 removed-once i j l a b (inr e) (inl f) same = omega (arith, e.0, e.1, f.0, f.1, same)
 removed-once i j l a b (inr e) (inr f) same = omega (arith, e.0, e.1, f.0, f.1, same)
 
--- the trains after each event of a train
-pub enter-trains : (p : PlantLists) (s t : State) (x : ℕ) → (it : IsEntered p s t x) → (i : ℕ) (train : Train) → slice_get t.trains i ≡ Some train → (slice_get s.trains i ≡ Some train) ⊎ ((i ≡ length s.trains) × (train ≡ train_on x it.inward))
+pub enter-trains : (p : PlantLists) (s t : State) (x : ℕ) → (it : IsEntered p s t x) → (i : ℕ) (train : Train) → slice_get t.trains i ≡ Some train → (slice_get s.trains i ≡ Some train) ⊎ ((i ≡ length s.trains) × (train ≡ new_train_on x it.inward))
 enter-trains p s t x it i train at =
-    elim (slice_get-push_cases s.trains (train_on x it.inward) train i (sym (ap (λ (trains : List Train). slice_get trains i) it.trains) ∙ at)) [
+    elim (slice_get-push_cases s.trains (new_train_on x it.inward) train i (sym (ap (λ (trains : List Train). slice_get trains i) it.trains) ∙ at)) [
       | inl old ↦ inl old
       | inr new ↦ inr (new.0, sym new.1)
     ]
@@ -80,7 +75,6 @@ pub leave-trains : (p : PlantLists) (s t : State) (x : ℕ) → (it : IsLeft p s
 leave-trains p s t x it j train at =
     removed-at s.trains it.i j train (sym (ap (λ (trains : List Train). slice_get trains j) it.trains) ∙ at)
 
--- a section of a longer body, and of a shorter one
 pub longer-has : (z y : ℕ) (body : List ℕ) → has_section z (body ++ y ∷ []) ≡ true → (has_section z body ≡ true) ⊎ (z ≡ y)
 longer-has z y body h =
     let found = section-at z (body ++ y ∷ []) h in
@@ -89,7 +83,6 @@ longer-has z y body h =
       | inr new ↦ inr (sym new.1)
     ]
 
--- a section that was vacant is so, where no train has come to it
 vacant-if : (s t : State) (z : ℕ) → is_occupied s z ≡ false → ((i : ℕ) (train : Train) → slice_get t.trains i ≡ Some train → has_section z train.body ≡ true → is_occupied s z ≡ true) → is_occupied t z ≡ false
 vacant-if s t z vacant each =
     false_from_ne_true (is_occupied t z) (λ occupied. let found = occupied-at t z occupied in both_ways (is_occupied s z) vacant (each found.0 found.1 found.2 found.3))

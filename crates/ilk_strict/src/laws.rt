@@ -1,4 +1,4 @@
-//! Laws, each the contract of a function that does nothing.
+//! Theorems, each the contract of a function with an empty body.
 ghost use Rattle.std.specs.Prelude.{◌≡◌, List, [], Some};
 ghost use Rattle.ilk_plant.specs.ColumnRules.{column_rules_broken};
 ghost use Rattle.ilk_plant.specs.Start.{start};
@@ -11,26 +11,25 @@ ghost use Rattle.ilk_strict.specs.IsStrict.{IsStrict, KeepsPathRules};
 
 use ilk_plant::Plant;
 
-/// A table is strict where C1, C2 in its part on the end of a path, C3 in its part on the path, and C7
-/// are broken at no place, whatever it breaks of the other rules of the columns: C4, C5, C6, C8, what C2
-/// asks of destinations and of boards inside a path, and what C3 asks of overlaps. It does nothing, and
-/// tells a proof.
+/// A table is strict if it keeps C1, C7, the part of C2 about the end of a path, and the part of C3
+/// about the path. It may break C4, C5, C6 and C8. It may also break the other parts of C2
+/// (destinations, boards inside a path) and of C3 (overlaps). Proof only; no run-time effect.
 #[tactic(auto, using(crate::proofs::Strict::strict_from_rules))]
-pub fn kept_is_strict(plant: &Plant)
+pub fn path_rules_imply_strict(plant: &Plant)
     requires { KeepsPathRules plant.now }
     ensures { IsStrict plant.now }
 {}
 
-/// A table that breaks no rule of the columns is strict. It does nothing, and tells a proof.
+/// A table that breaks no column rule is strict. Proof only; no run-time effect.
 #[tactic(auto, using(crate::proofs::Strict::strict_from_list))]
 pub fn clean_is_strict(plant: &Plant)
     requires { column_rules_broken plant.now ≡ [] }
     ensures { IsStrict plant.now }
 {}
 
-/// Over a strict table the start meets the invariant, and an event leads from a state that meets it
-/// only to states that meet it; so every run from the start, of whatever length, ends in a state that
-/// meets it. It does nothing, and tells a proof.
+/// For a strict table, the initial state meets the invariant, and an event leads from a state that
+/// meets it only to states that meet it. So every run from the start, of any length, ends in a
+/// state that meets the invariant. Proof only; no run-time effect.
 pub fn strict_is_safe(plant: &Plant)
     requires { IsStrict plant.now }
     ensures start { Meets plant.now (start plant.now) }
@@ -42,13 +41,13 @@ pub fn strict_is_safe(plant: &Plant)
     plant.is_sound();
 }
 
-/// A table that breaks no more of the rules of the columns than that is safe: each run from the start,
-/// of whatever length, ends in a state that meets the invariant. It does nothing, and tells a proof.
-pub fn kept_is_safe(plant: &Plant)
+/// A table that keeps C1, C7 and these parts of C2 and C3 is safe. Every run from the start, of any
+/// length, ends in a state that meets the invariant. Proof only; no run-time effect.
+pub fn path_rules_imply_safe(plant: &Plant)
     requires { KeepsPathRules plant.now }
     ensures { (events : List Event) (t : State) → run plant.now (start plant.now) events ≡ Some t
         → Meets plant.now t }
 {
-    kept_is_strict(plant);
+    path_rules_imply_strict(plant);
     strict_is_safe(plant);
 }

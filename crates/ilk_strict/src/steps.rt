@@ -8,7 +8,7 @@ use ilk_model::{Event, apply, start};
 use ilk_plant::{Plant, State};
 use std::alloc::{AllocError, Global};
 
-/// The state at the start. It meets the invariant.
+/// Returns the initial state. It meets the invariant.
 #[tactic(auto, using(crate::proofs::Invariant::begun_meets))]
 pub fn begin(alloc: Global, plant: &Plant) -> Result<State, AllocError>
     ensures start { IfOk result (λ s. s ≡ start plant.now) }
@@ -17,9 +17,9 @@ pub fn begin(alloc: Global, plant: &Plant) -> Result<State, AllocError>
     start(alloc, plant)
 }
 
-/// Does the event, if it is enabled, in a state that meets the invariant, over a strict table. True
-/// exactly where it is; on false and for want of memory the state is as it was. The state meets the
-/// invariant afterwards.
+/// Executes event `e` if it is enabled, for a strict table and a state that meets the invariant.
+/// Returns whether it was enabled. On `false`, or if memory runs out, the state is unchanged.
+/// Afterwards the state meets the invariant.
 #[tactic(auto, using(crate::proofs::Invariant::advanced_meets))]
 pub fn advance(alloc: Global, plant: &Plant, s: &mut State, e: Event) -> Result<bool, AllocError>
     requires strict { IsStrict plant.now }

@@ -1,4 +1,4 @@
--- Where a rule of two places needn't be asked at the pairs with one first route, for it is broken at none of them.
+-- Cases in which a rule of two locations is violated at no pair with one first route.
 use Rattle.std.proofs.Common.{◌≡◌, ℕ, zero, suc, ◌+◌, ◌-◌, ◌<◌, Bool, true, false, not, ◌==◌, ◌&&◌, ◌||◌, Some, List, [], ◌∷◌, ◌++◌, Option, None, drop, length, nat_lt, option_map, slice_get, take, refl, sym, ◌∙◌, ap, arith, append-nil}
 use Rattle.std.proofs.lemmas.Bool.{or_parts}
 use Rattle.std.proofs.lemmas.Bool.Decides.{nat_tests}
@@ -8,64 +8,59 @@ use Rattle.ilk_base.proofs.Lists.{get-dropped, get-taken}
 use Rattle.ilk_base.proofs.Ranges.{range-at}
 use Rattle.ilk_base.proofs.Tested.{list_any-at, list_any-none}
 use Rattle.ilk_base.specs.Option.{is_some_and}
-use Rattle.ilk_plant.specs.ColumnRules.{is_kept_closed_by, lists, lists_alone, protects_unlisted, share_section, share_unlisted}
+use Rattle.ilk_plant.specs.ColumnRules.{is_kept_closed_by, lists_conflict, lists_conflict_one_way, protects_unlisted, share_section, share_unlisted}
 use Rattle.ilk_plant.specs.Plant.{PlantLists}
 use Rattle.ilk_plant.specs.declared.broken.Broken.{Broken}
 use Rattle.ilk_plant.specs.declared.broken.Rule.{Rule}
 use Rattle.ilk_plant.specs.declared.table.Route.{Route}
-use Rattle.ilk_table_check.specs.Columns.{all_conflict_flags, any_later_unlisted, any_other_unlisted, conflict_flags, lists_by_flags, pairs_of}
-use Rattle.ilk_table_check.proofs.Flagged.{lists-flagged, row-flagged}
+use Rattle.ilk_table_check.specs.Columns.{all_conflict_flags, any_later_unlisted, any_other_unlisted, conflict_flags, lists_by_flags, broken_pairs_with_first}
+use Rattle.ilk_table_check.proofs.Flagged.{lists_conflict-flagged, row-flagged}
 
--- none of a range passes
 none_pass : (test : ℕ → Bool) (a n : ℕ) → ((j : ℕ) → j < a + n → test j ≡ false) → filter test (range_with_len a n) ≡ []
 none_pass test a zero none = refl
 none_pass test a (suc n) none =
     rw (none a (omega arith)) (none_pass test (a + 1) n (λ j below. none j (omega (arith, below))))
 
--- a rule that is broken at none of the pairs adds nothing
-pub adds_none : (rule : Rule) (n i : ℕ) (test : ℕ → Bool) (found : List Broken) → ((j : ℕ) → j < n → test j ≡ false) → found ≡ found ++ pairs_of rule n i test
+pub adds_none : (rule : Rule) (n i : ℕ) (test : ℕ → Bool) (found : List Broken) → ((j : ℕ) → j < n → test j ≡ false) → found ≡ found ++ broken_pairs_with_first rule n i test
 adds_none rule n i test found none =
     rw (none_pass test 0 n (λ j below. none j (omega (arith, below)))) (sym (append-nil found))
 
--- C5: each route that route i lists lists it
+-- C5: each route that route i lists lists it.
 pub none_alone : (p : PlantLists) (listed : List (List Bool)) (conflicts : List ℕ) (i : ℕ) (route : Route) →
     listed ≡ all_conflict_flags p → conflicts ≡ route.conflicts → i < length p.routes →
     slice_get p.routes i ≡ Some route → list_any (λ j. not (lists_by_flags listed j i)) conflicts ≡ false →
-    (j : ℕ) → j < length p.routes → lists_alone p i j ≡ false
+    (j : ℕ) → j < length p.routes → lists_conflict_one_way p i j ≡ false
 none_alone p listed conflicts i route is own first at none j second =
     rw at (by_test (list_any (λ r. r == j) route.conflicts) refl)
   where
-    by_test : (b : Bool) → list_any (λ r. r == j) route.conflicts ≡ b → (b && not (lists p j i)) ≡ false
+    by_test : (b : Bool) → list_any (λ r. r == j) route.conflicts ≡ b → (b && not (lists_conflict p j i)) ≡ false
     by_test false e = refl
     by_test true e =
         let found = list_any-at (λ r. r == j) route.conflicts e in
         let same : found.1 ≡ j = grind (arith, nat_tests, found.3) in
         let each : list_any (λ r. not (lists_by_flags listed r i)) route.conflicts ≡ false = ap (list_any (λ r. not (lists_by_flags listed r i))) (sym own) ∙ none in
         let back : not (lists_by_flags listed found.1 i) ≡ false = list_any-none (λ r. not (lists_by_flags listed r i)) route.conflicts found.0 found.1 each found.2 in
-        ap not (sym (lists-flagged p listed j i is second first)) ∙ ap (λ r. not (lists_by_flags listed r i)) (sym same) ∙ back
+        ap not (sym (lists_conflict-flagged p listed j i is second first)) ∙ ap (λ r. not (lists_by_flags listed r i)) (sym same) ∙ back
 
 neither : (b c : Bool) → c ≡ false → (b && c) ≡ false
 neither true c unset = unset
 neither false c unset = refl
 
--- the flag of route j among those of route i
-own_flag : (p : PlantLists) (i j : ℕ) → j < length p.routes → slice_get (conflict_flags p i) j ≡ Some (lists p i j)
+own_flag : (p : PlantLists) (i j : ℕ) → j < length p.routes → slice_get (conflict_flags p i) j ≡ Some (lists_conflict p i j)
 own_flag p i j second =
-    slice_get-map (lists p i) (range_with_len 0 (length p.routes)) j ∙ ap (option_map (lists p i)) (range-at (length p.routes) j second)
+    slice_get-map (lists_conflict p i) (range_with_len 0 (length p.routes)) j ∙ ap (option_map (lists_conflict p i)) (range-at (length p.routes) j second)
 
--- route i lists a later route, where no later flag is unset
-listed_after : (p : PlantLists) (i j : ℕ) → j < length p.routes → i < j → list_any not (drop (i + 1) (conflict_flags p i)) ≡ false → not (lists p i j) ≡ false
+listed_after : (p : PlantLists) (i j : ℕ) → j < length p.routes → i < j → list_any not (drop (i + 1) (conflict_flags p i)) ≡ false → not (lists_conflict p i j) ≡ false
 listed_after p i j second later set =
     let flags = conflict_flags p i in
-    list_any-none not (drop (i + 1) flags) (j - (i + 1)) (lists p i j) set (get-dropped flags (i + 1) (j - (i + 1)) ∙ ap (slice_get flags) (omega (arith, later)) ∙ own_flag p i j second)
+    list_any-none not (drop (i + 1) flags) (j - (i + 1)) (lists_conflict p i j) set (get-dropped flags (i + 1) (j - (i + 1)) ∙ ap (slice_get flags) (omega (arith, later)) ∙ own_flag p i j second)
 
--- route i lists an earlier route, where no earlier flag is unset
-listed_before : (p : PlantLists) (i j : ℕ) → j < length p.routes → j < i → list_any not (take i (conflict_flags p i)) ≡ false → not (lists p i j) ≡ false
+listed_before : (p : PlantLists) (i j : ℕ) → j < length p.routes → j < i → list_any not (take i (conflict_flags p i)) ≡ false → not (lists_conflict p i j) ≡ false
 listed_before p i j second earlier set =
     let flags = conflict_flags p i in
-    list_any-none not (take i flags) j (lists p i j) set (get-taken flags i j earlier ∙ own_flag p i j second)
+    list_any-none not (take i flags) j (lists_conflict p i j) set (get-taken flags i j earlier ∙ own_flag p i j second)
 
--- C6: route i lists each later route
+-- C6: route i lists each later route.
 pub none_unlisted : (p : PlantLists) (listed : List (List Bool)) (i : ℕ) → listed ≡ all_conflict_flags p → i < length p.routes → any_later_unlisted listed i ≡ false → (j : ℕ) → j < length p.routes → share_unlisted p i j ≡ false
 none_unlisted p listed i is first none j second =
     by_test (nat_lt i j) refl
@@ -73,12 +68,11 @@ none_unlisted p listed i is first none j second =
     set : list_any not (drop (i + 1) (conflict_flags p i)) ≡ false
     set = ap (λ found. is_some_and found (λ row. list_any not (drop (i + 1) row))) (sym (row-flagged p listed i is first)) ∙ none
 
-    by_test : (b : Bool) → nat_lt i j ≡ b → (b && share_section p i j && not (lists p i j)) ≡ false
+    by_test : (b : Bool) → nat_lt i j ≡ b → (b && share_section p i j && not (lists_conflict p i j)) ≡ false
     by_test false e = refl
     by_test true e =
-        neither (share_section p i j) (not (lists p i j)) (listed_after p i j second (grind (arith, nat_tests, e)) set)
+        neither (share_section p i j) (not (lists_conflict p i j)) (listed_after p i j second (grind (arith, nat_tests, e)) set)
 
--- no board is kept closed where there is none
 none_kept : (p : PlantLists) (i j : ℕ) (route : Route) → slice_get p.routes i ≡ Some route → route.protecting_boards ≡ [] → is_kept_closed_by p i j ≡ false
 none_kept p i j route at bare =
     rw at (by_route (slice_get p.routes j))
@@ -87,7 +81,8 @@ none_kept p i j route at bare =
     by_route None = refl
     by_route (Some other) = ap (list_any (λ m. m == other.source)) bare
 
--- C8: route i has no protecting board or lists each other route, and its own source is none of its boards
+-- C8: route i has no protecting board or lists each other route, and its own source is none of its
+-- boards.
 pub none_protected : (p : PlantLists) (listed : List (List Bool)) (i : ℕ) (route : Route) →
     listed ≡ all_conflict_flags p → i < length p.routes → slice_get p.routes i ≡ Some route →
     (list_any (λ m. m == route.source) route.protecting_boards
@@ -107,7 +102,7 @@ none_protected p listed i route is first at none j second =
         (λ found. is_some_and found
         (λ row. list_any not (take i row) || list_any not (drop (i + 1) row)))
         (sym (row-flagged p listed i is first)) ∙ set) in
-        neither (is_kept_closed_by p i j) (not (lists p i j)) (listed_after p i j second (grind (arith, nat_tests, later)) flags.1)
+        neither (is_kept_closed_by p i j) (not (lists_conflict p i j)) (listed_after p i j second (grind (arith, nat_tests, later)) flags.1)
     by_place false true e earlier set =
         let flags = or_parts (list_any not (take i (conflict_flags p i)))
         (list_any not (drop (i + 1) (conflict_flags p i)))
@@ -115,14 +110,14 @@ none_protected p listed i route is first at none j second =
         (λ found. is_some_and found
         (λ row. list_any not (take i row) || list_any not (drop (i + 1) row)))
         (sym (row-flagged p listed i is first)) ∙ set) in
-        neither (is_kept_closed_by p i j) (not (lists p i j)) (listed_before p i j second (grind (arith, nat_tests, earlier)) flags.0)
+        neither (is_kept_closed_by p i j) (not (lists_conflict p i j)) (listed_before p i j second (grind (arith, nat_tests, earlier)) flags.0)
     by_place false false up down set =
         let same : i ≡ j = grind (arith, nat_tests, up, down) in
         let own : is_kept_closed_by p i i ≡ false = rw at parts.0 in
-        ap (λ b. b && not (lists p i j)) (ap (is_kept_closed_by p i) (sym same) ∙ own)
+        ap (λ b. b && not (lists_conflict p i j)) (ap (is_kept_closed_by p i) (sym same) ∙ own)
 
     by_boards : (boards : List ℕ) → route.protecting_boards ≡ boards → protects_unlisted p i j ≡ false
-    by_boards [] bare = ap (λ b. b && not (lists p i j)) (none_kept p i j route at bare)
+    by_boards [] bare = ap (λ b. b && not (lists_conflict p i j)) (none_kept p i j route at bare)
     by_boards (m ∷ more) some =
         let here : nat_lt 0 (length route.protecting_boards) ≡ true = rw some (grind (arith, nat_tests)) in
         by_place (nat_lt i j) (nat_lt j i) refl refl (ap (λ b. b && any_other_unlisted listed i) (sym here) ∙ parts.1)

@@ -1,8 +1,8 @@
--- The rules on small plants: what they list there.
+-- The violated rules of small example plants.
 use Rattle.std.proofs.Common.{◌≡◌, ℕ, Option, Some, None, List, [], ◌∷◌, ◌++◌, refl}
 use Rattle.std.specs.Prelude.{codes}
 use Rattle.ilk_plant.specs.ColumnRules.{column_rules_broken}
-use Rattle.ilk_plant.specs.Draft.{numbered}
+use Rattle.ilk_plant.specs.Draft.{plant_from_drafts}
 use Rattle.ilk_plant.specs.Name.{Name}
 use Rattle.ilk_plant.specs.TableRules.{table_rules_broken}
 use Rattle.ilk_plant.specs.declared.broken.Broken.{Broken}
@@ -39,21 +39,21 @@ at rule i = record { rule = rule; first = i; second = None }
 at_pair : Rule → ℕ → ℕ → Broken
 at_pair rule i j = record { rule = rule; first = i; second = Some j }
 
--- two sections with a board each, and a route over each
+-- Two sections with a board each, and a route over each.
 line : NetDraft
 line = record { sections = linear (codes "a") None (Some (codes "b")) None (Some (codes "m1")) ∷ linear (codes "b") (Some (codes "a")) None (Some (codes "m2")) None ∷ [] }
 
 line_table : TableDraft
 line_table = record { routes = route (codes "r1") (codes "m1") None (codes "b" ∷ []) [] [] ∷ route (codes "r2") (codes "m2") None (codes "a" ∷ []) [] [] ∷ [] }
 
--- the same without boards and routes
+-- The line without boards and routes.
 bare_line : NetDraft
 bare_line = record { sections = linear (codes "a") None (Some (codes "b")) None None ∷ linear (codes "b") (Some (codes "a")) None None None ∷ [] }
 
 no_table : TableDraft
 no_table = record { routes = [] }
 
--- a station of two tracks between two points, with a route for each way through
+-- A station of two tracks between two points, with a route for each path through.
 station : NetDraft
 station = record {
   sections =
@@ -72,7 +72,7 @@ plus name = record { point = name; at = Plus } ∷ []
 minus : Name → List ListedDraft
 minus name = record { point = name; at = Minus } ∷ []
 
--- the routes of the station, the first with these points and conflicts
+-- The routes of the station; the first has these points and conflicts.
 station_table : List ListedDraft → List Name → TableDraft
 station_table points conflicts = record {
   routes =
@@ -90,7 +90,7 @@ station_table points conflicts = record {
 first_conflicts : List Name
 first_conflicts = codes "r2" ∷ codes "r5" ∷ codes "r7" ∷ codes "r8" ∷ []
 
--- the routes of the station, the first with these protecting points and boards
+-- The routes of the station; the first has these protecting points and boards.
 protected_table : List ListedDraft → List Name → TableDraft
 protected_table points boards = record { routes = protect (station_table (plus (codes "p1")) first_conflicts).routes }
   where
@@ -98,44 +98,42 @@ protected_table points boards = record { routes = protect (station_table (plus (
     protect [] = []
     protect (r ∷ rest) = record r { protecting_points = points; protecting_boards = boards } ∷ rest
 
--- the line breaks no rule
 line-table : table_rules_broken line line_table ≡ []
 unfolding line line_table linear route
 line-table = refl
 
-line-columns : column_rules_broken (numbered line line_table) ≡ []
+line-columns : column_rules_broken (plant_from_drafts line line_table) ≡ []
 unfolding line line_table linear route
 line-columns = refl
 
--- without boards both borders are open
+-- Both borders lack their boards; R does not check that.
 bare-table : table_rules_broken bare_line no_table ≡ []
 unfolding bare_line no_table linear
 bare-table = refl
 
-bare-columns : column_rules_broken (numbered bare_line no_table) ≡ at C7 0 ∷ at C7 1 ∷ []
+bare-columns : column_rules_broken (plant_from_drafts bare_line no_table) ≡ at C7 0 ∷ at C7 1 ∷ []
 unfolding bare_line no_table linear at
 bare-columns = refl
 
--- the station breaks no rule
 station-table : table_rules_broken station (station_table (plus (codes "p1")) first_conflicts) ≡ []
 unfolding station station_table linear route plus minus first_conflicts
 station-table = refl
 
-station-columns : column_rules_broken (numbered station (station_table (plus (codes "p1")) first_conflicts)) ≡ []
+station-columns : column_rules_broken (plant_from_drafts station (station_table (plus (codes "p1")) first_conflicts)) ≡ []
 unfolding station station_table linear route plus minus first_conflicts
 station-columns = refl
 
--- a point at the wrong position
-station-wrong_leg : column_rules_broken (numbered station (station_table (minus (codes "p1")) first_conflicts)) ≡ at C3 0 ∷ []
+-- A point at the wrong position.
+station-wrong_leg : column_rules_broken (plant_from_drafts station (station_table (minus (codes "p1")) first_conflicts)) ≡ at C3 0 ∷ []
 unfolding station station_table linear route plus minus first_conflicts at
 station-wrong_leg = refl
 
--- a route that lists no conflict
-station-alone : column_rules_broken (numbered station (station_table (plus (codes "p1")) [])) ≡ at_pair C5 1 0 ∷ at_pair C5 4 0 ∷ at_pair C5 6 0 ∷ at_pair C5 7 0 ∷ at_pair C6 0 1 ∷ at_pair C6 0 4 ∷ at_pair C6 0 6 ∷ at_pair C6 0 7 ∷ []
+-- A route that lists no conflict.
+station-alone : column_rules_broken (plant_from_drafts station (station_table (plus (codes "p1")) [])) ≡ at_pair C5 1 0 ∷ at_pair C5 4 0 ∷ at_pair C5 6 0 ∷ at_pair C5 7 0 ∷ at_pair C6 0 1 ∷ at_pair C6 0 4 ∷ at_pair C6 0 6 ∷ at_pair C6 0 7 ∷ []
 unfolding station station_table linear route plus minus at_pair
 station-alone = refl
 
--- a route that lists itself, a route that is not there and one twice
+-- A route that lists itself, a route that does not exist, and a duplicate.
 station-conflicts :
     table_rules_broken station (station_table (plus (codes "p1")) (codes "r1" ∷ []))
     ++ table_rules_broken station (station_table (plus (codes "p1")) (codes "r9" ∷ []))
@@ -144,7 +142,7 @@ station-conflicts :
 unfolding station station_table linear route plus minus at
 station-conflicts = refl
 
--- a listed point that is no point section, one that is not in the path, and one twice
+-- A listed point that is not a point section, one that is not in the path, and a duplicate.
 station-points :
     table_rules_broken station (station_table (plus (codes "t1")) first_conflicts)
     ++ table_rules_broken station (station_table (plus (codes "p2")) first_conflicts)
@@ -154,7 +152,7 @@ station-points :
 unfolding station station_table linear route plus minus first_conflicts at
 station-points = refl
 
--- a protecting point of the path, one that is no point section, and one twice
+-- A protecting point of the path, one that is not a point section, and a duplicate.
 station-protecting_points :
     table_rules_broken station (protected_table (plus (codes "p1")) [])
     ++ table_rules_broken station (protected_table (plus (codes "t1")) [])
@@ -163,7 +161,7 @@ station-protecting_points :
 unfolding station station_table protected_table linear route plus minus first_conflicts at
 station-protecting_points = refl
 
--- a protecting board that is the source, one that is not there, and one twice
+-- A protecting board that is the source, one that does not exist, and a duplicate.
 station-protecting_boards :
     table_rules_broken station (protected_table [] (codes "m1" ∷ []))
     ++ table_rules_broken station (protected_table [] (codes "m9" ∷ []))
@@ -172,17 +170,17 @@ station-protecting_boards :
 unfolding station station_table protected_table linear route plus minus first_conflicts at
 station-protecting_boards = refl
 
--- a route that shares its protecting point with routes that it doesn't list
-station-shared_point : column_rules_broken (numbered station (protected_table (minus (codes "p2")) [])) ≡ at_pair C6 0 2 ∷ at_pair C6 0 3 ∷ at_pair C6 0 5 ∷ []
+-- A route that shares its protecting point with unlisted routes.
+station-shared_point : column_rules_broken (plant_from_drafts station (protected_table (minus (codes "p2")) [])) ≡ at_pair C6 0 2 ∷ at_pair C6 0 3 ∷ at_pair C6 0 5 ∷ []
 unfolding station station_table protected_table linear route plus minus first_conflicts at_pair
 station-shared_point = refl
 
--- a route whose protecting board is the source of a route that it doesn't list
-station-closed_board : column_rules_broken (numbered station (protected_table [] (codes "m3" ∷ []))) ≡ at_pair C8 0 2 ∷ []
+-- A route whose protecting board is the source of an unlisted route.
+station-closed_board : column_rules_broken (plant_from_drafts station (protected_table [] (codes "m3" ∷ []))) ≡ at_pair C8 0 2 ∷ []
 unfolding station station_table protected_table linear route plus minus first_conflicts at_pair
 station-closed_board = refl
 
--- everything wrong with a route on a line
+-- Everything wrong with a route on a line.
 wrong_table : TableDraft
 wrong_table = record { routes = route (codes "r1") (codes "m1") None (codes "b" ∷ []) [] [] ∷ route (codes "r1") (codes "m3") (Some (codes "m4")) (codes "a" ∷ codes "c" ∷ codes "a" ∷ []) [] [] ∷ [] }
 

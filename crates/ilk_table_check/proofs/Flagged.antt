@@ -1,4 +1,4 @@
--- Flags of numbers: one more flag, the flags of a list, and rows of flags.
+-- Flags of numbers, of a list, and rows of flags.
 use Rattle.std.proofs.Common.{◌≡◌, ℕ, ◌+◌, ◌<◌, ◌≤◌, Bool, false, ◌==◌, ◌||◌, Some, List, [], ◌∷◌, ◌++◌, get_or, length, map, option_map, slice_get, take, refl, sym, ◌∙◌, ap, arith}
 use Rattle.std.specs.List.{range_with_len}
 use Rattle.std.proofs.Math.Bool.{or-false, or_assoc}
@@ -9,7 +9,7 @@ use Rattle.std.proofs.lemmas.List.FromFn.{fill_by_all, get_or-map-range_with_len
 use Rattle.std.proofs.lemmas.Option.{slice_get-map}
 use Rattle.ilk_base.proofs.Ranges.{range-at}
 use Rattle.ilk_base.specs.Option.{is_some_and}
-use Rattle.ilk_plant.specs.ColumnRules.{lists}
+use Rattle.ilk_plant.specs.ColumnRules.{lists_conflict}
 use Rattle.ilk_plant.specs.Network.{has_section}
 use Rattle.ilk_plant.specs.Plant.{PlantLists}
 use Rattle.ilk_plant.specs.TableRules.{protecting_points_of, sections_locked_for}
@@ -17,13 +17,11 @@ use Rattle.ilk_plant.specs.declared.table.Listed.{Listed}
 use Rattle.ilk_plant.specs.declared.table.Route.{Route}
 use Rattle.ilk_table_check.specs.Columns.{all_conflict_flags, conflict_flags, lists_by_flags, locked_flags}
 
--- no flag to set there
 pub flag_past : (flags : List Bool) (x y : ℕ) → length flags ≤ x → y < length flags → get_or flags y false ≡ (get_or flags y false || (x == y))
 flag_past flags x y past below =
     let differs : (x == y) ≡ false = grind (arith, nat_tests) in
     sym (or-false (get_or flags y false)) ∙ ap (λ b. get_or flags y false || b) (sym differs)
 
--- the flags of a list, as it grows by one
 pub flags_more : (numbers : List ℕ) (i d y : ℕ) (a b c : Bool) → i < length numbers → b ≡ (a || has_section y (take i numbers)) → c ≡ (b || (get_or numbers i d == y)) → c ≡ (a || has_section y (take (i + 1) numbers))
 flags_more numbers i d y a b c within before after =
     after ∙ ap (λ t. t || (get_or numbers i d == y)) before ∙ or_assoc a (has_section y (take i numbers)) (get_or numbers i d == y)
@@ -34,7 +32,6 @@ flags_more numbers i d y a b c within before after =
         ap (has_section y) (take_more numbers i d within) ∙ list_any-append (λ x. x == y) (take i numbers) (get_or numbers i d ∷ [])
         ∙ ap (λ t. has_section y (take i numbers) || t) (or-false (get_or numbers i d == y))
 
--- the flags of the points of a list, as it grows by one
 pub points_more : (points : List Listed) (i : ℕ) (d : Listed) (y : ℕ) (a b c : Bool) → i < length points →
     b ≡ (a || has_section y (take i (map (λ listed. listed.point) points))) →
     c ≡ (b || ((get_or points i d).point == y)) →
@@ -44,15 +41,13 @@ points_more points i d y a b c within before after =
     let item : get_or (map point points) i d.point ≡ (get_or points i d).point = get_or-map point points i d d.point within in
     flags_more (map point points) i d.point y a b c (omega (arith, within, length-map points point)) before (after ∙ ap (λ n. b || (n == y)) (sym item))
 
--- the routes that a route lists
 pub listed-row : (p : PlantLists) (i n : ℕ) (route : Route) (flags : List Bool) (numbers : List ℕ) →
     n ≡ length p.routes → length flags ≡ n → numbers ≡ route.conflicts → slice_get p.routes i ≡ Some route →
     ((y : ℕ) → y < n → get_or flags y false ≡ has_section y numbers) → flags ≡ conflict_flags p i
 listed-row p i n route flags numbers whole count own at tell =
-    fill_by_all (lists p i) flags n false count (λ y below. tell y below ∙ ap (has_section y) own ∙ rw at refl)
-    ∙ ap (λ m. map (lists p i) (range_with_len 0 m)) whole
+    fill_by_all (lists_conflict p i) flags n false count (λ y below. tell y below ∙ ap (has_section y) own ∙ rw at refl)
+    ∙ ap (λ m. map (lists_conflict p i) (range_with_len 0 m)) whole
 
--- the sections that are locked for a route
 pub locked-row :
     (p : PlantLists) (i n : ℕ) (route : Route) (first second third : List Bool) (path overlap : List ℕ)
     (points : List Listed) →
@@ -82,12 +77,10 @@ locked-row p i n route first second third path overlap points whole own_path own
         ∙ ap (λ b. b || has_section y (map (λ listed. listed.point) points)) (by_overlap y (omega (arith, below, one)) ∙ ap (λ b. b || has_section y overlap) (by_path y below))
         ∙ (λ j. (has_section y (own_path j) || has_section y (own_overlap j)) || has_section y (map (λ listed. listed.point) (own_points j)))
 
--- the flags of route i among those of all pairs
 pub row-flagged : (p : PlantLists) (listed : List (List Bool)) (i : ℕ) → listed ≡ all_conflict_flags p → i < length p.routes → slice_get listed i ≡ Some (conflict_flags p i)
 row-flagged p listed i is first =
     ap (λ l. slice_get l i) is ∙ slice_get-map (conflict_flags p) (range_with_len 0 (length p.routes)) i ∙ ap (option_map (conflict_flags p)) (range-at (length p.routes) i first)
 
--- which route lists which, by the flags of all pairs
-pub lists-flagged : (p : PlantLists) (listed : List (List Bool)) (i j : ℕ) → listed ≡ all_conflict_flags p → i < length p.routes → j < length p.routes → lists_by_flags listed i j ≡ lists p i j
-lists-flagged p listed i j is first second =
-    rw (row-flagged p listed i is first) (get_or-map-range_with_len (lists p i) 0 (length p.routes) j j false second (omega arith))
+pub lists_conflict-flagged : (p : PlantLists) (listed : List (List Bool)) (i j : ℕ) → listed ≡ all_conflict_flags p → i < length p.routes → j < length p.routes → lists_by_flags listed i j ≡ lists_conflict p i j
+lists_conflict-flagged p listed i j is first second =
+    rw (row-flagged p listed i is first) (get_or-map-range_with_len (lists_conflict p i) 0 (length p.routes) j j false second (omega arith))

@@ -1,4 +1,4 @@
--- The last of some sections, by its place.
+-- The last of some sections.
 use Rattle.std.proofs.Common.{◌≡◌, ℕ, ◌-◌, ◌≤◌, None, Some, List, get_or, length, arith}
 use Rattle.std.proofs.lemmas.Option.{slice_get-get_or}
 use Rattle.ilk_base.proofs.Lists.{last_or-at}

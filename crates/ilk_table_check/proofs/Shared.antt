@@ -1,4 +1,4 @@
--- Two routes share a section exactly where one section of the second has its flag among those of the first.
+-- Two routes share a section if and only if a section of the second is flagged for the first.
 use Rattle.std.proofs.Common.{◌≡◌, ℕ, ◌<◌, Bool, false, ◌||◌, Some, List, [], ◌∷◌, ◌++◌, get_or, length, slice_get, refl, sym, ◌∙◌, ap, arith}
 use Rattle.std.specs.List.{AllByRecursion, list_any}
 use Rattle.std.proofs.lemmas.List.Elements.{All-map, recursion_from_All}
@@ -12,12 +12,10 @@ use Rattle.ilk_plant.specs.TableRules.{protecting_points_of, sections_locked_for
 use Rattle.ilk_plant.specs.declared.table.Route.{Route}
 use Rattle.ilk_table_check.specs.Columns.{locked_flags}
 
--- a flag for each number below n tells what its test does
 flagged : (flags : List Bool) (test : ℕ → Bool) (n : ℕ) (xs : List ℕ) → ((x : ℕ) → x < n → get_or flags x false ≡ test x) → AllByRecursion (λ x. x < n) xs → list_any (λ x. get_or flags x false) xs ≡ list_any test xs
 flagged flags test n [] same each = refl
 flagged flags test n (x ∷ xs) same each = rw (same x each.0, flagged flags test n xs same each.1) refl
 
--- the flags of route i
 flags-own : (p : PlantLists) (i x : ℕ) (route : Route) → slice_get p.routes i ≡ Some route → x < length p.sections → get_or (locked_flags p i) x false ≡ has_section x (sections_locked_for route)
 flags-own p i x route at below =
     get_or-map-range_with_len _ 0 (length p.sections) x x false below (omega arith) ∙ rw at refl

@@ -6,17 +6,15 @@ ghost use Rattle.ilk_base.specs.Numbers.{has_number};
 
 use crate::conflicts::lists_by_flags;
 use crate::flags::Flags;
-use crate::pairs::keeps_closed;
+use crate::pairs::has_protecting_board;
 use ilk_plant::{Plant, Route, Row, Rule};
 
-// Whether one of these routes doesn't list route `i`. `listed` has which routes list which.
 fn any_alone(listed: &Row<Flags>, conflicts: &[u32], i: u32) -> bool
     ensures { result ≡ list_any (λ j. not (lists_by_flags listed.now j i)) conflicts.now }
 {
     conflicts.iter().any(|j| !lists_by_flags(listed, *j, i))
 }
 
-// Whether one of the flags after number `i` isn't set.
 fn any_unset_after(flags: &Flags, i: u32) -> bool
     ensures { result ≡ list_any not (drop (i + 1) flags.now) }
 {
@@ -27,7 +25,7 @@ fn any_unset_after(flags: &Flags, i: u32) -> bool
         .any(|flag| !*flag)
 }
 
-// Whether route `i` doesn't list one of the later routes. `listed` has which routes list which.
+// Returns whether route `i` leaves some later route unlisted.
 fn any_later_unlisted(listed: &Row<Flags>, i: u32) -> bool
     ensures { result ≡ any_later_unlisted listed.now i }
 {
@@ -37,21 +35,19 @@ fn any_later_unlisted(listed: &Row<Flags>, i: u32) -> bool
     }
 }
 
-// Whether one of the flags before number `i` isn't set.
 fn any_unset_before(flags: &Flags, i: u32) -> bool
     ensures { result ≡ list_any not (take i flags.now) }
 {
     flags.as_slice().iter().take(i as usize).any(|flag| !*flag)
 }
 
-// Whether one of the flags of other numbers than `i` isn't set.
 fn any_other_unset(flags: &Flags, i: u32) -> bool
     ensures { result ≡ (list_any not (take i flags.now) || list_any not (drop (i + 1) flags.now)) }
 {
     any_unset_before(flags, i) || any_unset_after(flags, i)
 }
 
-// Whether route `i` doesn't list one of the other routes. `listed` has which routes list which.
+// Returns whether route `i` leaves some other route unlisted.
 fn any_other_unlisted(listed: &Row<Flags>, i: u32) -> bool
     ensures { result ≡ any_other_unlisted listed.now i }
 {
@@ -61,21 +57,23 @@ fn any_other_unlisted(listed: &Row<Flags>, i: u32) -> bool
     }
 }
 
-// Whether route `i` may have a protecting board that is the source of a route that it doesn't list: its
-// own source is one, or it has protecting boards and doesn't list another route.
+// Returns whether some protecting board of route `i` may be the source of an unlisted route. This
+// needs its own source to be a protecting board, or some other route to be unlisted.
 fn may_protect_unlisted(listed: &Row<Flags>, route: &Route, i: u32) -> bool
     ensures { result ≡ (has_number route.now.source route.now.protecting_boards
         || (nat_lt 0 (length route.now.protecting_boards) && any_other_unlisted listed.now i)) }
 {
-    keeps_closed(route, route.source)
+    has_protecting_board(route, route.source)
         || (route.protecting_boards.len() > 0 && any_other_unlisted(listed, i))
 }
 
-/// Whether a rule of two places has to be asked at the pairs whose first is route `i`: where this is
-/// false, the rule is broken at none of them. C5 is asked only where route `i` lists a route that
-/// doesn't list it, C6 only where it doesn't list a later one, and C8 only where it has protecting
-/// boards and doesn't list another route, or protects its own source. `listed` has which routes list which.
-pub fn is_to_be_asked(plant: &Plant, listed: &Row<Flags>, rule: Rule, i: u32) -> bool
+/// Returns whether a rule of two locations has to be checked at the pairs that begin with route
+/// `i`. If not, the rule is violated at none of them. `listed` has the conflicts of all routes.
+///
+/// C5 is checked only if route `i` lists a route that doesn't list it. C6 is checked only if route
+/// `i` leaves a later route unlisted. C8 is checked only if route `i` has protecting boards and
+/// leaves another route unlisted, or its own source is one of them.
+pub fn needs_pair_check(plant: &Plant, listed: &Row<Flags>, rule: Rule, i: u32) -> bool
     requires first { i < length plant.now.routes }
     requires listed { listed.now ≡ all_conflict_flags plant.now }
     ensures { result ≡ false → (j : ℕ) → j < length plant.now.routes →

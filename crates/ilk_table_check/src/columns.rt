@@ -3,17 +3,16 @@ ghost use Rattle.ilk_plant.specs.Broken.{broken_at, broken_at_pairs, places_of};
 ghost use Rattle.ilk_plant.specs.TableRules.{count_in_plant};
 ghost use Rattle.ilk_plant.specs.ColumnRules.{breaks_columns, breaks_columns_at_pair, column_rule_broken, column_rules_broken, is_border_without_board};
 ghost use Rattle.ilk_plant.specs.declared.broken.Rule.TheVariants.{C7};
-ghost use Rattle.ilk_table_check.specs.Columns.{all_conflict_flags, pairs_of};
+ghost use Rattle.ilk_table_check.specs.Columns.{all_conflict_flags, broken_pairs_with_first};
 
-use crate::asking::is_to_be_asked;
+use crate::asking::needs_pair_check;
 use crate::conflicts::all_conflict_flags;
 use crate::flags::Flags;
-use crate::pairs::{breaks_at_pair, locked_for};
-use crate::ways::{overlap_leads_on, path_ends_at_board, path_leads_on, points_are_set};
-use ilk_plant::{Broken, Places, Plant, Row, Rule, push_if};
+use crate::pairs::{breaks_at_pair, locked_flags_if_needed};
+use crate::ways::{overlap_is_connected, path_ends_at_board, path_is_connected, points_are_listed};
+use ilk_plant::{Broken, PlaceKind, Plant, Row, Rule, push_broken_if};
 use std::alloc::{AllocError, Global};
 
-// The rules of the columns, in order.
 const COLUMN_RULES: [Rule; 8] = [
     Rule::C1,
     Rule::C2,
@@ -25,7 +24,6 @@ const COLUMN_RULES: [Rule; 8] = [
     Rule::C8,
 ];
 
-// Whether section `x` is a border without a board in its inward direction.
 fn is_border_without_board(plant: &Plant, x: u32) -> bool
     requires { x < length plant.now.sections }
     ensures { result ≡ is_border_without_board plant.now x }
@@ -36,33 +34,31 @@ fn is_border_without_board(plant: &Plant, x: u32) -> bool
     }
 }
 
-// How many places of a kind the plant has; the numbers of a pair are below this too.
-fn count(plant: &Plant, places: Places) -> u32
+// Returns the number of locations of a kind.
+fn count(plant: &Plant, places: PlaceKind) -> u32
     ensures { result ≡ count_in_plant plant.now places }
 {
     match places {
-        Places::Sections => plant.sections(),
-        Places::Boards => plant.boards(),
-        Places::Routes | Places::RoutePairs => plant.routes(),
+        PlaceKind::Sections => plant.sections(),
+        PlaceKind::Boards => plant.boards(),
+        PlaceKind::Routes | PlaceKind::RoutePairs => plant.routes(),
     }
 }
 
-// Whether a rule is broken at its place `i`.
 fn breaks(plant: &Plant, rule: Rule, i: u32) -> bool
     requires { i < count_in_plant plant.now (places_of rule) }
     ensures { result ≡ breaks_columns plant.now rule i }
 {
     match rule {
-        Rule::C1 => !path_leads_on(plant, plant.route(i)),
+        Rule::C1 => !path_is_connected(plant, plant.route(i)),
         Rule::C2 => !path_ends_at_board(plant, plant.route(i)),
-        Rule::C3 => !points_are_set(plant, plant.route(i)),
-        Rule::C4 => !overlap_leads_on(plant, plant.route(i)),
+        Rule::C3 => !points_are_listed(plant, plant.route(i)),
+        Rule::C4 => !overlap_is_connected(plant, plant.route(i)),
         Rule::C7 => is_border_without_board(plant, i),
         _ => false,
     }
 }
 
-// Adds the places at which a rule of one place is broken.
 fn push_places(found: &mut Row<Broken>, plant: &Plant, rule: Rule) -> Result<(), AllocError>
     ensures { OnOk result (found.new ≡ found.old
         ++ broken_at rule (count_in_plant plant.now (places_of rule))
@@ -74,12 +70,12 @@ fn push_places(found: &mut Row<Broken>, plant: &Plant, rule: Rule) -> Result<(),
             first: i,
             second: None,
         };
-        push_if(found, breaks(plant, rule, i), entry)?;
+        push_broken_if(found, breaks(plant, rule, i), entry)?;
     }
     Ok(())
 }
 
-// Adds the pairs whose first is route `i` at which a rule of two places is broken.
+// Adds the pairs that begin with route `i` and violate a rule of two locations.
 fn push_pairs_of(
     alloc: Global,
     found: &mut Row<Broken>,
@@ -93,20 +89,20 @@ fn push_pairs_of(
     ensures { OnOk result
         (found.new
         ≡ found.old
-        ++ pairs_of rule (length plant.now.routes) i
+        ++ broken_pairs_with_first rule (length plant.now.routes) i
         (breaks_columns_at_pair plant.now rule i)) }
 {
-    if !is_to_be_asked(plant, listed, rule, i) {
+    if !needs_pair_check(plant, listed, rule, i) {
         return Ok(());
     }
-    let locked = locked_for(alloc, plant, rule, i)?;
+    let locked = locked_flags_if_needed(alloc, plant, rule, i)?;
     for j in 0..plant.routes() {
         let entry = Broken {
             rule,
             first: i,
             second: Some(j),
         };
-        push_if(
+        push_broken_if(
             found,
             breaks_at_pair(plant, listed, &locked, rule, i, j),
             entry,
@@ -115,7 +111,6 @@ fn push_pairs_of(
     Ok(())
 }
 
-// Adds the pairs of routes at which a rule of two places is broken.
 fn push_pairs(
     alloc: Global,
     found: &mut Row<Broken>,
@@ -136,7 +131,6 @@ fn push_pairs(
     Ok(())
 }
 
-// Adds a rule at each of its places at which it is broken. `listed` has which routes list which.
 fn push_rule(
     alloc: Global,
     found: &mut Row<Broken>,
@@ -148,13 +142,13 @@ fn push_rule(
     ensures { OnOk result (found.new ≡ found.old ++ column_rule_broken plant.now rule) }
 {
     match rule.places() {
-        Places::RoutePairs => push_pairs(alloc, found, plant, listed, rule),
+        PlaceKind::RoutePairs => push_pairs(alloc, found, plant, listed, rule),
         _ => push_places(found, plant, rule),
     }
 }
 
-/// All broken rules of the columns of a plant's table of routes, C1 to C8, in the order of the
-/// rules, then of the first place, then of the second. The only refusal is want of memory.
+/// Returns every violated rule of the columns, C1 to C8, ordered by rule, first location and second
+/// location. Fails only if memory runs out.
 pub fn check_columns(alloc: Global, plant: &Plant) -> Result<Row<Broken>, AllocError>
     ensures { IfOk result (λ found. found ≡ column_rules_broken plant.now) }
 {
@@ -166,8 +160,9 @@ pub fn check_columns(alloc: Global, plant: &Plant) -> Result<Row<Broken>, AllocE
     Ok(found)
 }
 
-/// The borders without a board in their inward direction, C7, in the order of the sections: it is
-/// the rule of the columns that asks the network alone. The only refusal is want of memory.
+/// Returns the borders without a board in their inward direction (C7), in the order of the
+/// sections. This is the only rule of the columns that depends on the network alone. Fails only if
+/// memory runs out.
 pub fn check_borders(alloc: Global, plant: &Plant) -> Result<Row<Broken>, AllocError>
     ensures { IfOk result (λ found. found ≡ column_rule_broken plant.now C7) }
 {

@@ -1,21 +1,20 @@
 ghost use Rattle.std.specs.Prelude.{◌≡◌, ◌<◌, IfOk, length};
-ghost use Rattle.ilk_plant.specs.ColumnRules.{lists};
+ghost use Rattle.ilk_plant.specs.ColumnRules.{lists_conflict};
 ghost use Rattle.ilk_table_check.specs.Columns.{all_conflict_flags, conflict_flags, lists_by_flags};
 
 use crate::flags::Flags;
 use ilk_plant::{Plant, Row};
 use std::alloc::{AllocError, Global};
 
-// For each route, whether route `i` lists it as a conflict.
 fn conflict_flags(alloc: Global, plant: &Plant, i: u32) -> Result<Flags, AllocError>
     requires { i < length plant.now.routes }
     ensures { IfOk result (λ made. made ≡ conflict_flags plant.now i) }
 {
-    let flags = Flags::of(alloc, plant.routes(), plant.route(i).conflicts.as_slice())?;
+    let flags = Flags::from_numbers(alloc, plant.routes(), plant.route(i).conflicts.as_slice())?;
     Ok(flags)
 }
 
-/// For each pair of routes, whether the first lists the second as a conflict.
+/// Returns, for each pair of routes, whether the first lists the second as a conflict.
 pub fn all_conflict_flags(alloc: Global, plant: &Plant) -> Result<Row<Flags>, AllocError>
     ensures { IfOk result (λ made. made ≡ all_conflict_flags plant.now) }
 {
@@ -26,7 +25,7 @@ pub fn all_conflict_flags(alloc: Global, plant: &Plant) -> Result<Row<Flags>, Al
     Ok(made)
 }
 
-/// Whether flag `j` of row `i` is set; false where there is none.
+/// Returns flag `j` of row `i`, `false` if there is none.
 pub fn lists_by_flags(listed: &Row<Flags>, i: u32, j: u32) -> bool
     ensures { result ≡ lists_by_flags listed.now i j }
 {
@@ -36,13 +35,13 @@ pub fn lists_by_flags(listed: &Row<Flags>, i: u32, j: u32) -> bool
     }
 }
 
-/// Whether route `i` lists route `j` as a conflict. `listed` has which routes list which; the plant
-/// is there for the contract alone.
-pub fn lists(_plant: &Plant, listed: &Row<Flags>, i: u32, j: u32) -> bool
+/// Returns whether route `i` lists route `j` as a conflict. `listed` has the conflicts of all
+/// routes; only the contract uses `_plant`.
+pub fn lists_conflict(_plant: &Plant, listed: &Row<Flags>, i: u32, j: u32) -> bool
     requires first { i < length _plant.now.routes }
     requires second { j < length _plant.now.routes }
     requires listed { listed.now ≡ all_conflict_flags _plant.now }
-    ensures { result ≡ lists _plant.now i j }
+    ensures { result ≡ lists_conflict _plant.now i j }
 {
     lists_by_flags(listed, i, j)
 }

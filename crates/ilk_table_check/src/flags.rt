@@ -1,7 +1,7 @@
 ghost use Rattle.std.specs.Prelude.{ℕ, ◌≡◌, ◌==◌, ◌&&◌, ◌||◌, ◌<◌, IfOk, false, length, map, nat_lt, not, slice_index_or, true};
 ghost use Rattle.std.specs.List.{list_all};
 ghost use Rattle.ilk_plant.specs.Network.{has_section};
-ghost use Rattle.ilk_plant.specs.Once.{none_twice};
+ghost use Rattle.ilk_plant.specs.Once.{numbers_differ};
 ghost use Rattle.ilk_base.specs.Numbers.{has_number};
 
 use ilk_plant::Listed;
@@ -23,7 +23,7 @@ impl Model for Flags {
 }
 
 impl Flags {
-    /// So many flags, none of which is set.
+    /// Creates `count` flags, none of which is set.
     pub fn new(alloc: Global, count: u32) -> Result<Flags, AllocError>
         ensures count { IfOk result (λ flags. length flags ≡ count) }
         ensures flags { IfOk result
@@ -34,8 +34,8 @@ impl Flags {
         })
     }
 
-    /// So many flags: whether a number is among these.
-    pub fn of(alloc: Global, count: u32, numbers: &[u32]) -> Result<Flags, AllocError>
+    /// Creates `count` flags, with those of `numbers` set.
+    pub fn from_numbers(alloc: Global, count: u32, numbers: &[u32]) -> Result<Flags, AllocError>
         ensures count { IfOk result (λ flags. length flags ≡ count) }
         ensures flags { IfOk result
             (λ flags. (y : ℕ) → y < count →
@@ -46,14 +46,14 @@ impl Flags {
         Ok(flags)
     }
 
-    /// The flags in order.
+    /// Returns the flags in order.
     pub fn as_slice(&self) -> &[bool]
         ensures { result.now ≡ self.now }
     {
         self.flags.as_slice()
     }
 
-    /// Flag `x`; false where there is none.
+    /// Returns flag `x`, `false` if there is none.
     pub fn at(&self, x: u32) -> bool
         ensures { result ≡ slice_index_or self.now x false }
     {
@@ -63,7 +63,6 @@ impl Flags {
         }
     }
 
-    // Sets flag `x`, if there is one.
     fn set(&mut self, x: u32)
         ensures count { length self.new ≡ length self.old }
         ensures flags { (y : ℕ) → y < length self.old →
@@ -101,17 +100,16 @@ impl Flags {
     }
 }
 
-// Whether a number isn't flagged, and it was so before.
 fn still_once(once: bool, flags: &Flags, x: u32) -> bool
     ensures { result ≡ (once && not (slice_index_or flags.now x false)) }
 {
     once && !flags.at(x)
 }
 
-/// Whether no number stands twice among these, each of which is below `count`.
-pub fn none_twice_below(alloc: Global, count: u32, numbers: &[u32]) -> Result<bool, AllocError>
+/// Returns whether `numbers` has no duplicates. Each number must be below `count`.
+pub fn numbers_differ_below(alloc: Global, count: u32, numbers: &[u32]) -> Result<bool, AllocError>
     requires { list_all (λ x. nat_lt x count) numbers.now ≡ true }
-    ensures { IfOk result (λ once. once ≡ none_twice numbers.now) }
+    ensures { IfOk result (λ once. once ≡ numbers_differ numbers.now) }
 {
     let mut flags = Flags::new(alloc, count)?;
     let mut once = true;

@@ -1,8 +1,9 @@
-//! The static checks of a table of routes: its rules (R) over the drafts (`check_table`, or
-//! `check_numbered_table` where they are numbered already), and the rules of its columns (C) over
-//! the plant (`check_columns`, and `check_borders` for the one that asks the network alone), which is
-//! made between the two. Each gives the whole list of the rules that are broken, each at every place,
-//! in order.
+//! Checks the interlocking table. `check_table` checks the rules of the table (R) on the drafts,
+//! and `check_numbered_table` on existing numbered drafts. `check_columns` checks the rules of the
+//! columns (C) on the plant, which is created between the two checks. `check_borders` checks C7,
+//! which depends only on the network.
+//!
+//! Each returns every violated rule with its location, in order.
 #![tactic(auto)]
 
 mod asking;

@@ -6,32 +6,30 @@ ghost use Rattle.ilk_plant.specs.declared.broken.Rule.TheVariants.{C6};
 ghost use Rattle.ilk_table_check.specs.Columns.{all_conflict_flags, locked_flags};
 ghost use Rattle.ilk_base.specs.Numbers.{has_number};
 
-use crate::conflicts::lists;
+use crate::conflicts::lists_conflict;
 use crate::flags::Flags;
 use ilk_base::has_number;
 use ilk_plant::{Listed, Plant, Route, Row, Rule};
 use std::alloc::{AllocError, Global};
 
-// For each section, whether route `i` has it in its path, its overlap or its protecting points.
+// Returns, for each section, whether it is in route `i`'s path, overlap or protecting points.
 fn locked_flags(alloc: Global, plant: &Plant, i: u32) -> Result<Flags, AllocError>
     requires { i < length plant.now.routes }
     ensures { IfOk result (λ locked. locked ≡ locked_flags plant.now i) }
 {
     let route = plant.route(i);
-    let mut locked = Flags::of(alloc, plant.sections(), route.path.as_slice())?;
+    let mut locked = Flags::from_numbers(alloc, plant.sections(), route.path.as_slice())?;
     locked.set_all(route.overlap.as_slice());
     locked.set_points(route.protecting_points.as_slice());
     Ok(locked)
 }
 
-// Whether one of these sections has its flag.
 fn any_flagged(flags: &Flags, sections: &[u32]) -> bool
     ensures { result ≡ list_any (λ x. slice_index_or flags.now x false) sections.now }
 {
     sections.iter().any(|x| flags.at(*x))
 }
 
-// Whether one of these points has its flag.
 fn any_point_flagged(flags: &Flags, points: &[Listed]) -> bool
     ensures { result
         ≡ list_any (λ x. slice_index_or flags.now x false)
@@ -43,7 +41,7 @@ fn any_point_flagged(flags: &Flags, points: &[Listed]) -> bool
         .any(|x| flags.at(x))
 }
 
-// Whether one of the sections of a route's path, overlap or protecting points has its flag.
+// Returns whether some section of a route's path, overlap or protecting points has its flag.
 fn any_of_route_flagged(flags: &Flags, route: &Route) -> bool
     ensures { result ≡ ((list_any (λ x. slice_index_or flags.now x false) route.now.path
         || list_any (λ x. slice_index_or flags.now x false) route.now.overlap)
@@ -54,8 +52,8 @@ fn any_of_route_flagged(flags: &Flags, route: &Route) -> bool
         || any_point_flagged(flags, route.protecting_points.as_slice())
 }
 
-// Whether routes `i` and `j` have one same section in path, overlap or protecting points.
-// `locked` has what is locked for route `i`.
+// Returns whether routes `i` and `j` share a section of path, overlap or protecting points.
+// `locked` has those of route `i`.
 fn share_section(plant: &Plant, locked: &Flags, i: u32, j: u32) -> bool
     requires first { i < length plant.now.routes }
     requires second { j < length plant.now.routes }
@@ -66,24 +64,24 @@ fn share_section(plant: &Plant, locked: &Flags, i: u32, j: u32) -> bool
     any_of_route_flagged(locked, other)
 }
 
-/// Whether a route has board `m` among its protecting boards.
-pub fn keeps_closed(route: &Route, m: u32) -> bool
+/// Returns whether board `m` is a protecting board of the route.
+pub fn has_protecting_board(route: &Route, m: u32) -> bool
     ensures { result ≡ has_number m route.now.protecting_boards }
 {
     has_number(route.protecting_boards.as_slice(), m)
 }
 
-// Whether the source of route `j` is a protecting board of route `i`.
+// Returns whether the source of route `j` is a protecting board of route `i`.
 fn is_kept_closed_by(plant: &Plant, i: u32, j: u32) -> bool
     requires first { i < length plant.now.routes }
     requires second { j < length plant.now.routes }
     ensures { result ≡ is_kept_closed_by plant.now i j }
 {
-    keeps_closed(plant.route(i), plant.route(j).source)
+    has_protecting_board(plant.route(i), plant.route(j).source)
 }
 
-/// Whether a rule is broken at the pair of routes `i` and `j`. `listed` has which routes list which,
-/// and `locked` what is locked for route `i`, which C6 alone asks.
+/// Returns whether a rule is violated at the pair of routes `i` and `j`. `listed` has the conflicts
+/// of all routes. `locked` has the sections locked for route `i`; only C6 uses it.
 pub fn breaks_at_pair(
     plant: &Plant,
     listed: &Row<Flags>,
@@ -99,15 +97,22 @@ pub fn breaks_at_pair(
     ensures { result ≡ breaks_columns_at_pair plant.now rule i j }
 {
     match rule {
-        Rule::C5 => lists(plant, listed, i, j) && !lists(plant, listed, j, i),
-        Rule::C6 => i < j && !lists(plant, listed, i, j) && share_section(plant, locked, i, j),
-        Rule::C8 => !lists(plant, listed, i, j) && is_kept_closed_by(plant, i, j),
+        Rule::C5 => lists_conflict(plant, listed, i, j) && !lists_conflict(plant, listed, j, i),
+        Rule::C6 => i < j
+            && !lists_conflict(plant, listed, i, j)
+            && share_section(plant, locked, i, j),
+        Rule::C8 => !lists_conflict(plant, listed, i, j) && is_kept_closed_by(plant, i, j),
         _ => false,
     }
 }
 
-/// What is locked for route `i`, where a rule asks it.
-pub fn locked_for(alloc: Global, plant: &Plant, rule: Rule, i: u32) -> Result<Flags, AllocError>
+/// Returns the sections locked for route `i`, if the rule needs them.
+pub fn locked_flags_if_needed(
+    alloc: Global,
+    plant: &Plant,
+    rule: Rule,
+    i: u32,
+) -> Result<Flags, AllocError>
     requires { i < length plant.now.routes }
     ensures { rule ≡ C6 → IfOk result (λ locked. locked ≡ locked_flags plant.now i) }
 {

@@ -4,19 +4,19 @@ ghost use Rattle.ilk_plant.specs.Broken.{broken_at, places_of};
 ghost use Rattle.ilk_plant.specs.Network.{has_section};
 ghost use Rattle.ilk_plant.specs.Limits.{HasLimits};
 ghost use Rattle.ilk_plant.specs.Plant.{is_point_section};
-ghost use Rattle.ilk_plant.specs.TableRules.{breaks_table, count_in_plant, has_conflicts_once, has_destination_or_none, has_points_once, has_protecting_boards_once, has_protecting_points_once, has_sections_once, is_board, is_other_route, is_section, points_of, protecting_points_of, routes_broken, sections_of, table_rules_broken};
-ghost use Rattle.ilk_plant.specs.Once.{none_twice};
+ghost use Rattle.ilk_plant.specs.TableRules.{breaks_table, count_in_plant, has_conflicts_once, has_destination_or_none, has_points_once, has_protecting_boards_once, has_protecting_points_once, has_sections_once, is_board, is_other_route, is_section, points_of, protecting_points_of, numbered_rules_broken, sections_of, table_rules_broken};
+ghost use Rattle.ilk_plant.specs.Once.{numbers_differ};
 ghost use Rattle.ilk_base.specs.Numbers.{has_number};
 
-use crate::flags::none_twice_below;
-use crate::listed::is_listed;
+use crate::flags::numbers_differ_below;
+use crate::listed::is_point_listed;
 use ilk_base::has_number;
 use ilk_plant::{
-    Broken, Listed, NetDraft, Numbered, Places, Route, Row, Rule, TableDraft, push_if,
+    Broken, Listed, NetDraft, NumberedDrafts, PlaceKind, Route, Row, Rule, TableDraft,
+    push_broken_if,
 };
 use std::alloc::{AllocError, Global};
 
-// The rules of the table, in order.
 const TABLE_RULES: [Rule; 8] = [
     Rule::R1,
     Rule::R2,
@@ -28,9 +28,8 @@ const TABLE_RULES: [Rule; 8] = [
     Rule::R8,
 ];
 
-// Whether no number stands twice.
 fn none_twice(numbers: &[u32]) -> bool
-    ensures { result ≡ none_twice numbers.now }
+    ensures { result ≡ numbers_differ numbers.now }
 {
     for (i, x) in numbers.iter().enumerate() {
         if has_number(&numbers[i + 1..], *x) {
@@ -40,16 +39,15 @@ fn none_twice(numbers: &[u32]) -> bool
     true
 }
 
-// Whether one of two lists has this number.
 fn is_among_both(x: u32, first: &[u32], second: &[u32]) -> bool
     ensures { result ≡ has_number x (first.now ++ second.now) }
 {
     has_number(first, x) || has_number(second, x)
 }
 
-// Whether no number stands twice in two lists together.
+// Returns whether the two lists together have no duplicates.
 fn none_twice_in_both(first: &[u32], second: &[u32]) -> bool
-    ensures { result ≡ none_twice (first.now ++ second.now) }
+    ensures { result ≡ numbers_differ (first.now ++ second.now) }
 {
     for (i, x) in first.iter().enumerate() {
         if is_among_both(*x, &first[i + 1..], second) {
@@ -59,22 +57,20 @@ fn none_twice_in_both(first: &[u32], second: &[u32]) -> bool
     none_twice(second)
 }
 
-// Whether each number is that of a section.
-fn are_sections(plant: &Numbered, sections: &[u32]) -> bool
+fn are_sections(plant: &NumberedDrafts, sections: &[u32]) -> bool
     ensures { result ≡ list_all (is_section plant.now) sections.now }
 {
     sections.iter().all(|x| plant.is_section(*x))
 }
 
-// Whether each number in two lists is that of a section.
-fn both_are_sections(plant: &Numbered, first: &[u32], second: &[u32]) -> bool
+fn both_are_sections(plant: &NumberedDrafts, first: &[u32], second: &[u32]) -> bool
     ensures { result ≡ list_all (is_section plant.now) (first.now ++ second.now) }
 {
     are_sections(plant, first) && are_sections(plant, second)
 }
 
-// Whether path and overlap are sections, none of which stands twice in them.
-fn has_sections_once(plant: &Numbered, route: &Route) -> bool
+// Returns whether path and overlap are sections without duplicates.
+fn has_sections_once(plant: &NumberedDrafts, route: &Route) -> bool
     ensures { result ≡ has_sections_once plant.now route.now }
 {
     let path = route.path.as_slice();
@@ -82,15 +78,13 @@ fn has_sections_once(plant: &Numbered, route: &Route) -> bool
     both_are_sections(plant, path, overlap) && none_twice_in_both(path, overlap)
 }
 
-// Whether `x` is a point section of a route's path or overlap.
-fn is_point_of(plant: &Numbered, route: &Route, x: u32) -> bool
+fn is_point_of(plant: &NumberedDrafts, route: &Route, x: u32) -> bool
     ensures { result ≡ (is_point_section plant.now x && has_section x (sections_of route.now)) }
 {
     plant.is_point_section(x) && is_among_both(x, route.path.as_slice(), route.overlap.as_slice())
 }
 
-// Whether each listed point is a point section of path or overlap.
-fn are_points_of(plant: &Numbered, route: &Route) -> bool
+fn are_points_of(plant: &NumberedDrafts, route: &Route) -> bool
     ensures { result
         ≡ list_all (λ x. is_point_section plant.now x && has_section x (sections_of route.now))
         (points_of route.now) }
@@ -102,27 +96,25 @@ fn are_points_of(plant: &Numbered, route: &Route) -> bool
         .all(|x| is_point_of(plant, route, x))
 }
 
-// Whether no point is listed twice.
 fn none_listed_twice(points: &[Listed]) -> bool
-    ensures { result ≡ none_twice (map (λ listed. listed.point) points.now) }
+    ensures { result ≡ numbers_differ (map (λ listed. listed.point) points.now) }
 {
     for (i, listed) in points.iter().enumerate() {
-        if is_listed(listed.point, &points[i + 1..]) {
+        if is_point_listed(listed.point, &points[i + 1..]) {
             return false;
         }
     }
     true
 }
 
-// Whether each listed point is a point section of path or overlap, and none is listed twice.
-fn has_points_once(plant: &Numbered, route: &Route) -> bool
+// Returns whether each listed point is a point section of path or overlap, and is listed once.
+fn has_points_once(plant: &NumberedDrafts, route: &Route) -> bool
     ensures { result ≡ has_points_once plant.now route.now }
 {
     are_points_of(plant, route) && none_listed_twice(route.points.as_slice())
 }
 
-// Whether the destination is null or a board.
-fn has_destination_or_none(plant: &Numbered, destination: Option<u32>) -> bool
+fn has_destination_or_none(plant: &NumberedDrafts, destination: Option<u32>) -> bool
     ensures { result ≡ has_destination_or_none plant.now destination }
 {
     match destination {
@@ -131,8 +123,7 @@ fn has_destination_or_none(plant: &Numbered, destination: Option<u32>) -> bool
     }
 }
 
-// Whether each conflict is a route other than route `i`.
-fn are_other_routes(plant: &Numbered, i: u32, routes: &Row<u32>) -> bool
+fn are_other_routes(plant: &NumberedDrafts, i: u32, routes: &Row<u32>) -> bool
     ensures { result ≡ list_all (is_other_route plant.now i) routes.now }
 {
     routes
@@ -141,11 +132,11 @@ fn are_other_routes(plant: &Numbered, i: u32, routes: &Row<u32>) -> bool
         .all(|r| plant.is_other_route(i, *r))
 }
 
-// Whether each conflict of route `i` is another route, and none is listed twice.
+// Returns whether each conflict of route `i` is another route, and is listed once.
 #[tactic(auto, using(crate::proofs::Twice::others_below))]
 fn has_conflicts_once(
     alloc: Global,
-    plant: &Numbered,
+    plant: &NumberedDrafts,
     i: u32,
     route: &Route,
 ) -> Result<bool, AllocError>
@@ -154,23 +145,21 @@ fn has_conflicts_once(
     if !are_other_routes(plant, i, &route.conflicts) {
         return Ok(false);
     }
-    none_twice_below(
+    numbers_differ_below(
         alloc,
-        plant.count(Places::Routes),
+        plant.count(PlaceKind::Routes),
         route.conflicts.as_slice(),
     )
 }
 
-// Whether `x` is a point section in neither path nor overlap of a route.
-fn is_point_apart(plant: &Numbered, route: &Route, x: u32) -> bool
+fn is_point_apart(plant: &NumberedDrafts, route: &Route, x: u32) -> bool
     ensures { result
         ≡ (is_point_section plant.now x && not (has_section x (sections_of route.now))) }
 {
     plant.is_point_section(x) && !is_among_both(x, route.path.as_slice(), route.overlap.as_slice())
 }
 
-// Whether each protecting point is a point section in neither path nor overlap.
-fn are_points_apart(plant: &Numbered, route: &Route) -> bool
+fn are_points_apart(plant: &NumberedDrafts, route: &Route) -> bool
     ensures { result
         ≡ list_all
         (λ x. is_point_section plant.now x && not (has_section x (sections_of route.now)))
@@ -183,23 +172,21 @@ fn are_points_apart(plant: &Numbered, route: &Route) -> bool
         .all(|x| is_point_apart(plant, route, x))
 }
 
-// Whether each protecting point is a point section in neither path nor overlap, and none is listed
-// twice.
-fn has_protecting_points_once(plant: &Numbered, route: &Route) -> bool
+// Returns whether each protecting point is a point section in neither path nor overlap, and is
+// listed once.
+fn has_protecting_points_once(plant: &NumberedDrafts, route: &Route) -> bool
     ensures { result ≡ has_protecting_points_once plant.now route.now }
 {
     are_points_apart(plant, route) && none_listed_twice(route.protecting_points.as_slice())
 }
 
-// Whether `m` is the number of a board other than the source.
-fn is_other_board(plant: &Numbered, source: u32, m: u32) -> bool
+fn is_other_board(plant: &NumberedDrafts, source: u32, m: u32) -> bool
     ensures { result ≡ (is_board plant.now m && not (m == source)) }
 {
     plant.is_board(m) && m != source
 }
 
-// Whether each protecting board is a board other than the source.
-fn are_other_boards(plant: &Numbered, route: &Route) -> bool
+fn are_other_boards(plant: &NumberedDrafts, route: &Route) -> bool
     ensures { result
         ≡ list_all (λ m. is_board plant.now m && not (m == route.now.source))
         route.now.protecting_boards }
@@ -210,20 +197,24 @@ fn are_other_boards(plant: &Numbered, route: &Route) -> bool
         .all(|m| is_other_board(plant, route.source, *m))
 }
 
-// Whether each protecting board is a board other than the source, and none is listed twice.
-fn has_protecting_boards_once(plant: &Numbered, route: &Route) -> bool
+// Returns whether each protecting board is a board other than the source, and is listed once.
+fn has_protecting_boards_once(plant: &NumberedDrafts, route: &Route) -> bool
     ensures { result ≡ has_protecting_boards_once plant.now route.now }
 {
     are_other_boards(plant, route) && none_twice(route.protecting_boards.as_slice())
 }
 
-// Whether a rule of the table is broken at its place `i`.
-fn breaks_table(alloc: Global, plant: &Numbered, rule: Rule, i: u32) -> Result<bool, AllocError>
+fn breaks_table(
+    alloc: Global,
+    plant: &NumberedDrafts,
+    rule: Rule,
+    i: u32,
+) -> Result<bool, AllocError>
     requires { i < count_in_plant plant.now (places_of rule) }
     ensures { IfOk result (λ broken. broken ≡ breaks_table plant.now rule i) }
 {
     match rule {
-        Rule::R1 => Ok(plant.is_named_before(i)),
+        Rule::R1 => Ok(plant.is_duplicate(i)),
         Rule::R2 => Ok(!plant.is_board(plant.route(i).source)),
         Rule::R3 => Ok(!has_sections_once(plant, plant.route(i))),
         Rule::R4 => Ok(!has_points_once(plant, plant.route(i))),
@@ -235,11 +226,10 @@ fn breaks_table(alloc: Global, plant: &Numbered, rule: Rule, i: u32) -> Result<b
     }
 }
 
-// Adds a rule of the table at each of its places at which it is broken.
 fn push_rule(
     alloc: Global,
     found: &mut Row<Broken>,
-    plant: &Numbered,
+    plant: &NumberedDrafts,
     rule: Rule,
 ) -> Result<(), AllocError>
     ensures { OnOk result (found.new ≡ found.old
@@ -252,14 +242,14 @@ fn push_rule(
             first: i,
             second: None,
         };
-        push_if(found, breaks_table(alloc, plant, rule, i)?, entry)?;
+        push_broken_if(found, breaks_table(alloc, plant, rule, i)?, entry)?;
     }
     Ok(())
 }
 
-/// All broken rules of a table of routes, R1 to R8, in the order of the rules and then of the
-/// routes. A name stands for the first section, board or route that has it. Network and table are
-/// within the limits. The only refusal is want of memory.
+/// Returns every violated rule of the table, R1 to R8, ordered by rule and route. A name refers to
+/// the first section, board or route that has it. Network and table must be within the limits.
+/// Fails only if memory runs out.
 pub fn check_table(
     alloc: Global,
     net: &NetDraft,
@@ -268,13 +258,16 @@ pub fn check_table(
     requires { HasLimits net.now table.now }
     ensures { IfOk result (λ found. found ≡ table_rules_broken net.now table.now) }
 {
-    let plant = Numbered::of(alloc, net, table)?;
+    let plant = NumberedDrafts::from_drafts(alloc, net, table)?;
     check_numbered_table(alloc, &plant)
 }
 
-/// The same, of drafts that are numbered already.
-pub fn check_numbered_table(alloc: Global, plant: &Numbered) -> Result<Row<Broken>, AllocError>
-    ensures { IfOk result (λ found. found ≡ routes_broken plant.now) }
+/// Returns the same as `check_table`, for drafts that are numbered already.
+pub fn check_numbered_table(
+    alloc: Global,
+    plant: &NumberedDrafts,
+) -> Result<Row<Broken>, AllocError>
+    ensures { IfOk result (λ found. found ≡ numbered_rules_broken plant.now) }
 {
     let mut found = Row::new(alloc);
     for rule in &TABLE_RULES {

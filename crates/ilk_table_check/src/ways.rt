@@ -5,12 +5,11 @@ ghost use Rattle.ilk_plant.specs.Network.{has_section, last_of};
 ghost use Rattle.ilk_base.specs.Option.{is_some_and};
 ghost use Rattle.ilk_plant.specs.TableRules.{points_of};
 ghost use Rattle.ilk_plant.specs.Plant.{is_point_section};
-ghost use Rattle.ilk_plant.specs.ColumnRules.{has_no_board, is_between_boards, is_leg, is_listed_towards, overlap_leads_on, path_ends_at_board, path_leads_on, points_are_set, points_lead_along, ends_path};
+ghost use Rattle.ilk_plant.specs.ColumnRules.{has_no_board, is_between_boards, is_leg, is_listed_towards, overlap_is_connected, path_ends_at_board, path_is_connected, points_are_listed, points_lead_along, ends_at_destination};
 
-use crate::listed::is_listed;
+use crate::listed::is_point_listed;
 use ilk_plant::{Board, Dir, Listed, Plant, Position, Route, Row, Section, is_leg};
 
-// Section `x`. None where there is no such section.
 fn section_at(plant: &Plant, x: u32) -> Option<&Section>
     ensures { option_copied result ≡ slice_get plant.now.sections x }
 {
@@ -21,7 +20,6 @@ fn section_at(plant: &Plant, x: u32) -> Option<&Section>
     }
 }
 
-// The board at which a route begins.
 fn source_of(plant: &Plant, route: &Route) -> Option<Board>
     ensures { result ≡ slice_get plant.now.boards route.now.source }
 {
@@ -32,17 +30,16 @@ fn source_of(plant: &Plant, route: &Route) -> Option<Board>
     }
 }
 
-/// Whether the path leads on from the source's section.
-pub fn path_leads_on(plant: &Plant, route: &Route) -> bool
-    ensures { result ≡ path_leads_on plant.now route.now }
+/// Returns whether the path starts next to the source's section and is connected.
+pub fn path_is_connected(plant: &Plant, route: &Route) -> bool
+    ensures { result ≡ path_is_connected plant.now route.now }
 {
     match source_of(plant, route) {
-        Some(source) => plant.leads_on(source.dir, source.section, route.path.as_slice()),
+        Some(source) => plant.is_connected(source.dir, source.section, route.path.as_slice()),
         None => false,
     }
 }
 
-// Whether section `x` has no board for direction `d`.
 fn has_no_board(plant: &Plant, d: Dir, x: u32) -> bool
     ensures { result ≡ has_no_board plant.now d x }
 {
@@ -52,26 +49,26 @@ fn has_no_board(plant: &Plant, d: Dir, x: u32) -> bool
     }
 }
 
-// Whether a path in direction `d` that ends at section `x` has this destination.
+// Returns whether a path in direction `d` that ends at section `x` has this destination.
 fn ends_path(plant: &Plant, d: Dir, destination: Option<u32>, x: u32) -> bool
-    ensures { result ≡ ends_path plant.now d destination x }
+    ensures { result ≡ ends_at_destination plant.now d destination x }
 {
     match (destination, section_at(plant, x)) {
         (Some(m), Some(section)) => section.board_on(d) == Some(m),
         (Some(_), None) => false,
-        (None, Some(section)) => section.beside(d, 0).is_none(),
+        (None, Some(section)) => section.neighbour_on(d, 0).is_none(),
         (None, None) => true,
     }
 }
 
-// Whether no section of these has a board for direction `d`.
 fn have_no_board(plant: &Plant, d: Dir, sections: &[u32]) -> bool
     ensures { result ≡ list_all (has_no_board plant.now d) sections.now }
 {
     sections.iter().all(|x| has_no_board(plant, d, *x))
 }
 
-// Whether a path in direction `d` has no board before its last section, and ends at the destination.
+// Returns whether a path in direction `d` has no board before its last section, and ends at the
+// destination.
 fn is_between_boards(plant: &Plant, d: Dir, destination: Option<u32>, path: &Row<u32>) -> bool
     ensures { result ≡ is_between_boards plant.now d destination path.now }
 {
@@ -83,8 +80,8 @@ fn is_between_boards(plant: &Plant, d: Dir, destination: Option<u32>, path: &Row
     }
 }
 
-/// Whether no path section but the last has a board in the route's direction, and the path ends at
-/// the destination.
+/// Returns whether only the last path section may have a board in the route's direction, and the
+/// path ends at the destination.
 pub fn path_ends_at_board(plant: &Plant, route: &Route) -> bool
     ensures { result ≡ path_ends_at_board plant.now route.now }
 {
@@ -94,7 +91,6 @@ pub fn path_ends_at_board(plant: &Plant, route: &Route) -> bool
     }
 }
 
-// Whether section `x` is a point.
 fn is_point_section(plant: &Plant, x: u32) -> bool
     ensures { result ≡ is_point_section plant.now x }
 {
@@ -104,7 +100,8 @@ fn is_point_section(plant: &Plant, x: u32) -> bool
     }
 }
 
-// Whether the leg of section `x` at a position is the section before it or the first after it.
+// Returns whether the leg of section `x` at position `at` is the section before it or the first
+// after it.
 fn leads_along(plant: &Plant, x: u32, at: Position, before: u32, rest: &[u32]) -> bool
     ensures { result
         ≡ list_any (λ y. is_some_and (slice_get plant.now.sections x) (is_leg at y))
@@ -117,7 +114,8 @@ fn leads_along(plant: &Plant, x: u32, at: Position, before: u32, rest: &[u32]) -
         }
 }
 
-// Whether section `x` is listed at a position whose leg is the section before it or the first after it.
+// Returns whether section `x` is listed at a position whose leg is the section before it or the
+// first after it.
 fn is_listed_towards(plant: &Plant, points: &Row<Listed>, before: u32, rest: &[u32], x: u32) -> bool
     ensures { result ≡ is_listed_towards plant.now points.now (before ∷ take 1 rest.now) x }
 {
@@ -125,7 +123,6 @@ fn is_listed_towards(plant: &Plant, points: &Row<Listed>, before: u32, rest: &[u
         && leads_along(plant, x, listed.at, before, rest))
 }
 
-// Whether section `x` is no point, or is listed towards the section before it or the first after it.
 fn leads_through(plant: &Plant, points: &Row<Listed>, before: u32, rest: &[u32], x: u32) -> bool
     ensures { result
         ≡
@@ -135,7 +132,6 @@ fn leads_through(plant: &Plant, points: &Row<Listed>, before: u32, rest: &[u32],
     !is_point_section(plant, x) || is_listed_towards(plant, points, before, rest, x)
 }
 
-// Whether each point of a path is listed towards the section before it or the one after it.
 fn points_lead_along(plant: &Plant, points: &Row<Listed>, start: u32, path: &Row<u32>) -> bool
     ensures { result ≡ points_lead_along plant.now points.now start path.now }
 {
@@ -150,14 +146,12 @@ fn points_lead_along(plant: &Plant, points: &Row<Listed>, start: u32, path: &Row
     true
 }
 
-// Whether section `x` is no point, or is listed.
 fn is_listed_if_point(plant: &Plant, route: &Route, x: u32) -> bool
     ensures { result ≡ (not (is_point_section plant.now x) || has_section x (points_of route.now)) }
 {
-    !is_point_section(plant, x) || is_listed(x, route.points.as_slice())
+    !is_point_section(plant, x) || is_point_listed(x, route.points.as_slice())
 }
 
-// Whether each point of an overlap is listed.
 fn overlap_points_are_listed(plant: &Plant, route: &Route) -> bool
     ensures { result
         ≡ list_all
@@ -168,10 +162,10 @@ fn overlap_points_are_listed(plant: &Plant, route: &Route) -> bool
     overlap.iter().all(|x| is_listed_if_point(plant, route, *x))
 }
 
-/// Whether each point of the path is listed towards the section before it or the one after it, and
-/// each point of the overlap is listed.
-pub fn points_are_set(plant: &Plant, route: &Route) -> bool
-    ensures { result ≡ points_are_set plant.now route.now }
+/// Returns whether each point of the path is listed towards the section before it or the one after
+/// it, and each point of the overlap is listed.
+pub fn points_are_listed(plant: &Plant, route: &Route) -> bool
+    ensures { result ≡ points_are_listed plant.now route.now }
 {
     match source_of(plant, route) {
         Some(source) => {
@@ -182,7 +176,6 @@ pub fn points_are_set(plant: &Plant, route: &Route) -> bool
     }
 }
 
-// The last of some sections. None where there are none.
 #[tactic(auto, using(crate::proofs::Last::last_at))]
 fn last_of(sections: &[u32]) -> Option<u32>
     ensures { result ≡ last_of sections.now }
@@ -193,12 +186,16 @@ fn last_of(sections: &[u32]) -> Option<u32>
     }
 }
 
-/// Whether the overlap leads on from the last section of the path.
-pub fn overlap_leads_on(plant: &Plant, route: &Route) -> bool
-    ensures { result ≡ overlap_leads_on plant.now route.now }
+/// Returns whether the overlap starts next to the path's last section and is connected.
+pub fn overlap_is_connected(plant: &Plant, route: &Route) -> bool
+    ensures { result ≡ overlap_is_connected plant.now route.now }
 {
     match (source_of(plant, route), last_of(route.path.as_slice())) {
-        (Some(source), Some(last)) => plant.leads_on(source.dir, last, route.overlap.as_slice()),
+        (Some(source), Some(last)) => plant.is_connected(
+            source.dir,
+            last,
+            route.overlap.as_slice(),
+        ),
         _ => false,
     }
 }

@@ -1,4 +1,5 @@
--- Worked configurations: short lines of two sections, a and b from down to up, their values and their drafts.
+-- Example configurations: lines of two sections, `a` and `b` from down to up, with their values and
+-- drafts.
 use Rattle.std.specs.Prelude.{ℕ, List, [], ◌∷◌, ◌++◌, Option, Some, None, codes}
 use Rattle.serde_json.specs.Data.{Data, null, number, unsigned, string, array, object, Items, no_items, item, no_members, member}
 use Rattle.ilk_plant.specs.Name.{Name}
@@ -8,17 +9,17 @@ use Rattle.ilk_plant.specs.declared.draft.RouteDraft.{RouteDraft}
 use Rattle.ilk_plant.specs.declared.draft.SectionDraft.{SectionDraft}
 use Rattle.ilk_plant.specs.declared.draft.TableDraft.{TableDraft}
 
--- a text, or null where it is missing
+-- A text, or null for a missing text.
 abbrev pub optional_value : Option Name → Data
 optional_value None = null
 optional_value (Some text) = string text
 
--- a document of version 1, with its members in the order of their names
+-- A document of version 1, with its members ordered by name.
 abbrev pub document_value : Items → Items → Data
 document_value sections routes =
     object (member (codes "routes") (array routes) (member (codes "sections") (array sections) (member (codes "version") (number (unsigned 1)) no_members)))
 
--- a linear section of this name, neighbours down and up, and boards for down and up
+-- A linear section with this name, neighbours down and up, and boards for down and up.
 abbrev pub linear_value : Name → Option Name → Option Name → Option Name → Option Name → Data
 linear_value name down up board_down board_up =
     object
@@ -29,7 +30,7 @@ linear_value name down up board_down board_up =
     (member (codes "name") (string name)
     (member (codes "up") (optional_value up) no_members))))))
 
--- a route of this name from this board over one section, which ends at no board
+-- A route with this name, from this board over one section, without a destination.
 abbrev pub route_value : Name → Name → Name → Data
 route_value name source section =
     object
@@ -47,9 +48,9 @@ linear name down up board_down board_up = record { name = name; kind = Linear do
 abbrev pub route : Name → Name → Name → RouteDraft
 route name source section = record { name = name; source = source; destination = None; path = section ∷ []; overlap = []; points = []; conflicts = []; protecting_points = []; protecting_boards = [] }
 
--- the line with no board and no route
-abbrev pub bare_value : Data
-bare_value =
+-- The line without boards and routes.
+abbrev pub bare_line_value : Data
+bare_line_value =
     document_value (item (linear_value (codes "a") None (Some (codes "b")) None None) (item (linear_value (codes "b") (Some (codes "a")) None None None) no_items)) no_items
 
 abbrev pub bare_net : NetDraft
@@ -58,7 +59,7 @@ bare_net = record { sections = linear (codes "a") None (Some (codes "b")) None N
 abbrev pub bare_table : TableDraft
 bare_table = record { routes = [] }
 
--- the line with the board m1 on a for up, the board m2 on b for down, and a route from each board
+-- The line with board `m1` on `a` for up, board `m2` on `b` for down, and a route from each board.
 abbrev pub boarded_value : Data
 boarded_value =
     document_value
@@ -73,14 +74,14 @@ boarded_net = record { sections = linear (codes "a") None (Some (codes "b")) Non
 abbrev pub boarded_table : TableDraft
 boarded_table = record { routes = route (codes "r1") (codes "m1") (codes "b") ∷ route (codes "r2") (codes "m2") (codes "a") ∷ [] }
 
--- the text of the line with no board and no route
+-- The text of the line without boards and routes.
 abbrev pub bare_text : List ℕ
 bare_text = codes "{\"version\":1,\"sections\":[{\"name\":\"a\",\"kind\":\"linear\",\"down\":null,"
     ++ codes "\"up\":\"b\",\"board_down\":null,\"board_up\":null},"
     ++ codes "{\"name\":\"b\",\"kind\":\"linear\",\"down\":\"a\",\"up\":null,"
     ++ codes "\"board_down\":null,\"board_up\":null}],\"routes\":[]}"
 
--- the text of the line with its boards and its routes
+-- The text of the line with boards and routes.
 abbrev pub boarded_text : List ℕ
 boarded_text = codes "{\"version\":1,\"sections\":[{\"name\":\"a\",\"kind\":\"linear\",\"down\":null,"
     ++ codes "\"up\":\"b\",\"board_down\":null,\"board_up\":\"m1\"},"

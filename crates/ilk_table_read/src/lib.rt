@@ -1,6 +1,6 @@
-//! Reads the table of routes of a configuration, and refuses the first rule of its form that is
-//! broken. `read_table` reads the document and its routes; `read_drafts` reads a whole
-//! configuration: the document once, then its network, and then its routes.
+//! Reads the interlocking table of a configuration, and reports the first violated rule of its
+//! form. `read_table` reads the document and its routes. `read_drafts` reads a whole configuration:
+//! the document once, then its network and its routes.
 #![tactic(auto)]
 
 mod drafts;

@@ -1,12 +1,12 @@
-//! The points that a route lists, and those that protect it.
+//! The listed and the protecting points of a route.
 
 ghost use Rattle.std.specs.Prelude.{◌≡◌};
 ghost use Rattle.serde_json.specs.View.{view, items_view};
-ghost use Rattle.ilk_net_read.specs.Fault.{Reads};
-ghost use Rattle.ilk_net_read.specs.Member.{each_as};
+ghost use Rattle.ilk_net_read.specs.Fault.{IsKindRead};
+ghost use Rattle.ilk_net_read.specs.Member.{all_entries_as};
 ghost use Rattle.ilk_table_read.specs.Route as route;
 
-use ilk_net_read::{KindError, array_at, has_members, str_at, text_at};
+use ilk_net_read::{KindError, array_member, has_members, string_member, text_member};
 use ilk_plant::{ListedDraft, Position, Row};
 use serde_json::Value;
 use std::alloc::Global;
@@ -14,13 +14,13 @@ use std::alloc::Global;
 fn position(value: &Value) -> Option<Position>
     ensures { result ≡ route.position_of (view value.now) }
 {
-    Position::of_word(str_at(value, "position")?.as_bytes())
+    Position::from_word(string_member(value, "position")?.as_bytes())
 }
 
 fn listed(alloc: Global, value: &Value) -> Result<ListedDraft, KindError>
-    ensures { Reads result (route.as_listed (view value.now)) }
+    ensures { IsKindRead result (route.as_listed (view value.now)) }
 {
-    let point = text_at(alloc, value, "point")?;
+    let point = text_member(alloc, value, "point")?;
     let Some(at) = position(value) else {
         return Err(KindError::WrongKind);
     };
@@ -31,7 +31,7 @@ fn listed(alloc: Global, value: &Value) -> Result<ListedDraft, KindError>
 }
 
 fn all_listed(alloc: Global, values: &[Value]) -> Result<Row<ListedDraft>, KindError>
-    ensures { Reads result (each_as route.as_listed (items_view values.now)) }
+    ensures { IsKindRead result (all_entries_as route.as_listed (items_view values.now)) }
 {
     let mut points = Row::with_capacity(alloc, values.len() as u64)?;
     for value in values {
@@ -41,15 +41,15 @@ fn all_listed(alloc: Global, values: &[Value]) -> Result<Row<ListedDraft>, KindE
     Ok(points)
 }
 
-/// The member of this name, which must be an array of points with positions.
+/// Returns the member `name`, which must be an array of points with positions.
 pub(crate) fn points_at(
     alloc: Global,
     value: &Value,
     name: &str,
 ) -> Result<Row<ListedDraft>, KindError>
-    ensures { Reads result (route.points_at name.now (view value.now)) }
+    ensures { IsKindRead result (route.points_member name.now (view value.now)) }
 {
-    match array_at(value, name) {
+    match array_member(value, name) {
         Some(values) => all_listed(alloc, values),
         None => Err(KindError::WrongKind),
     }

@@ -5,15 +5,15 @@ ghost use Rattle.std.specs.List.{list_all};
 ghost use Rattle.serde_json.specs.View.{view};
 ghost use Rattle.ilk_plant.specs.Limits.{route_has_limits, route_has_names};
 ghost use Rattle.ilk_plant.specs.Name as name;
-ghost use Rattle.ilk_net_read.specs.Fault.{Gives, Reads};
+ghost use Rattle.ilk_net_read.specs.Fault.{IsReadResult, IsKindRead};
 ghost use Rattle.ilk_net_read.specs.Member as member;
 ghost use Rattle.ilk_table_read.specs.Route as spec;
 ghost use Rattle.ilk_table_read.specs.Table as table;
 
 use crate::listed::points_at;
 use ilk_net_read::{
-    Form, FormError, KindError, Place, Version, broken, has_members, is_name, is_name_if_given,
-    lies_within, optional_text_at, text_at, texts_at,
+    Form, FormError, KindError, Place, Version, form_error, has_members, is_between, is_name,
+    is_name_if_given, optional_text_member, text_member, texts_member,
 };
 use ilk_plant::{
     ListedDraft, MAX_CONFLICTS, MAX_OVERLAP, MAX_PATH, MAX_POINTS, MAX_PROTECTING_BOARDS,
@@ -22,10 +22,10 @@ use ilk_plant::{
 use serde_json::Value;
 use std::alloc::Global;
 
-/// How many members a route has in version 1.
+/// The number of members of a route in version 1.
 pub(crate) const MEMBERS_IN_FIRST: usize = 7;
 
-/// How many members a route has in version 2.
+/// The number of members of a route in version 2.
 pub(crate) const MEMBERS_IN_SECOND: usize = 9;
 
 fn route_members(version: Version) -> usize
@@ -42,8 +42,9 @@ fn protecting_points(
     version: Version,
     value: &Value,
 ) -> Result<Row<ListedDraft>, KindError>
-    ensures { Reads result
-        (spec.since_second version (spec.points_at (codes "protecting_points") (view value.now))) }
+    ensures { IsKindRead result
+        (spec.since_version_2 version (spec.points_member (codes "protecting_points")
+        (view value.now))) }
 {
     match version {
         Version::First => Ok(Row::new(alloc)),
@@ -52,25 +53,26 @@ fn protecting_points(
 }
 
 fn protecting_boards(alloc: Global, version: Version, value: &Value) -> Result<Row<Text>, KindError>
-    ensures { Reads result
-        (spec.since_second version (member.texts_at (codes "protecting_boards") (view value.now))) }
+    ensures { IsKindRead result
+        (spec.since_version_2 version (member.texts_member (codes "protecting_boards")
+        (view value.now))) }
 {
     match version {
         Version::First => Ok(Row::new(alloc)),
-        Version::Second => texts_at(alloc, value, "protecting_boards"),
+        Version::Second => texts_member(alloc, value, "protecting_boards"),
     }
 }
 
 fn route(alloc: Global, version: Version, value: &Value) -> Result<RouteDraft, KindError>
-    ensures { Reads result (spec.as_route version (view value.now)) }
+    ensures { IsKindRead result (spec.as_route version (view value.now)) }
 {
-    let name = text_at(alloc, value, "name")?;
-    let source = text_at(alloc, value, "source")?;
-    let destination = optional_text_at(alloc, value, "destination")?;
-    let path = texts_at(alloc, value, "path")?;
-    let overlap = texts_at(alloc, value, "overlap")?;
+    let name = text_member(alloc, value, "name")?;
+    let source = text_member(alloc, value, "source")?;
+    let destination = optional_text_member(alloc, value, "destination")?;
+    let path = texts_member(alloc, value, "path")?;
+    let overlap = texts_member(alloc, value, "overlap")?;
     let points = points_at(alloc, value, "points")?;
-    let conflicts = texts_at(alloc, value, "conflicts")?;
+    let conflicts = texts_member(alloc, value, "conflicts")?;
     let protecting_points = protecting_points(alloc, version, value)?;
     let protecting_boards = protecting_boards(alloc, version, value)?;
     if !has_members(value, route_members(version)) {
@@ -118,7 +120,7 @@ fn has_names(route: &RouteDraft) -> bool
 fn has_limits(route: &RouteDraft) -> bool
     ensures { result ≡ route_has_limits route.now }
 {
-    lies_within(1, MAX_PATH as usize, route.path.len() as usize)
+    is_between(1, MAX_PATH as usize, route.path.len() as usize)
         && route.overlap.len() <= MAX_OVERLAP
         && route.points.len() <= MAX_POINTS
         && route.conflicts.len() <= MAX_CONFLICTS
@@ -126,27 +128,27 @@ fn has_limits(route: &RouteDraft) -> bool
         && route.protecting_boards.len() <= MAX_PROTECTING_BOARDS
 }
 
-/// The route of this number, from its value in a document of this version.
+/// Returns route `number`, from its value in a document of this version.
 pub(crate) fn route_of(
     alloc: Global,
     version: Version,
     number: u32,
     value: &Value,
 ) -> Result<RouteDraft, FormError>
-    ensures exact { Gives result (table.route_of version number (view value.now)) }
+    ensures exact { IsReadResult result (table.route_of version number (view value.now)) }
     ensures limits { IfOk result (λ draft. route_has_limits draft ≡ true) }
     ensures named { IfOk result (λ draft. route_has_names draft ≡ true) }
 {
     let place = Place::Route(number);
     let draft = match route(alloc, version, value) {
         Ok(draft) => draft,
-        Err(error) => return Err(error.at(place)),
+        Err(error) => return Err(error.at_place(place)),
     };
     if !has_names(&draft) {
-        return Err(broken(Form::F5, place));
+        return Err(form_error(Form::F5, place));
     }
     if !has_limits(&draft) {
-        return Err(broken(Form::F6, place));
+        return Err(form_error(Form::F6, place));
     }
     Ok(draft)
 }

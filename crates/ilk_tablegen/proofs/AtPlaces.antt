@@ -1,4 +1,4 @@
--- The routes of a network by their places, and lists of broken rules in which nothing is.
+-- The routes of a network by number, and empty lists of violated rules.
 use Rattle.std.proofs.Common.{◌≡◌, ℕ, zero, suc, ◌+◌, ◌<◌, Bool, true, false, not, ◌&&◌, ◌==◌, cond, Option, Some, None, List, [], ◌∷◌, ◌++◌, append-nil, filter, flat_map, get_or, length, map, nat_lt, slice_get, refl, sym, ◌∙◌, ap, arith}
 use Rattle.std.specs.List.{enumerate_from, list_any, range_with_len}
 use Rattle.std.proofs.lemmas.Bool.Decides.{nat_tests}
@@ -11,7 +11,7 @@ use Rattle.ilk_base.proofs.Ranges.{range_within}
 use Rattle.ilk_base.proofs.Truth.{same_truth}
 use Rattle.ilk_base.specs.Option.{is_some_and}
 use Rattle.ilk_plant.specs.Broken.{broken_at, broken_at_pairs}
-use Rattle.ilk_plant.specs.ColumnRules.{has_one_of, is_kept_closed_by, lists, lists_alone, protects_unlisted, share_section as both_lock, share_unlisted}
+use Rattle.ilk_plant.specs.ColumnRules.{locks_one_of, is_kept_closed_by, lists_conflict, lists_conflict_one_way, protects_unlisted, share_section as both_lock, share_unlisted}
 use Rattle.ilk_plant.specs.Network.{has_section}
 use Rattle.ilk_plant.specs.Plant.{PlantLists}
 use Rattle.ilk_plant.specs.TableRules.{route_fails, sections_locked_for}
@@ -21,15 +21,14 @@ use Rattle.ilk_tablegen.proofs.ConflictFacts.{among-passing, conflicts_with, in-
 use Rattle.ilk_tablegen.proofs.IsWay.{IsWayOf, all-are}
 use Rattle.ilk_tablegen.proofs.WayRules.{with_routes}
 use Rattle.ilk_tablegen.specs.Flags.{paths_of}
-use Rattle.ilk_tablegen.specs.Routes.{network_routes, route_of_way, share_section}
+use Rattle.ilk_tablegen.specs.Routes.{network_routes, route_of_way, paths_share_section}
 use Rattle.ilk_tablegen.specs.Ways.{all_ways}
 use Rattle.ilk_tablegen.specs.declared.ways.Way.{Way}
 
--- the paths of the network's ways
 abbrev pub all_paths : PlantLists → List (List ℕ)
 all_paths p = paths_of (all_ways p)
 
--- what stands at place i: a way, and its route
+-- The way with number i, and its route.
 pub record At (p : PlantLists) (i : ℕ) : Type 0 where
   pub way : Way
   pub stands : slice_get (all_ways p) i ≡ Some way
@@ -50,13 +49,11 @@ pub count-paths : (p : PlantLists) → length (network_routes p) ≡ length (all
 count-paths p =
     length-map (enumerate_from 0 (all_ways p)) (λ numbered. route_of_way p (all_paths p) numbered.0 numbered.1) ∙ length-enumerate_from 0 (all_ways p) ∙ sym (length-map (all_ways p) (λ (way : Way). way.path))
 
--- nothing is left of a list in which nothing passes
 filter-nothing : (test : ℕ → Bool) (xs : List ℕ) → ((i x : ℕ) → slice_get xs i ≡ Some x → test x ≡ false) → filter test xs ≡ []
 filter-nothing test [] none = refl
 filter-nothing test (x ∷ xs) none =
     ap (λ b. cond b (x ∷ filter test xs) (filter test xs)) (none 0 x refl) ∙ filter-nothing test xs (λ i y at. none (suc i) y at)
 
--- a rule that is broken at no place
 pub broken-none : (rule : Rule) (n : ℕ) (test : ℕ → Bool) → ((i : ℕ) → i < n → test i ≡ false) → broken_at rule n test ≡ []
 broken-none rule n test none =
     ap (map (λ i. record { rule = rule; first = i; second = None })) (filter-nothing test (range_with_len 0 n) (λ k x at. none x (range_within n k x at).1))
@@ -74,7 +71,6 @@ module _ (p : PlantLists) (names : List (List ℕ)) where
   abbrev q : PlantLists
   q = with_routes p (network_routes p) names
 
-  -- a test that each way's route passes fails for none
   pub none-fails : (test : Route → Bool) (i : ℕ) → ((at : At p i) → test (route_of_way p (all_paths p) i at.way) ≡ true) → route_fails q test i ≡ false
   none-fails test i passes = by_route (slice_get (network_routes p) i) refl
     where
@@ -84,14 +80,13 @@ module _ (p : PlantLists) (names : List (List ℕ)) where
           let found : (at : At p i) × (route_of_way p (all_paths p) i at.way ≡ route) = route-at p i route e in
           ap (λ r. not (test r)) (sym found.1) ∙ ap not (passes found.0)
 
-  -- which route lists which
-  lists-is : (i j : ℕ) (at : At p i) (other : At p j) → j < length (network_routes p) → lists q i j ≡ (not (j == i) && share_section at.way.path other.way.path)
-  lists-is i j at other less =
+  lists_conflict-is : (i j : ℕ) (at : At p i) (other : At p j) → j < length (network_routes p) → lists_conflict q i j ≡ (not (j == i) && paths_share_section at.way.path other.way.path)
+  lists_conflict-is i j at other less =
       ap (λ o. is_some_and o (λ route. has_section j route.conflicts)) at.here
       ∙ same_truth (has_section j (filter (conflicts_with (all_paths p) i at.way.path) (range_with_len 0 (length (all_paths p))))) (conflicts_with (all_paths p) i at.way.path j)
       (λ h. (in-passing (conflicts_with (all_paths p) i at.way.path) (length (all_paths p)) j h).1)
       (λ h. among-passing (conflicts_with (all_paths p) i at.way.path) (length (all_paths p)) j (omega (arith, less, count-paths p)) h)
-      ∙ ap (λ path. not (j == i) && share_section at.way.path path) (path-at j other)
+      ∙ ap (λ path. not (j == i) && paths_share_section at.way.path path) (path-at j other)
     where
       path-at : (k : ℕ) (it : At p k) → get_or (all_paths p) k [] ≡ it.way.path
       path-at k it = get_or_from_slice_get (all_paths p) k it.way.path [] (mapped (all_ways p) k it.way it.stands)
@@ -101,20 +96,19 @@ module _ (p : PlantLists) (names : List (List ℕ)) where
           mapped (w ∷ found) zero way e = let same : w ≡ way = cc in ap (λ (v : Way). Some v.path) same
           mapped (w ∷ found) (suc m) way e = mapped found m way e
 
-  pub none-alone : (i j : ℕ) → i < length (network_routes p) → j < length (network_routes p) → lists_alone q i j ≡ false
+  pub none-alone : (i j : ℕ) → i < length (network_routes p) → j < length (network_routes p) → lists_conflict_one_way q i j ≡ false
   none-alone i j less other_less =
       let at = at-route p i less in
       let other = at-route p j other_less in
-      ap (λ b. b && not (lists q j i)) (lists-is i j at other other_less)
-      ∙ ap (λ b. (not (j == i) && share_section at.way.path other.way.path) && not b) (lists-is j i other at less)
-      ∙ ap (λ b. (not (j == i) && share_section at.way.path other.way.path) && not (not (i == j) && b)) (shared-either other.way.path at.way.path)
-      ∙ turned (share_section at.way.path other.way.path)
+      ap (λ b. b && not (lists_conflict q j i)) (lists_conflict-is i j at other other_less)
+      ∙ ap (λ b. (not (j == i) && paths_share_section at.way.path other.way.path) && not b) (lists_conflict-is j i other at less)
+      ∙ ap (λ b. (not (j == i) && paths_share_section at.way.path other.way.path) && not (not (i == j) && b)) (shared-either other.way.path at.way.path)
+      ∙ turned (paths_share_section at.way.path other.way.path)
     where
       turned : (s : Bool) → ((not (j == i) && s) && not (not (i == j) && s)) ≡ false
       turned true = grind (arith, nat_tests)
       turned false = grind (arith, nat_tests)
 
-  -- what is locked for the route of a way is its path
   locked-path : (i : ℕ) (way : Way) → sections_locked_for (route_of_way p (all_paths p) i way) ≡ way.path
   locked-path i way = append-nil (way.path ++ []) ∙ append-nil way.path
 
@@ -122,15 +116,15 @@ module _ (p : PlantLists) (names : List (List ℕ)) where
   none-unlisted i j less other_less =
       let at = at-route p i less in
       let other = at-route p j other_less in
-      let shared : both_lock q i j ≡ share_section at.way.path other.way.path =
-      ap (λ o. is_some_and o (λ route. has_one_of q (sections_locked_for route) i)) other.here
-      ∙ ap (λ l. has_one_of q l i) (locked-path j other.way)
+      let shared : both_lock q i j ≡ paths_share_section at.way.path other.way.path =
+      ap (λ o. is_some_and o (λ route. locks_one_of q (sections_locked_for route) i)) other.here
+      ∙ ap (λ l. locks_one_of q l i) (locked-path j other.way)
       ∙ ap (λ o. is_some_and o (λ route. list_any (λ x. has_section x (sections_locked_for route)) other.way.path)) at.here
       ∙ ap (λ l. list_any (λ x. has_section x l) other.way.path) (locked-path i at.way)
       ∙ shared-either other.way.path at.way.path in
-      ap (λ b. nat_lt i j && b && not (lists q i j)) shared
-      ∙ ap (λ b. nat_lt i j && share_section at.way.path other.way.path && not b) (lists-is i j at other other_less)
-      ∙ apart (share_section at.way.path other.way.path)
+      ap (λ b. nat_lt i j && b && not (lists_conflict q i j)) shared
+      ∙ ap (λ b. nat_lt i j && paths_share_section at.way.path other.way.path && not b) (lists_conflict-is i j at other other_less)
+      ∙ apart (paths_share_section at.way.path other.way.path)
     where
       apart : (s : Bool) → (nat_lt i j && s && not (not (j == i) && s)) ≡ false
       apart true = grind (arith, nat_tests)
@@ -146,4 +140,4 @@ module _ (p : PlantLists) (names : List (List ℕ)) where
       (λ route. is_some_and (slice_get (network_routes p) j)
       (λ r. list_any (λ m. m == r.source) route.protecting_boards))) at.here
       ∙ ap (λ o. is_some_and o (λ (r : Route). false)) other.here in
-      ap (λ b. b && not (lists q i j)) open_
+      ap (λ b. b && not (lists_conflict q i j)) open_

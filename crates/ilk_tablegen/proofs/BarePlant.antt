@@ -1,4 +1,4 @@
--- A plant without routes: of the rules of the columns it can break C7 alone.
+-- A plant without routes can violate only C7 of the rules of the columns.
 use Rattle.std.proofs.Common.{◌≡◌, List, [], ◌++◌, append-nil, length, ◌∙◌, ap, arith}
 use Rattle.ilk_plant.specs.Broken.{broken_at, broken_at_pairs}
 use Rattle.ilk_plant.specs.ColumnRules.{breaks_columns, breaks_columns_at_pair, column_rule_broken, column_rules_broken}

@@ -1,4 +1,4 @@
--- The conflicts of a path: other numbers, each once, and where one path has another as a conflict it is one of the other's.
+-- The conflicts of a path are other numbers, without duplicates, and mutual.
 use Rattle.std.proofs.Common.{◌≡◌, ℕ, zero, suc, ◌+◌, ◌<◌, ◌≤◌, Bool, true, false, not, ◌&&◌, ◌||◌, ◌==◌, cond, Some, List, [], ◌∷◌, filter, get_or, length, nat_lt, slice_get, refl, sym, ◌∙◌, ap, arith}
 use Rattle.std.specs.List.{list_all, range_with_len}
 use Rattle.std.specs.Cmp.Derive.{both_true}
@@ -9,21 +9,19 @@ use Rattle.ilk_base.proofs.Ranges.{passing_within, range-at}
 use Rattle.ilk_base.proofs.Tested.{all-pass, list_any-at, list_any-from}
 use Rattle.ilk_base.proofs.Truth.{or-true, same_truth}
 use Rattle.ilk_plant.specs.Network.{has_section}
-use Rattle.ilk_plant.specs.Once.{none_twice}
-use Rattle.ilk_tablegen.specs.Routes.{conflicts_of, share_section}
+use Rattle.ilk_plant.specs.Once.{numbers_differ}
+use Rattle.ilk_tablegen.specs.Routes.{conflicts_of, paths_share_section}
 
--- two paths share a section in either order
-shared-back : (path other : List ℕ) → share_section path other ≡ true → share_section other path ≡ true
+shared-back : (path other : List ℕ) → paths_share_section path other ≡ true → paths_share_section other path ≡ true
 shared-back path other h =
     let here : (k : ℕ) × (x : ℕ) × (slice_get path k ≡ Some x) × (has_section x other ≡ true) = list_any-at (λ x. has_section x other) path h in
     let there : (j : ℕ) × (y : ℕ) × (slice_get other j ≡ Some y) × ((y == here.1) ≡ true) = list_any-at (λ y. y == here.1) other here.3 in
     let same : there.1 ≡ here.1 = eqb-true there.1 here.1 there.3 in
     list_any-from (λ y. has_section y path) other there.0 there.1 there.2 (list_any-from (λ z. z == there.1) path here.0 here.1 here.2 (eq-eqb here.1 there.1 (sym same)))
 
-pub shared-either : (path other : List ℕ) → share_section path other ≡ share_section other path
-shared-either path other = same_truth (share_section path other) (share_section other path) (shared-back path other) (shared-back other path)
+pub shared-either : (path other : List ℕ) → paths_share_section path other ≡ paths_share_section other path
+shared-either path other = same_truth (paths_share_section path other) (paths_share_section other path) (shared-back path other) (shared-back other path)
 
--- what is left of a list passes, and what passes is left
 pub filter-passes : (test : ℕ → Bool) (xs : List ℕ) (i x : ℕ) → slice_get (filter test xs) i ≡ Some x → test x ≡ true
 filter-passes test [] i x at = absurd (cc)
 filter-passes test (y ∷ xs) i x at = by_test (test y) refl i at (λ j. filter-passes test xs j x)
@@ -45,7 +43,6 @@ filter-keeps test (y ∷ xs) (suc i) x at passes = by_test (test y) (filter-keep
     by_test true later = ap (λ c. (y == x) || c) later ∙ or-true (y == x)
     by_test false later = later
 
--- the numbers below m that pass a test
 pub in-passing : (test : ℕ → Bool) (m j : ℕ) → has_section j (filter test (range_with_len 0 m)) ≡ true → (j < m) × (test j ≡ true)
 in-passing test m j h =
     let found : (k : ℕ) × (x : ℕ) × (slice_get (filter test (range_with_len 0 m)) k ≡ Some x) × ((x == j) ≡ true) = list_any-at (λ x. x == j) (filter test (range_with_len 0 m)) h in
@@ -67,13 +64,13 @@ none-low test a b (suc m) less = by_test (test b) (none-low test a (b + 1) m (om
     by_test true later = ap (λ c. c || has_section a (filter test (range_with_len (b + 1) m))) other ∙ later
     by_test false later = later
 
-pub passing-once : (test : ℕ → Bool) (a m : ℕ) → none_twice (filter test (range_with_len a m)) ≡ true
+pub passing-once : (test : ℕ → Bool) (a m : ℕ) → numbers_differ (filter test (range_with_len a m)) ≡ true
 passing-once test a zero = refl
 passing-once test a (suc m) = by_test (test a) (none-low test a (a + 1) m (omega arith)) (passing-once test (a + 1) m)
   where
     by_test : (c : Bool) → has_section a (filter test (range_with_len (a + 1) m)) ≡ false →
-        none_twice (filter test (range_with_len (a + 1) m)) ≡ true →
-        none_twice
+        numbers_differ (filter test (range_with_len (a + 1) m)) ≡ true →
+        numbers_differ
         (cond c (a ∷ filter test (range_with_len (a + 1) m)) (filter test (range_with_len (a + 1) m)))
         ≡ true
     by_test true fresh later = both_true (ap not fresh) later
@@ -87,9 +84,9 @@ filter-short test (x ∷ xs) = by_test (test x) (filter-short test xs)
     by_test true later = omega (arith, later)
     by_test false later = omega (arith, later)
 
--- which test the conflicts of path n pass
+-- The test that the conflicts of path n pass.
 abbrev pub conflicts_with : List (List ℕ) → ℕ → List ℕ → ℕ → Bool
-conflicts_with paths n path k = not (k == n) && share_section path (get_or paths k [])
+conflicts_with paths n path k = not (k == n) && paths_share_section path (get_or paths k [])
 
 pub conflicts-few : (paths : List (List ℕ)) (n : ℕ) (path : List ℕ) → length (conflicts_of paths n path) ≤ length paths
 conflicts-few paths n path =
@@ -100,7 +97,7 @@ pub conflicts-other : (paths : List (List ℕ)) (n : ℕ) (path : List ℕ) (m :
 conflicts-other paths n path m count =
     all-pass (λ k. nat_lt k m && not (k == n)) (conflicts_of paths n path)
     (λ i k at. both_true (below k i at)
-    (and_parts (not (k == n)) (share_section path (get_or paths k []))
+    (and_parts (not (k == n)) (paths_share_section path (get_or paths k []))
     (filter-passes (conflicts_with paths n path) (range_with_len 0 (length paths)) i k at)).0)
   where
     below : (k i : ℕ) → slice_get (conflicts_of paths n path) i ≡ Some k → nat_lt k m ≡ true

@@ -1,5 +1,5 @@
--- The routes of worked networks: of a passing loop, of a line without boards, and of lines that are just short enough and
--- just too long.
+-- The routes of example networks: a passing loop, a line without boards, and lines just short
+-- enough and just too long.
 use Rattle.std.proofs.Common.{◌≡◌, ℕ, ◌+◌, ◌-◌, ◌==◌, if◌then◌else◌, Option, Some, None, List, [], ◌∷◌, codes, map, length, refl}
 use Rattle.std.specs.List.{range_with_len}
 use Rattle.ilk_plant.specs.Plant.{PlantLists}
@@ -33,7 +33,7 @@ route source destination path points conflicts = record {
   protecting_boards = [];
 }
 
--- a passing loop: b1 0, the point p1 1 towards t1 2 and t2 3, which lead to the point p2 4 and on to b2 5
+-- A passing loop: b1 0, point p1 1, tracks t1 2 and t2 3, point p2 4, b2 5.
 abbrev passing_loop : PlantLists
 passing_loop = record {
   sections =
@@ -51,7 +51,7 @@ passing_loop = record {
   route_names = [];
 }
 
--- each board leads over one point; from the ends of the line over its plus leg first
+-- Each board leads over one point; from the ends of the line, the plus leg comes first.
 passing_loop_routes :
     network_routes passing_loop
     ≡ route 0 (Some 2) (1 ∷ 2 ∷ []) (at 1 Plus ∷ []) (1 ∷ 2 ∷ 4 ∷ 6 ∷ [])
@@ -65,7 +65,7 @@ passing_loop_routes :
     ∷ []
 passing_loop_routes = refl
 
--- two sections without boards have no route
+-- Two sections without boards have no route.
 abbrev bare_line : PlantLists
 bare_line = record {
   sections = Linear None (Some 1) None None ∷ Linear (Some 0) None None None ∷ [];
@@ -79,7 +79,7 @@ bare_line = record {
 bare_line_routes : walks bare_line ≡ Routes (record { routes = [] })
 bare_line_routes = refl
 
--- a line of n sections, with a board at each end, without names
+-- A line of n sections, with a board at each end, without names.
 abbrev line : ℕ → PlantLists
 line n = record {
   sections = map (λ x. Linear (if x == 0 then None else Some (x - 1)) (if x == n - 1 then None else Some (x + 1)) (if x == n - 1 then Some 1 else None) (if x == 0 then Some 0 else None)) (range_with_len 0 n);
@@ -90,7 +90,7 @@ line n = record {
   route_names = [];
 }
 
--- of 33 sections each end has 32 beyond it
+-- With 33 sections, each end has 32 beyond it.
 line_of_33 : map (λ (r : Route). length r.path) (network_routes (line 33)) ≡ 32 ∷ 32 ∷ []
 line_of_33 = refl
 

@@ -1,4 +1,4 @@
--- Flags of sections: one more flag, the flags of a path, and the conflicts that they tell.
+-- Flags of sections and paths, and the conflicts by these flags.
 use Rattle.std.proofs.Common.{◌≡◌, ◌≢◌, ℕ, zero, suc, ◌+◌, ◌<◌, Bool, true, false, not, ◌&&◌, ◌==◌, ◌||◌, List, [], ◌∷◌, ◌++◌, filter, get_or, if◌then◌else◌, length, map, replicate, set, take, refl, sym, ◌∙◌, ap, arith, All}
 use Rattle.std.specs.List.{range_with_len}
 use Rattle.std.proofs.Math.Bool.{or-false}
@@ -13,9 +13,8 @@ use Rattle.ilk_base.proofs.Ranges.{filter_one, range-more}
 use Rattle.ilk_base.proofs.Truth.{or-true}
 use Rattle.ilk_plant.specs.Network.{has_section}
 use Rattle.ilk_tablegen.specs.Flags.{any_flagged, conflicts_flagged, flags_of}
-use Rattle.ilk_tablegen.specs.Routes.{conflicts_of, share_section}
+use Rattle.ilk_tablegen.specs.Routes.{conflicts_of, paths_share_section}
 
--- at first no section has its flag
 pub flags-none : (count n : ℕ) → n ≡ count → replicate n false ≡ flags_of count []
 flags-none count n e = alike n 0 ∙ ap (λ m. map (λ x. has_section x []) (range_with_len 0 m)) e
   where
@@ -23,7 +22,6 @@ flags-none count n e = alike n 0 ∙ ap (λ m. map (λ x. has_section x []) (ran
     alike zero a = refl
     alike (suc m) a = ap (λ l. false ∷ l) (alike m (a + 1))
 
--- one flag is set
 flag-set : (flags : List Bool) (x y : ℕ) → y < length flags → get_or (set flags x true) y false ≡ (get_or flags y false || (x == y))
 flag-set flags x y below = by_test (x == y) refl
   where
@@ -36,7 +34,6 @@ flag-set flags x y below = by_test (x == y) refl
         let other : y ≢ x = λ equal. (let wrong : (x == y) ≡ true = (Decides-eqb x y).1 (sym equal) in absurd (cc)) in
         get_or-set_other flags x y true false other ∙ sym (or-false (get_or flags y false))
 
--- the flags of a path that grows by a section
 pub flags-more : (count : ℕ) (path : List ℕ) (i d : ℕ) (flags next : List Bool) → i < length path → flags ≡ flags_of count (take i path) → next ≡ set flags (get_or path i d) true → next ≡ flags_of count (take (i + 1) path)
 flags-more count path i d flags next within before after =
     after ∙ ap (λ l. set l (get_or path i d) true) before ∙ list-ext false (set (flags_of count (take i path)) (get_or path i d) true) (flags_of count (take (i + 1) path)) lengths each
@@ -70,7 +67,6 @@ flags-more count path i d flags next within before after =
         ∙ sym (grown y)
         ∙ sym (get_or-map-range_with_len (λ z. has_section z (take (i + 1) path)) 0 count y y false below (omega arith))
 
--- the numbers that pass, with one more number
 pub passing-more : (test : ℕ → Bool) (k : ℕ) (b : Bool) (made next : List ℕ) → b ≡ test k → made ≡ filter test (range_with_len 0 k) → next ≡ made ++ (if b then k ∷ [] else []) → next ≡ filter test (range_with_len 0 (k + 1))
 passing-more test k b made next tested before after =
     after
@@ -80,13 +76,11 @@ passing-more test k b made next tested before after =
     ∙ sym (filter-append test (range_with_len 0 k) (k ∷ []))
     ∙ ap (filter test) (sym (range-more k))
 
--- the flags of a path tell which sections are on it
-told : (count : ℕ) (path sections : List ℕ) → All (λ x. x < count) sections → any_flagged (flags_of count path) sections ≡ share_section sections path
+told : (count : ℕ) (path sections : List ℕ) → All (λ x. x < count) sections → any_flagged (flags_of count path) sections ≡ paths_share_section sections path
 told count path sections within =
     list_any-alike (λ x. get_or (flags_of count path) x false) (λ x. has_section x path) sections (λ i x at.
     get_or-map-range_with_len (λ z. has_section z path) 0 count x x false (all-at (λ z. z < count) sections i x within at) (omega arith))
 
--- the conflicts of a path by the flags of all
 pub conflicts-told : (count n : ℕ) (paths : List (List ℕ)) (path : List ℕ) → All (λ x. x < count) path → conflicts_flagged (map (flags_of count) paths) n path ≡ conflicts_of paths n path
 conflicts-told count n paths path within =
     ap (λ m. filter by_flags (range_with_len 0 m)) (length-map paths (flags_of count)) ∙ filter-alike by_flags by_paths (length paths) each
@@ -95,7 +89,7 @@ conflicts-told count n paths path within =
     by_flags k = not (k == n) && any_flagged (get_or (map (flags_of count) paths) k []) path
 
     by_paths : ℕ → Bool
-    by_paths k = not (k == n) && share_section path (get_or paths k [])
+    by_paths k = not (k == n) && paths_share_section path (get_or paths k [])
 
     each : (k : ℕ) → k < length paths → by_flags k ≡ by_paths k
     each k less =

@@ -1,4 +1,4 @@
--- What holds of each way of a network: where it begins and ends, what lies between, and how long it is.
+-- Facts about each way of a network: its ends, the sections between, and its length.
 use Rattle.std.proofs.Common.{◌≡◌, ℕ, zero, suc, ◌+◌, ◌<◌, ◌≤◌, Bool, true, false, not, ◌&&◌, Some, All, List, [], ◌∷◌, flat_map, if◌then◌else◌, length, map, slice_get, refl, sym, ◌∙◌, ap, arith}
 use Rattle.std.specs.List.{enumerate_from}
 use Rattle.std.specs.Cmp.Derive.{both_true}
@@ -10,21 +10,20 @@ use Rattle.ilk_plant.specs.Plant.{IsPlant, PlantLists, next_to}
 use Rattle.ilk_plant.specs.declared.limits.TheConstants.{MAX_PATH}
 use Rattle.ilk_plant.specs.declared.network.Board.{Board}
 use Rattle.ilk_plant.specs.declared.network.Dir.{Dir}
-use Rattle.ilk_tablegen.specs.Ways.{all_ways, ends_way, ways, ways_from}
+use Rattle.ilk_tablegen.specs.Ways.{all_ways, way_ends_at, ways, ways_from}
 use Rattle.ilk_tablegen.specs.declared.ways.Way.{Way}
 
--- whether a path leads on from section x to the first of its sections at which a way ends
+-- Returns whether a path leads from section x to the first of its sections at which a way ends.
 abbrev pub is_way : PlantLists → Dir → ℕ → List ℕ → Bool
 is_way p d x [] = false
-is_way p d x (y ∷ []) = has_section y (next_to p x d) && ends_way p d y
-is_way p d x (y ∷ z ∷ rest) = has_section y (next_to p x d) && (not (ends_way p d y) && is_way p d y (z ∷ rest))
+is_way p d x (y ∷ []) = has_section y (next_to p x d) && way_ends_at p d y
+is_way p d x (y ∷ z ∷ rest) = has_section y (next_to p x d) && (not (way_ends_at p d y) && is_way p d y (z ∷ rest))
 
--- a path that does so within n sections
+-- Such a path within n sections.
 pub record IsWay (p : PlantLists) (d : Dir) (n x : ℕ) (path : List ℕ) : Type 0 where
   pub leads : is_way p d x path ≡ true
   pub short : length path ≤ n
 
--- what holds of each item of each list holds of all together
 pub All-flat_map : {X Y : Type 0} (P : Y → Type 0) (f : X → List Y) (xs : List X) → ((i : ℕ) (x : X) → slice_get xs i ≡ Some x → All P (f x)) → All P (flat_map f xs)
 All-flat_map P f [] each = All-nil P
 All-flat_map P f (x ∷ xs) each = All-append P (f x) (flat_map f xs) (each 0 x refl) (All-flat_map P f xs (λ i y at. each (suc i) y at))
@@ -37,35 +36,33 @@ pub All-implied : {X : Type 0} (P Q : X → Type 0) → ((x : X) → P x → Q x
 All-implied P Q f [] all = All-nil Q
 All-implied P Q f (x ∷ xs) all = All-cons Q x xs (f x (All-head P x xs all)) (All-implied P Q f xs (All-tail P x xs all))
 
--- one section before a way that goes on
-longer : (p : PlantLists) (d : Dir) (n x y : ℕ) → has_section y (next_to p x d) ≡ true → ends_way p d y ≡ false → (path : List ℕ) → IsWay p d n y path → IsWay p d (suc n) x (y ∷ path)
+longer : (p : PlantLists) (d : Dir) (n x y : ℕ) → has_section y (next_to p x d) ≡ true → way_ends_at p d y ≡ false → (path : List ℕ) → IsWay p d n y path → IsWay p d (suc n) x (y ∷ path)
 longer p d n x y next on [] way = let wrong : false ≡ true = way.leads in absurd (cc)
 longer p d n x y next on (z ∷ rest) way = record {
   leads = both_true next (both_true (ap not on) way.leads);
   short = let short = way.short in omega (arith, short);
 }
 
--- each of the ways is one
 pub ways-are : (p : PlantLists) (d : Dir) (n x : ℕ) → All (IsWay p d n x) (ways p d n x)
 ways-are p d zero x = All-nil (IsWay p d 0 x)
 ways-are p d (suc n) x =
     All-flat_map (IsWay p d (suc n) x) over (next_to p x d) (each (λ y. ways-are p d n y))
   where
     over : ℕ → List (List ℕ)
-    over y = if ends_way p d y then (y ∷ []) ∷ [] else map (λ way. y ∷ way) (ways p d n y)
+    over y = if way_ends_at p d y then (y ∷ []) ∷ [] else map (λ way. y ∷ way) (ways p d n y)
 
     each : ((y : ℕ) → All (IsWay p d n y) (ways p d n y)) → (i y : ℕ) → slice_get (next_to p x d) i ≡ Some y → All (IsWay p d (suc n) x) (over y)
-    each onward i y at = by_test (ends_way p d y) refl
+    each onward i y at = by_test (way_ends_at p d y) refl
       where
         next : has_section y (next_to p x d) ≡ true
         next = has_section-at (next_to p x d) i y at
 
-        by_test : (b : Bool) → ends_way p d y ≡ b → All (IsWay p d (suc n) x) (if b then (y ∷ []) ∷ [] else map (λ way. y ∷ way) (ways p d n y))
+        by_test : (b : Bool) → way_ends_at p d y ≡ b → All (IsWay p d (suc n) x) (if b then (y ∷ []) ∷ [] else map (λ way. y ∷ way) (ways p d n y))
         by_test true e = All-cons (IsWay p d (suc n) x) (y ∷ []) [] (record { leads = both_true next e; short = omega arith }) (All-nil (IsWay p d (suc n) x))
         by_test false e =
             All-map (IsWay p d (suc n) x) (λ way. y ∷ way) (ways p d n y) (All-implied (IsWay p d n y) (λ way. IsWay p d (suc n) x (y ∷ way)) (longer p d n x y next e) (ways p d n y) (onward y))
 
--- a way of the network begins at its board
+-- A way of the network begins at its board.
 pub record IsWayOf (p : PlantLists) (way : Way) : Type 0 where
   pub board : slice_get p.boards way.source ≡ Some way.from
   pub walk : IsWay p way.from.dir MAX_PATH way.from.section way.path
@@ -86,14 +83,13 @@ all-are p = numbered 0 p.boards (λ i board at. let place : 0 + i ≡ i = omega 
         (ways-are p board.dir MAX_PATH board.section)))
         (numbered (k + 1) boards (λ i other at. let place : k + 1 + i ≡ k + suc i = omega arith in ap (slice_get p.boards) place ∙ stand (suc i) other at))
 
--- the sections of a way are sections
 pub way-within : (p : PlantLists) → IsPlant p → (d : Dir) (x : ℕ) (path : List ℕ) → is_way p d x path ≡ true → All (λ y. y < length p.sections) path
 way-within p plant d x [] leads = All-nil (λ y. y < length p.sections)
 way-within p plant d x (y ∷ []) leads =
-    All-cons (λ y. y < length p.sections) y [] (plant.neighbours x y d (and_parts (has_section y (next_to p x d)) (ends_way p d y) leads).0) (All-nil (λ y. y < length p.sections))
+    All-cons (λ y. y < length p.sections) y [] (plant.neighbours x y d (and_parts (has_section y (next_to p x d)) (way_ends_at p d y) leads).0) (All-nil (λ y. y < length p.sections))
 way-within p plant d x (y ∷ z ∷ rest) leads =
-    let parts = and_parts (has_section y (next_to p x d)) (not (ends_way p d y) && is_way p d y (z ∷ rest)) leads in
-    All-cons (λ y. y < length p.sections) y (z ∷ rest) (plant.neighbours x y d parts.0) (way-within p plant d y (z ∷ rest) (and_parts (not (ends_way p d y)) (is_way p d y (z ∷ rest)) parts.1).1)
+    let parts = and_parts (has_section y (next_to p x d)) (not (way_ends_at p d y) && is_way p d y (z ∷ rest)) leads in
+    All-cons (λ y. y < length p.sections) y (z ∷ rest) (plant.neighbours x y d parts.0) (way-within p plant d y (z ∷ rest) (and_parts (not (way_ends_at p d y)) (is_way p d y (z ∷ rest)) parts.1).1)
 
 pub all-within : (p : PlantLists) → IsPlant p → All (λ (way : Way). All (λ y. y < length p.sections) way.path) (all_ways p)
 all-within p plant =

@@ -1,5 +1,5 @@
--- The table of a network keeps its rules: as a numbered draft it is the plant with the network's routes, and each of these
--- is the route of a way.
+-- The table of a network satisfies its rules. As a numbered draft it is the plant with the
+-- network's routes, and each is the route of a way.
 use Rattle.std.proofs.Common.{◌≡◌, ℕ, ◌+◌, ◌<◌, ◌≤◌, Bool, true, false, ◌==◌, Option, Some, None, All, List, [], ◌++◌, append-nil, if◌then◌else◌, length, map, nat_le, nat_lt, option_map, slice_get, refl, sym, ◌∙◌, ap, arith, subst}
 use Rattle.std.specs.List.{enumerate_from, list_all}
 use Rattle.std.specs.Cmp.Derive.{both_true}
@@ -14,16 +14,16 @@ use Rattle.ilk_base.proofs.ListTests.{all-at, made-at}
 use Rattle.ilk_base.proofs.Options.{bind_some}
 use Rattle.ilk_base.proofs.Ranges.{below, passing_within}
 use Rattle.ilk_base.proofs.Tested.{All-tested, all-pass, list_any-at}
-use Rattle.ilk_plant.proofs.Once.{all_differ-places}
+use Rattle.ilk_plant.proofs.Once.{names_differ-places}
 use Rattle.ilk_plant.specs.Broken.{broken_at}
-use Rattle.ilk_plant.specs.ColumnRules.{column_rule_broken, column_rules_broken, lists_alone, overlap_leads_on, path_ends_at_board, path_leads_on, points_are_set, protects_unlisted, share_unlisted}
-use Rattle.ilk_plant.specs.Draft.{numbered, numbered_route}
+use Rattle.ilk_plant.specs.ColumnRules.{column_rule_broken, column_rules_broken, lists_conflict_one_way, overlap_is_connected, path_ends_at_board, path_is_connected, points_are_listed, protects_unlisted, share_unlisted}
+use Rattle.ilk_plant.specs.Draft.{plant_from_drafts, numbered_route}
 use Rattle.ilk_plant.specs.Limits.{TableHasLimits, route_has_limits, route_has_names}
-use Rattle.ilk_plant.specs.Name.{IsName, Name, is_name, is_name_if_given, lies_within}
+use Rattle.ilk_plant.specs.Name.{IsName, Name, is_name, is_name_if_given, is_between}
 use Rattle.ilk_plant.specs.Network.{has_section, last_of}
 use Rattle.ilk_plant.specs.Plant.{IsPlant, PlantLists, board_of}
-use Rattle.ilk_plant.specs.Sound.{NeverReturns}
-use Rattle.ilk_plant.specs.TableRules.{breaks_table, has_conflicts_once, has_destination_or_none, has_points_once, has_protecting_boards_once, has_protecting_points_once, has_sections_once, has_source, route_fails, routes_broken}
+use Rattle.ilk_plant.specs.Sound.{NoWalkReturns}
+use Rattle.ilk_plant.specs.TableRules.{breaks_table, has_conflicts_once, has_destination_or_none, has_points_once, has_protecting_boards_once, has_protecting_points_once, has_sections_once, has_source, route_fails, numbered_rules_broken}
 use Rattle.ilk_plant.specs.declared.broken.Broken.{Broken}
 use Rattle.ilk_plant.specs.declared.broken.Rule.{Rule}
 use Rattle.ilk_plant.specs.declared.broken.Rule.TheVariants.{R1, R2, R3, R4, R5, R6, R7, R8, C1, C2, C3, C4, C5, C6, C7, C8}
@@ -43,13 +43,13 @@ use Rattle.ilk_tablegen.proofs.RouteNames.{names-once, none-before, route_name-i
 use Rattle.ilk_tablegen.proofs.WayFacts.{way-begins}
 use Rattle.ilk_tablegen.proofs.WayRules.{keeps-conflicts, keeps-destination, keeps-ends, keeps-lead, keeps-overlap, keeps-points, keeps-positions, keeps-protecting_boards, keeps-protecting_points, keeps-sections, keeps-source, with_routes}
 use Rattle.ilk_tablegen.specs.Routes.{destination_of, network_routes, points_along, route_of_way}
-use Rattle.ilk_tablegen.specs.Rules.{KeepsAllButC7}
+use Rattle.ilk_tablegen.specs.Rules.{BreaksAtMostC7}
 use Rattle.ilk_tablegen.specs.Table.{name_of, named_point, named_route, network_table, route_name, walks}
-use Rattle.ilk_tablegen.specs.Ways.{all_ways, first_without_end}
+use Rattle.ilk_tablegen.specs.Ways.{all_ways, first_overlong_board}
 use Rattle.ilk_tablegen.specs.declared.walks.Walks.TheVariants.{Routes, TooLong, TooMany}
 use Rattle.ilk_tablegen.specs.declared.ways.Way.{Way}
 
--- the route of a way speaks of what there is
+-- The route of a way refers to existing items.
 module _ (p : PlantLists) (plant : IsPlant p) (n : ℕ) (way : Way) (of : IsWayOf p way) where
   within : All (λ y. y < length p.sections) way.path
   within = let walk = of.walk in way-within p plant way.from.dir way.from.section way.path walk.leads
@@ -94,7 +94,7 @@ module _ (p : PlantLists) (plant : IsPlant p) (n : ℕ) (way : Way) (of : IsWayO
     protecting_boards = refl;
   }
 
-  -- and its draft is within the limits
+  -- Limits of its draft.
   board-named : (m : ℕ) → m < length p.board_names → is_name (name_of p.board_names m) ≡ true
   board-named m less =
       let item : (name : Name) × (slice_get p.board_names m ≡ Some name) = item_at p.board_names m less in
@@ -112,7 +112,7 @@ module _ (p : PlantLists) (plant : IsPlant p) (n : ℕ) (way : Way) (of : IsWayO
   limits-way few =
       both_true (both_true (both_true (both_true (both_true path refl) points) conflicts) refl) refl
     where
-      path : lies_within 1 32 (length (map (name_of p.section_names) way.path)) ≡ true
+      path : is_between 1 32 (length (map (name_of p.section_names) way.path)) ≡ true
       path =
           let count = length-map way.path (name_of p.section_names) in
           let walk = of.walk in
@@ -171,8 +171,8 @@ module _ (p : PlantLists) (plant : IsPlant p) (n : ℕ) (way : Way) (of : IsWayO
           (route_of_way p (all_paths p) n way).conflicts i k known-way.conflicts at in
           omega (arith, low, few)))
 
--- the rules of the table, and of the columns
-module _ (p : PlantLists) (plant : IsPlant p) (never : NeverReturns p) (few : length (network_routes p) ≤ MAX_ROUTES) where
+-- Rules of the table and of the columns.
+module _ (p : PlantLists) (plant : IsPlant p) (never : NoWalkReturns p) (few : length (network_routes p) ≤ MAX_ROUTES) where
   abbrev names : List Name
   names = names_in p (network_routes p)
 
@@ -183,8 +183,8 @@ module _ (p : PlantLists) (plant : IsPlant p) (never : NeverReturns p) (few : le
   names-are =
       let count = names_in-length p (network_routes p) in
       record {
-        sections = all_differ-places p.section_names plant.section_names_differ;
-        boards = all_differ-places p.board_names plant.board_names_differ;
+        sections = names_differ-places p.section_names plant.section_names_differ;
+        boards = names_differ-places p.board_names plant.board_names_differ;
         routes = names-once names (omega (arith, count, few)) (names_in-at p (network_routes p));
         each = names_in-at p (network_routes p);
       }
@@ -197,9 +197,8 @@ module _ (p : PlantLists) (plant : IsPlant p) (never : NeverReturns p) (few : le
       let at = found.0 in
       subst (λ m. IsKnown p m route) count (subst (IsKnown p (length (all_paths p))) found.1 (known-way p plant i at.way at.of)))
 
-  -- the numbered draft
-  pub numbered-back : (net : NetDraft) (other : TableDraft) → p ≡ numbered net other → numbered net (network_table p) ≡ q
-  numbered-back net other e =
+  pub plant_from_drafts-back : (net : NetDraft) (other : TableDraft) → p ≡ plant_from_drafts net other → plant_from_drafts net (network_table p) ≡ q
+  plant_from_drafts-back net other e =
       ap (λ v. with_routes v (map (numbered_route v.section_names v.board_names names) (network_table p).routes) names) (sym e)
       ∙ ap (λ routes. with_routes p routes names) (back-routes p names names-are 0 (network_routes p) known-all)
 
@@ -212,7 +211,7 @@ module _ (p : PlantLists) (plant : IsPlant p) (never : NeverReturns p) (few : le
   r6 : broken_at R6 (length (network_routes p)) (breaks_table q R6) ≡ []
   r6 = broken-none R6 (length (network_routes p)) (breaks_table q R6) (λ i less. none-fails p names (has_conflicts_once q i) i (λ at. keeps-conflicts p plant never (network_routes p) names (all_paths p) i at.way at.of (count-paths p)))
 
-  pub no-table : routes_broken q ≡ []
+  pub no-table : numbered_rules_broken q ≡ []
   no-table =
       nothing r1
       (nothing (kept (has_source q) (λ i at. keeps-source p plant never (network_routes p) names (all_paths p) i at.way at.of) R2)
@@ -228,11 +227,11 @@ module _ (p : PlantLists) (plant : IsPlant p) (never : NeverReturns p) (few : le
 
   pub only-c7 : column_rules_broken q ≡ column_rule_broken p C7
   only-c7 =
-      skipped (kept (path_leads_on q) (λ i at. keeps-lead p plant never (network_routes p) names (all_paths p) i at.way at.of) C1)
+      skipped (kept (path_is_connected q) (λ i at. keeps-lead p plant never (network_routes p) names (all_paths p) i at.way at.of) C1)
       (skipped (kept (path_ends_at_board q) (λ i at. keeps-ends p plant never (network_routes p) names (all_paths p) i at.way at.of) C2)
-      (skipped (kept (points_are_set q) (λ i at. keeps-positions p plant never (network_routes p) names (all_paths p) i at.way at.of) C3)
-      (skipped (kept (overlap_leads_on q) (λ i at. keeps-overlap p plant never (network_routes p) names (all_paths p) i at.way at.of) C4)
-      (skipped (broken-no_pair C5 (length (network_routes p)) (lists_alone q) (none-alone p names))
+      (skipped (kept (points_are_listed q) (λ i at. keeps-positions p plant never (network_routes p) names (all_paths p) i at.way at.of) C3)
+      (skipped (kept (overlap_is_connected q) (λ i at. keeps-overlap p plant never (network_routes p) names (all_paths p) i at.way at.of) C4)
+      (skipped (broken-no_pair C5 (length (network_routes p)) (lists_conflict_one_way q) (none-alone p names))
       (skipped (broken-no_pair C6 (length (network_routes p)) (share_unlisted q) (none-unlisted p names))
       (ap (λ l. column_rule_broken p C7 ++ (l ++ [])) (broken-no_pair C8 (length (network_routes p)) (protects_unlisted q) (none-unprotected p names))
       ∙ append-nil (column_rule_broken p C7)))))))
@@ -240,7 +239,6 @@ module _ (p : PlantLists) (plant : IsPlant p) (never : NeverReturns p) (few : le
       skipped : {xs ys zs : List Broken} → xs ≡ [] → ys ≡ zs → xs ++ ys ≡ zs
       skipped {ys = ys} first later = ap (λ l. l ++ ys) first ∙ later
 
-  -- the limits
   pub table-limits : TableHasLimits (network_table p)
   table-limits = record {
     few = let count = length-map (enumerate_from 0 (network_routes p)) (λ numbered. named_route p numbered.0 numbered.1) in omega (arith, few, count, length-enumerate_from 0 (network_routes p));
@@ -264,16 +262,15 @@ module _ (p : PlantLists) (plant : IsPlant p) (never : NeverReturns p) (few : le
           let place : i ≡ 0 + i = omega arith in
           (found.0, ap (named_route p i) found.1 ∙ ap (λ k. named_route p k made.0) place ∙ made.2)
 
-  pub all-kept : (net : NetDraft) (other : TableDraft) → p ≡ numbered net other → KeepsAllButC7 p net (network_table p)
+  pub all-kept : (net : NetDraft) (other : TableDraft) → p ≡ plant_from_drafts net other → BreaksAtMostC7 p net (network_table p)
   all-kept net other e = record {
     limits = table-limits;
-    table = ap routes_broken (numbered-back net other e) ∙ no-table;
-    columns = ap column_rules_broken (numbered-back net other e) ∙ only-c7;
+    table = ap numbered_rules_broken (plant_from_drafts-back net other e) ∙ no-table;
+    columns = ap column_rules_broken (plant_from_drafts-back net other e) ∙ only-c7;
   }
 
--- the table that is found is that of all ways, which are few
 pub found-few : (p : PlantLists) (table : TableDraft) → walks p ≡ Routes table → (network_table p ≡ table) × (length (network_routes p) ≤ MAX_ROUTES)
-found-few p table found = by_end (first_without_end p) refl
+found-few p table found = by_end (first_overlong_board p) refl
   where
     by_count : (b : Bool) → nat_lt MAX_ROUTES (length (all_ways p)) ≡ b → (if b then TooMany else Routes (network_table p)) ≡ Routes table → (network_table p ≡ table) × (length (network_routes p) ≤ MAX_ROUTES)
     by_count true more f = absurd (cc)
@@ -281,12 +278,11 @@ found-few p table found = by_end (first_without_end p) refl
         let count : length (network_routes p) ≡ length (all_ways p) = count-paths p ∙ length-map (all_ways p) (λ (way : Way). way.path) in
         (cc, grind (arith, nat_tests, more, count))
 
-    by_end : (o : Option ℕ) → first_without_end p ≡ o → (network_table p ≡ table) × (length (network_routes p) ≤ MAX_ROUTES)
+    by_end : (o : Option ℕ) → first_overlong_board p ≡ o → (network_table p ≡ table) × (length (network_routes p) ≤ MAX_ROUTES)
     by_end None is = by_count (nat_lt MAX_ROUTES (length (all_ways p))) refl (rw is at found)
     by_end (Some m) is = let bad : TooLong m ≡ Routes table = rw is at found in absurd (cc)
 
--- so the table that is found keeps them
-pub found-kept : (p : PlantLists) → IsPlant p → NeverReturns p → (net : NetDraft) (other table : TableDraft) → p ≡ numbered net other → walks p ≡ Routes table → KeepsAllButC7 p net table
+pub found-kept : (p : PlantLists) → IsPlant p → NoWalkReturns p → (net : NetDraft) (other table : TableDraft) → p ≡ plant_from_drafts net other → walks p ≡ Routes table → BreaksAtMostC7 p net table
 found-kept p plant never net other table e found =
     let few = found-few p table found in
-    subst (KeepsAllButC7 p net) few.0 (all-kept p plant never few.1 net other e)
+    subst (BreaksAtMostC7 p net) few.0 (all-kept p plant never few.1 net other e)

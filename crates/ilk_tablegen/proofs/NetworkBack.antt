@@ -1,17 +1,17 @@
--- The draft of a numbered network is that network again: each name in it is the name at the number for which it stands.
+-- The draft of a numbered network is that network: each name is the name at its number.
 use Rattle.std.proofs.Common.{◌≡◌, ℕ, suc, ◌+◌, ◌<◌, Option, Some, None, List, [], ◌∷◌, length, map, option_map, slice_get, refl, ◌∙◌, ap, arith}
 use Rattle.std.specs.List.{enumerate_from}
 use Rattle.std.proofs.lemmas.List.{length-map}
 use Rattle.std.proofs.lemmas.Option.{get_or_from_slice_get, slice_get-map}
 use Rattle.ilk_base.proofs.Lists.{at-before, at-past}
-use Rattle.ilk_plant.proofs.Boards.{boards-numbered}
-use Rattle.ilk_plant.proofs.NamesDiffer.{first_named-at, first_named-below}
+use Rattle.ilk_plant.proofs.Boards.{boards-plant_from_drafts}
+use Rattle.ilk_plant.proofs.NamesDiffer.{first_number_named-at, first_number_named-below}
 use Rattle.ilk_plant.proofs.Neighbours.{end-number}
 use Rattle.ilk_plant.proofs.Rules.{KeepsNetworkRules}
-use Rattle.ilk_plant.specs.Draft.{boards_from, names_of_boards, names_of_sections, number_of, numbered, numbered_section}
+use Rattle.ilk_plant.specs.Draft.{boards_from, names_of_boards, names_of_sections, number_of, plant_from_drafts, numbered_section}
 use Rattle.ilk_plant.specs.Name.{Name}
 use Rattle.ilk_plant.specs.Network.{board_on}
-use Rattle.ilk_plant.specs.NetworkRules.{End, end_with, ends, ends_of}
+use Rattle.ilk_plant.specs.NetworkRules.{End, end_with, ends_of_kind, ends_of}
 use Rattle.ilk_plant.specs.Plant.{PlantLists, board_of}
 use Rattle.ilk_plant.specs.declared.draft.KindDraft.{KindDraft}
 use Rattle.ilk_plant.specs.declared.draft.KindDraft.TheVariants.{Linear as LinearDraft, Point as PointDraft}
@@ -24,14 +24,12 @@ use Rattle.ilk_plant.specs.declared.network.Section.{Section}
 use Rattle.ilk_tablegen.specs.NetworkDraft.{named_kind, named_section, network_draft}
 use Rattle.ilk_tablegen.specs.Table.{name_of}
 
--- a name that is the name at its number
 abbrev ComesBack : List Name → Name → Type 0
 ComesBack names name = name_of names (number_of names name) ≡ name
 
--- a name whose number is that of a name
 known-back : (names : List Name) (name : Name) → number_of names name < length names → ComesBack names name
 known-back names name less =
-    let at : slice_get names (number_of names name) ≡ Some name = (first_named-at names name (number_of names name) (first_named-below names name (number_of names name) refl less)).1 in
+    let at : slice_get names (number_of names name) ≡ Some name = (first_number_named-at names name (number_of names name) (first_number_named-below names name (number_of names name) refl less)).1 in
     get_or_from_slice_get names (number_of names name) name [] at
 
 option-back : (names : List Name) (o : Option Name) → ((name : Name) → o ≡ Some name → ComesBack names name) → option_map (name_of names) (option_map (number_of names) o) ≡ o
@@ -46,31 +44,28 @@ module _ (net : NetDraft) (table : TableDraft) (rules : KeepsNetworkRules net) w
   boards = names_of_boards net.sections
 
   abbrev q : PlantLists
-  q = numbered net table
+  q = plant_from_drafts net table
 
   abbrev number : SectionDraft → Section
   number section = numbered_section sections boards section.kind
 
-  -- the name at an end of a section
-  end-back : (x : ℕ) (section : SectionDraft) → slice_get net.sections x ≡ Some section → (k : ℕ) (end : End) → slice_get (ends section.kind) k ≡ Some end → ComesBack sections end.name
+  end-back : (x : ℕ) (section : SectionDraft) → slice_get net.sections x ≡ Some section → (k : ℕ) (end : End) → slice_get (ends_of_kind section.kind) k ≡ Some end → ComesBack sections end.name
   end-back x section at k end e =
-      let here : ends_of net x ≡ ends section.kind = rw at refl in
+      let here : ends_of net x ≡ ends_of_kind section.kind = rw at refl in
       let known = end-number net rules x k (number_of sections end.name) end (ap (λ l. slice_get l k) here ∙ e) refl in
       known-back sections end.name known.1
 
-  -- the name of a board on a section
   board-back : (x : ℕ) (section : SectionDraft) → slice_get net.sections x ≡ Some section → (d : Dir) (name : Name) → board_on (number section) d ≡ Some (number_of boards name) → ComesBack boards name
   board-back x section at d name e =
       let there : slice_get q.sections x ≡ Some (number section) = slice_get-map number net.sections x ∙ ap (option_map number) at in
       let on : board_of q x d ≡ Some (number_of boards name) = rw there e in
-      let less = boards-numbered net table x (number_of boards name) d on in
+      let less = boards-plant_from_drafts net table x (number_of boards name) d on in
       let count = length-map (boards_from 0 net.sections) (λ named. named.board) in
       let named = length-map (boards_from 0 net.sections) (λ named. named.name) in
       known-back boards name (omega (arith, less, count, named))
 
-  -- a kind whose names come back
   kind-back : (kind : KindDraft) →
-      ((k : ℕ) (end : End) → slice_get (ends kind) k ≡ Some end → ComesBack sections end.name) →
+      ((k : ℕ) (end : End) → slice_get (ends_of_kind kind) k ≡ Some end → ComesBack sections end.name) →
       ((d : Dir) (name : Name) →
       board_on (numbered_section sections boards kind) d ≡ Some (number_of boards name) →
       ComesBack boards name) →

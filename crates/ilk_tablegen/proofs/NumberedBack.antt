@@ -17,7 +17,6 @@ use Rattle.ilk_plant.specs.declared.table.Listed.{Listed}
 use Rattle.ilk_plant.specs.declared.table.Route.{Route}
 use Rattle.ilk_tablegen.specs.Table.{name_of, named_point, named_route, named_table, route_name}
 
--- the names in a table
 abbrev pub names_in : PlantLists → List Route → List Name
 names_in p routes = names_of_routes (named_table p routes).routes
 
@@ -32,7 +31,6 @@ pub names_in-length : (p : PlantLists) (routes : List Route) → length (names_i
 names_in-length p routes =
     length-map (named_table p routes).routes (λ (draft : RouteDraft). draft.name) ∙ length-map (enumerate_from 0 routes) (λ numbered. named_route p numbered.0 numbered.1) ∙ length-enumerate_from 0 routes
 
--- the number of a name that stands once
 back-number : (names : List Name) → EachOnce names → (x : ℕ) → x < length names → number_of names (name_of names x) ≡ x
 back-number names once x less =
     let item : (name : Name) × (slice_get names x ≡ Some name) = item_at names x less in
@@ -56,7 +54,7 @@ back-points p once (listed ∷ points) within =
     ap (λ l. l ∷ map (numbered_point p.section_names) (map (named_point p) points)) first
     ∙ ap (λ l. listed ∷ l) (back-points p once points (All-tail P listed points within))
 
--- a route that speaks of what there is, without overlap and what protects it
+-- A route that refers to existing items, without overlap and protection.
 pub record IsKnown (p : PlantLists) (count : ℕ) (route : Route) : Type 0 where
   pub source : route.source < length p.board_names
   pub destination : (m : ℕ) → route.destination ≡ Some m → m < length p.board_names
@@ -67,7 +65,6 @@ pub record IsKnown (p : PlantLists) (count : ℕ) (route : Route) : Type 0 where
   pub protecting_points : route.protecting_points ≡ []
   pub protecting_boards : route.protecting_boards ≡ []
 
--- which names there are
 pub record AreNames (p : PlantLists) (names : List Name) : Type 0 where
   pub sections : EachOnce p.section_names
   pub boards : EachOnce p.board_names
@@ -85,7 +82,6 @@ back-conflicts names once each (k ∷ ks) within =
     ap (λ n. n ∷ map (number_of names) (map route_name ks)) (back-conflict names once each k (All-head (λ y. y < length names) k ks within))
     ∙ ap (λ l. k ∷ l) (back-conflicts names once each ks (All-tail (λ y. y < length names) k ks within))
 
--- a route with names and then with numbers again
 back-route : (p : PlantLists) (names : List Name) → AreNames p names → (n : ℕ) (route : Route) → IsKnown p (length names) route → numbered_route p.section_names p.board_names names (named_route p n route) ≡ route
 back-route p names are n route known = λ i. record {
   source = back-number p.board_names are.boards route.source known.source i;
@@ -107,7 +103,6 @@ back-route p names are n route known = λ i. record {
     protecting_boards : map (number_of p.board_names) (map (name_of p.board_names) route.protecting_boards) ≡ route.protecting_boards
     protecting_boards = ap (λ l. map (number_of p.board_names) (map (name_of p.board_names) l)) known.protecting_boards ∙ sym known.protecting_boards
 
--- and so all
 pub back-routes : (p : PlantLists) (names : List Name) → AreNames p names → (k : ℕ) (routes : List Route) →
     All (IsKnown p (length names)) routes →
     map (numbered_route p.section_names p.board_names names)

@@ -1,4 +1,4 @@
--- The points that are listed along a way: each is a point of the path, once, in the position towards the path.
+-- The points listed along a way: each is a point of the path, once, in the position along the path.
 use Rattle.std.proofs.Common.{◌≡◌, ℕ, ◌≤◌, Bool, true, false, not, ◌&&◌, ◌||◌, ◌==◌, ◌⊎◌, inl, inr, cond, if◌then◌else◌, Option, Some, None, List, [], ◌∷◌, ◌++◌, length, map, option_map, option_to_list, slice_get, take, refl, sym, ◌∙◌, ap, arith}
 use Rattle.std.specs.List.{list_all, list_any}
 use Rattle.std.proofs.Math.Bool.{or-false}
@@ -11,9 +11,9 @@ use Rattle.ilk_base.proofs.Truth.{either, or-true}
 use Rattle.ilk_base.specs.Option.{is_some_and}
 use Rattle.ilk_plant.proofs.Sides.{back-opposite}
 use Rattle.ilk_plant.specs.ColumnRules.{is_leg, is_listed_towards, points_lead_along}
-use Rattle.ilk_plant.specs.Network.{beside, has_section, is_point, same_direction}
+use Rattle.ilk_plant.specs.Network.{neighbours_on, has_section, is_point, same_direction}
 use Rattle.ilk_plant.specs.NetworkRules.{opposite_direction}
-use Rattle.ilk_plant.specs.Once.{none_twice}
+use Rattle.ilk_plant.specs.Once.{numbers_differ}
 use Rattle.ilk_plant.specs.Plant.{IsPlant, PlantLists, is_point_section, next_to}
 use Rattle.ilk_plant.specs.declared.network.Dir.{Dir}
 use Rattle.ilk_plant.specs.declared.network.Dir.TheVariants.{Up, Down}
@@ -24,14 +24,13 @@ use Rattle.ilk_plant.specs.declared.network.Section.TheVariants.{Linear, Point}
 use Rattle.ilk_plant.specs.declared.table.Listed.{Listed}
 use Rattle.ilk_tablegen.proofs.IsWay.{is_way}
 use Rattle.ilk_tablegen.proofs.WayFacts.{first-next, goes-on}
-use Rattle.ilk_tablegen.specs.Routes.{listed_between, points_along, position_towards}
-use Rattle.ilk_tablegen.specs.Ways.{ends_way}
+use Rattle.ilk_tablegen.specs.Routes.{point_listed_between, points_along, position_towards}
+use Rattle.ilk_tablegen.specs.Ways.{way_ends_at}
 
--- whether the leg of section x at a position is one of these sections
+-- Returns whether the leg of section x at a position is one of these sections.
 abbrev towards : PlantLists → List ℕ → ℕ → Position → Bool
 towards p sections x at = list_any (λ y. is_some_and (slice_get p.sections x) (is_leg at y)) sections
 
--- a section that is no point has no leg
 no-leg : (p : PlantLists) (x : ℕ) (sections : List ℕ) (at : Position) → is_point_section p x ≡ false → towards p sections x at ≡ false
 no-leg p x sections at h = none-pass (λ y. is_some_and (slice_get p.sections x) (is_leg at y)) sections (λ i y e. by_section (slice_get p.sections x) at y h)
   where
@@ -40,8 +39,7 @@ no-leg p x sections at h = none-pass (λ y. is_some_and (slice_get p.sections x)
     by_section (Some (Linear down up board_down board_up)) a y e = refl
     by_section (Some (Point stem plus minus faces)) a y e = absurd (cc)
 
--- so it isn't listed
-no-point : (p : PlantLists) (before x : ℕ) (after : List ℕ) → is_point_section p x ≡ false → listed_between p before x after ≡ []
+no-point : (p : PlantLists) (before x : ℕ) (after : List ℕ) → is_point_section p x ≡ false → point_listed_between p before x after ≡ []
 no-point p before x after h =
     ap (λ b. option_to_list (option_map (λ at. record { point = x; at = at }) (cond b (Some Plus) (cond (towards p sections x Minus) (Some Minus) None)))) (no-leg p x sections Plus h)
     ∙ ap (λ b. option_to_list (option_map (λ at. record { point = x; at = at }) (cond b (Some Minus) None))) (no-leg p x sections Minus h)
@@ -52,12 +50,11 @@ no-point p before x after h =
 abbrev numbers : List Listed → List ℕ
 numbers points = map (λ listed. listed.point) points
 
--- what stands on no path isn't listed of it
 pub not-listed : (p : PlantLists) (z before : ℕ) (path : List ℕ) → has_section z path ≡ false → has_section z (numbers (points_along p before path)) ≡ false
 not-listed p z before [] h = refl
 not-listed p z before (x ∷ rest) h =
-    ap (has_section z) (map-append (λ listed. listed.point) (listed_between p before x rest) (points_along p x rest))
-    ∙ list_any-append (λ y. y == z) (numbers (listed_between p before x rest)) (numbers (points_along p x rest))
+    ap (has_section z) (map-append (λ listed. listed.point) (point_listed_between p before x rest) (points_along p x rest))
+    ∙ list_any-append (λ y. y == z) (numbers (point_listed_between p before x rest)) (numbers (points_along p x rest))
     ∙ ap (λ b. b || has_section z (numbers (points_along p x rest))) (first (position_towards p (before ∷ take 1 rest) x))
     ∙ not-listed p z x rest (right_of (x == z) (has_section z rest) h)
   where
@@ -73,12 +70,11 @@ not-listed p z before (x ∷ rest) h =
     first None = refl
     first (Some at) = ap (λ b. b || false) (left_of (x == z) (has_section z rest) h)
 
--- no point is listed twice
-pub listed-once : (p : PlantLists) (before : ℕ) (path : List ℕ) → none_twice path ≡ true → none_twice (numbers (points_along p before path)) ≡ true
+pub listed-once : (p : PlantLists) (before : ℕ) (path : List ℕ) → numbers_differ path ≡ true → numbers_differ (numbers (points_along p before path)) ≡ true
 listed-once p before [] h = refl
 listed-once p before (x ∷ rest) h =
-    let parts = and_parts (not (has_section x rest)) (none_twice rest) h in
-    ap none_twice (map-append (λ listed. listed.point) (listed_between p before x rest) (points_along p x rest))
+    let parts = and_parts (not (has_section x rest)) (numbers_differ rest) h in
+    ap numbers_differ (map-append (λ listed. listed.point) (point_listed_between p before x rest) (points_along p x rest))
     ∙ first (position_towards p (before ∷ take 1 rest) x) (not-listed p x x rest (not-true (has_section x rest) parts.0)) (listed-once p x rest parts.1)
   where
     not-true : (b : Bool) → not b ≡ true → b ≡ false
@@ -86,24 +82,23 @@ listed-once p before (x ∷ rest) h =
     not-true false e = refl
 
     first : (o : Option Position) → has_section x (numbers (points_along p x rest)) ≡ false →
-        none_twice (numbers (points_along p x rest)) ≡ true →
-        none_twice
+        numbers_differ (numbers (points_along p x rest)) ≡ true →
+        numbers_differ
         (numbers (option_to_list (option_map (λ at. record { point = x; at = at }) o))
         ++ numbers (points_along p x rest)) ≡ true
     first None fresh later = later
     first (Some at) fresh later = both_true (ap not fresh) later
 
--- each listed point passes a test that the points of the path pass
 pub listed-pass : (p : PlantLists) (test : ℕ → Bool) (before : ℕ) (path : List ℕ) → ((x : ℕ) → is_point_section p x ≡ true → has_section x path ≡ true → test x ≡ true) → list_all test (numbers (points_along p before path)) ≡ true
 listed-pass p test before [] h = refl
 listed-pass p test before (x ∷ rest) h =
-    ap (list_all test) (map-append (λ listed. listed.point) (listed_between p before x rest) (points_along p x rest))
+    ap (list_all test) (map-append (λ listed. listed.point) (point_listed_between p before x rest) (points_along p x rest))
     ∙ first (is_point_section p x) refl (listed-pass p test x rest (λ z is on. h z is (right-true (x == z) (has_section z rest) on)))
   where
     right-true : (a b : Bool) → b ≡ true → (a || b) ≡ true
     right-true a b e = ap (λ c. a || c) e ∙ or-true a
 
-    first : (b : Bool) → is_point_section p x ≡ b → list_all test (numbers (points_along p x rest)) ≡ true → list_all test (numbers (listed_between p before x rest) ++ numbers (points_along p x rest)) ≡ true
+    first : (b : Bool) → is_point_section p x ≡ b → list_all test (numbers (points_along p x rest)) ≡ true → list_all test (numbers (point_listed_between p before x rest) ++ numbers (points_along p x rest)) ≡ true
     first false is later = ap (λ (l : List Listed). list_all test (numbers l ++ numbers (points_along p x rest))) (no-point p before x rest is) ∙ later
     first true is later = listed (position_towards p (before ∷ take 1 rest) x)
       where
@@ -111,19 +106,17 @@ listed-pass p test before (x ∷ rest) h =
         listed None = later
         listed (Some at) = both_true (h x is (or_left (x == x) (has_section x rest) (eq-eqb x x refl))) later
 
--- there are no more than sections of the path
 pub listed-few : (p : PlantLists) (before : ℕ) (path : List ℕ) → length (points_along p before path) ≤ length path
 listed-few p before [] = omega arith
 listed-few p before (x ∷ rest) =
     let one = first (position_towards p (before ∷ take 1 rest) x) in
     let more = listed-few p x rest in
-    omega (arith, one, more, length-append (listed_between p before x rest) (points_along p x rest))
+    omega (arith, one, more, length-append (point_listed_between p before x rest) (points_along p x rest))
   where
     first : (o : Option Position) → length {A = Listed} (option_to_list (option_map (λ at. record { point = x; at = at }) o)) ≤ 1
     first None = omega arith
     first (Some at) = omega arith
 
--- one of two legs
 right-true : (a b : Bool) → b ≡ true → (a || b) ≡ true
 right-true a b e = ap (λ c. a || c) e ∙ or-true a
 
@@ -139,23 +132,23 @@ leg-in p x stem plus minus faces sections k y is here leg =
           (ap (λ o. is_some_and o (is_leg Minus y)) is ∙ sym (or-false (minus == y)) ∙ e))
     ]
 
--- a way that comes from the stem leads on over a leg
+-- A way that comes from the stem continues over a leg.
 leg-ahead : (p : PlantLists) (d : Dir) (before x stem plus minus : ℕ) (faces : Dir) (rest : List ℕ) →
     is_way p d before (x ∷ rest) ≡ true → slice_get p.sections x ≡ Some (Point stem plus minus faces) →
     same_direction faces d ≡ true →
     (towards p (before ∷ take 1 rest) x Plus || towards p (before ∷ take 1 rest) x Minus) ≡ true
 leg-ahead p d before x stem plus minus faces [] way is e =
-    let ends : ends_way p d x ≡ true = (and_parts (has_section x (next_to p before d)) (ends_way p d x) way).1 in
-    let none : (length (beside (Point stem plus minus faces) d) == 0) ≡ true = rw is at ends in
+    let ends : way_ends_at p d x ≡ true = (and_parts (has_section x (next_to p before d)) (way_ends_at p d x) way).1 in
+    let none : (length (neighbours_on (Point stem plus minus faces) d) == 0) ≡ true = rw is at ends in
     let wrong : (length (plus ∷ minus ∷ []) == 0) ≡ true = ap (λ c. length (if c then plus ∷ minus ∷ [] else stem ∷ []) == 0) (sym e) ∙ none in
     absurd (cc)
 leg-ahead p d before x stem plus minus faces (z ∷ rest) way is e =
     let on = (goes-on p d before x z rest way).1 in
     let next : has_section z (next_to p x d) ≡ true = first-next p d x z rest on in
-    let beyond : has_section z (beside (Point stem plus minus faces) d) ≡ true = rw is at next in
+    let beyond : has_section z (neighbours_on (Point stem plus minus faces) d) ≡ true = rw is at next in
     leg-in p x stem plus minus faces (before ∷ take 1 (z ∷ rest)) 1 z is refl (ap (λ c. has_section z (if c then plus ∷ minus ∷ [] else stem ∷ [])) (sym e) ∙ beyond)
 
--- and else comes over one
+-- Otherwise it comes over a leg.
 leg-behind : (p : PlantLists) → IsPlant p →
     (d : Dir) (before x stem plus minus : ℕ) (faces : Dir) (rest : List ℕ) →
     is_way p d before (x ∷ rest) ≡ true → slice_get p.sections x ≡ Some (Point stem plus minus faces) →
@@ -163,7 +156,7 @@ leg-behind : (p : PlantLists) → IsPlant p →
     (towards p (before ∷ take 1 rest) x Plus || towards p (before ∷ take 1 rest) x Minus) ≡ true
 leg-behind p plant d before x stem plus minus faces rest way is e =
     let back : has_section before (next_to p x (opposite_direction d)) ≡ true = back-opposite p plant before x d (first-next p d before x rest way) in
-    let behind : has_section before (beside (Point stem plus minus faces) (opposite_direction d)) ≡ true = rw is at back in
+    let behind : has_section before (neighbours_on (Point stem plus minus faces) (opposite_direction d)) ≡ true = rw is at back in
     leg-in p x stem plus minus faces (before ∷ take 1 rest) 0 before is refl (ap (λ c. has_section before (if c then plus ∷ minus ∷ [] else stem ∷ [])) (sym e) ∙ behind)
 
 one_of_two : (faces d : Dir) → (same_direction faces d ≡ true) ⊎ (same_direction faces (opposite_direction d) ≡ true)
@@ -184,11 +177,10 @@ leg-along p plant d before x rest way point = by_section (slice_get p.sections x
           | inr e ↦ leg-behind p plant d before x stem plus minus faces rest way is e
         ]
 
--- a point of a way is listed towards it
 abbrev is_one : PlantLists → List ℕ → ℕ → Listed → Bool
 is_one p sections x listed = (listed.point == x) && towards p sections x listed.at
 
-listed-here : (p : PlantLists) (before x : ℕ) (rest : List ℕ) → (towards p (before ∷ take 1 rest) x Plus || towards p (before ∷ take 1 rest) x Minus) ≡ true → list_any (is_one p (before ∷ take 1 rest) x) (listed_between p before x rest) ≡ true
+listed-here : (p : PlantLists) (before x : ℕ) (rest : List ℕ) → (towards p (before ∷ take 1 rest) x Plus || towards p (before ∷ take 1 rest) x Minus) ≡ true → list_any (is_one p (before ∷ take 1 rest) x) (point_listed_between p before x rest) ≡ true
 listed-here p before x rest legs = by_plus (towards p sections x Plus) refl legs
   where
     sections : List ℕ
@@ -208,26 +200,25 @@ listed-here p before x rest legs = by_plus (towards p sections x Plus) refl legs
 listed-along : (p : PlantLists) → IsPlant p → (d : Dir) (front : List Listed) (before : ℕ) (path : List ℕ) → is_way p d before path ≡ true → points_lead_along p (front ++ points_along p before path) before path ≡ true
 listed-along p plant d front before [] way = refl
 listed-along p plant d front before (x ∷ rest) way =
-    both_true (first (is_point_section p x) refl) (later rest (λ h. listed-along p plant d (front ++ listed_between p before x rest) x rest h) way)
+    both_true (first (is_point_section p x) refl) (later rest (λ h. listed-along p plant d (front ++ point_listed_between p before x rest) x rest h) way)
   where
-    first : (b : Bool) → is_point_section p x ≡ b → (not b || is_listed_towards p (front ++ (listed_between p before x rest ++ points_along p x rest)) (before ∷ take 1 rest) x) ≡ true
+    first : (b : Bool) → is_point_section p x ≡ b → (not b || is_listed_towards p (front ++ (point_listed_between p before x rest ++ points_along p x rest)) (before ∷ take 1 rest) x) ≡ true
     first false e = refl
     first true e =
-        list_any-append (is_one p (before ∷ take 1 rest) x) front (listed_between p before x rest ++ points_along p x rest)
-        ∙ right-true (list_any (is_one p (before ∷ take 1 rest) x) front) (list_any (is_one p (before ∷ take 1 rest) x) (listed_between p before x rest ++ points_along p x rest))
-        (list_any-append (is_one p (before ∷ take 1 rest) x) (listed_between p before x rest) (points_along p x rest)
-        ∙ or_left (list_any (is_one p (before ∷ take 1 rest) x) (listed_between p before x rest)) (list_any (is_one p (before ∷ take 1 rest) x) (points_along p x rest)) (listed-here p before x rest (leg-along p plant d before x rest way e)))
+        list_any-append (is_one p (before ∷ take 1 rest) x) front (point_listed_between p before x rest ++ points_along p x rest)
+        ∙ right-true (list_any (is_one p (before ∷ take 1 rest) x) front) (list_any (is_one p (before ∷ take 1 rest) x) (point_listed_between p before x rest ++ points_along p x rest))
+        (list_any-append (is_one p (before ∷ take 1 rest) x) (point_listed_between p before x rest) (points_along p x rest)
+        ∙ or_left (list_any (is_one p (before ∷ take 1 rest) x) (point_listed_between p before x rest)) (list_any (is_one p (before ∷ take 1 rest) x) (points_along p x rest)) (listed-here p before x rest (leg-along p plant d before x rest way e)))
 
     later : (r : List ℕ) →
         (is_way p d x r ≡ true →
-        points_lead_along p ((front ++ listed_between p before x r) ++ points_along p x r) x r ≡ true) →
+        points_lead_along p ((front ++ point_listed_between p before x r) ++ points_along p x r) x r ≡ true) →
         is_way p d before (x ∷ r) ≡ true →
-        points_lead_along p (front ++ (listed_between p before x r ++ points_along p x r)) x r ≡ true
+        points_lead_along p (front ++ (point_listed_between p before x r ++ points_along p x r)) x r ≡ true
     later [] onward h = refl
     later (z ∷ r) onward h =
-        ap (λ (points : List Listed). points_lead_along p points x (z ∷ r)) (sym (append_assoc front (listed_between p before x (z ∷ r)) (points_along p x (z ∷ r))))
+        ap (λ (points : List Listed). points_lead_along p points x (z ∷ r)) (sym (append_assoc front (point_listed_between p before x (z ∷ r)) (points_along p x (z ∷ r))))
         ∙ onward (goes-on p d before x z r h).1
 
--- the points of a way are listed towards it
 pub points-set : (p : PlantLists) → IsPlant p → (d : Dir) (before : ℕ) (path : List ℕ) → is_way p d before path ≡ true → points_lead_along p (points_along p before path) before path ≡ true
 points-set p plant d before path way = listed-along p plant d [] before path way

@@ -1,4 +1,4 @@
--- Which boards have a way without end: all sections by rounds, and the first such board.
+-- The first board with a way without end, found by rounds over all sections.
 use Rattle.std.proofs.Common.{◌≡◌, ℕ, zero, suc, ◌+◌, ◌<◌, Bool, true, false, not, ◌&&◌, Some, None, List, [], ◌∷◌, cond, get_or, length, map, option_map, position, replicate, slice_get, refl, sym, ◌∙◌, ap, arith}
 use Rattle.std.specs.List.{range_with_len}
 use Rattle.std.proofs.lemmas.List.FromFn.{get_or-map-range_with_len}
@@ -15,57 +15,51 @@ use Rattle.ilk_plant.specs.declared.network.Board.{Board}
 use Rattle.ilk_plant.specs.declared.network.Dir.{Dir}
 use Rattle.ilk_plant.specs.declared.network.Section.{Section}
 use Rattle.ilk_plant.specs.declared.limits.TheConstants.{MAX_PATH}
-use Rattle.ilk_tablegen.specs.Rounds.{going_on, leads_to_flagged}
-use Rattle.ilk_tablegen.specs.Ways.{ends_way, goes_on, has_no_end}
+use Rattle.ilk_tablegen.specs.Rounds.{continuing_flags, leads_to_flagged}
+use Rattle.ilk_tablegen.specs.Ways.{way_ends_at, continues_without_end, has_overlong_way}
 
--- by the flags of all sections, one section more leads on
-pub one-more : (p : PlantLists) → IsPlant p → (d : Dir) (n : ℕ) → map (leads_to_flagged p d (going_on p d n)) (range_with_len 0 (length p.sections)) ≡ going_on p d (suc n)
+pub one-more : (p : PlantLists) → IsPlant p → (d : Dir) (n : ℕ) → map (leads_to_flagged p d (continuing_flags p d n)) (range_with_len 0 (length p.sections)) ≡ continuing_flags p d (suc n)
 one-more p plant d n =
-    map-range-congr (leads_to_flagged p d (going_on p d n)) (goes_on p d (suc n)) 0 (length p.sections) (λ x low high. flags-tell x)
+    map-range-congr (leads_to_flagged p d (continuing_flags p d n)) (continues_without_end p d (suc n)) 0 (length p.sections) (λ x low high. flags-tell x)
   where
-    flag-tells : (x i y : ℕ) → slice_get (next_to p x d) i ≡ Some y → (not (ends_way p d y) && get_or (going_on p d n) y false) ≡ (not (ends_way p d y) && goes_on p d n y)
+    flag-tells : (x i y : ℕ) → slice_get (next_to p x d) i ≡ Some y → (not (way_ends_at p d y) && get_or (continuing_flags p d n) y false) ≡ (not (way_ends_at p d y) && continues_without_end p d n y)
     flag-tells x i y at =
-        ap (λ b. not (ends_way p d y) && b) (get_or-map-range_with_len (goes_on p d n) 0 (length p.sections) y y false (plant.neighbours x y d (has_section-at (next_to p x d) i y at)) (omega arith))
+        ap (λ b. not (way_ends_at p d y) && b) (get_or-map-range_with_len (continues_without_end p d n) 0 (length p.sections) y y false (plant.neighbours x y d (has_section-at (next_to p x d) i y at)) (omega arith))
 
-    flags-tell : (x : ℕ) → leads_to_flagged p d (going_on p d n) x ≡ goes_on p d (suc n) x
+    flags-tell : (x : ℕ) → leads_to_flagged p d (continuing_flags p d n) x ≡ continues_without_end p d (suc n) x
     flags-tell x =
-        list_any-alike (λ y. not (ends_way p d y) && get_or (going_on p d n) y false) (λ y. not (ends_way p d y) && goes_on p d n y) (next_to p x d) (flag-tells x)
+        list_any-alike (λ y. not (way_ends_at p d y) && get_or (continuing_flags p d n) y false) (λ y. not (way_ends_at p d y) && continues_without_end p d n y) (next_to p x d) (flag-tells x)
 
--- a round of the code
-pub round-more : (p : PlantLists) → IsPlant p → (d : Dir) (n : ℕ) (flags made : List Bool) → flags ≡ going_on p d n → made ≡ map (leads_to_flagged p d flags) (range_with_len 0 (length p.sections)) → made ≡ going_on p d (n + 1)
+pub round-more : (p : PlantLists) → IsPlant p → (d : Dir) (n : ℕ) (flags made : List Bool) → flags ≡ continuing_flags p d n → made ≡ map (leads_to_flagged p d flags) (range_with_len 0 (length p.sections)) → made ≡ continuing_flags p d (n + 1)
 round-more p plant d n flags made before after =
     let next : suc n ≡ n + 1 = omega arith in
-    after ∙ ap (λ l. map (leads_to_flagged p d l) (range_with_len 0 (length p.sections))) before ∙ one-more p plant d n ∙ ap (going_on p d) next
+    after ∙ ap (λ l. map (leads_to_flagged p d l) (range_with_len 0 (length p.sections))) before ∙ one-more p plant d n ∙ ap (continuing_flags p d) next
 
--- before the first round all sections are flagged
-pub none-yet : (n : ℕ) (p : PlantLists) (d : Dir) → n ≡ length p.sections → replicate n true ≡ going_on p d 0
-none-yet n p d e = alike n 0 ∙ ap (λ m. map (goes_on p d 0) (range_with_len 0 m)) e
+pub none-yet : (n : ℕ) (p : PlantLists) (d : Dir) → n ≡ length p.sections → replicate n true ≡ continuing_flags p d 0
+none-yet n p d e = alike n 0 ∙ ap (λ m. map (continues_without_end p d 0) (range_with_len 0 m)) e
   where
-    alike : (m a : ℕ) → replicate m true ≡ map (goes_on p d 0) (range_with_len a m)
+    alike : (m a : ℕ) → replicate m true ≡ map (continues_without_end p d 0) (range_with_len a m)
     alike zero a = refl
     alike (suc m) a = ap (λ l. true ∷ l) (alike m (a + 1))
 
--- a board stands on a section
 pub board-within : (p : PlantLists) → IsPlant p → (m : ℕ) (board : Board) → slice_get p.boards m ≡ Some board → board.section < length p.sections
 board-within p plant m board at =
     let stands : board_of p board.section board.dir ≡ Some m = (plant.boards_listed board.section m board.dir).1 at in
     let found : (s : Section) × (slice_get p.sections board.section ≡ Some s) × (board_on s board.dir ≡ Some m) = bind_some (slice_get p.sections board.section) (λ s. board_on s board.dir) m stands in
     slice_get_within p.sections board.section found.0 found.1
 
--- the flag of a board's section
 pub flag-of_board : (p : PlantLists) → IsPlant p →
     (m : ℕ) (board : Board) (d : Dir) (flags : List Bool) (b : Bool) → slice_get p.boards m ≡ Some board →
-    board.dir ≡ d → flags ≡ going_on p d MAX_PATH → b ≡ get_or flags board.section false →
-    b ≡ is_some_and (slice_get p.boards m) (has_no_end p)
+    board.dir ≡ d → flags ≡ continuing_flags p d MAX_PATH → b ≡ get_or flags board.section false →
+    b ≡ is_some_and (slice_get p.boards m) (has_overlong_way p)
 flag-of_board p plant m board d flags b at towards are tells =
     tells
     ∙ ap (λ l. get_or l board.section false) are
-    ∙ get_or-map-range_with_len (goes_on p d MAX_PATH) 0 (length p.sections) board.section board.section false (board-within p plant m board at) (omega arith)
-    ∙ ap (λ e. goes_on p e MAX_PATH board.section) (sym towards)
-    ∙ ap (λ o. is_some_and o (has_no_end p)) (sym at)
+    ∙ get_or-map-range_with_len (continues_without_end p d MAX_PATH) 0 (length p.sections) board.section board.section false (board-within p plant m board at) (omega arith)
+    ∙ ap (λ e. continues_without_end p e MAX_PATH board.section) (sym towards)
+    ∙ ap (λ o. is_some_and o (has_overlong_way p)) (sym at)
 
 module _ {X : Type 0} (p : X → Bool) where
-  -- the first place that passes, where no earlier one does
   pub position-first : (xs : List X) (m : ℕ) → is_some_and (slice_get xs m) p ≡ true → ((k : ℕ) → k < m → is_some_and (slice_get xs k) p ≡ false) → position p xs ≡ Some m
   position-first [] m passes before = absurd (cc)
   position-first (x ∷ xs) zero passes before =
@@ -75,7 +69,6 @@ module _ {X : Type 0} (p : X → Bool) where
       let rest : position p xs ≡ Some m = position-first xs m passes (λ k less. before (suc k) (omega (arith, less))) in
       position-cons p x xs ∙ ap (λ b. cond b (Some 0) (option_map suc (position p xs))) first ∙ ap (option_map suc) rest
 
-  -- none, where no place passes
   pub position-none : (xs : List X) → ((k : ℕ) → k < length xs → is_some_and (slice_get xs k) p ≡ false) → position p xs ≡ None
   position-none [] fails = refl
   position-none (x ∷ xs) fails =

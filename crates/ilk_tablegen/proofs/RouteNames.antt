@@ -1,4 +1,4 @@
--- The names of routes: each is a name, and they differ.
+-- Route names are valid names, and they differ.
 use Rattle.std.proofs.Common.{◌≡◌, ℕ, ◌+◌, ◌%◌, ◌^◌, ◌<◌, ◌≤◌, true, false, ◌&&◌, Option, Some, None, List, [], ◌∷◌, ◌++◌, codes, length, nat_le, slice_get, take, bytes_eq, refl, sym, ◌∙◌, ap, arith}
 use Rattle.std.specs.Fmt.{decimal}
 use Rattle.std.specs.List.{list_all, list_any}
@@ -14,11 +14,10 @@ use Rattle.ilk_base.specs.Option.{is_some_and}
 use Rattle.ilk_base.proofs.Once.{EachOnce}
 use Rattle.ilk_base.proofs.Tested.{none-pass}
 use Rattle.ilk_base.proofs.Lists.{taken-before}
-use Rattle.ilk_plant.specs.Draft.{is_named_before}
+use Rattle.ilk_plant.specs.Draft.{is_duplicate}
 use Rattle.ilk_plant.specs.Name.{Name, is_name, is_name_character}
 use Rattle.ilk_tablegen.specs.Table.{route_name}
 
--- a digit may stand in a name
 digit-allowed : (d : ℕ) → d < 10 → is_name_character (48 + d) ≡ true
 digit-allowed d less = grind (arith, nat_tests)
 
@@ -33,7 +32,6 @@ decimal-allowed n less =
     more m ds large before =
         list_all-append is_name_character ds ((48 + m % 10) ∷ []) ∙ both_true before (both_true (digit-allowed (m % 10) (omega arith)) refl)
 
--- the name of a route is a name
 pub route_name-is : (n : ℕ) → n < 1000 → is_name (route_name n) ≡ true
 route_name-is n small =
     let wide : n < 2 ^ 64 = omega (arith, small) in
@@ -44,7 +42,6 @@ route_name-is n small =
     within : (m : ℕ) → 1 ≤ m → m ≤ 32 → (nat_le 1 m && nat_le m 32) ≡ true
     within m low high = grind (arith, nat_tests)
 
--- routes with one name are one
 pub route_name-tells : (m n : ℕ) → m < 1000 → n < 1000 → route_name m ≡ route_name n → m ≡ n
 route_name-tells m n low high same =
     decimal_injective m n (omega (arith, low)) (omega (arith, high)) (tail-same (decimal m) (decimal n) same)
@@ -52,13 +49,11 @@ route_name-tells m n low high same =
     tail-same : (xs ys : List ℕ) → codes "g" ++ xs ≡ codes "g" ++ ys → xs ≡ ys
     tail-same xs ys e = cc
 
--- the names of routes stand once each
 pub names-once : (names : List Name) → length names < 1000 → ((k : ℕ) (name : Name) → slice_get names k ≡ Some name → route_name k ≡ name) → EachOnce names
 names-once names few each i j name at also =
     route_name-tells i j (omega (arith, few, slice_get_within names i name at)) (omega (arith, few, slice_get_within names j name also)) (each i name at ∙ sym (each j name also))
 
--- none has an earlier one's name
-pub none-before : (names : List Name) → EachOnce names → (i : ℕ) → is_named_before names i ≡ false
+pub none-before : (names : List Name) → EachOnce names → (i : ℕ) → is_duplicate names i ≡ false
 none-before names once i = by_name (slice_get names i) refl
   where
     by_name : (o : Option Name) → slice_get names i ≡ o → is_some_and o (λ name. list_any (bytes_eq name) (take i names)) ≡ false

@@ -1,4 +1,4 @@
--- The routes of all ways, with the conflicts that flags tell.
+-- The routes of all ways, with the conflicts by flags.
 use Rattle.std.proofs.Common.{◌≡◌, ℕ, ◌+◌, ◌<◌, ◌≤◌, All, Bool, List, [], ◌∷◌, length, map, refl, sym, ◌∙◌, ap, arith}
 use Rattle.std.specs.List.{enumerate_from}
 use Rattle.std.proofs.lemmas.List.{length-map}
@@ -13,7 +13,6 @@ use Rattle.ilk_tablegen.specs.Routes.{destination_of, network_routes, points_alo
 use Rattle.ilk_tablegen.specs.Ways.{all_ways}
 use Rattle.ilk_tablegen.specs.declared.ways.Way.{Way}
 
--- a route but for its conflicts
 abbrev with_conflicts : PlantLists → Way → List ℕ → Route
 with_conflicts p way conflicts = record {
   source = way.source;
@@ -38,7 +37,6 @@ each-told p paths k (way ∷ found) within =
     ap (λ r. r ∷ map (λ numbered. route_by_flags p (map (flags_of (length p.sections)) paths) numbered.0 numbered.1) (enumerate_from (k + 1) found)) first
     ∙ ap (λ l. route_of_way p paths k way ∷ l) (each-told p paths (k + 1) found (All-tail P way found within))
 
--- the routes that the code makes are those of the network
 pub routes-told : (p : PlantLists) → IsPlant p →
     (count : ℕ) (found items : List Way) (flags : List (List Bool)) (routes : List Route) →
     count ≡ length p.sections → found ≡ all_ways p → items ≡ found →
@@ -51,7 +49,6 @@ routes-told p plant count found items flags routes whole all same flagged made =
     ∙ (λ i. map (λ numbered. route_by_flags p (map (flags_of (whole i)) (paths_of (all i))) numbered.0 numbered.1) (enumerate_from 0 (all i)))
     ∙ each-told p (paths_of (all_ways p)) 0 (all_ways p) (all-within p plant)
 
--- there is one for each
 pub routes-few : (p : PlantLists) (m : ℕ) (found : List Way) (routes : List Route) → found ≡ all_ways p → length found ≤ m → routes ≡ network_routes p → length routes ≤ m
 routes-few p m found routes all few made =
     let count : length routes ≡ length found =

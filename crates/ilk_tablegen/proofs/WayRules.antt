@@ -1,4 +1,4 @@
--- The rules of the table and of the columns that ask one route: the route of a way keeps each.
+-- The route of a way satisfies each rule of the table and columns that concerns one route.
 use Rattle.std.proofs.Common.{◌≡◌, ℕ, ◌<◌, true, not, ◌&&◌, Option, Some, None, All, List, [], ◌∷◌, ◌++◌, append-nil, length, refl, ◌∙◌, ap}
 use Rattle.std.specs.List.{list_all}
 use Rattle.std.specs.Cmp.Derive.{both_true}
@@ -8,12 +8,12 @@ use Rattle.ilk_base.proofs.ListTests.{all-at}
 use Rattle.ilk_base.proofs.Options.{bind_some}
 use Rattle.ilk_base.proofs.Tested.{all-pass}
 use Rattle.ilk_base.specs.Option.{is_some_and}
-use Rattle.ilk_plant.specs.ColumnRules.{overlap_leads_on, path_ends_at_board, path_leads_on, points_are_set, is_between_boards, points_lead_along}
+use Rattle.ilk_plant.specs.ColumnRules.{overlap_is_connected, path_ends_at_board, path_is_connected, points_are_listed, is_between_boards, points_lead_along}
 use Rattle.ilk_plant.specs.Network.{has_section, last_of}
-use Rattle.ilk_plant.specs.Once.{none_twice}
+use Rattle.ilk_plant.specs.Once.{numbers_differ}
 use Rattle.ilk_plant.specs.Plant.{IsPlant, PlantLists, board_of, is_point_section}
-use Rattle.ilk_plant.specs.Shape.{leads_on}
-use Rattle.ilk_plant.specs.Sound.{NeverReturns}
+use Rattle.ilk_plant.specs.Shape.{is_connected}
+use Rattle.ilk_plant.specs.Sound.{NoWalkReturns}
 use Rattle.ilk_plant.specs.TableRules.{has_conflicts_once, has_destination_or_none, has_points_once, has_protecting_boards_once, has_protecting_points_once, has_sections_once, has_source, is_section}
 use Rattle.ilk_plant.specs.declared.network.Board.{Board}
 use Rattle.ilk_plant.specs.declared.table.Route.{Route}
@@ -22,10 +22,9 @@ use Rattle.ilk_tablegen.proofs.IsWay.{IsWayOf, is_way, way-within}
 use Rattle.ilk_tablegen.proofs.PathPoints.{listed-once, listed-pass, points-set}
 use Rattle.ilk_tablegen.proofs.WayFacts.{way-between, way-ends, way-leads}
 use Rattle.ilk_tablegen.specs.Routes.{destination_of, route_of_way}
-use Rattle.ilk_tablegen.specs.Ways.{ends_way}
+use Rattle.ilk_tablegen.specs.Ways.{way_ends_at}
 use Rattle.ilk_tablegen.specs.declared.ways.Way.{Way}
 
--- the plant with other routes
 abbrev pub with_routes : PlantLists → List Route → List (List ℕ) → PlantLists
 with_routes p routes names = record {
   sections = p.sections;
@@ -36,7 +35,7 @@ with_routes p routes names = record {
   route_names = names;
 }
 
-module _ (p : PlantLists) (plant : IsPlant p) (walks : NeverReturns p) (routes : List Route) (names : List (List ℕ)) (paths : List (List ℕ)) (n : ℕ) (way : Way) (of : IsWayOf p way) where
+module _ (p : PlantLists) (plant : IsPlant p) (walks : NoWalkReturns p) (routes : List Route) (names : List (List ℕ)) (paths : List (List ℕ)) (n : ℕ) (way : Way) (of : IsWayOf p way) where
   abbrev q : PlantLists
   q = with_routes p routes names
 
@@ -54,15 +53,15 @@ module _ (p : PlantLists) (plant : IsPlant p) (walks : NeverReturns p) (routes :
 
   pub keeps-sections : has_sections_once q made ≡ true
   keeps-sections =
-      let once : none_twice (way.from.section ∷ way.path) ≡ true = walks way.from.dir way.from.section way.path (way-leads p way.from.dir way.from.section way.path leads) in
-      ap (λ l. list_all (is_section q) l && none_twice l) (append-nil way.path)
-      ∙ both_true (all-pass (is_section q) way.path (λ i x at. lt-ltb x (length p.sections) (all-at (λ y. y < length p.sections) way.path i x within at))) (and_parts (not (has_section way.from.section way.path)) (none_twice way.path) once).1
+      let once : numbers_differ (way.from.section ∷ way.path) ≡ true = walks way.from.dir way.from.section way.path (way-leads p way.from.dir way.from.section way.path leads) in
+      ap (λ l. list_all (is_section q) l && numbers_differ l) (append-nil way.path)
+      ∙ both_true (all-pass (is_section q) way.path (λ i x at. lt-ltb x (length p.sections) (all-at (λ y. y < length p.sections) way.path i x within at))) (and_parts (not (has_section way.from.section way.path)) (numbers_differ way.path) once).1
 
   pub keeps-points : has_points_once q made ≡ true
   keeps-points =
-      let once : none_twice (way.from.section ∷ way.path) ≡ true = walks way.from.dir way.from.section way.path (way-leads p way.from.dir way.from.section way.path leads) in
+      let once : numbers_differ (way.from.section ∷ way.path) ≡ true = walks way.from.dir way.from.section way.path (way-leads p way.from.dir way.from.section way.path leads) in
       both_true (listed-pass p (λ x. is_point_section q x && has_section x (way.path ++ [])) way.from.section way.path (λ x is on. both_true is (ap (has_section x) (append-nil way.path) ∙ on)))
-      (listed-once p way.from.section way.path (and_parts (not (has_section way.from.section way.path)) (none_twice way.path) once).1)
+      (listed-once p way.from.section way.path (and_parts (not (has_section way.from.section way.path)) (numbers_differ way.path) once).1)
 
   pub keeps-destination : has_destination_or_none q made.destination ≡ true
   keeps-destination = by_board (destination_of p way) refl
@@ -83,25 +82,25 @@ module _ (p : PlantLists) (plant : IsPlant p) (walks : NeverReturns p) (routes :
   pub keeps-protecting_boards : has_protecting_boards_once q made ≡ true
   keeps-protecting_boards = refl
 
-  pub keeps-lead : path_leads_on q made ≡ true
+  pub keeps-lead : path_is_connected q made ≡ true
   keeps-lead =
-      ap (λ o. is_some_and o (λ (source : Board). leads_on q source.dir source.section way.path)) of.board
+      ap (λ o. is_some_and o (λ (source : Board). is_connected q source.dir source.section way.path)) of.board
       ∙ way-leads p way.from.dir way.from.section way.path leads
 
   pub keeps-ends : path_ends_at_board q made ≡ true
   keeps-ends =
-      let end : (z : ℕ) × (last_of way.path ≡ Some z) × (ends_way p way.from.dir z ≡ true) = way-ends p way.from.dir way.from.section way.path leads in
+      let end : (z : ℕ) × (last_of way.path ≡ Some z) × (way_ends_at p way.from.dir z ≡ true) = way-ends p way.from.dir way.from.section way.path leads in
       let is : destination_of p way ≡ board_of p end.0 way.from.dir = rw end.1 refl in
       ap (λ o. is_some_and o (λ (source : Board). is_between_boards q source.dir (destination_of p way) way.path)) of.board
       ∙ way-between p way.from.dir way.from.section way.path (destination_of p way) end.0 leads end.1 end.2 is
 
-  pub keeps-positions : points_are_set q made ≡ true
+  pub keeps-positions : points_are_listed q made ≡ true
   keeps-positions =
       both_true (ap (λ o. is_some_and o (λ (source : Board). points_lead_along q made.points source.section way.path)) of.board
       ∙ points-set p plant way.from.dir way.from.section way.path leads) refl
 
-  pub keeps-overlap : overlap_leads_on q made ≡ true
+  pub keeps-overlap : overlap_is_connected q made ≡ true
   keeps-overlap =
-      let end : (z : ℕ) × (last_of way.path ≡ Some z) × (ends_way p way.from.dir z ≡ true) = way-ends p way.from.dir way.from.section way.path leads in
-      ap (λ o. is_some_and o (λ (source : Board). is_some_and (last_of way.path) (λ x. leads_on q source.dir x []))) of.board
+      let end : (z : ℕ) × (last_of way.path ≡ Some z) × (way_ends_at p way.from.dir z ≡ true) = way-ends p way.from.dir way.from.section way.path leads in
+      ap (λ o. is_some_and o (λ (source : Board). is_some_and (last_of way.path) (λ x. is_connected q source.dir x []))) of.board
       ∙ ap (λ o. is_some_and o (λ x. true)) end.1

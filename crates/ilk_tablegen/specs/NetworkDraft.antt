@@ -1,4 +1,4 @@
--- The draft of a plant's network: its sections and boards, in their order, with names for their numbers.
+-- The draft of a plant's network: its sections and boards in order, with names for their numbers.
 use Rattle.std.specs.Prelude.{ℕ, map, option_map}
 use Rattle.std.specs.List.{enumerate_from}
 use Rattle.ilk_plant.specs.Plant.{PlantLists}
@@ -10,17 +10,17 @@ use Rattle.ilk_plant.specs.declared.network.Section.{Section}
 use Rattle.ilk_plant.specs.declared.network.Section.TheVariants.{Linear, Point}
 use Rattle.ilk_tablegen.specs.Table.{name_of}
 
--- what a section is, with the names of its neighbours and of its boards
+-- The kind of a section, with the names of its neighbours and boards.
 abbrev pub named_kind : PlantLists → Section → KindDraft
 named_kind p (Linear down up board_down board_up) =
     LinearDraft (option_map (name_of p.section_names) down) (option_map (name_of p.section_names) up) (option_map (name_of p.board_names) board_down) (option_map (name_of p.board_names) board_up)
 named_kind p (Point stem plus minus faces) =
     PointDraft (name_of p.section_names stem) (name_of p.section_names plus) (name_of p.section_names minus) faces
 
--- section x, with its name
+-- Section x, with its name.
 abbrev pub named_section : PlantLists → ℕ → Section → SectionDraft
 named_section p x section = record { name = name_of p.section_names x; kind = named_kind p section }
 
--- the network of a plant, whatever routes the plant has
+-- The network of a plant, independent of its routes.
 abbrev pub network_draft : PlantLists → NetDraft
 network_draft p = record { sections = map (λ numbered. named_section p numbered.0 numbered.1) (enumerate_from 0 p.sections) }

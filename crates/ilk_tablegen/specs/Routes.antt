@@ -12,37 +12,40 @@ use Rattle.ilk_plant.specs.declared.table.Route.{Route}
 use Rattle.ilk_tablegen.specs.Ways.{all_ways}
 use Rattle.ilk_tablegen.specs.declared.ways.Way.{Way}
 
--- the position of section x whose leg is one of these sections; none where x is no point
+-- The position of section x whose leg is one of these sections, or `None` if it has no such leg.
 abbrev pub position_towards : PlantLists → List ℕ → ℕ → Option Position
 position_towards p sections x =
     find (λ at. list_any (λ y. is_some_and (slice_get p.sections x) (is_leg at y)) sections) (Plus ∷ Minus ∷ [])
 
--- section x, if it is a point, in the position that leads between the section before it and those after it
-abbrev pub listed_between : PlantLists → ℕ → ℕ → List ℕ → List Listed
-listed_between p before x after =
+-- Section x, if it is a point, in the position that leads between the section before it and those
+-- after it.
+abbrev pub point_listed_between : PlantLists → ℕ → ℕ → List ℕ → List Listed
+point_listed_between p before x after =
     option_to_list (option_map (λ at. record { point = x; at = at }) (position_towards p (before ∷ take 1 after) x))
 
--- each point of these path sections, in order, in the position whose leg is the section before it or the one after it
+-- Each point of the path, in order, in the position whose leg is the section before it or the one
+-- after it.
 abbrev pub points_along : PlantLists → ℕ → List ℕ → List Listed
 points_along p before [] = []
-points_along p before (x ∷ rest) = listed_between p before x rest ++ points_along p x rest
+points_along p before (x ∷ rest) = point_listed_between p before x rest ++ points_along p x rest
 
--- the board for the way's direction at its last section; none where the way leads to the end of the track
+-- The board for the way's direction at its last section, or `None` if the way leads to the end of
+-- the track.
 abbrev pub destination_of : PlantLists → Way → Option ℕ
 destination_of p way = do
   x ← last_of way.path
   board_of p x way.from.dir
 
--- whether two paths have one same section
-abbrev pub share_section : List ℕ → List ℕ → Bool
-share_section path other = list_any (λ x. has_section x other) path
+-- Returns whether two paths share a section.
+abbrev pub paths_share_section : List ℕ → List ℕ → Bool
+paths_share_section path other = list_any (λ x. has_section x other) path
 
--- the numbers of the other paths, among all, that have a section of path n
+-- The numbers of the other paths that share a section with path n.
 abbrev pub conflicts_of : List (List ℕ) → ℕ → List ℕ → List ℕ
 conflicts_of paths n path =
-    filter (λ k. not (k == n) && share_section path (slice_index_or paths k [])) (range_with_len 0 (length paths))
+    filter (λ k. not (k == n) && paths_share_section path (slice_index_or paths k [])) (range_with_len 0 (length paths))
 
--- the route of way n, where these are the paths of all ways
+-- The route of way n, given the paths of all ways.
 abbrev pub route_of_way : PlantLists → List (List ℕ) → ℕ → Way → Route
 route_of_way p paths n way = record {
   source = way.source;
@@ -55,11 +58,11 @@ route_of_way p paths n way = record {
   protecting_boards = [];
 }
 
--- the routes of these ways
+-- The routes of these ways.
 abbrev pub routes_of_ways : PlantLists → List Way → List Route
 routes_of_ways p found =
     map (λ numbered. route_of_way p (map (λ (way : Way). way.path) found) numbered.0 numbered.1) (enumerate_from 0 found)
 
--- the routes of the network
+-- The routes of the network.
 abbrev pub network_routes : PlantLists → List Route
 network_routes p = routes_of_ways p (all_ways p)

@@ -1,7 +1,7 @@
--- Which rules the table of a network keeps.
+-- Rules that a generated table satisfies.
 use Rattle.std.specs.Prelude.{◌≡◌, All, []}
 use Rattle.ilk_plant.specs.ColumnRules.{column_rule_broken, column_rules_broken}
-use Rattle.ilk_plant.specs.Draft.{numbered}
+use Rattle.ilk_plant.specs.Draft.{plant_from_drafts}
 use Rattle.ilk_plant.specs.Limits.{TableHasLimits}
 use Rattle.ilk_plant.specs.Plant.{PlantLists}
 use Rattle.ilk_plant.specs.Sound.{AreSound}
@@ -11,20 +11,21 @@ use Rattle.ilk_plant.specs.declared.draft.NetDraft.{NetDraft}
 use Rattle.ilk_plant.specs.declared.draft.TableDraft.{TableDraft}
 use Rattle.ilk_tablegen.specs.NetworkDraft.{network_draft}
 
--- a table is within the limits, breaks no rule of the table, and of those of the columns none but C7, at just the
--- sections at which the network does so without it
-pub record KeepsAllButC7 (p : PlantLists) (net : NetDraft) (routes : TableDraft) : Type 0 where
+-- Holds if a table is within the limits and violates no rule of the table. The only rule of the
+-- columns that it violates is C7, at the sections at which the network violates it without the
+-- table.
+pub record BreaksAtMostC7 (p : PlantLists) (net : NetDraft) (routes : TableDraft) : Type 0 where
   pub limits : TableHasLimits routes
   pub table : table_rules_broken net routes ≡ []
-  pub columns : column_rules_broken (numbered net routes) ≡ column_rule_broken p C7
+  pub columns : column_rules_broken (plant_from_drafts net routes) ≡ column_rule_broken p C7
 
--- the network of a plant and a table are drafts within the limits that break no rule of the network or of the table, and
--- of those of the columns none but C7, at just the sections at which the plant does; no route lists what protects it
-pub record IsConfigurationOf (p : PlantLists) (routes : TableDraft) : Type 0 where
+-- Holds if the network of a plant and a table are drafts within the limits that violate no rule of
+-- the network or table. The only rule of the columns that they violate is C7, at the sections at
+-- which the plant does. No route lists protecting points or boards.
+pub record IsSoundWithPlant (p : PlantLists) (routes : TableDraft) : Type 0 where
   pub sound : AreSound (network_draft p) routes
-  pub columns : column_rules_broken (numbered (network_draft p) routes) ≡ column_rule_broken p C7
+  pub columns : column_rules_broken (plant_from_drafts (network_draft p) routes) ≡ column_rule_broken p C7
   pub unprotected : All (λ route. (route.protecting_points ≡ []) × (route.protecting_boards ≡ [])) routes.routes
 
--- a table without routes
 abbrev pub no_routes : TableDraft
 no_routes = record { routes = [] }

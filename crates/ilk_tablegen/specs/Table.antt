@@ -1,4 +1,4 @@
--- The table of routes of a network, by names, and when a network has none.
+-- The generated table of a network, with names, and the cases in which there is none.
 use Rattle.std.specs.Prelude.{ℕ, Option, Some, None, List, [], ◌++◌, codes, decimal, if◌then◌else◌, length, map, nat_lt, option_map, slice_index_or}
 use Rattle.std.specs.List.{enumerate_from}
 use Rattle.ilk_plant.specs.Name.{Name}
@@ -10,22 +10,22 @@ use Rattle.ilk_plant.specs.declared.limits.TheConstants.{MAX_ROUTES}
 use Rattle.ilk_plant.specs.declared.table.Listed.{Listed}
 use Rattle.ilk_plant.specs.declared.table.Route.{Route}
 use Rattle.ilk_tablegen.specs.Routes.{network_routes}
-use Rattle.ilk_tablegen.specs.Ways.{all_ways, first_without_end}
+use Rattle.ilk_tablegen.specs.Ways.{all_ways, first_overlong_board}
 use Rattle.ilk_tablegen.specs.declared.walks.Walks.{Walks}
 use Rattle.ilk_tablegen.specs.declared.walks.Walks.TheVariants.{Routes, TooLong, TooMany}
 
--- the name with this number
+-- The name with this number, or the empty name if there is none.
 abbrev pub name_of : List Name → ℕ → Name
 name_of names i = slice_index_or names i []
 
--- the name of route n, which is the letter g and the number in decimal
+-- The name of route n: the letter g and the number in decimal.
 abbrev pub route_name : ℕ → Name
 route_name n = codes "g" ++ decimal n
 
 abbrev pub named_point : PlantLists → Listed → ListedDraft
 named_point p listed = record { point = name_of p.section_names listed.point; at = listed.at }
 
--- route n, with names for its numbers
+-- Route n, with names for its numbers.
 abbrev pub named_route : PlantLists → ℕ → Route → RouteDraft
 named_route p n route = record {
   name = route_name n;
@@ -39,18 +39,18 @@ named_route p n route = record {
   protecting_boards = map (name_of p.board_names) route.protecting_boards;
 }
 
--- the table of these routes
+-- The table of these routes.
 abbrev pub named_table : PlantLists → List Route → TableDraft
 named_table p routes = record { routes = map (λ numbered. named_route p numbered.0 numbered.1) (enumerate_from 0 routes) }
 
--- the table of the network's routes
+-- The table of the network's routes.
 abbrev pub network_table : PlantLists → TableDraft
 network_table p = named_table p (network_routes p)
 
--- what the network has: a board from which a way doesn't end within MAX_PATH sections, and else more than MAX_ROUTES
--- ways, and else its table of routes
+-- The result for a network. If from some board a way doesn't end within MAX_PATH sections, it is
+-- the first such board. Otherwise it is the table, unless there are more than MAX_ROUTES ways.
 abbrev pub walks : PlantLists → Walks
-walks p = unless_endless (first_without_end p)
+walks p = unless_endless (first_overlong_board p)
   where
     unless_endless : Option ℕ → Walks
     unless_endless (Some m) = TooLong m

@@ -1,12 +1,12 @@
 ghost use Rattle.std.specs.Prelude.{◌≡◌, ◌<◌, length};
-ghost use Rattle.ilk_tablegen.specs.Ways.{ends_way};
+ghost use Rattle.ilk_tablegen.specs.Ways.{way_ends_at};
 
 use ilk_plant::{Dir, Plant};
 
-/// Whether a way in direction `d` ends at section `x`.
-pub fn ends_way(plant: &Plant, d: Dir, x: u32) -> bool
+/// Returns whether a way in direction `d` ends at section `x`.
+pub fn way_ends_at(plant: &Plant, d: Dir, x: u32) -> bool
     requires { x < length plant.now.sections }
-    ensures { result ≡ ends_way plant.now d x }
+    ensures { result ≡ way_ends_at plant.now d x }
 {
     plant.board_of(x, d).is_some() || plant.neighbour(x, d, 0).is_none()
 }

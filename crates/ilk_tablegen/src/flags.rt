@@ -4,7 +4,7 @@ ghost use Rattle.ilk_tablegen.specs.Flags.{any_flagged, flags_of};
 use ilk_plant::Row;
 use std::alloc::{AllocError, Global};
 
-/// Flag `x`; false where there is none.
+/// Returns flag `x`, `false` if there is none.
 pub fn flag_at(flags: &[bool], x: u32) -> bool
     ensures { result ≡ slice_index_or flags.now x false }
 {
@@ -14,15 +14,15 @@ pub fn flag_at(flags: &[bool], x: u32) -> bool
     }
 }
 
-/// Whether one of these sections has its flag.
+/// Returns whether one of these sections has its flag.
 pub fn any_flagged(flags: &[bool], sections: &[u32]) -> bool
     ensures { result ≡ any_flagged flags.now sections.now }
 {
     sections.iter().any(|x| flag_at(flags, *x))
 }
 
-/// So many flags, all alike.
-pub fn all_alike(alloc: Global, count: u32, flag: bool) -> Result<Row<bool>, AllocError>
+/// Creates `count` flags, each equal to `flag`.
+pub fn equal_flags(alloc: Global, count: u32, flag: bool) -> Result<Row<bool>, AllocError>
     ensures { IfOk result (λ flags. flags ≡ replicate count flag) }
 {
     let mut flags = Row::new(alloc);
@@ -32,7 +32,6 @@ pub fn all_alike(alloc: Global, count: u32, flag: bool) -> Result<Row<bool>, All
     Ok(flags)
 }
 
-// Sets flag `x`, if there is one.
 fn set_flag(flags: &mut Row<bool>, x: u32)
     ensures { flags.new ≡ set flags.old x true }
 {
@@ -41,11 +40,11 @@ fn set_flag(flags: &mut Row<bool>, x: u32)
     }
 }
 
-/// A flag for each number below `count`: whether it is one of these sections.
+/// Creates a flag for each number below `count`, set if the number is in `path`.
 pub fn flags_of(alloc: Global, count: u32, path: &[u32]) -> Result<Row<bool>, AllocError>
     ensures { IfOk result (λ flags. flags ≡ flags_of count path.now) }
 {
-    let mut flags = all_alike(alloc, count, false)?;
+    let mut flags = equal_flags(alloc, count, false)?;
     for x in path {
         set_flag(&mut flags, *x);
     }

@@ -1,20 +1,22 @@
-//! The routes of a network: one for each way from a marker board to the next one for its direction,
-//! or to where the track ends. So whoever begins a table of routes begins at one that breaks no rule
-//! of the table, and of those of the columns none but C7, and not by hand.
+//! Generates an interlocking table from a network. It has one route for each way: a candidate route
+//! path from a marker board to the next board for its direction, or to the end of the track. The
+//! table violates no rule of the table, and no rule of the columns except C7.
 //!
-//! `specs/Ways` says what a way is and lists them, `specs/Routes` makes a route of each, and
-//! `specs/Table` puts names for numbers. `routes_of` gives the table; it refuses a network with a
-//! way of more than `MAX_PATH` sections, and one with more than `MAX_ROUTES` ways.
+//! `specs/Ways` defines and lists the ways, `specs/Routes` creates a route for each, and
+//! `specs/Table` replaces numbers by names. `routes_of` returns the table. It rejects a network
+//! that has a way of more than `MAX_PATH` sections, or more than `MAX_ROUTES` ways.
 //!
-//! The number of ways can double at each point, and so can't be walked to its end before it is
-//! refused. `endless` asks by rounds, for all sections at once, from which of them so many sections
-//! lead on; `ways` lengthens all ways by one section a round, and stops once they are too many, since
-//! each of them is the beginning of another way. `routes` and `table` then write the table.
+//! The number of ways can double at each point, so they can't all be listed before they are
+//! rejected. `endless` works in rounds, for all sections at once: it finds the sections from which
+//! n sections lead on. `ways` lengthens all ways by one section a round, and stops if there are too
+//! many; each of them is the beginning of another way. `routes` and `table` then write the table.
 //!
-//! `network_draft` gives the network itself by names, so that both can be written as one configuration.
+//! `network_draft` returns the network with names, so that both can be written as one
+//! configuration.
 //!
-//! The laws (`laws`) say that what is listed is just the ways of the network, in order, that the draft
-//! of a network is the one that its plant was made of, and which rules the two drafts keep.
+//! The theorems are in `laws`. The list has exactly the ways of the network, in order. The draft of
+//! a network is the one from which its plant was created. Other theorems state the rules that the
+//! two drafts satisfy.
 #![tactic(auto)]
 
 mod endless;
@@ -31,7 +33,7 @@ mod ways;
 
 pub use laws::{
     bare_network_is_sound, bare_plant_breaks_c7_alone, network_and_table_keep_rules,
-    network_comes_back, table_keeps_rules, ways_are_all,
+    network_round_trips, table_keeps_rules, ways_are_complete,
 };
 pub use network::network_draft;
 pub use table::routes_of;

@@ -4,7 +4,7 @@ ghost use Rattle.ilk_tablegen.specs.Table.{name_of};
 use ilk_plant::{Plant, Text};
 use std::alloc::{AllocError, Global};
 
-/// The name of section `x`; no character where there is no such section.
+/// Returns the name of section `x`, empty if there is no such section.
 pub fn section_name(alloc: Global, plant: &Plant, x: u32) -> Result<Text, AllocError>
     ensures { IfOk result (λ name. name ≡ name_of plant.now.section_names x) }
 {
@@ -15,7 +15,7 @@ pub fn section_name(alloc: Global, plant: &Plant, x: u32) -> Result<Text, AllocE
     Ok(Text::of(String::from_str(alloc, plant.section_name(x))?))
 }
 
-/// The name of board `m`; no character where there is no such board.
+/// Returns the name of board `m`, empty if there is no such board.
 pub fn board_name(alloc: Global, plant: &Plant, m: u32) -> Result<Text, AllocError>
     ensures { IfOk result (λ name. name ≡ name_of plant.now.board_names m) }
 {
@@ -26,7 +26,7 @@ pub fn board_name(alloc: Global, plant: &Plant, m: u32) -> Result<Text, AllocErr
     Ok(Text::of(String::from_str(alloc, plant.board_name(m))?))
 }
 
-/// The name of section `x`, if there is one.
+/// Returns the name of section `x`, if one is given.
 pub fn name_if_section(
     alloc: Global,
     plant: &Plant,
@@ -40,7 +40,7 @@ pub fn name_if_section(
     }
 }
 
-/// The name of board `m`, if there is one.
+/// Returns the name of board `m`, if one is given.
 pub fn name_if_board(
     alloc: Global,
     plant: &Plant,

@@ -5,7 +5,6 @@ use crate::names::{name_if_board, name_if_section, section_name};
 use ilk_plant::{KindDraft, NetDraft, Plant, Row, Section, SectionDraft};
 use std::alloc::{AllocError, Global};
 
-// What a section is, with names for its numbers.
 fn named_kind(alloc: Global, plant: &Plant, section: &Section) -> Result<KindDraft, AllocError>
     ensures { IfOk result (λ kind. kind ≡ named_kind plant.now section.now) }
 {
@@ -35,7 +34,6 @@ fn named_kind(alloc: Global, plant: &Plant, section: &Section) -> Result<KindDra
     }
 }
 
-// Section `x`, with names for its numbers.
 fn named_section(
     alloc: Global,
     plant: &Plant,
@@ -50,9 +48,9 @@ fn named_section(
     })
 }
 
-/// The network of the plant as a draft, whatever routes the plant has: its sections in their order,
-/// each with its name and with the names of its neighbours and of its boards. It is the very draft of
-/// which the plant was made (law `network_comes_back`). The only refusal is want of memory.
+/// Returns the plant's network as a draft, independent of the plant's routes: its sections in
+/// order, with their names and those of their neighbours and boards. It equals the draft from which
+/// the plant was created (theorem `network_round_trips`). Fails only if memory runs out.
 pub fn network_draft(alloc: Global, plant: &Plant) -> Result<NetDraft, AllocError>
     ensures { IfOk result (λ net. net ≡ network_draft plant.now) }
 {

@@ -2,12 +2,11 @@ ghost use Rattle.std.specs.Prelude.{◌≡◌, ◌∷◌, ◌++◌, ◌<◌, [],
 ghost use Rattle.std.specs.List.{list_any};
 ghost use Rattle.ilk_base.specs.Option.{is_some_and};
 ghost use Rattle.ilk_plant.specs.ColumnRules.{is_leg};
-ghost use Rattle.ilk_tablegen.specs.Routes.{listed_between, points_along, position_towards};
+ghost use Rattle.ilk_tablegen.specs.Routes.{point_listed_between, points_along, position_towards};
 
 use ilk_plant::{Listed, Plant, Position, Row, is_leg};
 use std::alloc::{AllocError, Global};
 
-// Whether the leg of section `x` at a position is the section before it or the first after it.
 fn leads_along(plant: &Plant, x: u32, at: Position, before: u32, after: &[u32]) -> bool
     ensures { result
         ≡ list_any (λ y. is_some_and (slice_get plant.now.sections x) (is_leg at y))
@@ -20,8 +19,8 @@ fn leads_along(plant: &Plant, x: u32, at: Position, before: u32, after: &[u32]) 
         }
 }
 
-// The position of section `x` whose leg is the section before it or the first after it. None where it
-// is no point.
+// Returns the position of section `x` whose leg is the section before it or the first after it.
+// Returns `None` if `x` has no such leg.
 fn position_towards(plant: &Plant, before: u32, x: u32, after: &[u32]) -> Option<Position>
     ensures { result ≡ position_towards plant.now (before ∷ take 1 after.now) x }
 {
@@ -34,8 +33,6 @@ fn position_towards(plant: &Plant, before: u32, x: u32, after: &[u32]) -> Option
     }
 }
 
-// Adds section `x`, if it is a point, in the position that leads between the section before it and
-// the first after it.
 fn push_listed(
     plant: &Plant,
     points: &mut Row<Listed>,
@@ -43,7 +40,8 @@ fn push_listed(
     x: u32,
     after: &[u32],
 ) -> Result<(), AllocError>
-    ensures { OnOk result (points.new ≡ points.old ++ listed_between plant.now before x after.now) }
+    ensures { OnOk result (points.new ≡ points.old
+        ++ point_listed_between plant.now before x after.now) }
 {
     if let Some(at) = position_towards(plant, before, x, after) {
         points.push(Listed { point: x, at })?;
@@ -51,8 +49,8 @@ fn push_listed(
     Ok(())
 }
 
-/// Each point of a path that begins behind section `start`, in order, in the position whose leg is the
-/// section before it or the one after it.
+/// Returns each point of a path that begins after section `start`, in order. Its position is that
+/// whose leg is the section before it or the one after it.
 pub fn points_along(
     alloc: Global,
     plant: &Plant,

@@ -10,7 +10,6 @@ use crate::ways::{Way, last_section};
 use ilk_plant::{Plant, Route, Row};
 use std::alloc::{AllocError, Global};
 
-// For each way a flag for each section: whether it is on the path.
 fn path_flags(alloc: Global, count: u32, ways: &Row<Way>) -> Result<Row<Row<bool>>, AllocError>
     ensures { IfOk result (λ flags. flags ≡ map (flags_of count) (paths_of ways.now)) }
 {
@@ -21,7 +20,6 @@ fn path_flags(alloc: Global, count: u32, ways: &Row<Way>) -> Result<Row<Row<bool
     Ok(flags)
 }
 
-// Adds a number, if it is to be added.
 fn push_if(numbers: &mut Row<u32>, is_one: bool, number: u32) -> Result<(), AllocError>
     ensures { OnOk result (numbers.new ≡ numbers.old ++ (if is_one then number ∷ [] else [])) }
 {
@@ -31,14 +29,13 @@ fn push_if(numbers: &mut Row<u32>, is_one: bool, number: u32) -> Result<(), Allo
     Ok(())
 }
 
-// Whether list `k` is another than list `n`, and one of these sections has its flag in it.
+// Returns whether list `k` is not list `n`, and flags one of these sections.
 fn is_conflict(n: u32, k: u32, other: &Row<bool>, path: &[u32]) -> bool
     ensures { result ≡ (not (k == n) && any_flagged other.now path.now) }
 {
     k != n && any_flagged(other.as_slice(), path)
 }
 
-// The numbers of the other lists of flags in which one of these sections has its flag.
 fn conflicts_flagged(
     alloc: Global,
     flags: &Row<Row<bool>>,
@@ -56,8 +53,8 @@ fn conflicts_flagged(
     Ok(conflicts)
 }
 
-// The board for the way's direction at its last section. None where the way leads to the end of the
-// track.
+// Returns the board for the way's direction at its last section. Returns `None` if the way leads to
+// the end of the track.
 fn destination_of(plant: &Plant, way: &Way) -> Option<u32>
     ensures { result ≡ destination_of plant.now way.now }
 {
@@ -67,7 +64,7 @@ fn destination_of(plant: &Plant, way: &Way) -> Option<u32>
     }
 }
 
-// The route of way `n`; `flags` has for each way its sections.
+// Creates the route of way `n`. `flags` has the sections of each way.
 fn route_of_way(
     alloc: Global,
     plant: &Plant,
@@ -90,7 +87,7 @@ fn route_of_way(
     })
 }
 
-/// The routes of the network's ways, one for each.
+/// Creates the routes of the network, one for each way.
 pub fn routes_of_ways(
     alloc: Global,
     plant: &Plant,

@@ -2,22 +2,20 @@ ghost use Rattle.std.specs.Prelude.{◌≡◌, ◌≤◌, IfOk, length, map};
 ghost use Rattle.ilk_plant.specs.declared.limits.TheConstants.{MAX_ROUTES};
 ghost use Rattle.ilk_tablegen.specs.Table.{name_of, named_point, named_route, named_table, route_name, walks};
 
-use crate::endless::first_without_end;
+use crate::endless::first_overlong_board;
 use crate::names::{board_name, name_if_board, section_name};
 use crate::routes::routes_of_ways;
 use crate::walks::Walks;
-use crate::ways::few_ways;
+use crate::ways::ways_within_limit;
 use ilk_plant::{Listed, ListedDraft, Plant, Route, RouteDraft, Row, TableDraft, Text};
 use std::alloc::{AllocError, Global};
 
-// The name of route `n`.
 fn route_name(alloc: Global, n: u32) -> Result<Text, AllocError>
     ensures { IfOk result (λ name. name ≡ route_name n) }
 {
     Ok(Text::of(format!(in alloc; "g{n}")?))
 }
 
-// The names of these sections.
 fn section_names(alloc: Global, plant: &Plant, sections: &[u32]) -> Result<Row<Text>, AllocError>
     ensures { IfOk result (λ names. names ≡ map (name_of plant.now.section_names) sections.now) }
 {
@@ -28,7 +26,6 @@ fn section_names(alloc: Global, plant: &Plant, sections: &[u32]) -> Result<Row<T
     Ok(names)
 }
 
-// The names of these boards.
 fn board_names(alloc: Global, plant: &Plant, boards: &[u32]) -> Result<Row<Text>, AllocError>
     ensures { IfOk result (λ names. names ≡ map (name_of plant.now.board_names) boards.now) }
 {
@@ -39,7 +36,6 @@ fn board_names(alloc: Global, plant: &Plant, boards: &[u32]) -> Result<Row<Text>
     Ok(names)
 }
 
-// The names of these routes.
 fn route_names(alloc: Global, routes: &[u32]) -> Result<Row<Text>, AllocError>
     ensures { IfOk result (λ names. names ≡ map route_name routes.now) }
 {
@@ -50,7 +46,6 @@ fn route_names(alloc: Global, routes: &[u32]) -> Result<Row<Text>, AllocError>
     Ok(names)
 }
 
-// These points, by their names.
 fn named_points(
     alloc: Global,
     plant: &Plant,
@@ -68,7 +63,6 @@ fn named_points(
     Ok(drafts)
 }
 
-// Route `n`, with names for its numbers.
 fn named_route(
     alloc: Global,
     plant: &Plant,
@@ -90,7 +84,6 @@ fn named_route(
     })
 }
 
-// The table of these routes.
 fn named_table(alloc: Global, plant: &Plant, routes: &Row<Route>) -> Result<TableDraft, AllocError>
     requires { length routes.now ≤ MAX_ROUTES }
     ensures { IfOk result (λ table. table ≡ named_table plant.now routes.now) }
@@ -102,23 +95,25 @@ fn named_table(alloc: Global, plant: &Plant, routes: &Row<Route>) -> Result<Tabl
     Ok(TableDraft { routes: drafts })
 }
 
-/// The routes of the plant's network, whatever routes the plant has: one for each way from a board to
-/// the next one for its direction or to where the track ends, in the order of the boards, and for one
-/// board in the order of the sections on the way, at a point that is reached from its stem over the
-/// plus leg first. Route `n` is named `g` and `n` in decimal; it lists each point of its path in the
-/// position in which the path leads over it, and as conflicts all other routes with which it shares a
-/// section. It has no overlap, and nothing that protects it.
+/// Returns the interlocking table generated for the plant's network, independent of the plant's
+/// routes. It has one route for each way from a board to the next board for its direction, or to
+/// the end of the track.
 ///
-/// It is `TooLong` exactly where from some board `MAX_PATH` sections lead on at none of which a way
-/// ends, with the first such board; else it is `TooMany` exactly where there are more than
-/// `MAX_ROUTES` ways. The only refusal is want of memory.
+/// The routes are in the order of the boards, then of the sections on the way. From the stem of a
+/// point, the plus leg comes first. Route `n` is named `g` and `n` in decimal. It lists each point
+/// of its path in the position along the path. Its conflicts are all other routes with which it
+/// shares a section. It has no overlap, protecting points or protecting boards.
+///
+/// Returns `TooLong` with the first board, if any, from which some `MAX_PATH` sections lead on
+/// without the end of a way. Otherwise it returns `TooMany` if there are more than `MAX_ROUTES`
+/// ways. Fails only if memory runs out.
 pub fn routes_of(alloc: Global, plant: &Plant) -> Result<Walks, AllocError>
     ensures { IfOk result (λ found. found ≡ walks plant.now) }
 {
-    if let Some(board) = first_without_end(alloc, plant)? {
+    if let Some(board) = first_overlong_board(alloc, plant)? {
         return Ok(Walks::TooLong { board });
     }
-    match few_ways(alloc, plant)? {
+    match ways_within_limit(alloc, plant)? {
         Some(ways) => {
             let routes = routes_of_ways(alloc, plant, &ways)?;
             Ok(Walks::Routes(named_table(alloc, plant, &routes)?))

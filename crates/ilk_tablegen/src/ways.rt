@@ -1,14 +1,14 @@
 ghost use Rattle.std.specs.Prelude.{◌≡◌, ◌++◌, ◌<◌, All, IfOk, OnOk, None, flat_map, length, map, nat_lt, option_to_list};
 ghost use Rattle.ilk_plant.specs.Network.{last_of};
-ghost use Rattle.ilk_tablegen.specs.Rounds.{begun_ways, few_ways, head_of, is_ended, longer_ways, way_over};
-ghost use Rattle.ilk_tablegen.specs.Ways.{first_without_end};
+ghost use Rattle.ilk_tablegen.specs.Rounds.{initial_ways, ways_within_limit, last_section_reached, is_finished_way, extended_ways, extended_way};
+ghost use Rattle.ilk_tablegen.specs.Ways.{first_overlong_board};
 ghost use Rattle.ilk_plant.specs.declared.limits.TheConstants.{MAX_ROUTES};
 
-use crate::ends::ends_way;
+use crate::ends::way_ends_at;
 use ilk_plant::{Board, MAX_PATH, MAX_ROUTES, Plant, Row};
 use std::alloc::{AllocError, Global};
 
-/// A way from a board, with the board's number, as far as it has come.
+/// A way from board `from` with number `source`, as far as it is listed.
 #[derive(Drop)]
 pub struct Way {
     pub source: u32,
@@ -16,7 +16,7 @@ pub struct Way {
     pub path: Row<u32>,
 }
 
-/// The last section of a way. None where it has come to none yet.
+/// Returns the last section of a way. Returns `None` if it has no section yet.
 #[tactic(auto, using(ilk_base::proofs::Lists::last_item))]
 pub fn last_section(way: &Way) -> Option<u32>
     ensures { result ≡ last_of way.now.path }
@@ -24,9 +24,9 @@ pub fn last_section(way: &Way) -> Option<u32>
     way.path.as_slice().last().copied()
 }
 
-// The section to which a way has come, which at first is that of its board.
+// Returns the section that a way has reached, at first that of its board.
 fn head_of(way: &Way) -> u32
-    ensures { result ≡ head_of way.now }
+    ensures { result ≡ last_section_reached way.now }
 {
     match last_section(way) {
         Some(x) => x,
@@ -34,17 +34,15 @@ fn head_of(way: &Way) -> u32
     }
 }
 
-// Whether a way has come to its end.
 fn is_ended(plant: &Plant, way: &Way) -> bool
-    requires { head_of way.now < length plant.now.sections }
-    ensures { result ≡ is_ended plant.now way.now }
+    requires { last_section_reached way.now < length plant.now.sections }
+    ensures { result ≡ is_finished_way plant.now way.now }
 {
-    way.path.len() != 0 && ends_way(plant, way.from.dir, head_of(way))
+    way.path.len() != 0 && way_ends_at(plant, way.from.dir, head_of(way))
 }
 
-// The way with one more section.
 fn way_over(alloc: Global, way: &Way, y: u32) -> Result<Way, AllocError>
-    ensures { IfOk result (λ made. made ≡ way_over way.now y) }
+    ensures { IfOk result (λ made. made ≡ extended_way way.now y) }
 {
     let mut path = way.path.copy()?;
     path.push(y)?;
@@ -55,14 +53,14 @@ fn way_over(alloc: Global, way: &Way, y: u32) -> Result<Way, AllocError>
     })
 }
 
-// Adds the way with one more section, if there is one to go to.
 fn push_over(
     alloc: Global,
     made: &mut Row<Way>,
     way: &Way,
     next: Option<u32>,
 ) -> Result<(), AllocError>
-    ensures { OnOk result (made.new ≡ made.old ++ map (way_over way.now) (option_to_list next)) }
+    ensures { OnOk result (made.new ≡ made.old
+        ++ map (extended_way way.now) (option_to_list next)) }
 {
     if let Some(y) = next {
         made.push(way_over(alloc, way, y)?)?;
@@ -70,15 +68,15 @@ fn push_over(
     Ok(())
 }
 
-// Adds a way that has come to its end, and else the ways that are one section longer.
+// Adds a way that has ended as it is; otherwise adds its extensions by one section.
 fn push_longer(
     alloc: Global,
     plant: &Plant,
     made: &mut Row<Way>,
     way: &Way,
 ) -> Result<(), AllocError>
-    requires { head_of way.now < length plant.now.sections }
-    ensures { OnOk result (made.new ≡ made.old ++ longer_ways plant.now way.now) }
+    requires { last_section_reached way.now < length plant.now.sections }
+    ensures { OnOk result (made.new ≡ made.old ++ extended_ways plant.now way.now) }
 {
     if is_ended(plant, way) {
         made.push(Way {
@@ -93,10 +91,10 @@ fn push_longer(
     }
 }
 
-// Lengthens each way that hasn't come to its end by one section, in all directions that it can take.
+// Lengthens each way that hasn't ended by one section, over all legs that it can take.
 fn all_longer(alloc: Global, plant: &Plant, ways: &Row<Way>) -> Result<Row<Way>, AllocError>
-    requires { All (λ way. head_of way < length plant.now.sections) ways.now }
-    ensures { IfOk result (λ made. made ≡ flat_map (longer_ways plant.now) ways.now) }
+    requires { All (λ way. last_section_reached way < length plant.now.sections) ways.now }
+    ensures { IfOk result (λ made. made ≡ flat_map (extended_ways plant.now) ways.now) }
 {
     let mut made = Row::new(alloc);
     for way in ways.as_slice() {
@@ -105,9 +103,9 @@ fn all_longer(alloc: Global, plant: &Plant, ways: &Row<Way>) -> Result<Row<Way>,
     Ok(made)
 }
 
-// The ways at their beginnings, one for each board.
+// Creates the empty ways, one for each board.
 fn begun_ways(alloc: Global, plant: &Plant) -> Result<Row<Way>, AllocError>
-    ensures { IfOk result (λ ways. ways ≡ begun_ways plant.now) }
+    ensures { IfOk result (λ ways. ways ≡ initial_ways plant.now) }
 {
     let mut ways = Row::new(alloc);
     for m in 0..plant.boards() {
@@ -120,18 +118,17 @@ fn begun_ways(alloc: Global, plant: &Plant) -> Result<Row<Way>, AllocError>
     Ok(ways)
 }
 
-// Whether there are more ways than a table has routes.
 fn are_too_many(ways: &Row<Way>) -> bool
     ensures { result ≡ nat_lt MAX_ROUTES (length ways.now) }
 {
     ways.len() > MAX_ROUTES
 }
 
-/// The ways of the network, each of which ends within `MAX_PATH` sections. None where there are more
-/// than `MAX_ROUTES`.
-pub fn few_ways(alloc: Global, plant: &Plant) -> Result<Option<Row<Way>>, AllocError>
-    requires { first_without_end plant.now ≡ None }
-    ensures { IfOk result (λ ways. ways ≡ few_ways plant.now) }
+/// Returns the ways of the network, each of which ends within `MAX_PATH` sections. Returns `None`
+/// if there are more than `MAX_ROUTES`.
+pub fn ways_within_limit(alloc: Global, plant: &Plant) -> Result<Option<Row<Way>>, AllocError>
+    requires { first_overlong_board plant.now ≡ None }
+    ensures { IfOk result (λ ways. ways ≡ ways_within_limit plant.now) }
 {
     plant.is_sound();
     let mut ways = begun_ways(alloc, plant)?;

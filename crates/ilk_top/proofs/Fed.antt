@@ -1,6 +1,6 @@
--- What a reader was fed of a source, by calls that follow one another.
+-- The bytes of a source that a reader was fed by successive calls.
 use Rattle.std.proofs.Common.{◌≡◌, ℕ, ◌+◌, ◌≤◌, IfErr, IfOk, Option, Result, Ok, Err, List, ◌++◌, length, append_assoc, ap, subst, sym, length-append, arith}
-use Rattle.ilk_answers.specs.Reader.{HasRead, WasFed}
+use Rattle.ilk_answers.specs.Reader.{ReaderHasRead, WasFed}
 use Rattle.ilk_answers.specs.declared.reader.Reader.{Reader}
 use Rattle.ilk_io.proofs.Taken.{Takes-then}
 use Rattle.ilk_io.specs.ReadError.{HasCause}
@@ -9,19 +9,17 @@ use Rattle.ilk_io.specs.declared.reading.ReadError.TheVariants.{TooLong}
 use Rattle.ilk_io.specs.Source.{IsLonger, Takes, TakesAtMost}
 use Rattle.ilk_top.specs.Feeding.{WasFedWhole}
 
--- what was fed in two pieces was fed
 WasFed-then : (first second third : Reader) (front back : List ℕ) → WasFed first second front → WasFed second third back → WasFed first third (front ++ back)
 WasFed-then first second third front back one two command p read h =
-    subst (HasRead command p third) (append_assoc read front back) (two command p (read ++ front) (one command p read h))
+    subst (ReaderHasRead command p third) (append_assoc read front back) (two command p (read ++ front) (one command p read h))
 
--- the reader was fed what was taken of the source so far, which is this many bytes
+-- Holds if the reader was fed all `count` bytes taken of the source so far.
 pub record Fed (old new : Option (List ℕ)) (before reader : Reader) (count : ℕ) : Type 0 where
   pub done : List ℕ
   pub takes : Takes old new done
   pub fed : WasFed before reader done
   pub counted : length done ≡ count
 
--- the next piece was taken too, and fed to the reader
 pub Fed-more :
     (old new after : Option (List ℕ)) (before reader more : Reader) (count : ℕ) (piece given : List ℕ) (n : ℕ)
     →
@@ -34,7 +32,6 @@ Fed-more old new after before reader more count piece given n so_far takes same 
   counted = omega (arith, length-append so_far.done piece, so_far.counted, same);
 }
 
--- with a further piece, that the reader may have had no memory for
 pub Fed-then : (old new after : Option (List ℕ)) (before reader : Reader) (count : ℕ) (piece : List ℕ) (n : ℕ) → Fed old new before reader count → Takes new after piece → count + length piece ≤ n → TakesAtMost n old after
 Fed-then old new after before reader count piece n fed takes within = (
   fed.done ++ piece,
@@ -42,9 +39,6 @@ Fed-then old new after before reader count piece n fed takes within = (
   Takes-then old new after fed.done piece fed.takes takes,
 )
 
--- ---- what is kept of a reading
-
--- where the reading didn't fail the reader is kept, as it was fed
 pub kept-whole : {A E : Type 0} (left : Option (List ℕ)) (limit : ℕ) (before after kept : Reader) (x : A) (read : Result A E) (result : Result Reader E)
     → result ≡ Ok kept → IfOk result (λ k. (k ≡ after) × (read ≡ Ok x)) → IfOk read (λ _. WasFedWhole left limit before after) → WasFedWhole left limit before kept
 kept-whole left limit before after kept x read result is held whole =
@@ -52,7 +46,6 @@ kept-whole left limit before after kept x read result is held whole =
     let fed : WasFedWhole left limit before after = subst (λ r. IfOk r (λ _. WasFedWhole left limit before after)) both.1 whole in
     subst (WasFedWhole left limit before) (sym both.0) fed
 
--- where it stopped at the limit there was more
 pub kept-longer : {A B : Type 0} (left : Option (List ℕ)) (limit old new : ℕ) (read : Result A ReadError) (result : Result B ReadError)
     → result ≡ Err TooLong → IfErr result (λ e. read ≡ Err e) → IfErr read (λ e. HasCause e limit left old new) → IsLonger left limit
 kept-longer left limit old new read result is failed cause =

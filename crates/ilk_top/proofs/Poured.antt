@@ -1,10 +1,9 @@
--- What was written of a content to a sink, in pieces that follow one another.
+-- The part of a content that successive calls wrote to a sink.
 use Rattle.std.proofs.Common.{◌≡◌, ℕ, false, Option, Result, Ok, Err, OnOk, List, ◌++◌, take, drop, sym, ap, ◌∙◌, append_assoc, is_err}
 use Rattle.std.proofs.lemmas.List.{take-append-drop}
 use Rattle.ilk_io.proofs.Added.{Adds-then, Written, Written-prefix}
 use Rattle.ilk_io.specs.Sink.{Adds, AddsPrefix}
 
--- the front of the rest was written too
 pub Written-front : (old new after : Option (List ℕ)) (text rest piece left : List ℕ) → Written old new text rest → rest ≡ piece ++ left → Adds new after piece → Written old after text left
 Written-front old new after text rest piece left w front adds = record {
   done = w.done ++ piece;
@@ -12,7 +11,6 @@ Written-front old new after text rest piece left w front adds = record {
   adds = Adds-then old new after w.done piece w.adds adds;
 }
 
--- a prefix of the front of the rest was written too
 pub Written-cut : (old new after : Option (List ℕ)) (text rest piece left : List ℕ) → Written old new text rest → rest ≡ piece ++ left → AddsPrefix new after piece → AddsPrefix old after text
 Written-cut old new after text rest piece left w front cut =
     let part : List ℕ = take cut.0 piece in
@@ -22,12 +20,10 @@ Written-cut old new after text rest piece left w front cut =
     ∙ append_assoc part (drop cut.0 piece) left) cut.2 in
     Written-prefix old after text (drop cut.0 piece ++ left) more
 
--- what was taken of the rest is its front, with what is left behind it
 pub front-taken : (n : ℕ) (rest into left : List ℕ) → take n into ≡ take n rest → left ≡ drop n rest → rest ≡ take n into ++ left
 front-taken n rest into left bytes behind =
     sym (take-append-drop n rest) ∙ ap (λ front. front ++ drop n rest) (sym bytes) ∙ ap (λ tail. take n into ++ tail) (sym behind)
 
--- what holds of a call that went well
 pub went-well : {A E : Type 0} (P : Type 0) (r : Result A E) → is_err r ≡ false → OnOk r P → P
 went-well P (Ok x) e h = h
 went-well P (Err x) e h = absurd (cc)

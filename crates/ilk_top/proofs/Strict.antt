@@ -1,11 +1,11 @@
--- What a call that tells answers under strict columns says of the configuration, and what it tells.
+-- With strict columns, the answers that were written say this of the configuration.
 use Rattle.std.proofs.Common.{◌≡◌, ℕ, true, Option, Some, IfSome, List, ◌++◌, option_map, refl, sym, ap, ◌∙◌, subst}
 use Rattle.std.specs.List.{list_all}
 use Rattle.std.proofs.lemmas.List.{append_cancel_left}
 use Rattle.std.proofs.lemmas.Option.{same_Some}
 use Rattle.ilk_plant.specs.Plant.{PlantLists}
 use Rattle.ilk_answers.specs.Status.{is_answer}
-use Rattle.ilk_answers.specs.Strict.{HasOnlyLines, HasSafePlant, HasTableOf, IsCleanAndSafe, IsCleanFor, IsStrictlyRight, SaysSafeAtOneOrSpent, TellsNoHazard, begins_in, harmless_beginnings}
+use Rattle.ilk_answers.specs.Strict.{HasOnlyLines, HasSafePlant, HasTableOf, IsCleanAndSafe, IsCleanFor, HasStrictGuarantees, SaysSafeAtOneOrSpent, ReportsNoHazard, has_beginning, deviation_beginnings}
 use Rattle.ilk_answers.proofs.FirstLines.{lines-narrower}
 use Rattle.ilk_answers.specs.declared.reply.Reply.{Reply}
 use Rattle.ilk_answers.specs.declared.status.Status.{Status}
@@ -14,32 +14,29 @@ use Rattle.ilk_words.specs.declared.command.Columns.{Columns}
 use Rattle.ilk_words.specs.declared.command.Columns.TheVariants.{Strict}
 use Rattle.ilk_words.specs.declared.command.Command.{Command}
 use Rattle.ilk_words.specs.declared.command.Command.TheVariants.{Check, Verify, Table, Drive}
-use Rattle.ilk_top.specs.Outside.{Tells}
+use Rattle.ilk_top.specs.Outside.{WritesAnswer}
 
 module _ {L O : Type 0} (cert_written : L → Option (List ℕ)) (cert_faults : L → ℕ) (out_written : O → Option (List ℕ)) (out_faults : O → ℕ) (status : Status) (cert_old cert_new : L) (out_old out_new : O) where
-  -- what is told of answers is told of what they lead to
-  Tells-as : (IsMade IsToo : Reply → Type 0) → ((made : Reply) → IsMade made → IsToo made) →
-      Tells IsMade cert_written cert_faults out_written out_faults status cert_old cert_new out_old out_new →
-      Tells IsToo cert_written cert_faults out_written out_faults status cert_old cert_new out_old out_new
-  Tells-as IsMade IsToo leads told = record {
+  WritesAnswer-as : (IsMade IsToo : Reply → Type 0) → ((made : Reply) → IsMade made → IsToo made) →
+      WritesAnswer IsMade cert_written cert_faults out_written out_faults status cert_old cert_new out_old out_new →
+      WritesAnswer IsToo cert_written cert_faults out_written out_faults status cert_old cert_new out_old out_new
+  WritesAnswer-as IsMade IsToo leads told = record {
     whole = λ h. (let t = told.whole h in (t.0, leads t.0 t.1, t.2, t.3));
     cut = λ h. (let t = told.cut h in (t.0, leads t.0 t.1, t.2));
   }
 
-  -- check is good only where the configuration is safe for ever
   pub check-told : (asked : Option Command) (conf extra : Option (List ℕ)) →
-      Tells (IsStrictlyRight asked conf extra) cert_written cert_faults out_written out_faults status cert_old
+      WritesAnswer (HasStrictGuarantees asked conf extra) cert_written cert_faults out_written out_faults status cert_old
       cert_new out_old out_new →
       asked ≡ Some (Check Strict) → status ≡ Good → IfSome conf IsCleanAndSafe
   check-told asked conf extra told is good =
       let t = told.whole (subst (λ s. is_answer s ≡ true) (sym good) refl) in t.1.check is (sym t.2 ∙ good)
 
-  -- check is refused with lines that all have harmless beginnings only where the configuration has a safe plant, whatever
-  -- beginnings are allowed, if each of them has a harmless one
+  -- The allowed beginnings may be any, if each of them begins in a harmless way.
   pub deviations-told : (asked : Option Command) (conf extra : Option (List ℕ)) →
-      Tells (IsStrictlyRight asked conf extra) cert_written cert_faults out_written out_faults status cert_old
+      WritesAnswer (HasStrictGuarantees asked conf extra) cert_written cert_faults out_written out_faults status cert_old
       cert_new out_old out_new →
-      (allowed : List (List ℕ)) → list_all (begins_in harmless_beginnings) allowed ≡ true →
+      (allowed : List (List ℕ)) → list_all (has_beginning deviation_beginnings) allowed ≡ true →
       (before report : List ℕ) → asked ≡ Some (Check Strict) → status ≡ Refused →
       out_written out_old ≡ Some before → out_written out_new ≡ Some (before ++ report) →
       HasOnlyLines allowed report → IfSome conf HasSafePlant
@@ -49,35 +46,32 @@ module _ {L O : Type 0} (cert_written : L → Option (List ℕ)) (cert_faults : 
       sym new ∙ t.3.report ∙ ap (option_map (λ all. all ++ t.0.report)) old in
       let same : report ≡ t.0.report = append_cancel_left before report t.0.report (same_Some (before ++ report) (before ++ t.0.report) added) in
       t.1.deviations is (sym t.2 ∙ refused)
-      (subst (HasOnlyLines harmless_beginnings) same (lines-narrower harmless_beginnings allowed report harmless lines))
+      (subst (HasOnlyLines deviation_beginnings) same (lines-narrower deviation_beginnings allowed report harmless lines))
 
-  -- verify tells of what breaks no rule that it is safe, or that all conflicts are spent
   pub verify-told : (asked : Option Command) (conf extra : Option (List ℕ)) →
-      Tells (IsStrictlyRight asked conf extra) cert_written cert_faults out_written out_faults status cert_old
+      WritesAnswer (HasStrictGuarantees asked conf extra) cert_written cert_faults out_written out_faults status cert_old
       cert_new out_old out_new →
       (depth conflicts : ℕ) (name bytes : List ℕ) (p : PlantLists) →
       asked ≡ Some (Verify Strict depth conflicts name) → conf ≡ Some bytes → IsCleanFor bytes p →
-      Tells (SaysSafeAtOneOrSpent p depth conflicts) cert_written cert_faults out_written out_faults status
+      WritesAnswer (SaysSafeAtOneOrSpent p depth conflicts) cert_written cert_faults out_written out_faults status
       cert_old cert_new out_old out_new
   verify-told asked conf extra told depth conflicts name bytes p is at clean =
-      Tells-as (IsStrictlyRight asked conf extra) (SaysSafeAtOneOrSpent p depth conflicts) (λ made right. right.verify depth conflicts name is bytes p at clean) told
+      WritesAnswer-as (HasStrictGuarantees asked conf extra) (SaysSafeAtOneOrSpent p depth conflicts) (λ made right. right.verify depth conflicts name is bytes p at clean) told
 
-  -- table tells of what was read the table of its network
   pub table-told : (asked : Option Command) (conf extra : Option (List ℕ)) →
-      Tells (IsStrictlyRight asked conf extra) cert_written cert_faults out_written out_faults status cert_old
+      WritesAnswer (HasStrictGuarantees asked conf extra) cert_written cert_faults out_written out_faults status cert_old
       cert_new out_old out_new →
       (columns : Columns) → asked ≡ Some (Table columns) →
-      Tells (λ made. made.status ≡ Good → IfSome conf (λ bytes. HasTableOf columns bytes made)) cert_written
+      WritesAnswer (λ made. made.status ≡ Good → IfSome conf (λ bytes. HasTableOf columns bytes made)) cert_written
       cert_faults out_written out_faults status cert_old cert_new out_old out_new
   table-told asked conf extra told columns is =
-      Tells-as (IsStrictlyRight asked conf extra) (λ made. made.status ≡ Good → IfSome conf (λ bytes. HasTableOf columns bytes made)) (λ made right. right.table columns is) told
+      WritesAnswer-as (HasStrictGuarantees asked conf extra) (λ made. made.status ≡ Good → IfSome conf (λ bytes. HasTableOf columns bytes made)) (λ made right. right.table columns is) told
 
-  -- drive tells no hazard
   pub drive-told : (asked : Option Command) (conf extra : Option (List ℕ)) →
-      Tells (IsStrictlyRight asked conf extra) cert_written cert_faults out_written out_faults status cert_old
+      WritesAnswer (HasStrictGuarantees asked conf extra) cert_written cert_faults out_written out_faults status cert_old
       cert_new out_old out_new →
       (name bytes : List ℕ) → asked ≡ Some (Drive Strict name) → conf ≡ Some bytes →
-      Tells (TellsNoHazard name bytes extra) cert_written cert_faults out_written out_faults status cert_old
+      WritesAnswer (ReportsNoHazard name bytes extra) cert_written cert_faults out_written out_faults status cert_old
       cert_new out_old out_new
   drive-told asked conf extra told name bytes is at =
-      Tells-as (IsStrictlyRight asked conf extra) (TellsNoHazard name bytes extra) (λ made right. right.drive name bytes is at) told
+      WritesAnswer-as (HasStrictGuarantees asked conf extra) (ReportsNoHazard name bytes extra) (λ made right. right.drive name bytes is at) told

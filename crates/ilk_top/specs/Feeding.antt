@@ -1,13 +1,13 @@
--- Cited by private contracts and proofs alone: what a reader was fed of a source.
+-- Used only by private contracts and proofs: the bytes of a source that a reader was fed.
 use Rattle.std.specs.Prelude.{ℕ, ◌≤◌, Option, List, length}
 use Rattle.ilk_answers.specs.Reader.{WasFed}
 use Rattle.ilk_answers.specs.declared.reader.Reader.{Reader}
-use Rattle.ilk_io.specs.Source.{IsWhole}
+use Rattle.ilk_io.specs.Source.{IsAllLeft}
 
--- between the one and the other a reader was fed these bytes, no more than the limit, and where it is told what was left of
--- the source they are all of that
+-- Holds if feeding `bytes` leads from `before` to `after`: at most `limit` bytes, and all that was
+-- left of the source, if it exposes that.
 pub record WasFedWhole (left : Option (List ℕ)) (limit : ℕ) (before after : Reader) : Type 0 where
   pub bytes : List ℕ
   pub fed : WasFed before after bytes
-  pub whole : IsWhole left bytes
+  pub whole : IsAllLeft left bytes
   pub within : length bytes ≤ limit

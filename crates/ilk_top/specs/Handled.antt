@@ -1,41 +1,43 @@
--- What holds of the sources and sinks with each end of a call: one record, of which each stage ensures its part. The contract
--- of `run` spells it out.
+-- The effect of a call on its sources and sinks, for each status. Each stage ensures its part; the
+-- contract of `run` spells it out.
 use Rattle.std.specs.Prelude.{◌≡◌, ℕ, ◌⊎◌, Bool, true, false, Option, Some, List}
-use Rattle.ilk_io.specs.Faults.{RoseByOne}
-use Rattle.ilk_answers.specs.Answer.{comes_to_extra, conf_limit}
-use Rattle.ilk_answers.specs.Status.{came_to_writing}
+use Rattle.ilk_io.specs.Faults.{CountedOneFault}
+use Rattle.ilk_answers.specs.Answer.{reaches_extra, conf_limit}
+use Rattle.ilk_answers.specs.Status.{reached_writing}
 use Rattle.ilk_answers.specs.declared.status.Status.{Status}
 use Rattle.ilk_answers.specs.declared.status.Status.TheVariants.{ReadFault, WriteFault}
 use Rattle.ilk_words.specs.declared.plan.Plan.{Plan}
-use Rattle.ilk_top.specs.Outside.{ReadByPlan, RisesOnlyAt}
+use Rattle.ilk_top.specs.Outside.{ReadByPlan, FaultsRiseOnlyWith}
 
--- of one source, in the stage that reads it: read by its plan, and with a fault exactly one call of it failed
+-- For one source, in the stage that reads it: it was read by its plan, and with a fault exactly one
+-- call of it failed.
 pub record SourceHandled {S : Type 0} (left : S → Option (List ℕ)) (faults : S → ℕ) (needed : Option Bool) (limit : Option ℕ) (fault : Type 0) (came : Bool) (old new : S) : Type 0 where
   pub read : ReadByPlan left needed limit came old new
-  pub failed : fault → RoseByOne (faults old) (faults new)
-  pub rises : RisesOnlyAt fault (faults old) (faults new)
+  pub failed : fault → CountedOneFault (faults old) (faults new)
+  pub rises : FaultsRiseOnlyWith fault (faults old) (faults new)
 
--- of both sources: with a fault exactly one call of one of them failed, and that of the configuration is read first
+-- For both sources: with a fault exactly one call of one of them failed. The configuration is read
+-- first.
 pub record SourcesHandled {C D : Type 0} (conf_left : C → Option (List ℕ)) (conf_faults : C → ℕ)
     (extra_left : D → Option (List ℕ)) (extra_faults : D → ℕ) (plan : Plan) (fault : Type 0) (came : Bool)
     (conf_old conf_new : C) (extra_old extra_new : D) : Type 0 where
-  pub read_fault : fault → (RoseByOne (conf_faults conf_old) (conf_faults conf_new) × (extra_new ≡ extra_old)) ⊎ ((conf_faults conf_new ≡ conf_faults conf_old) × RoseByOne (extra_faults extra_old) (extra_faults extra_new))
-  pub conf_rises : RisesOnlyAt fault (conf_faults conf_old) (conf_faults conf_new)
-  pub extra_rises : RisesOnlyAt fault (extra_faults extra_old) (extra_faults extra_new)
+  pub read_fault : fault → (CountedOneFault (conf_faults conf_old) (conf_faults conf_new) × (extra_new ≡ extra_old)) ⊎ ((conf_faults conf_new ≡ conf_faults conf_old) × CountedOneFault (extra_faults extra_old) (extra_faults extra_new))
+  pub conf_rises : FaultsRiseOnlyWith fault (conf_faults conf_old) (conf_faults conf_new)
+  pub extra_rises : FaultsRiseOnlyWith fault (extra_faults extra_old) (extra_faults extra_new)
   pub conf_read : ReadByPlan conf_left (Some true) (conf_limit plan) came conf_old conf_new
-  pub extra_read : ReadByPlan extra_left (comes_to_extra plan (conf_left conf_old)) plan.extra came extra_old extra_new
+  pub extra_read : ReadByPlan extra_left (reaches_extra plan (conf_left conf_old)) plan.extra came extra_old extra_new
 
--- of both sinks, where this is why no certificate is written
+-- For both sinks. `none` is the reason why no certificate is written.
 pub record SinksHandled {O L : Type 0} (out_faults : O → ℕ) (cert_faults : L → ℕ) (none : Type 0) (status : Status) (out_old out_new : O) (cert_old cert_new : L) : Type 0 where
-  pub out_rises : RisesOnlyAt (status ≡ WriteFault) (out_faults out_old) (out_faults out_new)
-  pub cert_rises : RisesOnlyAt (status ≡ WriteFault) (cert_faults cert_old) (cert_faults cert_new)
-  pub unwritten : came_to_writing status ≡ false → (out_new ≡ out_old) × (cert_new ≡ cert_old)
+  pub out_rises : FaultsRiseOnlyWith (status ≡ WriteFault) (out_faults out_old) (out_faults out_new)
+  pub cert_rises : FaultsRiseOnlyWith (status ≡ WriteFault) (cert_faults cert_old) (cert_faults cert_new)
+  pub unwritten : reached_writing status ≡ false → (out_new ≡ out_old) × (cert_new ≡ cert_old)
   pub uncertified : none → cert_new ≡ cert_old
 
--- of all that `run` is handed, by the plan of what is asked and the status with which it ended
+-- For all sources and sinks of `run`, by the plan of the command and the final status.
 pub record Handled {C D O L : Type 0} (conf_left : C → Option (List ℕ)) (conf_faults : C → ℕ)
     (extra_left : D → Option (List ℕ)) (extra_faults : D → ℕ) (out_faults : O → ℕ) (cert_faults : L → ℕ)
     (plan : Plan) (status : Status) (conf_old conf_new : C) (extra_old extra_new : D) (out_old out_new : O)
     (cert_old cert_new : L) : Type 0 where
-  pub sources : SourcesHandled conf_left conf_faults extra_left extra_faults plan (status ≡ ReadFault) (came_to_writing status) conf_old conf_new extra_old extra_new
+  pub sources : SourcesHandled conf_left conf_faults extra_left extra_faults plan (status ≡ ReadFault) (reached_writing status) conf_old conf_new extra_old extra_new
   pub sinks : SinksHandled out_faults cert_faults (plan.certifies ≡ false) status out_old out_new cert_old cert_new

@@ -1,10 +1,10 @@
 ghost use Rattle.std.specs.Prelude.{◌≡◌, ◌≢◌, IfOk, IsTrue, Err, Some, [], is_ok};
 ghost use Rattle.ilk_answers.specs.Answer.{IsAnswerTo};
-ghost use Rattle.ilk_answers.specs.Reply.{IsPlanned};
-ghost use Rattle.ilk_answers.specs.Status.{came_to_writing, is_reply};
-ghost use Rattle.ilk_answers.specs.Strict.{IsStrictlyRight};
+ghost use Rattle.ilk_answers.specs.Reply.{FitsPlan};
+ghost use Rattle.ilk_answers.specs.Status.{reached_writing, is_reply};
+ghost use Rattle.ilk_answers.specs.Strict.{HasStrictGuarantees};
 ghost use Rattle.ilk_top.specs.Handled.{Handled, SinksHandled, SourcesHandled};
-ghost use Rattle.ilk_top.specs.Outside.{Tells};
+ghost use Rattle.ilk_top.specs.Outside.{WritesAnswer};
 ghost use Rattle.ilk_words.specs.Limits.{has_option_limits};
 ghost use Rattle.ilk_words.specs.Plan.{plan_of};
 
@@ -17,7 +17,7 @@ use ilk_io::{Sink, Source};
 use ilk_words::{Command, Stages};
 use std::alloc::Global;
 
-// Reads the configuration and what the command reads besides, and finds the reply.
+// Reads the configuration and the extra input of the command, and computes the reply.
 fn conf_reply<C: Source, D: Source>(
     alloc: Global,
     command: &Command,
@@ -30,15 +30,15 @@ fn conf_reply<C: Source, D: Source>(
     ensures reply { IfOk result
         (IsAnswerTo (Some command.now) (C.left conf.old) (D.left extra.old)) }
     ensures strict { IfOk result
-        (IsStrictlyRight (Some command.now) (C.left conf.old) (D.left extra.old)) }
-    ensures planned { IfOk result (IsPlanned (plan_of command.now)) }
+        (HasStrictGuarantees (Some command.now) (C.left conf.old) (D.left extra.old)) }
+    ensures planned { IfOk result (FitsPlan (plan_of command.now)) }
     ensures handled { SourcesHandled C.left C.faults D.left D.faults (plan_of command.now)
         (result ≡ Err NoReply.ReadFault) (is_ok result) conf.old conf.new extra.old extra.new }
 {
     match read_plant(alloc, stages, conf)? {
         Ok(plant) => {
             plant.is_sound();
-            plant.is_of_drafts();
+            plant.is_from_drafts();
             let reply = plant_reply(alloc, command, &plant, extra);
             drop(plant);
             reply
@@ -51,7 +51,7 @@ fn conf_reply<C: Source, D: Source>(
     }
 }
 
-// Reads what the command reads, if it reads anything, and finds the reply.
+// Reads what the command reads, if anything, and computes the reply.
 fn command_reply<C: Source, D: Source>(
     alloc: Global,
     command: &Command,
@@ -62,8 +62,8 @@ fn command_reply<C: Source, D: Source>(
     ensures reply { IfOk result
         (IsAnswerTo (Some command.now) (C.left conf.old) (D.left extra.old)) }
     ensures strict { IfOk result
-        (IsStrictlyRight (Some command.now) (C.left conf.old) (D.left extra.old)) }
-    ensures planned { IfOk result (IsPlanned (plan_of command.now)) }
+        (HasStrictGuarantees (Some command.now) (C.left conf.old) (D.left extra.old)) }
+    ensures planned { IfOk result (FitsPlan (plan_of command.now)) }
     ensures handled { SourcesHandled C.left C.faults D.left D.faults (plan_of command.now)
         (result ≡ Err NoReply.ReadFault) (is_ok result) conf.old conf.new extra.old extra.new }
 {
@@ -73,13 +73,14 @@ fn command_reply<C: Source, D: Source>(
     }
 }
 
-// Writes the certificate of a reply, and then its report. WriteFault where a sink failed, which
-// then gained a prefix.
+// Writes the certificate of a reply, then its report. Returns `WriteFault` if a sink failed; that
+// sink then gained a prefix.
 fn tell<O: Sink, L: Sink>(reply: Reply, out: &mut O, cert: &mut L) -> Status
     requires { IsTrue (is_reply reply.status) }
-    ensures answer { Tells (λ made. made ≡ reply) L.written L.faults O.written O.faults result
+    ensures answer { WritesAnswer (λ made. made ≡ reply) L.written L.faults O.written O.faults
+        result
         cert.old cert.new out.old out.new }
-    ensures told { IsTrue (came_to_writing result) }
+    ensures told { IsTrue (reached_writing result) }
     ensures handled { SinksHandled O.faults L.faults (reply.certificate ≡ []) result out.old
         out.new cert.old cert.new }
 {
@@ -102,7 +103,7 @@ fn tell<O: Sink, L: Sink>(reply: Reply, out: &mut O, cert: &mut L) -> Status
     }
 }
 
-/// Does what a command asks: the clauses of `run`, for that command, as one record.
+/// Executes one command. Ensures the clauses of `run` for that command, as one record.
 pub fn perform<C: Source, D: Source, O: Sink, L: Sink>(
     alloc: Global,
     command: &Command,
@@ -112,10 +113,11 @@ pub fn perform<C: Source, D: Source, O: Sink, L: Sink>(
     cert: &mut L,
 ) -> Status
     requires { IsTrue (has_option_limits command.now) }
-    ensures answer { Tells (IsAnswerTo (Some command.now) (C.left conf.old) (D.left extra.old))
+    ensures answer { WritesAnswer (IsAnswerTo (Some command.now) (C.left conf.old)
+        (D.left extra.old))
         L.written L.faults O.written O.faults result cert.old cert.new out.old out.new }
-    ensures strict { Tells
-        (IsStrictlyRight (Some command.now) (C.left conf.old) (D.left extra.old)) L.written
+    ensures strict { WritesAnswer
+        (HasStrictGuarantees (Some command.now) (C.left conf.old) (D.left extra.old)) L.written
         L.faults O.written O.faults result cert.old cert.new out.old out.new }
     ensures handled { Handled C.left C.faults D.left D.faults O.faults L.faults
         (plan_of command.now) result conf.old conf.new extra.old extra.new out.old out.new

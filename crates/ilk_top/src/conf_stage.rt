@@ -1,6 +1,6 @@
 ghost use Rattle.std.specs.Prelude.{◌≡◌, true, IfOk, IfSome, OnOk, Err, Some, is_ok};
 ghost use Rattle.ilk_answers.specs.Answer.{plant_of};
-ghost use Rattle.ilk_answers.specs.Strict.{IsPlantIfFree};
+ghost use Rattle.ilk_answers.specs.Strict.{GivesPlantIfFree};
 ghost use Rattle.ilk_top.specs.Handled.{SourceHandled};
 ghost use Rattle.ilk_words.specs.declared.lengths.TheConstants.{MAX_CONFIGURATION};
 
@@ -11,8 +11,8 @@ use ilk_plant::Plant;
 use ilk_words::{MAX_CONFIGURATION, Stages};
 use std::alloc::Global;
 
-/// Reads a configuration to its end, and makes its plant, or finds all that it is refused with.
-/// ReadFault comes at the first fault of the source, which is not called again.
+/// Reads the configuration to its end and builds its plant, or returns all its refusals. Fails with
+/// `ReadFault` at the first fault of the source, which is not called again.
 pub fn read_plant<C: Source>(
     alloc: Global,
     stages: Stages,
@@ -20,7 +20,7 @@ pub fn read_plant<C: Source>(
 ) -> Result<Result<Plant, Refusals>, NoReply>
     ensures found { IfOk result
         (λ found. IfSome (C.left conf.old) (λ c. found ≡ plant_of stages c)) }
-    ensures plant { OnOk result (IfSome (C.left conf.old) IsPlantIfFree) }
+    ensures plant { OnOk result (IfSome (C.left conf.old) GivesPlantIfFree) }
     ensures handled { SourceHandled C.left C.faults (Some true) (Some MAX_CONFIGURATION)
         (result ≡ Err NoReply.ReadFault) (is_ok result) conf.old conf.new }
 {

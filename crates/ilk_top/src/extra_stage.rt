@@ -1,6 +1,6 @@
 ghost use Rattle.std.specs.Prelude.{◌≡◌, ◌^◌, ◌<◌, true, IfErr, IfOk, IsTrue, Ok, Err, Some, is_ok, is_some};
-ghost use Rattle.ilk_answers.specs.Besides.{AnswersSome};
-ghost use Rattle.ilk_answers.specs.Reply.{IsPlanned};
+ghost use Rattle.ilk_answers.specs.Besides.{AnswersSomeExtra};
+ghost use Rattle.ilk_answers.specs.Reply.{FitsPlan};
 ghost use Rattle.ilk_top.specs.Handled.{SourceHandled};
 ghost use Rattle.ilk_words.specs.Limits.{has_option_limits};
 ghost use Rattle.ilk_words.specs.Plan.{plan_of};
@@ -13,7 +13,7 @@ use ilk_plant::Plant;
 use ilk_words::Command;
 use std::alloc::Global;
 
-// What was read into, where the reading didn't fail.
+// Returns `into`, or the error if reading failed.
 fn unless_failed<T: Drop>(read: Result<(), ReadError>, into: T) -> Result<T, ReadError>
     ensures kept { IfOk result (λ kept. (kept ≡ into) × (read ≡ Ok tt)) }
     ensures failed { IfErr result (λ error. read ≡ Err error) }
@@ -24,8 +24,8 @@ fn unless_failed<T: Drop>(read: Result<(), ReadError>, into: T) -> Result<T, Rea
     }
 }
 
-// Reads what the command reads besides the configuration, to its end, and finds the reply. Refused
-// where it is longer than the limit; ReadFault at the first fault of the source.
+// Reads the extra input to its end and computes the reply. The reply is a refusal if the input is
+// longer than `limit`. Fails with `ReadFault` at the first fault of the source.
 fn reply_to_extra<D: Source>(
     alloc: Global,
     command: &Command,
@@ -37,8 +37,8 @@ fn reply_to_extra<D: Source>(
     requires over { is_some (plan_of command.now).stages ≡ true }
     requires limit { (plan_of command.now).extra ≡ Some limit }
     requires small { limit < 2 ^ 40 }
-    ensures reply { IfOk result (AnswersSome command.now (Ok plant.now) (D.left extra.old)) }
-    ensures planned { IfOk result (IsPlanned (plan_of command.now)) }
+    ensures reply { IfOk result (AnswersSomeExtra command.now (Ok plant.now) (D.left extra.old)) }
+    ensures planned { IfOk result (FitsPlan (plan_of command.now)) }
     ensures handled { SourceHandled D.left D.faults (Some true) (plan_of command.now).extra
         (result ≡ Err NoReply.ReadFault) (is_ok result) extra.old extra.new }
 {
@@ -52,8 +52,8 @@ fn reply_to_extra<D: Source>(
     }
 }
 
-/// The reply of a command to a plant, and to what it reads besides the configuration, if it reads
-/// anything: that is read to its end, in pieces.
+/// Returns the reply of a command to a plant and to its extra input. If the command has one, reads
+/// it to its end, in pieces.
 pub fn plant_reply<D: Source>(
     alloc: Global,
     command: &Command,
@@ -62,8 +62,8 @@ pub fn plant_reply<D: Source>(
 ) -> Result<Reply, NoReply>
     requires options { IsTrue (has_option_limits command.now) }
     requires over { is_some (plan_of command.now).stages ≡ true }
-    ensures reply { IfOk result (AnswersSome command.now (Ok plant.now) (D.left extra.old)) }
-    ensures planned { IfOk result (IsPlanned (plan_of command.now)) }
+    ensures reply { IfOk result (AnswersSomeExtra command.now (Ok plant.now) (D.left extra.old)) }
+    ensures planned { IfOk result (FitsPlan (plan_of command.now)) }
     ensures handled { SourceHandled D.left D.faults (Some true) (plan_of command.now).extra
         (result ≡ Err NoReply.ReadFault) (is_ok result) extra.old extra.new }
 {

@@ -1,16 +1,15 @@
-//! The program, as one call: `run` takes the words of the command line and the sources and sinks
-//! that it is handed, does all that the program does, and answers a status.
+//! The whole program as one call: `run` takes the command-line arguments, the sources and the
+//! sinks, and returns a status.
 //!
-//! So the promise of the program is a clause of a call that `main` really makes: for every list of
-//! words and all bytes, the status, the report and the certificate are those of an answer
-//! (`ilk_answers/specs/Answer.antt`). What is answered is a value, made by `ilk_answers` of what was
-//! read; here stand reading, writing and their faults. A run goes by stages: the words (`ilk_words`),
-//! with the plan of what their command reads, asks and writes; the configuration to a plant or all
-//! that it is refused with (`conf_stage`); what is read besides, in pieces (`extra_stage`, over
-//! `pieces`); last the writes, in pieces too (`writing`), and the status (`command`).
+//! The contract of `run` is the promise of the program. For all arguments and all bytes, the
+//! status, the report and the certificate are those of an answer (`ilk_answers/specs/Answer.antt`).
+//! `ilk_answers` computes answers as values; this crate reads, writes and counts faults.
 //!
-//! What holds of sources and sinks with each status is one record, `Handled` (`specs/Handled.antt`),
-//! of which each stage ensures its part; the contract of `run` spells it out.
+//! `ilk_words` reads the arguments and plans the rest. `conf_stage` turns the configuration into a
+//! plant or its refusals. `extra_stage` reads the extra input (a certificate, run, refutation or
+//! scenario) in `pieces`. `command` writes the reply, by `writing`, and returns the status. Each
+//! stage ensures a part of the record `Handled` (`specs/Handled.antt`): the meaning of each status
+//! for the sources and sinks.
 #![tactic(auto)]
 
 mod command;

@@ -3,7 +3,7 @@ ghost use Rattle.std.specs.Prelude.{◌≡◌};
 
 use std::alloc::AllocError;
 
-/// Why there is no reply.
+/// The reason why there is no reply.
 #[derive(Clone, Copy, PartialEq, Eq, Debug)]
 pub enum NoReply {
     /// A source failed.

@@ -6,16 +6,16 @@ ghost use Rattle.ilk_top.specs.Feeding.{WasFedWhole};
 use ilk_answers::Reader;
 use ilk_io::{Failed, ReadError, Source};
 
-// How many bytes are asked of a source at once.
+// The most bytes requested from a source in one call.
 const PIECE: usize = 65536;
 
-/// Reads the source to its end, at most `limit` bytes, and feeds them to the reader in pieces: they are
-/// all that was left, where the source tells that.
+/// Reads `source` to its end, at most `limit` bytes, and feeds them to `reader` in pieces. They are
+/// all the bytes that were left, if the source exposes those.
 ///
-/// `Failed` comes at the first call of the source that failed, which is not called again: exactly
-/// one fault is counted. `TooLong` comes where more than `limit` bytes are there and no call failed
-/// first. With every answer but `Failed` the count is as it was. At most `limit + 1` bytes are read,
-/// and after a refusal those that were read are gone from the source.
+/// Fails with `Failed` at the first call that fails: exactly one fault is counted, and the source
+/// is not called again. Fails with `TooLong` if there are more than `limit` bytes and no call
+/// failed first. Without `Failed` the fault count is unchanged. At most `limit + 1` bytes are read,
+/// and gone from the source even after an error.
 pub fn read_pieces<S: Source>(
     source: &mut S,
     limit: u64,

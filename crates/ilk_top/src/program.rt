@@ -1,25 +1,25 @@
 ghost use Rattle.std.specs.Prelude.{ℕ, ◌≡◌, ◌≢◌, ◌⊎◌, ◌↔◌, ◌++◌, Some, None, IfSome, List, true, false, map, string_bytes};
-ghost use Rattle.ilk_answers.specs.Answer.{IsAnswerTo, comes_to_extra, conf_limit, plan_asked};
-ghost use Rattle.ilk_answers.specs.Status.{came_to_writing};
-ghost use Rattle.ilk_answers.specs.Strict.{HasOnlyLines, HasSafePlant, HasTableOf, IsCleanAndSafe, IsCleanFor, SaysSafeAtOneOrSpent, TellsNoHazard, harmless_beginnings};
-ghost use Rattle.ilk_io.specs.Faults.{RoseByOne};
+ghost use Rattle.ilk_answers.specs.Answer.{IsAnswerTo, reaches_extra, conf_limit, plan_if_asked};
+ghost use Rattle.ilk_answers.specs.Status.{reached_writing};
+ghost use Rattle.ilk_answers.specs.Strict.{HasOnlyLines, HasSafePlant, HasTableOf, IsCleanAndSafe, IsCleanFor, SaysSafeAtOneOrSpent, ReportsNoHazard, deviation_beginnings};
+ghost use Rattle.ilk_io.specs.Faults.{CountedOneFault};
 ghost use Rattle.ilk_plant.specs.Plant.{PlantLists};
-ghost use Rattle.ilk_top.specs.Outside.{ReadByPlan, RisesOnlyAt, Tells};
-ghost use Rattle.ilk_words.specs.Words.{command_of};
+ghost use Rattle.ilk_top.specs.Outside.{ReadByPlan, FaultsRiseOnlyWith, WritesAnswer};
+ghost use Rattle.ilk_words.specs.Words.{parsed_command};
 
 use crate::command::perform;
 use ilk_answers::Status;
 use ilk_io::{Sink, Source};
-use ilk_words::{Columns, Command, read_words};
+use ilk_words::{Columns, Command, parse_arguments};
 use std::alloc::Global;
 
-/// Does what the words of the command line ask, the program's name first: reads the configuration
-/// from `conf`, and from `extra` what the command reads besides (audit a certificate, replay a run, rup
-/// a refutation, drive a scenario), where it reads them; writes for verify and demo the certificate to
-/// `cert`, where there is one, and then the report to `out`.
+/// Executes the command that `words` gives, the program's name first. Reads the configuration from
+/// `conf`. Reads the extra input from `extra`: a certificate (`audit`), a run (`replay`), a
+/// refutation (`rup`) or a scenario (`drive`). Writes the certificate of `verify` and `demo`, if
+/// there is one, to `cert`, and then the report to `out`.
 ///
-/// All memory is taken before the first write. A fault of a source is answered ReadFault and one
-/// of a sink WriteFault, each at the first call that failed.
+/// Takes all memory before the first write. Returns `ReadFault` or `WriteFault` at the first call
+/// of a source or a sink that fails.
 pub fn run<C: Source, D: Source, O: Sink, L: Sink>(
     alloc: Global,
     words: &Vec<String>,
@@ -28,82 +28,109 @@ pub fn run<C: Source, D: Source, O: Sink, L: Sink>(
     out: &mut O,
     cert: &mut L,
 ) -> Status
-    // the answer, where the sources that are read tell what is left: its status, its whole certificate and its whole report; after a write fault, which exactly one call of one sink met, these up to the fault
-    ensures answer { let asked = command_of (map string_bytes words.now.items) in
-        Tells (IsAnswerTo asked (C.left conf.old) (D.left extra.old)) L.written L.faults O.written
+    // If the status is that of an answer, the sinks gained its whole certificate and its whole
+    // report, as far as they expose what was written. It answers the arguments and the inputs, as
+    // far as the sources expose their bytes (`C.left conf.old` or `D.left extra.old` is `Some
+    // bytes`). After a write fault, which exactly one call of one sink met, the sinks gained an
+    // answer up to the fault.
+    ensures answer { let asked = parsed_command (map string_bytes words.now.items) in
+        WritesAnswer (IsAnswerTo asked (C.left conf.old) (D.left extra.old)) L.written L.faults
+        O.written
         O.faults result cert.old cert.new out.old out.new }
 
-    // check under strict columns is Good only where the configuration breaks no rule and is safe for ever: each run from the start, of whatever length, ends in a state that meets the invariant
-    ensures strict_check { let asked = command_of (map string_bytes words.now.items) in
+    // If `check` with strict columns returns `Good`, the configuration breaks no rule. Each run
+    // from the initial state, of any length, ends in a state that meets the invariant. Assumes that
+    // `conf` exposes its bytes (`C.left conf.old` is `Some bytes`).
+    ensures strict_check { let asked = parsed_command (map string_bytes words.now.items) in
         asked ≡ Some (Command.Check Columns.Strict) → result ≡ Status.Good →
         IfSome (C.left conf.old) IsCleanAndSafe }
 
-    // if check under strict columns is Refused, and each line that it wrote refuses by C4, C5, C6 or C8, then the configuration has a plant, and each run of that from the start, of whatever length, ends in a state that meets the invariant; after a write fault this says nothing, since a cut report may have lost a line
-    ensures strict_deviations { let asked = command_of (map string_bytes words.now.items) in
+    // If `check` with strict columns returns `Refused`, and each line that it wrote refuses by C4,
+    // C5, C6 or C8, the configuration has a plant. Each run of that from the initial state, of any
+    // length, ends in a state that meets the invariant. Assumes that `conf` exposes its bytes
+    // (`C.left conf.old` is `Some bytes`), and that `out` exposes what was written. Says nothing
+    // after a write fault, since a cut report may have lost a line.
+    ensures strict_deviations { let asked = parsed_command (map string_bytes words.now.items) in
         (before report : List ℕ) → asked ≡ Some (Command.Check Columns.Strict) →
         result ≡ Status.Refused → O.written out.old ≡ Some before →
         O.written out.new ≡ Some (before ++ report) →
-        HasOnlyLines harmless_beginnings report →
+        HasOnlyLines deviation_beginnings report →
         IfSome (C.left conf.old) HasSafePlant }
 
-    // verify under strict columns of a configuration that breaks no rule answers Good, with `safe k=1` and the certificate for that, or Spent, unless a source or sink failed or memory was wanting; after a write fault what was written is of such an answer
-    ensures strict_verify { let asked = command_of (map string_bytes words.now.items) in
+    // If a configuration breaks no rule, `verify` with strict columns returns `Good` with `safe
+    // k=1` and the certificate for that, union `Spent`. Only a fault of a source or sink, or memory
+    // that runs out, prevents it. After a write fault, such an answer was written up to the fault.
+    // Assumes that `conf` exposes its bytes (`C.left conf.old` is `Some bytes`).
+    ensures strict_verify { let asked = parsed_command (map string_bytes words.now.items) in
         (depth conflicts : ℕ) (name : List ℕ) (bytes : List ℕ) (p : PlantLists)
         → asked ≡ Some (Command.Verify Columns.Strict depth conflicts name) →
         C.left conf.old ≡ Some bytes → IsCleanFor bytes p
-        → Tells (SaysSafeAtOneOrSpent p depth conflicts) L.written L.faults O.written O.faults
+        → WritesAnswer (SaysSafeAtOneOrSpent p depth conflicts) L.written L.faults O.written
+        O.faults
         result cert.old cert.new out.old out.new }
 
-    // table is Good only with a text that is read as the network that was read, with the table of its routes, which breaks no rule but C7; under strict columns it breaks none, and is safe for ever
-    ensures table { let asked = command_of (map string_bytes words.now.items) in
+    // If `table` returns `Good`, its text is read as the network of the configuration with the
+    // table of its routes, and breaks no rule but C7. With strict columns it breaks none, and is
+    // safe for runs of any length. Assumes that `conf` exposes its bytes (`C.left conf.old` is
+    // `Some bytes`).
+    ensures table { let asked = parsed_command (map string_bytes words.now.items) in
         (columns : Columns) → asked ≡ Some (Command.Table columns)
-        → Tells
+        → WritesAnswer
         (λ made. made.status ≡ Status.Good →
         IfSome (C.left conf.old) (λ bytes. HasTableOf columns bytes made)) L.written
         L.faults O.written O.faults result cert.old cert.new out.old out.new }
 
-    // no drive under strict columns tells a hazard, whether or not the source of the scenario tells what is left; after a write fault what was written is of an answer that tells none
-    ensures strict_drive { let asked = command_of (map string_bytes words.now.items) in
+    // `drive` with strict columns reports no hazard, even if `extra` does not expose its bytes.
+    // After a write fault, an answer without a hazard was written up to the fault. Assumes that
+    // `conf` exposes its bytes (`C.left conf.old` is `Some bytes`).
+    ensures strict_drive { let asked = parsed_command (map string_bytes words.now.items) in
         (name bytes : List ℕ) → asked ≡ Some (Command.Drive Columns.Strict name)
         → C.left conf.old ≡ Some bytes
-        → Tells (TellsNoHazard name bytes (D.left extra.old))
+        → WritesAnswer (ReportsNoHazard name bytes (D.left extra.old))
         L.written L.faults O.written O.faults result cert.old cert.new out.old out.new }
 
-    // with a read fault exactly one call of one source failed, so that nothing is called again after it; a count that rose is told as a fault
+    // After a read fault exactly one call of one source failed; if it was `conf`, `extra` is
+    // unchanged. A fault count rises only if the status reports that fault.
     ensures read_fault { result ≡ Status.ReadFault
-        → (RoseByOne (C.faults conf.old) (C.faults conf.new) × (extra.new ≡ extra.old))
+        → (CountedOneFault (C.faults conf.old) (C.faults conf.new) × (extra.new ≡ extra.old))
         ⊎
         ((C.faults conf.new ≡ C.faults conf.old) ×
-        RoseByOne (D.faults extra.old) (D.faults extra.new)) }
-    ensures conf_faults { RisesOnlyAt (result ≡ Status.ReadFault) (C.faults conf.old)
+        CountedOneFault (D.faults extra.old) (D.faults extra.new)) }
+    ensures conf_faults { FaultsRiseOnlyWith (result ≡ Status.ReadFault) (C.faults conf.old)
         (C.faults conf.new) }
-    ensures extra_faults { RisesOnlyAt (result ≡ Status.ReadFault) (D.faults extra.old)
+    ensures extra_faults { FaultsRiseOnlyWith (result ≡ Status.ReadFault) (D.faults extra.old)
         (D.faults extra.new) }
-    ensures out_faults { RisesOnlyAt (result ≡ Status.WriteFault) (O.faults out.old)
+    ensures out_faults { FaultsRiseOnlyWith (result ≡ Status.WriteFault) (O.faults out.old)
         (O.faults out.new) }
-    ensures cert_faults { RisesOnlyAt (result ≡ Status.WriteFault) (L.faults cert.old)
+    ensures cert_faults { FaultsRiseOnlyWith (result ≡ Status.WriteFault) (L.faults cert.old)
         (L.faults cert.new) }
 
-    // where the words give no command nothing is read, and Usage comes exactly there
-    ensures usage { let asked = command_of (map string_bytes words.now.items) in
+    // Unless memory runs out, the status is `Usage` if and only if the arguments give no command.
+    // If they give none, nothing is read.
+    ensures usage { let asked = parsed_command (map string_bytes words.now.items) in
         result ≢ Status.OutOfMemory → (result ≡ Status.Usage) ↔ (asked ≡ None) }
-    ensures unread { let asked = command_of (map string_bytes words.now.items) in
+    ensures unread { let asked = parsed_command (map string_bytes words.now.items) in
         asked ≡ None → (conf.new ≡ conf.old) × (extra.new ≡ extra.old) }
 
-    // a source that the plan has a limit for was read to its end, or was longer than that; what is read besides the configuration, only where that gave a plant
-    ensures conf_read { let plan = plan_asked (command_of (map string_bytes words.now.items)) in
-        ReadByPlan C.left (Some true) (conf_limit plan) (came_to_writing result) conf.old conf.new }
-    ensures extra_read { let plan = plan_asked (command_of (map string_bytes words.now.items)) in
-        ReadByPlan D.left (comes_to_extra plan (C.left conf.old)) plan.extra
-        (came_to_writing result) extra.old extra.new }
+    // If the call came to writing, a source with a limit was read to its end, or held more bytes
+    // than that. If the configuration is known to give no plant, `extra` is not read.
+    ensures conf_read { let plan = plan_if_asked
+        (parsed_command (map string_bytes words.now.items)) in
+        ReadByPlan C.left (Some true) (conf_limit plan) (reached_writing result) conf.old conf.new }
+    ensures extra_read { let plan = plan_if_asked
+        (parsed_command (map string_bytes words.now.items)) in
+        ReadByPlan D.left (reaches_extra plan (C.left conf.old)) plan.extra
+        (reached_writing result) extra.old extra.new }
 
-    // nothing is written with a read fault, a usage error or want of memory; a certificate only by a plan that may have one
-    ensures unwritten { came_to_writing result ≡ false →
+    // Nothing is written after a read fault, a usage error, or if memory runs out. A certificate
+    // needs a plan that allows one.
+    ensures unwritten { reached_writing result ≡ false →
         (out.new ≡ out.old) × (cert.new ≡ cert.old) }
-    ensures uncertified { let plan = plan_asked (command_of (map string_bytes words.now.items)) in
+    ensures uncertified { let plan = plan_if_asked
+        (parsed_command (map string_bytes words.now.items)) in
         plan.certifies ≡ false → cert.new ≡ cert.old }
 {
-    match read_words(alloc, words) {
+    match parse_arguments(alloc, words) {
         Ok(Some(command)) => perform(alloc, &command, conf, extra, out, cert),
         Ok(None) => Status::Usage,
         Err(_) => Status::OutOfMemory,

@@ -1,22 +1,22 @@
 ghost use Rattle.std.specs.Prelude.{◌≡◌, [], IsOk, OnErr, OnOk, ◌≤◌};
-ghost use Rattle.ilk_io.specs.Faults.{RoseByOne};
+ghost use Rattle.ilk_io.specs.Faults.{CountedOneFault};
 ghost use Rattle.ilk_io.specs.Sink.{Adds, AddsPrefix};
 
 use ilk_answers::Content;
 use ilk_io::{Failed, Sink, write_all};
 
-// How many bytes are handed to a sink at once.
+// The most bytes passed to a sink in one call.
 const PIECE: usize = 65536;
 
-/// Writes the whole content to the sink, in pieces. It takes no memory.
+/// Writes the whole content to `sink`, in pieces. Allocates no memory.
 ///
-/// `Failed` comes at the first call of the sink that failed, which is not called again: exactly one
-/// fault is counted, and a prefix of the content was written. With `Ok` the count is as it was. A
-/// content without bytes makes no call.
+/// Fails at the first call of the sink that fails, which is not called again: exactly one fault is
+/// counted, and a prefix of the content was written. With `Ok` the fault count is unchanged. An
+/// empty content makes no call.
 pub fn write_content<K: Sink>(sink: &mut K, content: &mut Content) -> Result<(), Failed>
     ensures whole { OnOk result (Adds (K.written sink.old) (K.written sink.new) content.old) }
     ensures prefix { AddsPrefix (K.written sink.old) (K.written sink.new) content.old }
-    ensures failed { OnErr result (RoseByOne (K.faults sink.old) (K.faults sink.new)) }
+    ensures failed { OnErr result (CountedOneFault (K.faults sink.old) (K.faults sink.new)) }
     ensures unraised { OnOk result (K.faults sink.new ≡ K.faults sink.old) }
     ensures counted { K.faults sink.old ≤ K.faults sink.new }
     ensures untouched { content.old ≡ [] → IsOk result × (sink.new ≡ sink.old) }

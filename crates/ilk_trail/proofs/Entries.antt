@@ -9,8 +9,8 @@ use Rattle.ilk_trail.specs.declared.entry.Entry.{Entry}
 use Rattle.ilk_trail.specs.Trail.{entry_of, TrailList}
 use Rattle.ilk_trail.specs.Laws.{lits_of, is_set, IsTrail}
 use Rattle.ilk_cnf.specs.Literal.{has_lit, same_lit}
-use Rattle.ilk_cnf.specs.Formula.{lit_in}
-use Rattle.ilk_cnf.proofs.SameLiterals.{same-lit, lit_in-clause}
+use Rattle.ilk_cnf.specs.Formula.{is_lit_over}
+use Rattle.ilk_cnf.proofs.SameLiterals.{same-lit, is_lit_over-clause}
 
 pub lits_of-push : (es : List Entry) (e : Entry) → lits_of (es ++ e ∷ []) ≡ lits_of es ++ e.lit ∷ []
 lits_of-push [] e = refl
@@ -20,19 +20,17 @@ pub entry_of-unset : (es : List Entry) (v : ℕ) → is_set es v ≡ false → e
 entry_of-unset [] v h = refl
 entry_of-unset (x ∷ es) v h = (let p = or_parts (eqb x.lit.var v) _ h in rw p.0 (entry_of-unset es v p.1))
 
--- the entry of another variable stays
 pub entry_of-other : (es : List Entry) (e : Entry) (v : ℕ) → v ≢ e.lit.var → entry_of (es ++ e ∷ []) v ≡ entry_of es v
 entry_of-other es e v n =
     let q : eqb e.lit.var v ≡ false = grind (arith, nat_tests) in
     find-append (λ (x : Entry). eqb x.lit.var v) es (e ∷ []) ∙ rw q (option_or-none (entry_of es v))
 
--- the new entry is that of its variable
 pub entry_of-new : (es : List Entry) (e : Entry) → is_set es e.lit.var ≡ false → entry_of (es ++ e ∷ []) e.lit.var ≡ Some e
 entry_of-new es e h =
     let q : eqb e.lit.var e.lit.var ≡ true = grind (arith, nat_tests) in
     find-append (λ (x : Entry). eqb x.lit.var e.lit.var) es (e ∷ []) ∙ rw (entry_of-unset es e.lit.var h, q) refl
 
--- where the entry of a variable stands
+-- The index of a variable's entry.
 pub record Found (es : List Entry) (v : ℕ) : Type 0 where
   pub place : ℕ
   pub entry : Entry
@@ -49,7 +47,6 @@ found (x ∷ es) v h =
           record { place = suc r.place; entry = r.entry; stands = r.stands; named = r.named; first = rw p.0 r.first })
     ]
 
--- an entry's variable is set
 pub set-at : (es : List Entry) (i : ℕ) (e : Entry) → slice_get es i ≡ Some e → is_set es e.lit.var ≡ true
 set-at [] i e h = absurd (cc)
 set-at (x ∷ es) zero e h =
@@ -59,7 +56,6 @@ set-at (x ∷ es) zero e h =
 set-at (x ∷ es) (suc i) e h =
     elim (eqb_tells x.lit.var e.lit.var) [ inl p ↦ rw p.0 refl | inr p ↦ rw p.0 (set-at es i e h) ]
 
--- the literal of an entry is one of the trail, and of the formula
 pub entry-lit : (es : List Entry) (i : ℕ) (e : Entry) → slice_get es i ≡ Some e → has_lit e.lit (lits_of es) ≡ true
 entry-lit [] i e h = absurd (cc)
 entry-lit (x ∷ es) zero e h =
@@ -68,5 +64,5 @@ entry-lit (x ∷ es) zero e h =
     or_left (same_lit e.lit x.lit) (has_lit e.lit (lits_of es)) s
 entry-lit (x ∷ es) (suc i) e h = or_right (same_lit e.lit x.lit) (has_lit e.lit (lits_of es)) (entry-lit es i e h)
 
-pub entry-within : (t : TrailList) (i : ℕ) (e : Entry) → IsTrail t → slice_get t.entries i ≡ Some e → lit_in t.vars e.lit ≡ true
-entry-within t i e k s = lit_in-clause t.vars (lits_of t.entries) e.lit k.within (entry-lit t.entries i e s)
+pub entry-within : (t : TrailList) (i : ℕ) (e : Entry) → IsTrail t → slice_get t.entries i ≡ Some e → is_lit_over t.vars e.lit ≡ true
+entry-within t i e k s = is_lit_over-clause t.vars (lits_of t.entries) e.lit k.within (entry-lit t.entries i e s)

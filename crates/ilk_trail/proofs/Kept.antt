@@ -1,4 +1,4 @@
--- How the fields follow the list of entries.
+-- The fields after each change of the entries.
 use Rattle.std.proofs.Common.{◌≡◌, ◌≢◌, ℕ, ◌+◌, ◌^◌, ◌<◌, ◌≤◌, inl, inr, Bool, true, false, List, [], ◌∷◌, ◌++◌, length, get_or, set, sym, ap, subst, ◌∙◌, arith, Option, Some, None, length-append}
 use Rattle.std.specs.List.{slice_get}
 use Rattle.std.specs.Bool.{beq}
@@ -8,55 +8,52 @@ use Rattle.std.proofs.lemmas.Option.{slice_get_within}
 use Rattle.std.proofs.lemmas.List.{length-map, get_or-set_same, get_or-set_other}
 use Rattle.std.proofs.Math.ListN.{length-set}
 use Rattle.ilk_cnf.specs.Literal.{Literal}
-use Rattle.ilk_cnf.specs.Formula.{lit_in}
-use Rattle.ilk_cnf.proofs.Literals.{vars_differ-push, lit_in-parts}
+use Rattle.ilk_cnf.specs.Formula.{is_lit_over}
+use Rattle.ilk_cnf.proofs.Literals.{vars_differ-push, is_lit_over-parts}
 use Rattle.ilk_trail.specs.declared.entry.Entry.{Entry}
 use Rattle.ilk_trail.specs.Trail.{TrailList, entry_of, last_level, level_of}
-use Rattle.ilk_trail.specs.Laws.{IsTrail, is_level_next, is_set, lits_of}
+use Rattle.ilk_trail.specs.Laws.{IsTrail, is_next_level, is_set, lits_of}
 use Rattle.ilk_trail.specs.Stored.{Stored}
 use Rattle.ilk_base.proofs.Lists.{slice_get-push_cases, at-before}
 use Rattle.ilk_trail.proofs.Entries.{lits_of-push, entry_of-unset, entry_of-other, entry_of-new, found, set-at}
-use Rattle.ilk_trail.proofs.Literals.{vars_differ-front, clause_in-push, clause_in-front, count_of_vars}
+use Rattle.ilk_trail.proofs.Literals.{vars_differ-front, is_clause_over-push, is_clause_over-front, count_of_vars}
 use Rattle.ilk_trail.proofs.Values.{set_both, length-set_both, set_both-same, set_both-other}
-use Rattle.ilk_trail.proofs.Levels.{climbs-push, climbs-front, level-small}
+use Rattle.ilk_trail.proofs.Levels.{has_rising_levels-push, has_rising_levels-front, level-small}
 
--- whether literal m is true, where e is the entry of its variable
+-- The value of literal `m`, if `e` is the entry of its variable.
 abbrev truth : Literal → Entry → Bool
 truth m e = beq e.lit.positive m.positive
 
--- the trail with one more entry
 pub trail-add : (n : ℕ) (es : List Entry) (e : Entry) → IsTrail (record { vars = n; entries = es }) →
-    lit_in n e.lit ≡ true → is_set es e.lit.var ≡ false → is_level_next (last_level 0 es) e ≡ true →
+    is_lit_over n e.lit ≡ true → is_set es e.lit.var ≡ false → is_next_level (last_level 0 es) e ≡ true →
     IsTrail (record { vars = n; entries = es ++ e ∷ [] })
 trail-add n es e t h u k = record {
   few = t.few;
-  within = rw (lits_of-push es e) (clause_in-push n (lits_of es) e.lit t.within h);
+  within = rw (lits_of-push es e) (is_clause_over-push n (lits_of es) e.lit t.within h);
   once = rw (lits_of-push es e) (vars_differ-push (lits_of es) e.lit t.once u);
-  climbing = climbs-push 0 es e t.climbing k;
+  climbing = has_rising_levels-push 0 es e t.climbing k;
 }
 
--- the trail without its last entry
-pub trail-take : (n : ℕ) (es : List Entry) (e : Entry) → IsTrail (record { vars = n; entries = es ++ e ∷ [] }) → IsTrail (record { vars = n; entries = es }) × (lit_in n e.lit ≡ true) × (is_set es e.lit.var ≡ false)
+pub trail-take : (n : ℕ) (es : List Entry) (e : Entry) → IsTrail (record { vars = n; entries = es ++ e ∷ [] }) → IsTrail (record { vars = n; entries = es }) × (is_lit_over n e.lit ≡ true) × (is_set es e.lit.var ≡ false)
 trail-take n es e t =
-    let w = clause_in-front n (lits_of es) e.lit (rw (lits_of-push es e) at t.within) in
+    let w = is_clause_over-front n (lits_of es) e.lit (rw (lits_of-push es e) at t.within) in
     let d = vars_differ-front (lits_of es) e.lit (rw (lits_of-push es e) at t.once) in
-    (record { few = t.few; within = w.0; once = d.0; climbing = (climbs-front 0 es e t.climbing).0 }, w.1, d.1)
+    (record { few = t.few; within = w.0; once = d.0; climbing = (has_rising_levels-front 0 es e t.climbing).0 }, w.1, d.1)
 
--- there is room for the entry of an unset variable
-pub room-for : (n : ℕ) (es : List Entry) (l : Literal) → IsTrail (record { vars = n; entries = es }) → lit_in n l ≡ true → is_set es l.var ≡ false → length es < n + 1
+-- The capacity suffices for the entry of an unset variable.
+pub room-for : (n : ℕ) (es : List Entry) (l : Literal) → IsTrail (record { vars = n; entries = es }) → is_lit_over n l ≡ true → is_set es l.var ≡ false → length es < n + 1
 room-for n es l t h u =
-    let c = count_of_vars n (lits_of es ++ l ∷ []) (clause_in-push n (lits_of es) l t.within h) (vars_differ-push (lits_of es) l t.once u) in
+    let c = count_of_vars n (lits_of es ++ l ∷ []) (is_clause_over-push n (lits_of es) l t.within h) (vars_differ-push (lits_of es) l t.once u) in
     let m : length (lits_of es ++ l ∷ []) ≡ length es + 1 = simp (length-append, length-map) in
     omega (arith, c, m)
 
--- the fields after an entry was added
 pub stored-add :
     (values : List (Option Bool)) (places : List ℕ) (n : ℕ) (es : List Entry) (e : Entry) (size more : ℕ) →
-    Stored values places (record { vars = n; entries = es }) size → size ≤ more → lit_in n e.lit ≡ true →
-    is_set es e.lit.var ≡ false → is_level_next (last_level 0 es) e ≡ true →
+    Stored values places (record { vars = n; entries = es }) size → size ≤ more → is_lit_over n e.lit ≡ true →
+    is_set es e.lit.var ≡ false → is_next_level (last_level 0 es) e ≡ true →
     Stored (set_both values e.lit (λ b. Some b)) (set places e.lit.var (length es))
     (record { vars = n; entries = es ++ e ∷ [] }) more
-stored-add values places n es e size more k le h u c = let w : e.lit.var ≤ n = (lit_in-parts n e.lit h).1 in record {
+stored-add values places n es e size more k le h u c = let w : e.lit.var ≤ n = (is_lit_over-parts n e.lit h).1 in record {
   values_long = length-set_both values e.lit (λ b. Some b) ∙ k.values_long;
   places_long = simp length-set k.places_long;
   roomy = omega (arith, k.roomy);
@@ -73,14 +70,13 @@ stored-add values places n es e size more k le h u c = let w : e.lit.var ≤ n =
   is_trail = trail-add n es e k.is_trail h u c;
 }
 
--- the fields after the last entry was taken off
 pub stored-take :
     (values : List (Option Bool)) (places : List ℕ) (n : ℕ) (es : List Entry) (e : Entry) (size more : ℕ) →
     Stored values places (record { vars = n; entries = es ++ e ∷ [] }) size → size ≤ more →
     Stored (set_both values e.lit (λ b. None)) places (record { vars = n; entries = es }) more
 stored-take values places n es e size more k le =
     let t = trail-take n es e k.is_trail in
-    let w : e.lit.var ≤ n = (lit_in-parts n e.lit t.1).1 in
+    let w : e.lit.var ≤ n = (is_lit_over-parts n e.lit t.1).1 in
     let u : is_set es e.lit.var ≡ false = t.2 in
     record {
       values_long = length-set_both values e.lit (λ b. None) ∙ k.values_long;
@@ -94,7 +90,6 @@ stored-take values places n es e size more k le =
       is_trail = t.0;
     }
 
--- the entry of a set variable stands at its place
 pub stands-at-place : (values : List (Option Bool)) (places : List ℕ) (t : TrailList) (size v : ℕ) →
     Stored values places t size → is_set t.entries v ≡ true →
     (slice_get t.entries (get_or places v 0) ≡ entry_of t.entries v) × (get_or places v 0 < length t.entries)
@@ -103,13 +98,12 @@ stands-at-place values places t size v k s =
     let q : get_or places v 0 ≡ f.place = (let P : ℕ → Type 0 = λ j. get_or places j 0 ≡ f.place in subst P f.named (k.place f.place f.entry f.stands)) in
     (rw q (f.stands ∙ sym f.first), rw q (slice_get_within t.entries f.place f.entry f.stands))
 
--- a level is far below the greatest number
+-- Levels are far below the maximum integer.
 pub level-fits : (t : TrailList) → IsTrail t → level_of t.entries ≤ 2 ^ 62 + 1
 level-fits t k =
     let c = count_of_vars t.vars (lits_of t.entries) k.within k.once in
     let e : length (lits_of t.entries) ≡ length t.entries = length-map t.entries (λ (x : Entry). x.lit) in
     omega (arith, level-small 0 t.entries k.climbing, c, e, k.few)
 
--- the places reach each variable
-pub within : (values : List (Option Bool)) (places : List ℕ) (t : TrailList) (size : ℕ) (l : Literal) → Stored values places t size → lit_in t.vars l ≡ true → l.var < length places
-within values places t size l k h = (let w = lit_in-parts t.vars l h in omega (arith, k.places_long, w.1))
+pub within : (values : List (Option Bool)) (places : List ℕ) (t : TrailList) (size : ℕ) (l : Literal) → Stored values places t size → is_lit_over t.vars l ≡ true → l.var < length places
+within values places t size l k h = (let w = is_lit_over-parts t.vars l h in omega (arith, k.places_long, w.1))

@@ -1,4 +1,4 @@
--- Literals over different variables of 1 to n.
+-- Literals over different variables of 1 to `n`.
 use Rattle.std.proofs.Common.{◌≡◌, ℕ, ◌+◌, ◌<◌, ◌≤◌, inl, inr, true, false, eqb, List, [], ◌∷◌, ◌++◌, length, map, refl, sym, ◌∙◌, arith}
 use Rattle.std.specs.List.{list_any, IsDistinct, AllByRecursion}
 use Rattle.std.proofs.lemmas.List.{length-map}
@@ -7,10 +7,9 @@ use Rattle.std.proofs.lemmas.Bool.{and_parts, and_from, or_cases, or_parts, or_f
 use Rattle.std.proofs.lemmas.Map.Keys.{IsDistinct-cons}
 use Rattle.std.proofs.lemmas.Map.Steps.{length-le_from_distinct_below}
 use Rattle.ilk_cnf.specs.Literal.{Literal, has_var, vars_differ}
-use Rattle.ilk_cnf.specs.Formula.{lit_in, clause_in}
-use Rattle.ilk_cnf.proofs.Literals.{lit_in-parts}
+use Rattle.ilk_cnf.specs.Formula.{is_lit_over, is_clause_over}
+use Rattle.ilk_cnf.proofs.Literals.{is_lit_over-parts}
 
--- the literals without the last
 pub vars_differ-front : (ls : List Literal) (l : Literal) → vars_differ (ls ++ l ∷ []) ≡ true → (vars_differ ls ≡ true) × (has_var l.var ls ≡ false)
 vars_differ-front [] l h = (refl, refl)
 vars_differ-front (m ∷ ls) l h =
@@ -20,18 +19,18 @@ vars_differ-front (m ∷ ls) l h =
     let other : eqb m.var l.var ≡ false = ne_eqb m.var l.var (λ e. eqb-false l.var m.var (or_parts _ _ away.1).0 (sym e)) in
     (and_from _ _ (not_from_false _ away.0) r.0, or_from _ _ other r.1)
 
-pub clause_in-push : (n : ℕ) (ls : List Literal) (l : Literal) → clause_in n ls ≡ true → lit_in n l ≡ true → clause_in n (ls ++ l ∷ []) ≡ true
-clause_in-push n [] l h k = and_from _ _ k refl
-clause_in-push n (m ∷ ls) l h k = (let p = and_parts _ _ h in and_from _ _ p.0 (clause_in-push n ls l p.1 k))
+pub is_clause_over-push : (n : ℕ) (ls : List Literal) (l : Literal) → is_clause_over n ls ≡ true → is_lit_over n l ≡ true → is_clause_over n (ls ++ l ∷ []) ≡ true
+is_clause_over-push n [] l h k = and_from _ _ k refl
+is_clause_over-push n (m ∷ ls) l h k = (let p = and_parts _ _ h in and_from _ _ p.0 (is_clause_over-push n ls l p.1 k))
 
-pub clause_in-front : (n : ℕ) (ls : List Literal) (l : Literal) → clause_in n (ls ++ l ∷ []) ≡ true → (clause_in n ls ≡ true) × (lit_in n l ≡ true)
-clause_in-front n [] l h = (refl, (and_parts _ _ h).0)
-clause_in-front n (m ∷ ls) l h =
+pub is_clause_over-front : (n : ℕ) (ls : List Literal) (l : Literal) → is_clause_over n (ls ++ l ∷ []) ≡ true → (is_clause_over n ls ≡ true) × (is_lit_over n l ≡ true)
+is_clause_over-front n [] l h = (refl, (and_parts _ _ h).0)
+is_clause_over-front n (m ∷ ls) l h =
     let p = and_parts _ _ h in
-    let r = clause_in-front n ls l p.1 in
+    let r = is_clause_over-front n ls l p.1 in
     (and_from _ _ p.0 r.0, r.1)
 
--- literals over different variables of 1 to n are at most n
+-- There are at most `n` of them.
 vars_of : List Literal → List ℕ
 vars_of ls = map (λ (l : Literal). l.var) ls
 
@@ -48,16 +47,16 @@ vars_apart (l ∷ ls) h =
     let p = and_parts _ _ h in
     IsDistinct-cons eqb l.var (map (λ (m : Literal). m.var) ls) (all_other l.var ls (not-true (has_var l.var ls) p.0)) (vars_apart ls p.1)
 
-var_below : (n q : ℕ) (ls : List Literal) → clause_in n ls ≡ true → list_any (eqb q) (map (λ (l : Literal). l.var) ls) ≡ true → q < n + 1
+var_below : (n q : ℕ) (ls : List Literal) → is_clause_over n ls ≡ true → list_any (eqb q) (map (λ (l : Literal). l.var) ls) ≡ true → q < n + 1
 var_below n q [] h s = absurd (cc)
 var_below n q (l ∷ ls) h s =
     let p = and_parts _ _ h in
     elim (or_cases (eqb q l.var) _ s) [
-      | inl e ↦ (let w = lit_in-parts n l p.0 in omega (arith, eqb-true q l.var e, w.1))
+      | inl e ↦ (let w = is_lit_over-parts n l p.0 in omega (arith, eqb-true q l.var e, w.1))
       | inr r ↦ var_below n q ls p.1 r
     ]
 
-pub count_of_vars : (n : ℕ) (ls : List Literal) → clause_in n ls ≡ true → vars_differ ls ≡ true → length ls ≤ n + 1
+pub count_of_vars : (n : ℕ) (ls : List Literal) → is_clause_over n ls ≡ true → vars_differ ls ≡ true → length ls ≤ n + 1
 count_of_vars n ls h d =
     let vs : List ℕ = map (λ (l : Literal). l.var) ls in
     let b : length vs ≤ n + 1 = length-le_from_distinct_below vs (n + 1) (vars_apart ls d) (λ q s. var_below n q ls h s) in

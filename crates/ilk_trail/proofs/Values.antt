@@ -1,14 +1,14 @@
--- The values, which stand by literal.
+-- The list of values, indexed by literal.
 use Rattle.std.proofs.Common.{◌≡◌, ◌≢◌, ℕ, ◌+◌, ◌*◌, ◌<◌, ◌≤◌, Bool, true, false, if◌then◌else◌, List, length, get_or, set, sym, subst, ◌∙◌, arith, Option, None}
 use Rattle.std.specs.Bool.{beq}
 use Rattle.std.proofs.lemmas.List.{get_or-set_same, get_or-set_other}
 use Rattle.std.proofs.Math.ListN.{length-set}
-use Rattle.ilk_cnf.specs.Literal.{Literal, opposite}
+use Rattle.ilk_cnf.specs.Literal.{Literal, negated_lit}
 use Rattle.ilk_cnf.specs.Code.{code_of}
 
--- the values with f true at literal l, and f false at its opposite
+-- The values with `f true` at literal `l` and `f false` at its opposite.
 abbrev pub set_both : List (Option Bool) → Literal → (Bool → Option Bool) → List (Option Bool)
-set_both values l f = set (set values (code_of l) (f true)) (code_of (opposite l)) (f false)
+set_both values l f = set (set values (code_of l) (f true)) (code_of (negated_lit l)) (f false)
 
 pub length-set_both : (values : List (Option Bool)) (l : Literal) (f : Bool → Option Bool) → length (set_both values l f) ≡ length values
 length-set_both values l f = simp length-set
@@ -23,13 +23,11 @@ code-below l n h = omega (arith, h, bit-small l.positive)
 codes-differ : (l m : Literal) → m.var ≢ l.var → code_of m ≢ code_of l
 codes-differ l m n q = n (omega (arith, q, bit-small l.positive, bit-small m.positive))
 
--- the values of other variables stay
 pub set_both-other : (values : List (Option Bool)) (l m : Literal) (f : Bool → Option Bool) → m.var ≢ l.var → get_or (set_both values l f) (code_of m) None ≡ get_or values (code_of m) None
 set_both-other values l m f n =
-    get_or-set_other (set values (code_of l) (f true)) (code_of (opposite l)) (code_of m) (f false) None (codes-differ (opposite l) m n)
+    get_or-set_other (set values (code_of l) (f true)) (code_of (negated_lit l)) (code_of m) (f false) None (codes-differ (negated_lit l) m n)
     ∙ get_or-set_other values (code_of l) (code_of m) (f true) None (codes-differ l m n)
 
--- what each literal of the variable then has
 both-signs : (values : List (Option Bool)) (v : ℕ) (b c : Bool) (f : Bool → Option Bool) → 2 * v + 1 < length values → get_or (set_both values (record { var = v; positive = b }) f) (code_of (record { var = v; positive = c })) None ≡ f (beq b c)
 both-signs values v true true f h = get_or-set_other (set values (2 * v + 1) (f true)) (2 * v + 0) (2 * v + 1) (f false) None (λ q. absurd (omega (arith, q))) ∙ get_or-set_same values (2 * v + 1) (f true) None (omega (arith, h))
 both-signs values v true false f h = (let k : length (set values (2 * v + 1) (f true)) ≡ length values = simp length-set in get_or-set_same (set values (2 * v + 1) (f true)) (2 * v + 0) (f false) None (omega (arith, h, k)))

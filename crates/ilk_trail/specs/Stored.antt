@@ -1,4 +1,4 @@
--- Only proofs need this file: how the fields of a trail hold its entries.
+-- Used only in proofs: the relation between a trail's fields and its entries.
 use Rattle.std.specs.Prelude.{ℕ, ◌≡◌, ◌+◌, ◌*◌, ◌≤◌, Bool, List, Option, Some, length, slice_get, slice_index_or, None}
 use Rattle.ilk_cnf.specs.Literal.{Literal}
 use Rattle.ilk_cnf.specs.Code.{code_of}
@@ -6,8 +6,9 @@ use Rattle.ilk_trail.specs.declared.entry.Entry.{Entry}
 use Rattle.ilk_trail.specs.Trail.{TrailList, value_of_literal}
 use Rattle.ilk_trail.specs.Laws.{IsTrail}
 
--- the values of the literals, each at its number, and the places of the variables, which have room
--- for one variable more than there are, and the entries with the room that they have
+-- Holds if the fields store the trail `t`: each literal's value at its number, and each entry's
+-- index at its variable. Both lists have space for one extra variable, as do the entries with
+-- capacity `room`.
 pub record Stored (values : List (Option Bool)) (places : List ℕ) (t : TrailList) (room : ℕ) : Type 0 where
   pub values_long : length values ≡ 2 * (t.vars + 1)
   pub places_long : length places ≡ t.vars + 1

@@ -1,7 +1,6 @@
 use ilk_cnf::Lit;
 
-/// A literal that is set: the level at which it was set, and the clause that forced it. A literal
-/// that was decided has no reason.
+/// A literal that is set, with its level and the clause that forced it. A decision has no reason.
 #[derive(Clone, Copy)]
 pub struct Entry {
     pub lit: Lit,

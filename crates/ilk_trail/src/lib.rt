@@ -1,16 +1,16 @@
-//! The trail of a search: the literals that are set, in the order in which they were set, each with
-//! the level at which it was set and the clause that forced it.
+//! The trail of a search: the literals that are set, in the order of assignment, each with its
+//! level and the clause that forced it.
 //!
-//! A search asks the value of a literal far more often than anything else, so each literal's value
-//! is a byte of its own; where the entry of a variable stands in the list is kept beside it. All
-//! room is taken by `new`, so that no later call can fail.
+//! The most frequent operation of a search is to read a literal's value. So each literal's value
+//! has its own byte, and the index of each variable's entry is stored beside it. `new` allocates
+//! all memory, so no later call can fail.
 //!
-//! Levels, and a reason for each literal that is forced, are those of J. P. Marques-Silva and
-//! K. A. Sakallah, "GRASP: a new search algorithm for satisfiability", ICCAD 1996.
+//! Levels and reasons follow J. P. Marques-Silva and K. A. Sakallah, "GRASP: a new search algorithm
+//! for satisfiability", ICCAD 1996.
 //!
-//! `decide` opens a level and `assign` adds to it what a clause forces; `back_to` takes levels off
-//! again. `value`, `level_of` and `reason` ask about a literal, `count` and `at` go through the
-//! entries from the earliest on.
+//! `decide` opens a level, `assign` adds a forced literal to it, and `back_to` removes levels.
+//! `value`, `level_of` and `reason` query a literal; `count` and `at` iterate over the entries,
+//! earliest first.
 #![tactic(auto)]
 
 mod entry;

@@ -1,20 +1,20 @@
 ghost use Rattle.std.specs.Prelude.{◌≡◌, ◌≤◌, ◌<◌, ◌+◌, ◌^◌, ℕ, Bool, true, false, Some, [], ◌∷◌, ◌++◌, length, slice_get, option_map, IfOk, IsTrue};
 ghost use Rattle.ilk_cnf.specs.Code.{code_of};
-ghost use Rattle.ilk_cnf.specs.Formula.{lit_in};
-ghost use Rattle.ilk_trail.specs.Trail.{assigned, decided, entry_of, level_of, up_to, value_of_literal};
-ghost use Rattle.ilk_trail.specs.Laws.{IsTrail, is_level_next, is_set};
+ghost use Rattle.ilk_cnf.specs.Formula.{is_lit_over};
+ghost use Rattle.ilk_trail.specs.Trail.{with_assignment, with_decision, entry_of, level_of, entries_up_to, value_of_literal};
+ghost use Rattle.ilk_trail.specs.Laws.{IsTrail, is_next_level, is_set};
 
 use crate::entry::Entry;
 use ilk_cnf::Lit;
 use std::alloc::{AllocError, Global};
 use std::marker::Model;
 
-/// The literals that are set, in the order in which they were set.
+/// The literals that are set, in the order of assignment.
 #[derive(Drop)]
 pub struct Trail {
-    // by literal: whether it is true, where its variable is set
+    // By literal: whether it is true, or `None` if its variable is unset.
     values: Vec<Option<bool>>,
-    // by variable: where its entry stands, where it is set
+    // By variable: the index of its entry, if it is set.
     places: Vec<u64>,
     entries: Vec<Entry>,
 }
@@ -34,7 +34,7 @@ impl Model for Trail {
 }
 
 impl Trail {
-    /// A trail over the variables 1 to `vars`, without entries.
+    /// Creates an empty trail over the variables 1 to `vars`. Fails only if memory runs out.
     pub fn new(alloc: Global, vars: u64) -> Result<Trail, AllocError>
         requires { vars ≤ 2 ^ 62 }
         ensures { IfOk result (λ t. t ≡ record { vars = vars; entries = [] }) }
@@ -47,15 +47,15 @@ impl Trail {
         })
     }
 
-    /// Whether `l` is true, or `None` where its variable is unset.
+    /// Returns whether `l` is true, or `None` if its variable is unset.
     pub fn value(&self, l: Lit) -> Option<bool>
-        requires { IsTrue (lit_in self.now.vars l) }
+        requires { IsTrue (is_lit_over self.now.vars l) }
         ensures { result ≡ value_of_literal self.now.entries l }
     {
         self.values[place_of(l)]
     }
 
-    /// The current level.
+    /// Returns the current level.
     pub fn level(&self) -> u64
         ensures level { result ≡ level_of self.now.entries }
         ensures is_trail { IsTrail self.now }
@@ -66,27 +66,27 @@ impl Trail {
         }
     }
 
-    /// The level of the entry with the variable of `l`.
+    /// Returns the level of the entry for the variable of `l`.
     pub fn level_of(&self, l: Lit) -> u64
-        requires within { IsTrue (lit_in self.now.vars l) }
+        requires within { IsTrue (is_lit_over self.now.vars l) }
         requires set { IsTrue (is_set self.now.entries l.var) }
         ensures { option_map (λ e. e.level) (entry_of self.now.entries l.var) ≡ Some result }
     {
         self.entry_of(l).level
     }
 
-    /// The reason of the entry with the variable of `l`, or `None` where it was decided.
+    /// Returns the reason of the entry for the variable of `l`, or `None` if it was decided.
     pub fn reason(&self, l: Lit) -> Option<u64>
-        requires within { IsTrue (lit_in self.now.vars l) }
+        requires within { IsTrue (is_lit_over self.now.vars l) }
         requires set { IsTrue (is_set self.now.entries l.var) }
         ensures { option_map (λ e. e.reason) (entry_of self.now.entries l.var) ≡ Some result }
     {
         self.entry_of(l).reason
     }
 
-    // The entry with the variable of `l`.
+    // Returns the entry for the variable of `l`.
     fn entry_of(&self, l: Lit) -> Entry
-        requires within { IsTrue (lit_in self.now.vars l) }
+        requires within { IsTrue (is_lit_over self.now.vars l) }
         requires set { IsTrue (is_set self.now.entries l.var) }
         ensures { entry_of self.now.entries l.var ≡ Some result }
     {
@@ -94,7 +94,7 @@ impl Trail {
         self.entries[place as usize]
     }
 
-    /// How many entries there are.
+    /// Returns the number of entries.
     pub fn count(&self) -> u64
         ensures count { result ≡ length self.now.entries }
         ensures is_trail { IsTrail self.now }
@@ -102,7 +102,7 @@ impl Trail {
         self.entries.len() as u64
     }
 
-    /// The literal of entry `i`.
+    /// Returns the literal of entry `i`.
     pub fn at(&self, i: u64) -> Lit
         requires { i < length self.now.entries }
         ensures { option_map (λ e. e.lit) (slice_get self.now.entries i) ≡ Some result }
@@ -110,11 +110,11 @@ impl Trail {
         self.entries[i as usize].lit
     }
 
-    /// Opens the next level, and adds `l` to it without a reason.
+    /// Opens the next level and adds `l` to it without a reason.
     pub fn decide(&mut self, l: Lit)
-        requires within { IsTrue (lit_in self.old.vars l) }
+        requires within { IsTrue (is_lit_over self.old.vars l) }
         requires unset { is_set self.old.entries l.var ≡ false }
-        ensures { self.new ≡ record self.old { entries = decided self.old.entries l } }
+        ensures { self.new ≡ record self.old { entries = with_decision self.old.entries l } }
     {
         self.add(Entry {
             lit: l,
@@ -125,9 +125,12 @@ impl Trail {
 
     /// Adds `l` at the current level, forced by the clause `reason`.
     pub fn assign(&mut self, l: Lit, reason: u64)
-        requires within { IsTrue (lit_in self.old.vars l) }
+        requires within { IsTrue (is_lit_over self.old.vars l) }
         requires unset { is_set self.old.entries l.var ≡ false }
-        ensures { self.new ≡ record self.old { entries = assigned self.old.entries l reason } }
+        ensures { self.new ≡ record self.old {
+          entries =
+              with_assignment self.old.entries l reason;
+        } }
     {
         self.add(Entry {
             lit: l,
@@ -136,10 +139,13 @@ impl Trail {
         });
     }
 
-    /// Takes off the levels above `level`.
+    /// Removes the levels above `level`.
     pub fn back_to(&mut self, level: u64)
         requires { level ≤ level_of self.old.entries }
-        ensures entries { self.new ≡ record self.old { entries = up_to level self.old.entries } }
+        ensures entries { self.new ≡ record self.old {
+          entries =
+              entries_up_to level self.old.entries;
+        } }
         ensures level { level_of self.new.entries ≡ level }
     {
         while self.level() > level {
@@ -147,11 +153,10 @@ impl Trail {
         }
     }
 
-    // Adds an entry.
     fn add(&mut self, entry: Entry)
-        requires within { IsTrue (lit_in self.old.vars entry.lit) }
+        requires within { IsTrue (is_lit_over self.old.vars entry.lit) }
         requires unset { is_set self.old.entries entry.lit.var ≡ false }
-        requires level { IsTrue (is_level_next (level_of self.old.entries) entry) }
+        requires level { IsTrue (is_next_level (level_of self.old.entries) entry) }
         ensures { self.new ≡ record self.old { entries = self.old.entries ++ entry ∷ [] } }
     {
         self.values[place_of(entry.lit)] = Some(true);
@@ -161,7 +166,7 @@ impl Trail {
         self.entries.push(entry).unwrap();
     }
 
-    // Takes off the last entry.
+    // Removes and returns the last entry.
     fn take_last(&mut self) -> Entry
         requires { 0 < length self.old.entries }
         ensures { self.old ≡ record self.new { entries = self.new.entries ++ result ∷ [] } }
@@ -173,7 +178,7 @@ impl Trail {
     }
 }
 
-// Where the value of `l` stands.
+// Returns the index of the value of `l`.
 fn place_of(l: Lit) -> usize
     requires { l.var ≤ 2 ^ 62 }
     ensures { result ≡ code_of l }

@@ -1,4 +1,5 @@
--- Copies of a system's values: exactly one assignment for each list of value lists in range, and their literals say these.
+-- Copies have exactly one assignment for each list of value lists in range, and their literals say
+-- these values.
 use Rattle.std.proofs.Common.{◌≡◌, ℕ, ◌+◌, ◌*◌, ◌<◌, ◌≤◌, zero, suc, Bool, true, List, [], ◌∷◌, ◌++◌, length, get_or, slice_get, Some, refl, sym, ap, ◌∙◌, subst, arith, append_assoc}
 use Rattle.std.specs.List.{list_all}
 use Rattle.std.specs.Prelude.{sum}
@@ -10,30 +11,30 @@ use Rattle.std.proofs.Math.Nat.{suc-mul}
 use Rattle.std.proofs.lemmas.Option.{same_Some}
 use Rattle.ilk_base.proofs.Tested.{list_all-slice_get}
 use Rattle.ilk_cnf.specs.Literal.{Literal}
-use Rattle.ilk_cnf.specs.Formula.{Formula, grown, clause_in, clauses_in}
-use Rattle.ilk_cnf.specs.Truth.{some_true, satisfies}
-use Rattle.ilk_cnf.specs.Extends.{Extends, Only, Then}
+use Rattle.ilk_cnf.specs.Formula.{Formula, with_clauses, is_clause_over, are_clauses_over}
+use Rattle.ilk_cnf.specs.Truth.{is_clause_true, satisfies}
+use Rattle.ilk_cnf.specs.Extends.{Extends, IsExactly, FollowedBy}
 use Rattle.ilk_cnf.specs.Part.{Part, as_clauses}
-use Rattle.ilk_cnf.proofs.Literals.{clauses_in-more}
+use Rattle.ilk_cnf.proofs.Literals.{are_clauses_over-more}
 use Rattle.ilk_cnf.proofs.Parts.{in_turn, in_words}
 use Rattle.ilk_cnf.proofs.Extending.{no_more_if, only_from_if}
 use Rattle.ilk_cnf.proofs.Gates.{grown_more}
 use Rattle.ilk_ir.specs.System.{in_ranges}
 use Rattle.ilk_ir.specs.Tree.{Tree, tree_valid}
-use Rattle.ilk_copy.specs.declared.copy.Column.{Column}
-use Rattle.ilk_copy.specs.Copy.{copy_part, copy_width, copy_bits, IsCopy, LiteralsSay}
-use Rattle.ilk_copy.proofs.ColumnLaw.{ranges_fit, copy-low, copy-in}
-use Rattle.ilk_copy.proofs.CopyLaw.{copy-law}
-use Rattle.ilk_copy.proofs.CopyFew.{copy-few}
-use Rattle.ilk_copy.proofs.CopyWidth.{copy-end}
-use Rattle.ilk_copy.proofs.CopySays.{copy-say}
+use Rattle.ilk_forms.specs.declared.copy.Column.{Column}
+use Rattle.ilk_forms.specs.Copy.{copy_part, copy_var_count, copy_bits, IsCopy, LiteralsEncode}
+use Rattle.ilk_forms.proofs.ColumnLaw.{ranges_fit, copy-low, copy-in}
+use Rattle.ilk_forms.proofs.CopyLaw.{copy-law}
+use Rattle.ilk_forms.proofs.CopyFew.{copy-few}
+use Rattle.ilk_forms.proofs.CopyWidth.{copy-end}
+use Rattle.ilk_forms.proofs.CopySays.{copy-say}
 use Rattle.ilk_forms.specs.Leaf.{columns_in, ranges_of}
 use Rattle.ilk_forms.proofs.Reading.{columns_in-more}
 use Rattle.ilk_forms.proofs.CopyTable.{copy-lits_in, copy-ranges}
 use Rattle.ilk_step.proofs.StepLaw.{says-left}
 use Rattle.ilk_unroll.specs.Query.{copies_part}
 use Rattle.ilk_unroll.specs.Assignment.{copies_bits}
-use Rattle.ilk_unroll.specs.Tables.{tables_in, valid_in, HaveRanges}
+use Rattle.ilk_unroll.specs.Tables.{tables_in, is_valid_in_each, HaveRanges}
 
 pub copies-low : (count : ℕ) (ranges : List ℕ) (n : ℕ) → n ≤ (copies_part ranges count n).part.vars
 copies-low zero ranges n = omega arith
@@ -42,12 +43,12 @@ copies-low (suc count) ranges n =
     let one = copy-low ranges (copies_part ranges count n).part.vars in
     omega arith
 
-pub copies-in : (count : ℕ) (ranges : List ℕ) (n : ℕ) → ranges_fit ranges ≡ true → clauses_in (copies_part ranges count n).part.vars (copies_part ranges count n).part.clauses ≡ true
+pub copies-in : (count : ℕ) (ranges : List ℕ) (n : ℕ) → ranges_fit ranges ≡ true → are_clauses_over (copies_part ranges count n).part.vars (copies_part ranges count n).part.clauses ≡ true
 copies-in zero ranges n fit = refl
 copies-in (suc count) ranges n fit =
     let later = (copies_part ranges count n).part in
     let p = (copy_part ranges later.vars).part in
-    list_all-append (clause_in p.vars) p.clauses later.clauses ∙ and_from _ _ (copy-in ranges later.vars fit) (clauses_in-more later.vars p.vars later.clauses (copy-low ranges later.vars) (copies-in count ranges n fit))
+    list_all-append (is_clause_over p.vars) p.clauses later.clauses ∙ and_from _ _ (copy-in ranges later.vars fit) (are_clauses_over-more later.vars p.vars later.clauses (copy-low ranges later.vars) (copies-in count ranges n fit))
 
 pub tables_in-more : (m n : ℕ) (tables : List (List Column)) → m ≤ n → tables_in m tables ≡ true → tables_in n tables ≡ true
 tables_in-more m n [] le h = refl
@@ -70,32 +71,28 @@ pub copies-many : (count : ℕ) (ranges : List ℕ) (n : ℕ) → length (copies
 copies-many zero ranges n = refl
 copies-many (suc count) ranges n = ap suc (copies-many count ranges n)
 
--- a form that is valid over the ranges is so over each copy
-pub valid_in-from : (ranges : List ℕ) (tables : List (List Column)) (t : Tree) → HaveRanges ranges tables → tree_valid ranges t ≡ true → valid_in tables t ≡ true
-valid_in-from ranges [] t h k = refl
-valid_in-from ranges (table ∷ tables) t h k = and_from _ _ (ap (λ (rs : List ℕ). tree_valid rs t) h.0 ∙ k) (valid_in-from ranges tables t h.1 k)
+pub is_valid_in_each-from : (ranges : List ℕ) (tables : List (List Column)) (t : Tree) → HaveRanges ranges tables → tree_valid ranges t ≡ true → is_valid_in_each tables t ≡ true
+is_valid_in_each-from ranges [] t h k = refl
+is_valid_in_each-from ranges (table ∷ tables) t h k = and_from _ _ (ap (λ (rs : List ℕ). tree_valid rs t) h.0 ∙ k) (is_valid_in_each-from ranges tables t h.1 k)
 
--- whether each value list is in range
 abbrev pub all_in_ranges : List ℕ → List (List ℕ) → Bool
 all_in_ranges ranges run = list_all (λ values. in_ranges values ranges) run
 
--- the variables of so many copies with value lists in range
 abbrev pub AreCopies : ℕ → List ℕ → List Bool → Type 0
 AreCopies count ranges b = (run : List (List ℕ)) × (length run ≡ count) × (all_in_ranges ranges run ≡ true) × (b ≡ copies_bits ranges run)
 
--- the order of clauses changes nothing
 satisfies-order : (a : List Bool) (cs ds : List (List Literal)) → satisfies a (cs ++ ds) ≡ satisfies a (ds ++ cs)
-satisfies-order a cs ds = list_all-append (some_true a) cs ds ∙ and_comm (satisfies a cs) (satisfies a ds) ∙ sym (list_all-append (some_true a) ds cs)
+satisfies-order a cs ds = list_all-append (is_clause_true a) cs ds ∙ and_comm (satisfies a cs) (satisfies a ds) ∙ sym (list_all-append (is_clause_true a) ds cs)
 
 in_order : (a : List Bool) (m : ℕ) (cs ds : List (List Literal)) (E : List Bool → Type 0) → Extends a m (cs ++ ds) E → Extends a m (ds ++ cs) E
 in_order a m cs ds E h = record {
   sized = h.sized;
-  does = λ b e. satisfies-order (a ++ b) ds cs ∙ h.does b e;
+  all_satisfy = λ b e. satisfies-order (a ++ b) ds cs ∙ h.all_satisfy b e;
   only = λ b long met. h.only b long (satisfies-order (a ++ b) cs ds ∙ met);
 }
 
 pub copies-law : (count : ℕ) (ranges : List ℕ) (a : List Bool) (n : ℕ) → length a ≡ n → ranges_fit ranges ≡ true → Extends a (copies_part ranges count n).part.vars (copies_part ranges count n).part.clauses (AreCopies count ranges)
-copies-law zero ranges a n size fit = in_words a n [] (Only []) (AreCopies zero ranges) (λ b h. ([], refl, refl, h)) (λ b h. none b h.0 h.1 h.3) (only_from_if a n [] [] (no_more_if a n [] true size refl))
+copies-law zero ranges a n size fit = in_words a n [] (IsExactly []) (AreCopies zero ranges) (λ b h. ([], refl, refl, h)) (λ b h. none b h.0 h.1 h.3) (only_from_if a n [] [] (no_more_if a n [] true size refl))
   where
     none : (b : List Bool) (run : List (List ℕ)) → length run ≡ zero → b ≡ copies_bits ranges run → b ≡ []
     none b [] h e = e
@@ -116,24 +113,23 @@ copies-law (suc count) ranges a n size fit =
     one : Part
     one = (copy_part ranges later.vars).part
 
-    to : (b : List Bool) → Then (AreCopies count ranges) (λ b _. IsCopy ranges) b → AreCopies (suc count) ranges b
+    to : (b : List Bool) → FollowedBy (AreCopies count ranges) (λ b _. IsCopy ranges) b → AreCopies (suc count) ranges b
     to b h =
         (h.4.0 ∷ h.3.0, ap suc h.3.1, and_from _ _ h.4.1 h.3.2, h.2 ∙ ap (λ (u : List Bool). u ++ h.1) h.3.3 ∙ ap (λ (u : List Bool). copies_bits ranges h.3.0 ++ u) h.4.2)
 
-    split : (b : List Bool) (run : List (List ℕ)) → length run ≡ suc count → all_in_ranges ranges run ≡ true → b ≡ copies_bits ranges run → Then (AreCopies count ranges) (λ b _. IsCopy ranges) b
+    split : (b : List Bool) (run : List (List ℕ)) → length run ≡ suc count → all_in_ranges ranges run ≡ true → b ≡ copies_bits ranges run → FollowedBy (AreCopies count ranges) (λ b _. IsCopy ranges) b
     split b [] l r e = absurd (omega arith)
     split b (values ∷ run) l r e =
         let parts = and_parts (in_ranges values ranges) (all_in_ranges ranges run) r in
         (copies_bits ranges run, copy_bits ranges values, e, (run, (omega arith), parts.1, refl), (values, parts.0, refl))
 
--- the literals of a copy of n variables' formula say its values
+-- Holds if the literals of a copy say its values, in a formula of `n` variables.
 pub record TableSays (a : List Bool) (n : ℕ) (ranges : List ℕ) (table : List Column) (values : List ℕ) : Type 0 where
   pub within : columns_in n table ≡ true
   pub has_ranges : ranges_of table ≡ ranges
-  pub says : LiteralsSay a table ranges values
+  pub says : LiteralsEncode a table ranges values
   pub in_range : in_ranges values ranges ≡ true
 
--- those of each copy
 abbrev pub TablesSay : List Bool → ℕ → List ℕ → List (List Column) → List (List ℕ) → Type 0
 TablesSay a n ranges [] [] = Unit {0}
 TablesSay a n ranges [] (values ∷ run) = ⊥
@@ -176,13 +172,12 @@ copies-say (suc count) ranges (values ∷ run) a n size fit l h =
     let first : TableSays (a ++ (b ++ c)) p.part.vars ranges p.columns values = record {
       within = copy-lits_in ranges m fit;
       has_ranges = copy-ranges ranges m;
-      says = subst (λ (u : List Bool). LiteralsSay u p.columns ranges values) bare (copy-say ranges values (a ++ b) [] m long fit parts.0);
+      says = subst (λ (u : List Bool). LiteralsEncode u p.columns ranges values) bare (copy-say ranges values (a ++ b) [] m long fit parts.0);
       in_range = parts.0;
     } in
     let rest = tables_say-more later.tables run (a ++ b) c m p.part.vars ranges long (copy-low ranges m) (copies-say count ranges run a n size fit many parts.1) in
     (first, subst (λ (u : List Bool). TablesSay u p.part.vars ranges later.tables run) whole rest)
 
--- the copy with a number
 pub table-at :
     (tables : List (List Column)) (run : List (List ℕ)) (a : List Bool) (n : ℕ) (ranges : List ℕ) (j : ℕ) →
     TablesSay a n ranges tables run → j < length tables →
@@ -192,21 +187,18 @@ table-at (table ∷ tables) [] a n ranges j h less = absurd h
 table-at (table ∷ tables) (values ∷ run) a n ranges zero h less = (h.0, refl)
 table-at (table ∷ tables) (values ∷ run) a n ranges (suc j) h less = table-at tables run a n ranges j h.1 (omega arith)
 
--- one more of so many
 pub one-more : (i w : ℕ) → (i + 1) * w ≡ i * w + w
 one-more i w = (let is : i + 1 ≡ suc i = omega arith in ap (λ (k : ℕ). k * w) is ∙ suc-mul i w)
 
--- where the copies end
-pub copies-end : (count : ℕ) (ranges : List ℕ) (n : ℕ) → (copies_part ranges count n).part.vars ≡ n + count * copy_width ranges
+pub copies-end : (count : ℕ) (ranges : List ℕ) (n : ℕ) → (copies_part ranges count n).part.vars ≡ n + count * copy_var_count ranges
 copies-end zero ranges n = omega arith
 copies-end (suc count) ranges n =
-    let w = copy_width ranges in
+    let w = copy_var_count ranges in
     let later = copies-end count ranges n in
     let one = copy-end ranges (copies_part ranges count n).part.vars in
     let more : suc count * w ≡ count * w + w = suc-mul count w in
     omega (arith, later, one, more)
 
--- at most two variables for each value
 pub copies-few : (count : ℕ) (ranges : List ℕ) (n : ℕ) → (copies_part ranges count n).part.vars ≤ n + 2 * (count * sum ranges)
 copies-few zero ranges n = omega arith
 copies-few (suc count) ranges n =
@@ -215,30 +207,27 @@ copies-few (suc count) ranges n =
     let more : suc count * sum ranges ≡ count * sum ranges + sum ranges = suc-mul count (sum ranges) in
     omega (arith, later, one, more)
 
--- the clauses of one copy more
 pub copies-step :
     (f g : Formula) (ranges : List ℕ) (tables whole : List (List Column)) (table : List Column)
     (i rest before : ℕ) → rest ≡ suc i →
-    before ≡ i * copy_width ranges → tables ++ (copies_part ranges rest 0).tables ≡ whole →
+    before ≡ i * copy_var_count ranges → tables ++ (copies_part ranges rest 0).tables ≡ whole →
     table ≡ (copy_part ranges before).columns →
-    g ≡ grown f f.vars (as_clauses (copy_part ranges before).part.clauses) →
+    g ≡ with_clauses f f.vars (as_clauses (copy_part ranges before).part.clauses) →
     ((tables ++ table ∷ []) ++ (copies_part ranges i 0).tables ≡ whole) ×
-    (grown g g.vars (as_clauses (copies_part ranges i 0).part.clauses)
-    ≡ grown f f.vars (as_clauses (copies_part ranges rest 0).part.clauses))
+    (with_clauses g g.vars (as_clauses (copies_part ranges i 0).part.clauses)
+    ≡ with_clauses f f.vars (as_clauses (copies_part ranges rest 0).part.clauses))
 copies-step f g ranges tables whole table i rest before left begins seen is made =
     let later = copies_part ranges i 0 in
     let at : before ≡ later.part.vars = omega (arith, begins, copies-end i ranges 0) in
     let one = copy_part ranges later.part.vars in
-    let here : g ≡ grown f f.vars (as_clauses one.part.clauses) = made ∙ ap (λ (k : ℕ). grown f f.vars (as_clauses (copy_part ranges k).part.clauses)) at in (
+    let here : g ≡ with_clauses f f.vars (as_clauses one.part.clauses) = made ∙ ap (λ (k : ℕ). with_clauses f f.vars (as_clauses (copy_part ranges k).part.clauses)) at in (
       append_assoc tables (table ∷ []) later.tables
           ∙ ap (λ (t : List Column). tables ++ t ∷ later.tables) (is ∙ ap (λ (k : ℕ). (copy_part ranges k).columns) at)
           ∙ ap (λ (k : ℕ). tables ++ (copies_part ranges k 0).tables) (sym left)
           ∙ seen,
-      grown_more f g (grown g g.vars (as_clauses later.part.clauses)) one.part.clauses later.part.clauses here refl
-          ∙ ap (λ (k : ℕ). grown f f.vars (as_clauses (copies_part ranges k 0).part.clauses)) (sym left),
+      grown_more f g (with_clauses g g.vars (as_clauses later.part.clauses)) one.part.clauses later.part.clauses here refl
+          ∙ ap (λ (k : ℕ). with_clauses f f.vars (as_clauses (copies_part ranges k 0).part.clauses)) (sym left),
     )
-
--- a copy of the list, by its number
 
 pub within-at : (tables : List (List Column)) (n j : ℕ) (table : List Column) → tables_in n tables ≡ true → slice_get tables j ≡ Some table → columns_in n table ≡ true
 within-at tables n j table h at = list_all-slice_get (columns_in n) tables j table h at
@@ -248,5 +237,5 @@ ranges-at [] ranges j table h at = absurd cc
 ranges-at (t ∷ tables) ranges zero table h at = ap ranges_of (sym (same_Some t table at)) ∙ h.0
 ranges-at (t ∷ tables) ranges (suc j) table h at = ranges-at tables ranges j table h.1 at
 
-pub valid-at : (tables : List (List Column)) (t : Tree) (j : ℕ) (table : List Column) → valid_in tables t ≡ true → slice_get tables j ≡ Some table → tree_valid (ranges_of table) t ≡ true
+pub valid-at : (tables : List (List Column)) (t : Tree) (j : ℕ) (table : List Column) → is_valid_in_each tables t ≡ true → slice_get tables j ≡ Some table → tree_valid (ranges_of table) t ≡ true
 valid-at tables t j table h at = list_all-slice_get (λ (table : List Column). tree_valid (ranges_of table) t) tables j table h at

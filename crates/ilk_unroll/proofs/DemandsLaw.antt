@@ -1,4 +1,4 @@
--- What is demanded of copies: exactly the value lists that meet it, and the new variables have one value each.
+-- The demands hold for exactly the value lists that meet them, and each new variable has one value.
 use Rattle.std.proofs.Common.{◌≡◌, ℕ, ◌+◌, ◌<◌, ◌≤◌, zero, suc, Bool, true, false, ◌&&◌, List, [], ◌∷◌, ◌++◌, length, map, cond, get_or, slice_get, Option, Some, refl, sym, ap, ◌∙◌, subst, arith, append_assoc}
 use Rattle.std.specs.List.{list_all, range_with_len, flat_map}
 use Rattle.std.specs.Prelude.{nat_lt}
@@ -10,15 +10,15 @@ use Rattle.ilk_base.proofs.Ranges.{range-more}
 use Rattle.ilk_base.specs.Option.{is_some_and}
 use Rattle.ilk_cnf.specs.Literal.{Literal}
 use Rattle.ilk_cnf.specs.Formula.{Formula}
-use Rattle.ilk_cnf.specs.Extends.{Extends, OnlyIf}
-use Rattle.ilk_cnf.specs.Part.{Part, nothing_at, with_part, and_then}
+use Rattle.ilk_cnf.specs.Extends.{Extends, IsExactlyIf}
+use Rattle.ilk_cnf.specs.Part.{Part, empty_part, with_part, and_then}
 use Rattle.ilk_cnf.proofs.Extending.{no_more_if}
 use Rattle.ilk_cnf.proofs.Gates.{with_part-and_then}
 use Rattle.ilk_ir.specs.Tree.{Tree, all_of, negation, trees, tree_holds, tree_valid}
 use Rattle.ilk_ir.proofs.Trees.{each_valid-trees}
-use Rattle.ilk_copy.specs.declared.copy.Column.{Column}
+use Rattle.ilk_forms.specs.declared.copy.Column.{Column}
 use Rattle.ilk_forms.specs.Leaf.{columns_in, ranges_of}
-use Rattle.ilk_forms.specs.Gathered.{same_truth}
+use Rattle.ilk_forms.specs.Gathered.{bool_equals}
 use Rattle.ilk_forms.specs.Demand.{demand_part}
 use Rattle.ilk_forms.specs.Truths.{demand_bits}
 use Rattle.ilk_forms.specs.Violated.{violated_part, violated_bits}
@@ -28,8 +28,8 @@ use Rattle.ilk_forms.proofs.FormViolated.{violated-fits, violated-law}
 use Rattle.ilk_step.proofs.RulesLaw.{then-fits, then-law}
 use Rattle.ilk_unroll.specs.declared.queries.Wanted.{Wanted}
 use Rattle.ilk_unroll.specs.declared.queries.Wanted.TheVariants.{Hazard, Breach, Step}
-use Rattle.ilk_unroll.specs.Goal.{GoalTree, Demanded, goal_valid, step_count, holds_in, fails_in, holds_below, demanded}
-use Rattle.ilk_unroll.specs.Run.{met_by}
+use Rattle.ilk_unroll.specs.Goal.{GoalTree, CopyDemand, goal_valid, step_count, must_hold_in, must_fail_in, must_hold_below, demands_of}
+use Rattle.ilk_unroll.specs.Run.{is_met_by}
 use Rattle.ilk_unroll.specs.Query.{table_at, demanded_part, demands_part}
 use Rattle.ilk_unroll.specs.Assignment.{demanded_bits, demands_bits}
 use Rattle.ilk_unroll.specs.Tables.{tables_in, HaveRanges}
@@ -38,11 +38,9 @@ use Rattle.ilk_unroll.proofs.CopiesLaw.{TablesSay, table-at, tables_say-more, ta
 same : (n : ℕ) → n ≤ n
 same n = omega arith
 
--- whether what is demanded speaks of one of so many copies, by a form that is valid over the ranges
-abbrev pub demanded_valid : List ℕ → ℕ → Demanded → Bool
+-- Returns whether a demand is on one of the copies, by a form that is valid over the ranges.
+abbrev pub demanded_valid : List ℕ → ℕ → CopyDemand → Bool
 demanded_valid ranges count d = nat_lt d.copy count && tree_valid ranges d.form
-
--- where the parts end
 
 holds-fits : (holds : Bool) (columns : List Column) (t : Tree) (n : ℕ) → columns_in n columns ≡ true → tree_valid (ranges_of columns) t ≡ true → PartFits n (cond holds (demand_part columns [] t n) (violated_part columns t n))
 holds-fits true columns t n h k = demand_of-fits t columns [] true n h refl k
@@ -58,41 +56,39 @@ table-ranges [] ranges j h less = absurd (omega arith)
 table-ranges (table ∷ tables) ranges zero h less = h.0
 table-ranges (table ∷ tables) ranges (suc j) h less = table-ranges tables ranges j h.1 (omega arith)
 
-demanded-fits : (tables : List (List Column)) (ranges : List ℕ) (d : Demanded) (n : ℕ) → tables_in n tables ≡ true → HaveRanges ranges tables → demanded_valid ranges (length tables) d ≡ true → PartFits n (demanded_part tables d n)
-demanded-fits tables ranges d n h r valid =
+demands_of-fits : (tables : List (List Column)) (ranges : List ℕ) (d : CopyDemand) (n : ℕ) → tables_in n tables ≡ true → HaveRanges ranges tables → demanded_valid ranges (length tables) d ≡ true → PartFits n (demanded_part tables d n)
+demands_of-fits tables ranges d n h r valid =
     let parts = and_parts (nat_lt d.copy (length tables)) (tree_valid ranges d.form) valid in
     let less : d.copy < length tables = ltb-true d.copy (length tables) parts.0 in
     holds-fits d.holds (table_at tables d.copy) d.form n (table-in tables n d.copy h less) (ap (λ (rs : List ℕ). tree_valid rs d.form) (table-ranges tables ranges d.copy r less) ∙ parts.1)
 
-pub demands-fits : (ds : List Demanded) (tables : List (List Column)) (ranges : List ℕ) (n : ℕ) →
+pub demands-fits : (ds : List CopyDemand) (tables : List (List Column)) (ranges : List ℕ) (n : ℕ) →
     tables_in n tables ≡ true → HaveRanges ranges tables →
     list_all (demanded_valid ranges (length tables)) ds ≡ true → PartFits n (demands_part tables ds n)
 demands-fits [] tables ranges n h r valid = record { low = same n; inside = refl }
 demands-fits (d ∷ ds) tables ranges n h r valid =
     let parts = and_parts (demanded_valid ranges (length tables) d) (list_all (demanded_valid ranges (length tables)) ds) valid in
     let p = demanded_part tables d n in
-    let one = demanded-fits tables ranges d n h r parts.0 in
+    let one = demands_of-fits tables ranges d n h r parts.0 in
     then-fits n p (demands_part tables ds) one (demands-fits ds tables ranges p.vars (tables_in-more n p.vars tables one.low h) r parts.1)
-
--- the laws
 
 holds-law :
     (holds : Bool) (columns : List Column) (ranges values : List ℕ) (t : Tree) (a : List Bool) (n : ℕ) →
     length a ≡ n → Reads a columns ranges values → tree_valid (ranges_of columns) t ≡ true →
     Extends a (cond holds (demand_part columns [] t n) (violated_part columns t n)).vars
     (cond holds (demand_part columns [] t n) (violated_part columns t n)).clauses
-    (OnlyIf (same_truth holds (tree_holds values t))
+    (IsExactlyIf (bool_equals holds (tree_holds values t))
     (cond holds (demand_bits ranges values t) (violated_bits ranges values t)))
 holds-law true columns ranges values t a n size r k = demand_of-law t columns ranges values [] true a n size r refl k
 holds-law false columns ranges values t a n size r k = violated-law t columns ranges values a n size r k
 
-demanded-law :
-    (tables : List (List Column)) (run : List (List ℕ)) (ranges : List ℕ) (d : Demanded) (a : List Bool)
+demands_of-law :
+    (tables : List (List Column)) (run : List (List ℕ)) (ranges : List ℕ) (d : CopyDemand) (a : List Bool)
     (n : ℕ) → length a ≡ n →
     TablesSay a n ranges tables run → demanded_valid ranges (length tables) d ≡ true →
     Extends a (demanded_part tables d n).vars (demanded_part tables d n).clauses
-    (OnlyIf (met_by run d) (demanded_bits ranges run d))
-demanded-law tables run ranges d a n size h valid =
+    (IsExactlyIf (is_met_by run d) (demanded_bits ranges run d))
+demands_of-law tables run ranges d a n size h valid =
     let parts = and_parts (nat_lt d.copy (length tables)) (tree_valid ranges d.form) valid in
     let less : d.copy < length tables = ltb-true d.copy (length tables) parts.0 in
     let at = table-at tables run a n ranges d.copy h less in
@@ -101,40 +97,38 @@ demanded-law tables run ranges d a n size h valid =
     let p = demanded_part tables d n in
     let says = at.0 in
     let law = holds-law d.holds table ranges values d.form a n size (reads a table ranges values n size says.within says.says says.in_range) (ap (λ (rs : List ℕ). tree_valid rs d.form) says.has_ranges ∙ parts.1) in
-    let met : same_truth d.holds (tree_holds values d.form) ≡ met_by run d = ap (λ (o : Option (List ℕ)). is_some_and o (λ ws. same_truth d.holds (tree_holds ws d.form))) (sym at.1) in
-    subst (λ (b : Bool). Extends a p.vars p.clauses (OnlyIf b (demanded_bits ranges run d))) met law
+    let met : bool_equals d.holds (tree_holds values d.form) ≡ is_met_by run d = ap (λ (o : Option (List ℕ)). is_some_and o (λ ws. bool_equals d.holds (tree_holds ws d.form))) (sym at.1) in
+    subst (λ (b : Bool). Extends a p.vars p.clauses (IsExactlyIf b (demanded_bits ranges run d))) met law
 
 pub demands-law :
-    (ds : List Demanded) (tables : List (List Column)) (run : List (List ℕ)) (ranges : List ℕ) (a : List Bool)
+    (ds : List CopyDemand) (tables : List (List Column)) (run : List (List ℕ)) (ranges : List ℕ) (a : List Bool)
     (n : ℕ) → length a ≡ n →
     tables_in n tables ≡ true → HaveRanges ranges tables → TablesSay a n ranges tables run →
     list_all (demanded_valid ranges (length tables)) ds ≡ true →
     Extends a (demands_part tables ds n).vars (demands_part tables ds n).clauses
-    (OnlyIf (list_all (met_by run) ds) (demands_bits ranges run ds))
+    (IsExactlyIf (list_all (is_met_by run) ds) (demands_bits ranges run ds))
 demands-law [] tables run ranges a n size inside r h valid = no_more_if a n [] true size refl
 demands-law (d ∷ ds) tables run ranges a n size inside r h valid =
     let parts = and_parts (demanded_valid ranges (length tables) d) (list_all (demanded_valid ranges (length tables)) ds) valid in
     let p = demanded_part tables d n in
     let e = demanded_bits ranges run d in
-    let one = demanded-fits tables ranges d n inside r parts.0 in
+    let one = demands_of-fits tables ranges d n inside r parts.0 in
     let more = tables_in-more n p.vars tables one.low inside in
-    then-law a e (demands_bits ranges run ds) (met_by run d) (list_all (met_by run) ds) n p
+    then-law a e (demands_bits ranges run ds) (is_met_by run d) (list_all (is_met_by run) ds) n p
     (demands_part tables ds) size one (demands-fits ds tables ranges p.vars more r parts.1)
-    (demanded-law tables run ranges d a n size h parts.0)
+    (demands_of-law tables run ranges d a n size h parts.0)
     (λ long. demands-law ds tables run ranges (a ++ e) p.vars long more r
     (tables_say-more tables run a e n p.vars ranges size one.low h) parts.1)
 
--- what a query demands is valid
-
-below-valid : (ranges : List ℕ) (count : ℕ) (t : Tree) (k start : ℕ) → start + k ≤ count → tree_valid ranges t ≡ true → list_all (demanded_valid ranges count) (map (λ j. holds_in j t) (range_with_len start k)) ≡ true
+below-valid : (ranges : List ℕ) (count : ℕ) (t : Tree) (k start : ℕ) → start + k ≤ count → tree_valid ranges t ≡ true → list_all (demanded_valid ranges count) (map (λ j. must_hold_in j t) (range_with_len start k)) ≡ true
 below-valid ranges count t zero start le h = refl
 below-valid ranges count t (suc k) start le h = and_from _ _ (and_from _ _ (lt-ltb start count (omega arith)) h) (below-valid ranges count t k (start + 1) (omega arith) h)
 
-each-below-valid : (ranges : List ℕ) (count : ℕ) (ts : List Tree) (k : ℕ) → k ≤ count → list_all (tree_valid ranges) ts ≡ true → list_all (demanded_valid ranges count) (flat_map (λ t. holds_below t k) ts) ≡ true
+each-below-valid : (ranges : List ℕ) (count : ℕ) (ts : List Tree) (k : ℕ) → k ≤ count → list_all (tree_valid ranges) ts ≡ true → list_all (demanded_valid ranges count) (flat_map (λ t. must_hold_below t k) ts) ≡ true
 each-below-valid ranges count [] k le h = refl
 each-below-valid ranges count (t ∷ ts) k le h =
     let parts = and_parts (tree_valid ranges t) (list_all (tree_valid ranges) ts) h in
-    list_all-append (demanded_valid ranges count) (holds_below t k) (flat_map (λ u. holds_below u k) ts) ∙ and_from _ _ (below-valid ranges count t k 0 (omega arith) parts.0) (each-below-valid ranges count ts k le parts.1)
+    list_all-append (demanded_valid ranges count) (must_hold_below t k) (flat_map (λ u. must_hold_below u k) ts) ∙ and_from _ _ (below-valid ranges count t k 0 (omega arith) parts.0) (each-below-valid ranges count ts k le parts.1)
 
 pub record GoalValid (ranges : List ℕ) (g : GoalTree) : Type 0 where
   pub start : tree_valid ranges g.start ≡ true
@@ -155,39 +149,37 @@ goal-valid ranges g h =
 one-valid : (ranges : List ℕ) (count j : ℕ) (t : Tree) (holds : Bool) → j < count → tree_valid ranges t ≡ true → demanded_valid ranges count (record { copy = j; form = t; holds = holds }) ≡ true
 one-valid ranges count j t holds less h = and_from _ _ (lt-ltb j count less) h
 
-pub demanded-valid : (ranges : List ℕ) (g : GoalTree) (q : Wanted) → goal_valid ranges g ≡ true → list_all (demanded_valid ranges (suc (step_count q))) (demanded g q) ≡ true
-demanded-valid ranges g (Hazard n) h =
+pub demands_of-valid : (ranges : List ℕ) (g : GoalTree) (q : Wanted) → goal_valid ranges g ≡ true → list_all (demanded_valid ranges (suc (step_count q))) (demands_of g q) ≡ true
+demands_of-valid ranges g (Hazard n) h =
     let k = goal-valid ranges g h in
     and_from _ _ (one-valid ranges (suc n) 0 g.start true (omega arith) k.start)
-    (list_all-append (demanded_valid ranges (suc n)) (holds_below g.wellformed n)
-    (holds_in n g.hazard ∷ [])
+    (list_all-append (demanded_valid ranges (suc n)) (must_hold_below g.wellformed n)
+    (must_hold_in n g.hazard ∷ [])
     ∙ and_from _ _ (below-valid ranges (suc n) g.wellformed n 0 (omega arith) k.wellformed)
     (and_from _ _ (one-valid ranges (suc n) n g.hazard true (omega arith) k.hazard) refl))
-demanded-valid ranges g (Breach n) h =
+demands_of-valid ranges g (Breach n) h =
     let k = goal-valid ranges g h in
     and_from _ _ (one-valid ranges (suc n) 0 g.start true (omega arith) k.start)
-    (list_all-append (demanded_valid ranges (suc n)) (holds_below g.wellformed (n + 1))
-    (fails_in n (all_of (trees g.families)) ∷ [])
+    (list_all-append (demanded_valid ranges (suc n)) (must_hold_below g.wellformed (n + 1))
+    (must_fail_in n (all_of (trees g.families)) ∷ [])
     ∙ and_from _ _ (below-valid ranges (suc n) g.wellformed (n + 1) 0 (omega arith) k.wellformed)
     (and_from _ _
     (one-valid ranges (suc n) n (all_of (trees g.families)) false (omega arith) k.kept) refl))
-demanded-valid ranges g (Step n) h =
+demands_of-valid ranges g (Step n) h =
     let k = goal-valid ranges g h in
     let test = demanded_valid ranges (suc n) in
-    let last = fails_in n (all_of (trees (negation g.hazard ∷ g.families))) ∷ [] in
-    let families = flat_map (λ t. holds_below t n) g.families in
-    list_all-append test (holds_below g.wellformed n ++ families) last
+    let last = must_fail_in n (all_of (trees (negation g.hazard ∷ g.families))) ∷ [] in
+    let families = flat_map (λ t. must_hold_below t n) g.families in
+    list_all-append test (must_hold_below g.wellformed n ++ families) last
     ∙ and_from _ _
-    (list_all-append test (holds_below g.wellformed n) families
+    (list_all-append test (must_hold_below g.wellformed n) families
     ∙ and_from _ _ (below-valid ranges (suc n) g.wellformed n 0 (omega arith) k.wellformed)
     (each-below-valid ranges (suc n) g.families n (omega arith) k.families))
     (and_from _ _
     (one-valid ranges (suc n) n (all_of (trees (negation g.hazard ∷ g.families))) false
     (omega arith) k.safe) refl)
 
--- one demand after another
-
-demands-append : (xs ys : List Demanded) (tables : List (List Column)) (n : ℕ) → demands_part tables (xs ++ ys) n ≡ and_then (demands_part tables xs n) (demands_part tables ys)
+demands-append : (xs ys : List CopyDemand) (tables : List (List Column)) (n : ℕ) → demands_part tables (xs ++ ys) n ≡ and_then (demands_part tables xs n) (demands_part tables ys)
 demands-append [] ys tables n = refl
 demands-append (x ∷ xs) ys tables n =
     let p = demanded_part tables x n in
@@ -196,29 +188,27 @@ demands-append (x ∷ xs) ys tables n =
     ap (λ (u : Part). record { vars = u.vars; clauses = p.clauses ++ u.clauses }) (demands-append xs ys tables p.vars)
     ∙ ap (λ (cs : List (List Literal)). record { vars = rest.vars; clauses = cs }) (sym (append_assoc p.clauses q.clauses rest.clauses))
 
-pub demands-then : (xs ys : List Demanded) (tables : List (List Column)) (f g h : Formula) → g ≡ with_part f (demands_part tables xs f.vars) → h ≡ with_part g (demands_part tables ys g.vars) → h ≡ with_part f (demands_part tables (xs ++ ys) f.vars)
+pub demands-then : (xs ys : List CopyDemand) (tables : List (List Column)) (f g h : Formula) → g ≡ with_part f (demands_part tables xs f.vars) → h ≡ with_part g (demands_part tables ys g.vars) → h ≡ with_part f (demands_part tables (xs ++ ys) f.vars)
 demands-then xs ys tables f g h one two =
     two
     ∙ ap (λ (k : Formula). with_part k (demands_part tables ys k.vars)) one
     ∙ with_part-and_then f (demands_part tables xs f.vars) (demands_part tables ys)
     ∙ ap (with_part f) (sym (demands-append xs ys tables f.vars))
 
--- where zs begins with xs, what is left of it
-pub demands-rest : (xs ys zs : List Demanded) (tables : List (List Column)) (f g end : Formula) →
+pub demands-rest : (xs ys zs : List CopyDemand) (tables : List (List Column)) (f g end : Formula) →
     zs ≡ xs ++ ys → g ≡ with_part f (demands_part tables xs f.vars) →
     with_part f (demands_part tables zs f.vars) ≡ end → with_part g (demands_part tables ys g.vars) ≡ end
 demands-rest xs ys zs tables f g end split one h =
     ap (λ (k : Formula). with_part k (demands_part tables ys k.vars)) one
     ∙ with_part-and_then f (demands_part tables xs f.vars) (demands_part tables ys)
     ∙ ap (with_part f) (sym (demands-append xs ys tables f.vars))
-    ∙ ap (λ (ds : List Demanded). with_part f (demands_part tables ds f.vars)) (sym split)
+    ∙ ap (λ (ds : List CopyDemand). with_part f (demands_part tables ds f.vars)) (sym split)
     ∙ h
 
--- no demand, and one
-pub nothing-made : (f : Formula) → f ≡ with_part f (nothing_at f.vars)
+pub nothing-made : (f : Formula) → f ≡ with_part f (empty_part f.vars)
 nothing-made f = ap (λ (cs : List (List Literal)). record { vars = f.vars; clauses = cs }) (sym (append-nil f.clauses))
 
-pub one-made : (tables : List (List Column)) (d : Demanded) (f g : Formula) → g ≡ with_part f (demanded_part tables d f.vars) → g ≡ with_part f (demands_part tables (d ∷ []) f.vars)
+pub one-made : (tables : List (List Column)) (d : CopyDemand) (f g : Formula) → g ≡ with_part f (demanded_part tables d f.vars) → g ≡ with_part f (demands_part tables (d ∷ []) f.vars)
 one-made tables d f g made =
     let p = demanded_part tables d f.vars in
     made ∙ ap (λ (cs : List (List Literal)). with_part f (record { vars = p.vars; clauses = cs })) (sym (append-nil p.clauses))
@@ -228,5 +218,5 @@ table-is [] j table h = absurd cc
 table-is (t ∷ tables) zero table h = same_Some t table h
 table-is (t ∷ tables) (suc j) table h = table-is tables j table h
 
-pub holds_below-more : (t : Tree) (n : ℕ) → holds_below t (n + 1) ≡ holds_below t n ++ holds_in n t ∷ []
-holds_below-more t n = ap (map (λ j. holds_in j t)) (range-more n) ∙ map-append (λ j. holds_in j t) (range_with_len 0 n) (n ∷ [])
+pub must_hold_below-more : (t : Tree) (n : ℕ) → must_hold_below t (n + 1) ≡ must_hold_below t n ++ must_hold_in n t ∷ []
+must_hold_below-more t n = ap (map (λ j. must_hold_in j t)) (range-more n) ∙ map-append (λ j. must_hold_in j t) (range_with_len 0 n) (n ∷ [])

@@ -5,3 +5,7 @@ pub mod Runs
 pub mod QueryLaw
 pub mod QueryMade
 pub mod ReadBack
+pub mod Middles
+pub mod QueryDemands
+pub mod Induction
+pub mod Satisfying

@@ -1,44 +1,41 @@
--- What the calls make that build a query's formula is that formula, and its assignments are read as runs.
+-- The calls build exactly the query's formula, and its assignments are read as runs.
 use Rattle.std.proofs.Common.{◌≡◌, ℕ, ◌+◌, ◌*◌, ◌<◌, ◌≤◌, suc, Bool, true, List, [], ◌∷◌, length, refl, sym, ap, ◌∙◌, subst, arith, append_assoc}
 use Rattle.std.specs.List.{list_all}
 use Rattle.std.proofs.Math.Nat.{suc-mul}
 use Rattle.std.proofs.lemmas.Bool.{and_from, and_parts, leb-true}
 use Rattle.ilk_cnf.specs.Literal.{Literal}
-use Rattle.ilk_cnf.specs.Formula.{Formula, grown, with_vars}
+use Rattle.ilk_cnf.specs.Formula.{Formula, with_clauses, with_vars}
 use Rattle.ilk_cnf.specs.Part.{Part, with_part, as_clauses, and_then}
 use Rattle.ilk_cnf.specs.Truth.{satisfies}
 use Rattle.ilk_cnf.proofs.Extending.{extends-as_clauses}
 use Rattle.ilk_cnf.proofs.Gates.{with_part-and_then}
 use Rattle.ilk_ir.specs.Tree.{Tree, tree_valid}
 use Rattle.ilk_ir.specs.System.{RuleTree, SystemTree, system_valid, in_ranges}
-use Rattle.ilk_copy.specs.declared.copy.Column.{Column}
-use Rattle.ilk_copy.specs.Copy.{HaveBits, numbers_part, copy_width, total_bits}
-use Rattle.ilk_copy.proofs.ColumnLaw.{ranges_fit, columns-low, numbers-end}
+use Rattle.ilk_forms.specs.declared.copy.Column.{Column}
+use Rattle.ilk_forms.specs.Copy.{HaveBits, numbers_part, copy_var_count, total_bits}
+use Rattle.ilk_forms.proofs.ColumnLaw.{ranges_fit, columns-low, numbers-end}
 use Rattle.ilk_step.specs.declared.choice.Choice.{Choice}
 use Rattle.ilk_unroll.specs.declared.queries.Wanted.{Wanted}
 use Rattle.ilk_unroll.specs.declared.queries.Wanted.TheVariants.{Hazard, Breach, Step}
-use Rattle.ilk_unroll.specs.Goal.{GoalTree, goal_valid, wanted_valid, step_count, demanded}
+use Rattle.ilk_unroll.specs.Goal.{GoalTree, goal_valid, wanted_valid, step_count, demands_of}
 use Rattle.ilk_unroll.specs.Run.{is_wanted_run}
-use Rattle.ilk_unroll.specs.Query.{CopyTables, copies_part, steps_part, demands_part, query_part, query_formula}
+use Rattle.ilk_unroll.specs.Query.{PartWithTables, copies_part, steps_part, demands_part, query_part, query_formula}
 use Rattle.ilk_unroll.specs.Assignment.{run_assignment, IsWantedRun}
-use Rattle.ilk_unroll.specs.Tables.{tables_in, valid_in, HaveRanges, step_choices, AllChosen}
-use Rattle.ilk_unroll.proofs.CopiesLaw.{copies-end, copies-tables_in, copies-ranges, copies-many, tables_in-more, valid_in-from}
+use Rattle.ilk_unroll.specs.Tables.{tables_in, is_valid_in_each, HaveRanges, step_choices, AllChosen}
+use Rattle.ilk_unroll.proofs.CopiesLaw.{copies-end, copies-tables_in, copies-ranges, copies-many, tables_in-more, is_valid_in_each-from}
 use Rattle.ilk_unroll.proofs.StepsLaw.{steps-fits}
-use Rattle.ilk_unroll.proofs.DemandsLaw.{demanded_valid, demands-fits, demanded-valid}
+use Rattle.ilk_unroll.proofs.DemandsLaw.{demanded_valid, demands-fits, demands_of-valid}
 use Rattle.ilk_unroll.proofs.QueryLaw.{first_variable, query-law, rules-valid, run-says, wants}
-
--- the calls
 
 abbrev pub no_formula : Formula
 no_formula = record { vars = 0; clauses = [] }
 
--- copies in an empty formula, whose variables were taken before
 pub copies_made : (ranges : List ℕ) (steps count : ℕ) (f e d g : Formula) → f ≡ no_formula →
-    e ≡ with_vars f (f.vars + steps * copy_width ranges) → d ≡ with_vars e (e.vars + copy_width ranges) →
-    count ≡ suc steps → g ≡ grown d d.vars (as_clauses (copies_part ranges count 0).part.clauses) →
+    e ≡ with_vars f (f.vars + steps * copy_var_count ranges) → d ≡ with_vars e (e.vars + copy_var_count ranges) →
+    count ≡ suc steps → g ≡ with_clauses d d.vars (as_clauses (copies_part ranges count 0).part.clauses) →
     g ≡ with_part no_formula (copies_part ranges (suc steps) 0).part
 copies_made ranges steps count f e d g empty later first many made =
-    let w = copy_width ranges in
+    let w = copy_var_count ranges in
     let p = copies_part ranges (suc steps) 0 in
     let more : suc steps * w ≡ steps * w + w = suc-mul steps w in
     let none = ap (λ (k : Formula). k.vars) empty in
@@ -46,11 +43,10 @@ copies_made ranges steps count f e d g empty later first many made =
     let clear : d.clauses ≡ [] = ap (λ (k : Formula). k.clauses) first ∙ ap (λ (k : Formula). k.clauses) later ∙ ap (λ (k : Formula). k.clauses) empty in
     let is : d ≡ with_vars no_formula p.part.vars = ap (λ (n : ℕ). with_vars d n) all ∙ ap (λ (cs : List (List Literal)). let k : Formula = record { vars = p.part.vars; clauses = cs } in k) clear in
     made
-    ∙ ap (λ (k : ℕ). grown d d.vars (as_clauses (copies_part ranges k 0).part.clauses)) many
-    ∙ ap (λ (k : Formula). grown k k.vars (as_clauses p.part.clauses)) is
+    ∙ ap (λ (k : ℕ). with_clauses d d.vars (as_clauses (copies_part ranges k 0).part.clauses)) many
+    ∙ ap (λ (k : Formula). with_clauses k k.vars (as_clauses p.part.clauses)) is
 
--- where the variables of the copies stand, which are taken before their clauses are added
-pub first_copies : (ranges : List ℕ) (steps before : ℕ) (f e : Formula) → f ≡ no_formula → e ≡ with_vars f (f.vars + steps * copy_width ranges) → before ≡ e.vars → before ≡ (copies_part ranges steps 0).part.vars
+pub first_copies : (ranges : List ℕ) (steps before : ℕ) (f e : Formula) → f ≡ no_formula → e ≡ with_vars f (f.vars + steps * copy_var_count ranges) → before ≡ e.vars → before ≡ (copies_part ranges steps 0).part.vars
 first_copies ranges steps before f e empty later is = omega (arith, copies-end steps ranges 0, ap (λ (k : Formula). k.vars) later, ap (λ (k : Formula). k.vars) empty, is)
 
 pub unrolled_made :
@@ -69,7 +65,6 @@ unrolled_made ranges rules steps g h tables seen made last =
     ∙ ap (λ (k : Formula). with_part k (steps_part rules c.tables k.vars)) made
     ∙ with_part-and_then no_formula c.part (steps_part rules c.tables)
 
--- what unrolling leaves, where the copies were made
 pub unrolled-inside : (ranges : List ℕ) (steps : ℕ) (g : Formula) (tables : List (List Column)) →
     ranges_fit ranges ≡ true → tables ≡ (copies_part ranges (suc steps) 0).tables →
     g ≡ with_part no_formula (copies_part ranges (suc steps) 0).part →
@@ -80,7 +75,6 @@ unrolled-inside ranges steps g tables fit seen made =
       subst (HaveRanges ranges) (sym seen) (copies-ranges (suc steps) ranges 0),
     )
 
--- and where the steps were
 pub unrolled-within : (s : SystemTree) (g h : Formula) (tables : List (List Column)) → system_valid s ≡ true →
     tables_in g.vars tables ≡ true → HaveRanges s.ranges tables →
     h ≡ with_part g (steps_part s.rules tables g.vars) → (tables_in h.vars tables ≡ true) × (g.vars ≤ h.vars)
@@ -90,7 +84,6 @@ unrolled-within s g h tables valid inside have made =
     let low = fits.low in
     (ap (λ (k : ℕ). tables_in k tables) vars ∙ tables_in-more g.vars (steps_part s.rules tables g.vars).vars tables low inside, omega arith)
 
--- the bits of the first values' copy
 pub copies-reach : (ranges : List ℕ) (steps : ℕ) → first_variable ranges steps + total_bits ranges ≤ (copies_part ranges (suc steps) 0).part.vars + 1
 copies-reach ranges steps =
     let n = (copies_part ranges steps 0).part.vars in
@@ -112,7 +105,6 @@ unrolled-reach s steps g h tables valid fit seen made last =
     let vars : g.vars ≡ (copies_part s.ranges (suc steps) 0).part.vars = ap (λ (k : Formula). k.vars) made in
     omega arith
 
--- the whole formula
 pub query_made :
     (s : SystemTree) (g : GoalTree) (q : Wanted) (steps : ℕ) (f h : Formula) (tables : List (List Column)) →
     steps ≡ step_count q → tables ≡ (copies_part s.ranges (suc steps) 0).tables →
@@ -120,43 +112,42 @@ pub query_made :
     ≡ with_part no_formula
     (and_then (copies_part s.ranges (suc steps) 0).part
     (steps_part s.rules (copies_part s.ranges (suc steps) 0).tables)) →
-    h ≡ with_part f (demands_part tables (demanded g q) f.vars) → h ≡ query_formula s g q
+    h ≡ with_part f (demands_part tables (demands_of g q) f.vars) → h ≡ query_formula s g q
 query_made s g q steps f h tables count seen made last = last ∙ moved tables seen ∙ with_made made ∙ by_count count
   where
-    c : ℕ → CopyTables
+    c : ℕ → PartWithTables
     c k = copies_part s.ranges (suc k) 0
 
-    moved : (ts : List (List Column)) → ts ≡ (c steps).tables → with_part f (demands_part ts (demanded g q) f.vars) ≡ with_part f (demands_part (c steps).tables (demanded g q) f.vars)
-    moved ts e = ap (λ (us : List (List Column)). with_part f (demands_part us (demanded g q) f.vars)) e
+    moved : (ts : List (List Column)) → ts ≡ (c steps).tables → with_part f (demands_part ts (demands_of g q) f.vars) ≡ with_part f (demands_part (c steps).tables (demands_of g q) f.vars)
+    moved ts e = ap (λ (us : List (List Column)). with_part f (demands_part us (demands_of g q) f.vars)) e
 
     p : Part
     p = and_then (c steps).part (steps_part s.rules (c steps).tables)
 
     with_made : f ≡ with_part no_formula p →
-        with_part f (demands_part (c steps).tables (demanded g q) f.vars)
+        with_part f (demands_part (c steps).tables (demands_of g q) f.vars)
         ≡ with_part no_formula
         (and_then (c steps).part
         (λ m. and_then (steps_part s.rules (c steps).tables m)
-        (demands_part (c steps).tables (demanded g q))))
+        (demands_part (c steps).tables (demands_of g q))))
     with_made e =
-        ap (λ (k : Formula). with_part k (demands_part (c steps).tables (demanded g q) k.vars)) e
-        ∙ with_part-and_then no_formula p (demands_part (c steps).tables (demanded g q))
+        ap (λ (k : Formula). with_part k (demands_part (c steps).tables (demands_of g q) k.vars)) e
+        ∙ with_part-and_then no_formula p (demands_part (c steps).tables (demands_of g q))
         ∙ ap
         (λ (cs : List (List Literal)). with_part no_formula
-        (record { vars = (demands_part (c steps).tables (demanded g q) p.vars).vars; clauses = cs }))
+        (record { vars = (demands_part (c steps).tables (demands_of g q) p.vars).vars; clauses = cs }))
         (append_assoc (c steps).part.clauses
         (steps_part s.rules (c steps).tables (c steps).part.vars).clauses
-        (demands_part (c steps).tables (demanded g q) p.vars).clauses)
+        (demands_part (c steps).tables (demands_of g q) p.vars).clauses)
 
-    by_count : steps ≡ step_count q → with_part no_formula (and_then (c steps).part (λ m. and_then (steps_part s.rules (c steps).tables m) (demands_part (c steps).tables (demanded g q)))) ≡ query_formula s g q
-    by_count e = ap (λ (k : ℕ). with_part no_formula (and_then (c k).part (λ m. and_then (steps_part s.rules (c k).tables m) (demands_part (c k).tables (demanded g q))))) e
+    by_count : steps ≡ step_count q → with_part no_formula (and_then (c steps).part (λ m. and_then (steps_part s.rules (c steps).tables m) (demands_part (c steps).tables (demands_of g q)))) ≡ query_formula s g q
+    by_count e = ap (λ (k : ℕ). with_part no_formula (and_then (c k).part (λ m. and_then (steps_part s.rules (c k).tables m) (demands_part (c k).tables (demands_of g q))))) e
 
--- the goal's forms over the copies
-pub forms-valid : (ranges : List ℕ) (tables : List (List Column)) (ts : List Tree) → HaveRanges ranges tables → list_all (tree_valid ranges) ts ≡ true → list_all (valid_in tables) ts ≡ true
+pub forms-valid : (ranges : List ℕ) (tables : List (List Column)) (ts : List Tree) → HaveRanges ranges tables → list_all (tree_valid ranges) ts ≡ true → list_all (is_valid_in_each tables) ts ≡ true
 forms-valid ranges tables [] r h = refl
 forms-valid ranges tables (t ∷ ts) r h =
     let parts = and_parts (tree_valid ranges t) (list_all (tree_valid ranges) ts) h in
-    and_from _ _ (valid_in-from ranges tables t r parts.0) (forms-valid ranges tables ts r parts.1)
+    and_from _ _ (is_valid_in_each-from ranges tables t r parts.0) (forms-valid ranges tables ts r parts.1)
 
 pub few-wanted : (q : Wanted) → wanted_valid q ≡ true → step_count q ≤ 16
 few-wanted (Hazard n) h = leb-true n 16 h
@@ -168,7 +159,6 @@ tables-many s steps q tables count seen =
     let long : length tables ≡ suc steps = ap length seen ∙ copies-many (suc steps) s.ranges 0 in
     omega arith
 
--- the bits of the first values' copy are of the formula
 query-reach : (s : SystemTree) (g : GoalTree) (q : Wanted) → system_valid s ≡ true → ranges_fit s.ranges ≡ true → goal_valid s.ranges g ≡ true → first_variable s.ranges (step_count q) + total_bits s.ranges ≤ (query_part s g q).vars + 1
 query-reach s g q valid fit goal_ok =
     let ranges = s.ranges in
@@ -179,14 +169,13 @@ query-reach s g q valid fit goal_ok =
     let inside = copies-tables_in count ranges 0 fit in
     let have = copies-ranges count ranges 0 in
     let steps_fit = steps-fits c.tables ranges s.rules m inside have (rules-valid s valid) in
-    let ds_valid = ap (λ (k : ℕ). list_all (demanded_valid ranges k) (demanded g q)) (copies-many count ranges 0) ∙ demanded-valid ranges g q goal_ok in
-    let demands_fit = demands-fits (demanded g q) c.tables ranges t.vars (tables_in-more m t.vars c.tables steps_fit.low inside) have ds_valid in
+    let ds_valid = ap (λ (k : ℕ). list_all (demanded_valid ranges k) (demands_of g q)) (copies-many count ranges 0) ∙ demands_of-valid ranges g q goal_ok in
+    let demands_fit = demands-fits (demands_of g q) c.tables ranges t.vars (tables_in-more m t.vars c.tables steps_fit.low inside) have ds_valid in
     let reach = copies-reach ranges (step_count q) in
     let three = steps_fit.low in
     let four = demands_fit.low in
     omega arith
 
--- a satisfying assignment's run, and what tells it
 pub record ReadsAs (s : SystemTree) (g : GoalTree) (q : Wanted) (a : List Bool) (from : ℕ) (choices : List Choice) : Type 0 where
   pub first : List ℕ
   pub rules : List ℕ

@@ -9,18 +9,17 @@ use Rattle.ilk_cnf.specs.Part.{as_clauses}
 use Rattle.ilk_cnf.specs.Truth.{satisfies}
 use Rattle.ilk_cnf.proofs.Gates.{satisfies-as_clauses}
 use Rattle.ilk_ints.specs.Bits.{bit_count, bits_of, bits_at}
-use Rattle.ilk_ints.specs.Number.{ruled_out}
+use Rattle.ilk_ints.specs.Number.{non_value_clauses}
 use Rattle.ilk_ints.proofs.BitsLaw.{number_of, number-bits}
 use Rattle.ilk_ints.proofs.NumberLaw.{value-passes}
 use Rattle.ilk_ir.specs.System.{in_ranges}
-use Rattle.ilk_copy.specs.Copy.{total_bits, HaveBits}
-use Rattle.ilk_copy.proofs.ColumnLaw.{ranges_fit}
-use Rattle.ilk_copy.proofs.CopyLaw.{ranges_fit-small}
+use Rattle.ilk_forms.specs.Copy.{total_bits, HaveBits}
+use Rattle.ilk_forms.proofs.ColumnLaw.{ranges_fit}
+use Rattle.ilk_forms.proofs.CopyLaw.{ranges_fit-small}
 use Rattle.ilk_step.specs.declared.choice.Choice.{Choice}
 use Rattle.ilk_step.specs.Choice.{Chooses}
-use Rattle.ilk_unroll.specs.Tables.{AllChosen, choices_numbered}
+use Rattle.ilk_unroll.specs.Tables.{AllChosen, choices_begin_by}
 
--- the first of some values, and the others
 pub record Told (a : List Bool) (first range : ℕ) (others ws : List ℕ) : Type 0 where
   pub value : ℕ
   pub rest : List ℕ
@@ -40,17 +39,14 @@ pub told : (a : List Bool) (first range : ℕ) (all others ws : List ℕ) → al
 told a first range all others ws split h k =
     told-parts a first range others ws (ap (in_ranges ws) (sym split) ∙ h) (subst (λ (rs : List ℕ). HaveBits a first rs ws) split k)
 
--- the value is one that an integer may have
-pub told-passes : (a : List Bool) (first range : ℕ) (others ws : List ℕ) → range ≤ 2 ^ bit_count range → Told a first range others ws → satisfies a (as_clauses (ruled_out first range)) ≡ true
-told-passes a first range others ws enough t = satisfies-as_clauses a (ruled_out first range) ∙ value-passes a first range t.value enough t.below t.bits
+pub told-passes : (a : List Bool) (first range : ℕ) (others ws : List ℕ) → range ≤ 2 ^ bit_count range → Told a first range others ws → satisfies a (as_clauses (non_value_clauses first range)) ≡ true
+told-passes a first range others ws enough t = satisfies-as_clauses a (non_value_clauses first range) ∙ value-passes a first range t.value enough t.below t.bits
 
--- and it is the one that was read
 told-read : (a : List Bool) (first range v : ℕ) (others ws : List ℕ) → range ≤ 2 ^ bit_count range → (t : Told a first range others ws) → bits_at a first (bit_count range) ≡ bits_of (bit_count range) v → v < range → v ≡ t.value
 told-read a first range v others ws enough t is less =
     let below = t.below in
     sym (number-bits (bit_count range) v (omega arith)) ∙ ap number_of (sym is ∙ t.bits) ∙ number-bits (bit_count range) t.value (omega arith)
 
--- what is left of values whose first are these
 pub record Left (a : List Bool) (first : ℕ) (ranges done values : List ℕ) : Type 0 where
   pub rest : List ℕ
   pub whole : done ++ rest ≡ values
@@ -85,15 +81,11 @@ none-left a first ranges done values none h =
     ends [] k = refl
     ends (w ∷ ws) k = absurd (false≢true k)
 
--- the bits of one integer are no more than those of all
 pub bits_reach : (first range count m : ℕ) (all others : List ℕ) → all ≡ range ∷ others → count ≡ bit_count range → first + total_bits all ≤ m → (first + bit_count range ≤ m) × (first + count + total_bits others ≤ m)
 bits_reach first range count m all others split counted h =
     let fits : first + (bit_count range + total_bits others) ≤ m = subst (λ (rs : List ℕ). first + total_bits rs ≤ m) split h in
     (omega arith, omega (arith, counted))
 
--- the rules
-
--- what is left of rules whose first are these
 pub record RulesLeft (a : List Bool) (choices : List Choice) (done rules : List ℕ) : Type 0 where
   pub rest : List ℕ
   pub whole : done ++ rest ≡ rules
@@ -135,15 +127,14 @@ no_rules-left a choices done rules none h =
     let end : h.rest ≡ [] = subst (λ (cs : List Choice). AllChosen a cs h.rest) none h.chosen in
     sym (append-nil done) ∙ ap (λ (us : List ℕ). done ++ us) (sym end) ∙ h.whole
 
-pub numbered-at : (n : ℕ) (choices : List Choice) (i : ℕ) (choice : Choice) → choices_numbered n choices ≡ true → slice_get choices i ≡ Some choice → choice.first ≤ n + 1
+pub numbered-at : (n : ℕ) (choices : List Choice) (i : ℕ) (choice : Choice) → choices_begin_by n choices ≡ true → slice_get choices i ≡ Some choice → choice.first ≤ n + 1
 numbered-at n choices i choice h at = leb-true choice.first (n + 1) (list_all-slice_get (λ (k : Choice). nat_le k.first (n + 1)) choices i choice h at)
 
--- each entry of a list of bytes is one
 pub bytes-from : (xs : List ℕ) → ((k : ℕ) → k < length xs → get_or xs k 0 < 256) → list_all (λ x. ltb x 256) xs ≡ true
 bytes-from [] h = refl
 bytes-from (x ∷ xs) h = and_from _ _ (lt-ltb x 256 (h 0 (omega arith))) (bytes-from xs (λ k less. h (suc k) (omega arith)))
 
-pub numbered-first : (n : ℕ) (choices : List Choice) (i : ℕ) (choice : Choice) (rest : List Choice) → choices_numbered n choices ≡ true → drop i choices ≡ choice ∷ rest → choice.first ≤ n + 1
+pub numbered-first : (n : ℕ) (choices : List Choice) (i : ℕ) (choice : Choice) (rest : List Choice) → choices_begin_by n choices ≡ true → drop i choices ≡ choice ∷ rest → choice.first ≤ n + 1
 numbered-first n choices i choice rest h split = numbered-at n choices i choice h (dropped choices i split)
   where
     dropped : (xs : List Choice) (j : ℕ) → drop j xs ≡ choice ∷ rest → slice_get xs j ≡ Some choice

@@ -1,32 +1,32 @@
--- Steps from each copy to the next: exactly one assignment for each list of rules that lead from value list to value list.
+-- Steps between copies have exactly one assignment for each list of rules that lead from value list
+-- to value list.
 use Rattle.std.proofs.Common.{◌≡◌, ℕ, ◌+◌, ◌≤◌, Bool, true, List, [], ◌∷◌, ◌++◌, ◌-◌, length, drop, Some, refl, sym, ap, ◌∙◌, subst, arith, append_assoc, length-drop}
 use Rattle.std.specs.List.{list_all}
 use Rattle.std.proofs.lemmas.Bool.{and_from, and_parts, le-leb}
 use Rattle.ilk_cnf.specs.Formula.{Formula}
-use Rattle.ilk_cnf.specs.Extends.{Extends, Only, Then}
-use Rattle.ilk_cnf.specs.Part.{Part, nothing_at, with_part}
+use Rattle.ilk_cnf.specs.Extends.{Extends, IsExactly, FollowedBy}
+use Rattle.ilk_cnf.specs.Part.{Part, empty_part, with_part}
 use Rattle.ilk_cnf.proofs.Parts.{in_turn, in_words}
 use Rattle.ilk_cnf.proofs.Extending.{no_more_if, only_from_if}
 use Rattle.ilk_cnf.proofs.Gates.{with_part-and_then}
 use Rattle.ilk_ir.specs.System.{RuleTree, rule_valid, in_ranges}
-use Rattle.ilk_copy.specs.declared.copy.Column.{Column}
-use Rattle.ilk_copy.specs.Copy.{LiteralsSay}
+use Rattle.ilk_forms.specs.declared.copy.Column.{Column}
+use Rattle.ilk_forms.specs.Copy.{LiteralsEncode}
 use Rattle.ilk_forms.specs.Leaf.{columns_in, ranges_of}
 use Rattle.ilk_forms.proofs.DemandLaw.{PartFits}
 use Rattle.ilk_step.specs.declared.choice.Choice.{Choice}
 use Rattle.ilk_step.specs.Choice.{Chooses}
-use Rattle.ilk_step.specs.Step.{step_part, step_values, step_bits, IsStep}
+use Rattle.ilk_step.specs.Step.{step_part, values_after_rule, step_bits, IsStep}
 use Rattle.ilk_step.proofs.RulesLaw.{then-fits}
 use Rattle.ilk_step.proofs.StepLaw.{step-fits, step-law, step-says, step-below}
 use Rattle.ilk_unroll.specs.Query.{steps_part}
 use Rattle.ilk_unroll.specs.Assignment.{steps_bits}
-use Rattle.ilk_unroll.specs.Tables.{tables_in, HaveRanges, step_choices, choices_numbered, AllChosen}
+use Rattle.ilk_unroll.specs.Tables.{tables_in, HaveRanges, step_choices, choices_begin_by, AllChosen}
 use Rattle.ilk_unroll.proofs.CopiesLaw.{TableSays, TablesSay, tables_in-more, tables_say-more}
 
 same : (n : ℕ) → n ≤ n
 same n = omega arith
 
--- the rules are valid over the variables of a copy
 rules_valid-at : (ranges other : List ℕ) (rules : List RuleTree) → other ≡ ranges → list_all (rule_valid ranges) rules ≡ true → list_all (rule_valid other) rules ≡ true
 rules_valid-at ranges other rules e h = ap (λ (rs : List ℕ). list_all (rule_valid rs) rules) e ∙ h
 
@@ -45,14 +45,13 @@ steps-fits (now ∷ next ∷ tables) ranges rules n h r valid =
     let one = one-fits now next ranges rules n parts.0 more.0 r.0 r.1.0 valid in
     then-fits n p (steps_part rules (next ∷ tables)) one (steps-fits (next ∷ tables) ranges rules p.vars (tables_in-more n p.vars (next ∷ tables) one.low parts.1) r.1 valid)
 
--- each value list but the first comes from the one before by the rule
+-- Holds if each value list but the first comes from the one before by its rule.
 abbrev pub Joined : List RuleTree → List (List ℕ) → List ℕ → Type 0
 Joined rules [] chosen = chosen ≡ []
 Joined rules (values ∷ []) chosen = chosen ≡ []
 Joined rules (values ∷ next ∷ run) [] = ⊥
-Joined rules (values ∷ next ∷ run) (rule ∷ chosen) = (step_values rules values rule ≡ Some next) × Joined rules (next ∷ run) chosen
+Joined rules (values ∷ next ∷ run) (rule ∷ chosen) = (values_after_rule rules values rule ≡ Some next) × Joined rules (next ∷ run) chosen
 
--- the variables of the steps by some rules
 abbrev pub AreSteps : List ℕ → List RuleTree → List (List ℕ) → List Bool → Type 0
 AreSteps ranges rules run b = (chosen : List ℕ) × Joined rules run chosen × (b ≡ steps_bits ranges rules run chosen)
 
@@ -70,7 +69,7 @@ nothing-law : (a : List Bool) (n : ℕ) (ranges : List ℕ) (rules : List RuleTr
     length a ≡ n → Joined rules run [] → steps_bits ranges rules run [] ≡ [] →
     ((chosen : List ℕ) → Joined rules run chosen → chosen ≡ []) → Extends a n [] (AreSteps ranges rules run)
 nothing-law a n ranges rules run size none empty only =
-    in_words a n [] (Only []) (AreSteps ranges rules run) (λ b h. ([], none, h ∙ sym empty)) (λ b h. h.2 ∙ ap (steps_bits ranges rules run) (only h.0 h.1) ∙ empty) (only_from_if a n [] [] (no_more_if a n [] true size refl))
+    in_words a n [] (IsExactly []) (AreSteps ranges rules run) (λ b h. ([], none, h ∙ sym empty)) (λ b h. h.2 ∙ ap (steps_bits ranges rules run) (only h.0 h.1) ∙ empty) (only_from_if a n [] [] (no_more_if a n [] true size refl))
 
 one-law :
     (now next : List Column) (ws xs : List ℕ) (a : List Bool) (n : ℕ) (ranges : List ℕ)
@@ -86,8 +85,8 @@ one-law now next ws xs a n ranges rules size hn hx valid =
       now_in = hn.within;
       next_in = hx.within;
       same = hx.has_ranges ∙ back;
-      now_say = subst (λ (rs : List ℕ). LiteralsSay a now rs ws) back hn.says;
-      next_say = subst (λ (rs : List ℕ). LiteralsSay a next rs xs) back hx.says;
+      now_say = subst (λ (rs : List ℕ). LiteralsEncode a now rs ws) back hn.says;
+      next_say = subst (λ (rs : List ℕ). LiteralsEncode a next rs xs) back hx.says;
     }) (rules_valid-at ranges (ranges_of now) rules hn.has_ranges valid) (ap (in_ranges ws) hn.has_ranges ∙ hn.in_range) (ap (in_ranges xs) hn.has_ranges ∙ hx.in_range))
 
 pub steps-law :
@@ -125,15 +124,14 @@ steps-law (now ∷ next ∷ tables) (ws ∷ xs ∷ run) a n ranges rules size h 
     first : Extends a p.vars p.clauses (IsStep ranges rules ws xs)
     first = one-law now next ws xs a n ranges rules size h.0 h.1.0 valid
 
-    to : (b : List Bool) → Then (IsStep ranges rules ws xs) (λ b _. AreSteps ranges rules (xs ∷ run)) b → AreSteps ranges rules (ws ∷ xs ∷ run) b
+    to : (b : List Bool) → FollowedBy (IsStep ranges rules ws xs) (λ b _. AreSteps ranges rules (xs ∷ run)) b → AreSteps ranges rules (ws ∷ xs ∷ run) b
     to b k =
         (k.3.0 ∷ k.4.0, (k.3.1, k.4.1), k.2 ∙ ap (λ (u : List Bool). u ++ k.1) k.3.2 ∙ ap (λ (u : List Bool). step_bits ranges rules ws k.3.0 ++ u) k.4.2)
 
-    split : (b : List Bool) (chosen : List ℕ) → Joined rules (ws ∷ xs ∷ run) chosen → b ≡ steps_bits ranges rules (ws ∷ xs ∷ run) chosen → Then (IsStep ranges rules ws xs) (λ b _. AreSteps ranges rules (xs ∷ run)) b
+    split : (b : List Bool) (chosen : List ℕ) → Joined rules (ws ∷ xs ∷ run) chosen → b ≡ steps_bits ranges rules (ws ∷ xs ∷ run) chosen → FollowedBy (IsStep ranges rules ws xs) (λ b _. AreSteps ranges rules (xs ∷ run)) b
     split b [] j e = absurd j
     split b (rule ∷ chosen) j e = (step_bits ranges rules ws rule, steps_bits ranges rules (xs ∷ run) chosen, e, (rule, j.0, refl), (chosen, j.1, refl))
 
--- the variables of the choices say which rules are chosen, whatever follows
 pub steps-say :
     (tables : List (List Column)) (run : List (List ℕ)) (chosen : List ℕ) (a c : List Bool) (n : ℕ)
     (ranges : List ℕ) (rules : List RuleTree) → length a ≡ n →
@@ -160,10 +158,9 @@ steps-say (now ∷ next ∷ tables) (ws ∷ xs ∷ run) (rule ∷ chosen) a c n 
       subst (λ (u : List Bool). AllChosen u (step_choices rules (next ∷ tables) p.vars) chosen) (append_assoc a e (d ++ c) ∙ whole) rest,
     )
 
--- the choices are of variables of the formula
 pub choices-numbered : (tables : List (List Column)) (ranges : List ℕ) (rules : List RuleTree) (n m : ℕ) →
     tables_in n tables ≡ true → HaveRanges ranges tables → list_all (rule_valid ranges) rules ≡ true →
-    (steps_part rules tables n).vars ≤ m → choices_numbered m (step_choices rules tables n) ≡ true
+    (steps_part rules tables n).vars ≤ m → choices_begin_by m (step_choices rules tables n) ≡ true
 choices-numbered [] ranges rules n m h r valid high = refl
 choices-numbered (now ∷ []) ranges rules n m h r valid high = refl
 choices-numbered (now ∷ next ∷ tables) ranges rules n m h r valid high =
@@ -175,8 +172,6 @@ choices-numbered (now ∷ next ∷ tables) ranges rules n m h r valid high =
     let next_in = tables_in-more n p.vars (next ∷ tables) low parts.1 in
     let rest = (steps-fits (next ∷ tables) ranges rules p.vars next_in r.1 valid).low in
     and_from _ _ (le-leb (n + 1) (m + 1) (omega arith)) (choices-numbered (next ∷ tables) ranges rules p.vars m next_in r.1 valid high)
-
--- one step more
 
 pub steps-next :
     (f g : Formula) (rules : List RuleTree) (choices whole : List Choice) (choice : Choice) (end : Formula)
@@ -199,8 +194,7 @@ steps-next f g rules choices whole choice end all now next tables k split count 
           ∙ h,
     )
 
--- one copy alone has no step
-pub few-steps : (rules : List RuleTree) (tables : List (List Column)) (n : ℕ) → length tables ≤ 1 → (steps_part rules tables n ≡ nothing_at n) × (step_choices rules tables n ≡ [])
+pub few-steps : (rules : List RuleTree) (tables : List (List Column)) (n : ℕ) → length tables ≤ 1 → (steps_part rules tables n ≡ empty_part n) × (step_choices rules tables n ≡ [])
 few-steps rules [] n h = (refl, refl)
 few-steps rules (now ∷ []) n h = (refl, refl)
 few-steps rules (now ∷ next ∷ tables) n h = absurd (omega arith)

@@ -1,43 +1,43 @@
--- The assignment that a run is: what each variable of its query's formula is.
+-- The assignment of a run: the value of each variable of its query's formula.
 use Rattle.std.specs.Prelude.{ℕ, ◌≡◌, Bool, true, List, [], ◌∷◌, ◌++◌, unwrap_or, slice_index_or, if◌then◌else◌}
 use Rattle.ilk_ir.specs.System.{RuleTree, SystemTree}
-use Rattle.ilk_copy.specs.Copy.{copy_bits}
+use Rattle.ilk_forms.specs.Copy.{copy_bits}
 use Rattle.ilk_forms.specs.Truths.{demand_bits}
 use Rattle.ilk_forms.specs.Violated.{violated_bits}
 use Rattle.ilk_step.specs.Step.{step_bits}
-use Rattle.ilk_unroll.specs.Goal.{GoalTree, Demanded, demanded}
+use Rattle.ilk_unroll.specs.Goal.{GoalTree, CopyDemand, demands_of}
 use Rattle.ilk_unroll.specs.Run.{run_from, is_wanted_run}
 use Rattle.ilk_unroll.specs.declared.queries.Wanted.{Wanted}
 
--- the variables of the copies with these value lists, those of the last first
+-- The variables of the copies with these value lists, those of the last copy first.
 abbrev pub copies_bits : List ℕ → List (List ℕ) → List Bool
 copies_bits ranges [] = []
 copies_bits ranges (values ∷ run) = copies_bits ranges run ++ copy_bits ranges values
 
--- those of the steps by these rules, where the variables have these ranges
+-- The variables of the steps by these rules, if the variables have these ranges.
 abbrev pub steps_bits : List ℕ → List RuleTree → List (List ℕ) → List ℕ → List Bool
 steps_bits ranges rules [] chosen = []
 steps_bits ranges rules (values ∷ run) [] = []
 steps_bits ranges rules (values ∷ run) (rule ∷ chosen) = step_bits ranges rules values rule ++ steps_bits ranges rules run chosen
 
--- those of what is demanded
-abbrev pub demanded_bits : List ℕ → List (List ℕ) → Demanded → List Bool
+-- The variables of the demands.
+abbrev pub demanded_bits : List ℕ → List (List ℕ) → CopyDemand → List Bool
 demanded_bits ranges run d =
     if d.holds then demand_bits ranges (slice_index_or run d.copy []) d.form else violated_bits ranges (slice_index_or run d.copy []) d.form
 
-abbrev pub demands_bits : List ℕ → List (List ℕ) → List Demanded → List Bool
+abbrev pub demands_bits : List ℕ → List (List ℕ) → List CopyDemand → List Bool
 demands_bits ranges run [] = []
 demands_bits ranges run (d ∷ ds) = demanded_bits ranges run d ++ demands_bits ranges run ds
 
--- all of them
+-- All variables.
 abbrev pub run_bits : SystemTree → GoalTree → Wanted → List (List ℕ) → List ℕ → List Bool
-run_bits s g q run rules = copies_bits s.ranges run ++ (steps_bits s.ranges s.rules run rules ++ demands_bits s.ranges run (demanded g q))
+run_bits s g q run rules = copies_bits s.ranges run ++ (steps_bits s.ranges s.rules run rules ++ demands_bits s.ranges run (demands_of g q))
 
--- the assignment of the run that begins with `first` and fires `rules`
+-- The assignment of the run that begins with `first` and fires `rules`.
 abbrev pub run_assignment : SystemTree → GoalTree → Wanted → List ℕ → List ℕ → List Bool
 run_assignment s g q first rules = run_bits s g q (unwrap_or (run_from s first rules) []) rules
 
--- that of some run that the query asks for
+-- Holds if `a` is the assignment of some run that the query asks for.
 abbrev pub IsWantedRun : SystemTree → GoalTree → Wanted → List Bool → Type 0
 IsWantedRun s g q a =
     (first : List ℕ) × (rules : List ℕ) × (is_wanted_run s g q first rules ≡ true) × (a ≡ run_assignment s g q first rules)

@@ -4,3 +4,4 @@ pub mod Query
 pub mod Satisfied
 pub mod Assignment
 pub mod Tables
+pub mod Evidence

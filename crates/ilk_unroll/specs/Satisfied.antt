@@ -1,4 +1,4 @@
--- Which formulas some assignment satisfies.
+-- Satisfiable formulas.
 use Rattle.std.specs.Prelude.{◌≡◌, Bool, List, IsTrue, length}
 use Rattle.ilk_cnf.specs.Formula.{Formula}
 use Rattle.ilk_cnf.specs.Truth.{satisfies}

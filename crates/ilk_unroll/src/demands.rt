@@ -3,18 +3,17 @@ ghost use Rattle.std.specs.List.{list_all, flat_map};
 ghost use Rattle.ilk_cnf.specs.Part.{with_part};
 ghost use Rattle.ilk_ir.specs.Form.{tree_of, trees_of};
 ghost use Rattle.ilk_ir.specs.Tree.{all_of, more, negation};
-ghost use Rattle.ilk_unroll.specs.Goal.{holds_in, fails_in, holds_below, demanded, goal_tree, step_count};
+ghost use Rattle.ilk_unroll.specs.Goal.{must_hold_in, must_fail_in, must_hold_below, demands_of, goal_tree, step_count};
 ghost use Rattle.ilk_unroll.specs.Query.{demands_part};
-ghost use Rattle.ilk_unroll.specs.Tables.{tables_in, valid_in};
+ghost use Rattle.ilk_unroll.specs.Tables.{tables_in, is_valid_in_each};
 
 use crate::queries::{Goal, Wanted};
 use crate::unroll::Tables;
 use ilk_cnf::Cnf;
-use ilk_forms::{demand, holds_or_some_fails, some_fails};
+use ilk_forms::{demand, demand_holds_or_fails, demand_some_fails};
 use ilk_ir::{Form, Forms};
 use std::alloc::{AllocError, Global};
 
-// Demands the form of the copy with the number.
 fn demand_in(
     alloc: Global,
     cnf: &mut Cnf,
@@ -24,18 +23,17 @@ fn demand_in(
 ) -> Result<(), AllocError>
     requires copy { copy < length tables.now }
     requires within { IsTrue (tables_in cnf.old.vars tables.now) }
-    requires valid { IsTrue (valid_in tables.now (tree_of form.now)) }
+    requires valid { IsTrue (is_valid_in_each tables.now (tree_of form.now)) }
     ensures made { OnOk result
         (cnf.new
         ≡ with_part cnf.old
-        (demands_part tables.now (holds_in copy (tree_of form.now) ∷ []) cnf.old.vars)) }
+        (demands_part tables.now (must_hold_in copy (tree_of form.now) ∷ []) cnf.old.vars)) }
     ensures within { OnOk result (IsTrue (tables_in cnf.new.vars tables.now)) }
 {
     demand(alloc, cnf, tables.at(u64::from(copy)), &[], form)?;
     Ok(())
 }
 
-// Demands the form of each of so many copies.
 fn demand_below(
     alloc: Global,
     cnf: &mut Cnf,
@@ -45,11 +43,11 @@ fn demand_below(
 ) -> Result<(), AllocError>
     requires count { count ≤ length tables.now }
     requires within { IsTrue (tables_in cnf.old.vars tables.now) }
-    requires valid { IsTrue (valid_in tables.now (tree_of form.now)) }
+    requires valid { IsTrue (is_valid_in_each tables.now (tree_of form.now)) }
     ensures made { OnOk result
         (cnf.new
         ≡ with_part cnf.old
-        (demands_part tables.now (holds_below (tree_of form.now) count) cnf.old.vars)) }
+        (demands_part tables.now (must_hold_below (tree_of form.now) count) cnf.old.vars)) }
     ensures within { OnOk result (IsTrue (tables_in cnf.new.vars tables.now)) }
 {
     for copy in 0..count {
@@ -58,7 +56,6 @@ fn demand_below(
     Ok(())
 }
 
-// Demands each of the forms of each of so many copies.
 fn demand_each_below(
     alloc: Global,
     cnf: &mut Cnf,
@@ -68,12 +65,12 @@ fn demand_each_below(
 ) -> Result<(), AllocError>
     requires count { count ≤ length tables.now }
     requires within { IsTrue (tables_in cnf.old.vars tables.now) }
-    requires valid { IsTrue (list_all (valid_in tables.now) (map tree_of forms.now)) }
+    requires valid { IsTrue (list_all (is_valid_in_each tables.now) (map tree_of forms.now)) }
     ensures made { OnOk result
         (cnf.new
         ≡ with_part cnf.old
         (demands_part tables.now
-        (flat_map (λ t. holds_below t count) (map tree_of forms.now)) cnf.old.vars)) }
+        (flat_map (λ t. must_hold_below t count) (map tree_of forms.now)) cnf.old.vars)) }
     ensures within { OnOk result (IsTrue (tables_in cnf.new.vars tables.now)) }
 {
     for form in forms {
@@ -82,7 +79,7 @@ fn demand_each_below(
     Ok(())
 }
 
-// Demands that some of the forms doesn't hold in the copy with the number.
+// Demands that some of the forms fails in copy number `copy`.
 fn demand_violated(
     alloc: Global,
     cnf: &mut Cnf,
@@ -92,18 +89,18 @@ fn demand_violated(
 ) -> Result<(), AllocError>
     requires copy { copy < length tables.now }
     requires within { IsTrue (tables_in cnf.old.vars tables.now) }
-    requires valid { IsTrue (valid_in tables.now (all_of (trees_of forms.now))) }
+    requires valid { IsTrue (is_valid_in_each tables.now (all_of (trees_of forms.now))) }
     ensures { OnOk result
         (cnf.new
         ≡ with_part cnf.old
-        (demands_part tables.now (fails_in copy (all_of (trees_of forms.now)) ∷ [])
+        (demands_part tables.now (must_fail_in copy (all_of (trees_of forms.now)) ∷ [])
         cnf.old.vars)) }
 {
-    some_fails(alloc, cnf, tables.at(u64::from(copy)), forms.as_slice())?;
+    demand_some_fails(alloc, cnf, tables.at(u64::from(copy)), forms.as_slice())?;
     Ok(())
 }
 
-// Demands that the form holds in the copy with the number, or some of the others doesn't.
+// Demands that `form` holds in copy number `copy`, or some of `forms` fails there.
 fn demand_or_violated(
     alloc: Global,
     cnf: &mut Cnf,
@@ -115,21 +112,21 @@ fn demand_or_violated(
     requires copy { copy < length tables.now }
     requires within { IsTrue (tables_in cnf.old.vars tables.now) }
     requires valid { IsTrue
-        (valid_in tables.now (all_of (more (negation (tree_of form.now)) (trees_of forms.now)))) }
+        (is_valid_in_each tables.now (all_of
+        (more (negation (tree_of form.now)) (trees_of forms.now)))) }
     ensures { OnOk result
         (cnf.new
         ≡ with_part cnf.old
         (demands_part tables.now
-        (fails_in copy
+        (must_fail_in copy
         (all_of (more (negation (tree_of form.now)) (trees_of forms.now)))
         ∷ []) cnf.old.vars)) }
 {
     let table = tables.at(u64::from(copy));
-    holds_or_some_fails(alloc, cnf, table, form, forms.as_slice())?;
+    demand_holds_or_fails(alloc, cnf, table, form, forms.as_slice())?;
     Ok(())
 }
 
-// The demands of a hazard query.
 fn add_hazard(
     alloc: Global,
     cnf: &mut Cnf,
@@ -139,13 +136,13 @@ fn add_hazard(
 ) -> Result<(), AllocError>
     requires steps { steps < length tables.now }
     requires within { IsTrue (tables_in cnf.old.vars tables.now) }
-    requires start { IsTrue (valid_in tables.now (tree_of goal.now.start)) }
-    requires hazard { IsTrue (valid_in tables.now (tree_of goal.now.hazard)) }
-    requires wellformed { IsTrue (valid_in tables.now (tree_of goal.now.wellformed)) }
+    requires start { IsTrue (is_valid_in_each tables.now (tree_of goal.now.start)) }
+    requires hazard { IsTrue (is_valid_in_each tables.now (tree_of goal.now.hazard)) }
+    requires wellformed { IsTrue (is_valid_in_each tables.now (tree_of goal.now.wellformed)) }
     ensures { OnOk result
         (cnf.new
         ≡ with_part cnf.old
-        (demands_part tables.now (demanded (goal_tree goal.now) (Wanted.Hazard steps))
+        (demands_part tables.now (demands_of (goal_tree goal.now) (Wanted.Hazard steps))
         cnf.old.vars)) }
 {
     demand_in(alloc, cnf, tables, &goal.start, 0)?;
@@ -154,7 +151,6 @@ fn add_hazard(
     Ok(())
 }
 
-// The demands of a breach query.
 fn add_breach(
     alloc: Global,
     cnf: &mut Cnf,
@@ -165,13 +161,13 @@ fn add_breach(
     requires steps { steps < length tables.now }
     requires few { steps ≤ 16 }
     requires within { IsTrue (tables_in cnf.old.vars tables.now) }
-    requires start { IsTrue (valid_in tables.now (tree_of goal.now.start)) }
-    requires wellformed { IsTrue (valid_in tables.now (tree_of goal.now.wellformed)) }
-    requires families { IsTrue (valid_in tables.now (all_of (trees_of goal.now.families))) }
+    requires start { IsTrue (is_valid_in_each tables.now (tree_of goal.now.start)) }
+    requires wellformed { IsTrue (is_valid_in_each tables.now (tree_of goal.now.wellformed)) }
+    requires families { IsTrue (is_valid_in_each tables.now (all_of (trees_of goal.now.families))) }
     ensures { OnOk result
         (cnf.new
         ≡ with_part cnf.old
-        (demands_part tables.now (demanded (goal_tree goal.now) (Wanted.Breach steps))
+        (demands_part tables.now (demands_of (goal_tree goal.now) (Wanted.Breach steps))
         cnf.old.vars)) }
 {
     demand_in(alloc, cnf, tables, &goal.start, 0)?;
@@ -180,7 +176,6 @@ fn add_breach(
     Ok(())
 }
 
-// The demands of a step query.
 fn add_step_query(
     alloc: Global,
     cnf: &mut Cnf,
@@ -190,15 +185,16 @@ fn add_step_query(
 ) -> Result<(), AllocError>
     requires steps { steps < length tables.now }
     requires within { IsTrue (tables_in cnf.old.vars tables.now) }
-    requires wellformed { IsTrue (valid_in tables.now (tree_of goal.now.wellformed)) }
-    requires each { IsTrue (list_all (valid_in tables.now) (map tree_of goal.now.families)) }
+    requires wellformed { IsTrue (is_valid_in_each tables.now (tree_of goal.now.wellformed)) }
+    requires each { IsTrue (list_all (is_valid_in_each tables.now)
+        (map tree_of goal.now.families)) }
     requires last { IsTrue
-        (valid_in tables.now
+        (is_valid_in_each tables.now
         (all_of (more (negation (tree_of goal.now.hazard)) (trees_of goal.now.families)))) }
     ensures { OnOk result
         (cnf.new
         ≡ with_part cnf.old
-        (demands_part tables.now (demanded (goal_tree goal.now) (Wanted.Step steps))
+        (demands_part tables.now (demands_of (goal_tree goal.now) (Wanted.Step steps))
         cnf.old.vars)) }
 {
     demand_below(alloc, cnf, tables, &goal.wellformed, steps)?;
@@ -207,8 +203,7 @@ fn add_step_query(
     Ok(())
 }
 
-/// What the query demands of the copies. Where memory runs out the formula may have grown, and its
-/// owner drops it.
+/// Adds what the query demands of the copies. If memory runs out, `cnf` may have grown.
 pub fn add_demands(
     alloc: Global,
     cnf: &mut Cnf,
@@ -219,18 +214,19 @@ pub fn add_demands(
     requires steps { step_count q < length tables.now }
     requires few { step_count q ≤ 16 }
     requires within { IsTrue (tables_in cnf.old.vars tables.now) }
-    requires start { IsTrue (valid_in tables.now (tree_of goal.now.start)) }
-    requires hazard { IsTrue (valid_in tables.now (tree_of goal.now.hazard)) }
-    requires wellformed { IsTrue (valid_in tables.now (tree_of goal.now.wellformed)) }
-    requires each { IsTrue (list_all (valid_in tables.now) (map tree_of goal.now.families)) }
-    requires families { IsTrue (valid_in tables.now (all_of (trees_of goal.now.families))) }
+    requires start { IsTrue (is_valid_in_each tables.now (tree_of goal.now.start)) }
+    requires hazard { IsTrue (is_valid_in_each tables.now (tree_of goal.now.hazard)) }
+    requires wellformed { IsTrue (is_valid_in_each tables.now (tree_of goal.now.wellformed)) }
+    requires each { IsTrue (list_all (is_valid_in_each tables.now)
+        (map tree_of goal.now.families)) }
+    requires families { IsTrue (is_valid_in_each tables.now (all_of (trees_of goal.now.families))) }
     requires last { IsTrue
-        (valid_in tables.now
+        (is_valid_in_each tables.now
         (all_of (more (negation (tree_of goal.now.hazard)) (trees_of goal.now.families)))) }
     ensures { OnOk result
         (cnf.new
         ≡ with_part cnf.old
-        (demands_part tables.now (demanded (goal_tree goal.now) q) cnf.old.vars)) }
+        (demands_part tables.now (demands_of (goal_tree goal.now) q) cnf.old.vars)) }
 {
     match q {
         Wanted::Hazard(steps) => add_hazard(alloc, cnf, tables, goal, steps),

@@ -13,11 +13,11 @@ use ilk_cnf::Cnf;
 use ilk_ir::System;
 use std::alloc::{AllocError, Global};
 
-/// The formula of a query: a copy of the system's values for the first and after each step, from the
-/// first on, the steps, and what the query demands of them. Its satisfying assignments are exactly those of the
-/// runs that the query asks for, one for each. Nothing is asked of what may follow the last step.
-/// The system is valid, the goal's forms are valid over its ranges, and the query has at most 16
-/// steps, and at least one where it is a step query.
+/// Returns the formula of a query: a copy of the system's values at the start and after each step,
+/// the steps, and the query's demands. Its satisfying assignments are exactly those of the runs
+/// that the query asks for, one for each. Nothing is asked of what may follow the last step. The
+/// system has to be valid, and the goal's forms valid over its ranges. The query has at most 16
+/// steps, and a step query at least one.
 pub fn query(alloc: Global, system: &System, goal: &Goal, q: Wanted) -> Result<Cnf, AllocError>
     requires system { IsTrue (system_valid (system_tree system.now)) }
     requires goal { IsTrue (goal_valid system.now.ranges (goal_tree goal.now)) }

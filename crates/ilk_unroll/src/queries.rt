@@ -3,20 +3,20 @@ ghost use Rattle.ilk_unroll.specs.Goal.{step_count};
 
 use ilk_ir::{Form, Forms};
 
-/// What a query asks for, with the number of steps of its runs.
+/// The kind of run that a query asks for, with its number of steps.
 #[derive(Clone, Copy)]
 pub enum Wanted {
-    /// A run from the start to a hazard, through values that are well-formed.
+    /// A run from the start to a hazard, through well-formed values.
     Hazard(u32),
-    /// A run from the start through well-formed values to some that break a family.
+    /// A run from the start through well-formed values to values that break a family.
     Breach(u32),
-    /// A run from anywhere through well-formed values that keep all families to a hazard or to
+    /// A run from anywhere, through well-formed values that keep all families, to a hazard or to
     /// values that break a family.
     Step(u32),
 }
 
 impl Wanted {
-    /// How many steps the runs have.
+    /// Returns the number of steps of the runs.
     pub fn steps(self) -> u32
         ensures { result ≡ step_count self }
     {
@@ -28,15 +28,15 @@ impl Wanted {
     }
 }
 
-/// The forms that queries speak of.
+/// The forms that queries use.
 #[derive(Drop)]
 pub struct Goal {
-    /// Of the first values.
+    /// The form of the first values.
     pub start: Form,
-    /// Of values with a hazard.
+    /// The form of values with a hazard.
     pub hazard: Form,
-    /// Of values that are those of a state without hazard.
+    /// The form of values of a state without hazard.
     pub wellformed: Form,
-    /// Of values that keep the families, one form for each.
+    /// The form of values that keep the family, for each family.
     pub families: Forms,
 }

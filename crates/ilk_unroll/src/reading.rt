@@ -1,18 +1,18 @@
 ghost use Rattle.std.specs.Prelude.{◌≡◌, ℕ, ◌+◌, ◌<◌, ◌≤◌, ◌^◌, List, length, IfOk, IsTrue};
 ghost use Rattle.ilk_cnf.specs.Truth.{satisfies};
 ghost use Rattle.ilk_ir.specs.System.{system_tree, system_valid, in_ranges};
-ghost use Rattle.ilk_copy.specs.Copy.{total_bits, HaveBits};
+ghost use Rattle.ilk_forms.specs.Copy.{total_bits, HaveBits};
 ghost use Rattle.ilk_unroll.specs.Goal.{goal_tree, goal_valid, wanted_valid};
 ghost use Rattle.ilk_unroll.specs.Run.{is_wanted_run};
 ghost use Rattle.ilk_unroll.specs.Query.{query_formula};
 ghost use Rattle.ilk_unroll.specs.Assignment.{run_assignment};
-ghost use Rattle.ilk_unroll.specs.Tables.{AllChosen, choices_numbered};
+ghost use Rattle.ilk_unroll.specs.Tables.{AllChosen, choices_begin_by};
 
 use crate::queries::{Goal, Wanted};
 use crate::unroll::{Choices, unroll};
 use ilk_base::Row;
 use ilk_cnf::{Assignment, Cnf};
-use ilk_ints::{Bounded, bits, value_of};
+use ilk_ints::{Bounded, bit_count, value_of};
 use ilk_ir::{Ranges, System, Values};
 use ilk_step::chosen_rule;
 use std::alloc::{AllocError, Global};
@@ -20,14 +20,14 @@ use std::alloc::{AllocError, Global};
 /// Numbers of rules.
 pub type Rows = Row<u32>;
 
-/// A run: its first values, and the rules that are fired one after another.
+/// A run: its first values, and the rules that fire, in order.
 #[derive(Drop)]
 pub struct Trace {
     pub first: Values,
     pub rules: Rows,
 }
 
-// The values of integers with these ranges, whose bits stand from the variable `from` on.
+// Returns the values of integers with these ranges, whose bits begin at variable `from`.
 fn read_values(
     alloc: Global,
     ranges: &Ranges,
@@ -47,7 +47,7 @@ fn read_values(
     let mut first = from;
     for range in ranges.as_slice() {
         let _ = a.len();
-        let count = bits(*range);
+        let count = bit_count(*range);
         let n = Bounded {
             first,
             range: *range,
@@ -58,9 +58,8 @@ fn read_values(
     Ok(values)
 }
 
-// The rules that are chosen, step by step.
 fn read_rules(alloc: Global, choices: &Choices, a: &Assignment) -> Result<Rows, AllocError>
-    requires numbered { IsTrue (choices_numbered (2 ^ 62) choices.now) }
+    requires numbered { IsTrue (choices_begin_by (2 ^ 62) choices.now) }
     requires chosen { (rules : List ℕ) × AllChosen a.now choices.now rules }
     ensures { IfOk result
         (λ read. (rules : List ℕ) → AllChosen a.now choices.now rules → read ≡ rules) }
@@ -72,10 +71,9 @@ fn read_rules(alloc: Global, choices: &Choices, a: &Assignment) -> Result<Rows, 
     Ok(rules)
 }
 
-/// The run that the assignment is: it satisfies the formula that `query` gives for the same
-/// arguments. The formula's variables stand where the copies and steps put them, so these are made
-/// once more. There is no other run with this assignment, so two assignments that satisfy the
-/// formula and give the same run are equal.
+/// Returns the run of an assignment that satisfies the formula of `query` for the same arguments.
+/// It unrolls the formula again to find its variables. No other run has this assignment, so two
+/// satisfying assignments with the same run are equal.
 pub fn read_back(
     alloc: Global,
     system: &System,

@@ -1,15 +1,15 @@
 ghost use Rattle.std.specs.Prelude.{◌≡◌, ◌+◌, ◌*◌, ◌<◌, ◌≤◌, ◌^◌, suc, [], nat_lt, map, OnOk, IfOk, IsTrue};
 ghost use Rattle.std.specs.List.{list_all};
-ghost use Rattle.ilk_cnf.specs.Formula.{grown, with_vars};
+ghost use Rattle.ilk_cnf.specs.Formula.{with_clauses, with_vars};
 ghost use Rattle.ilk_cnf.specs.Part.{with_part, as_clauses, and_then};
 ghost use Rattle.ilk_ir.specs.System.{rule_tree, system_tree, system_valid};
-ghost use Rattle.ilk_copy.specs.Copy.{total_bits, copy_width};
+ghost use Rattle.ilk_forms.specs.Copy.{total_bits, copy_var_count};
 ghost use Rattle.ilk_unroll.specs.Query.{copies_part, steps_part};
-ghost use Rattle.ilk_unroll.specs.Tables.{tables_in, HaveRanges, step_choices, choices_numbered};
+ghost use Rattle.ilk_unroll.specs.Tables.{tables_in, HaveRanges, step_choices, choices_begin_by};
 
 use ilk_base::Row;
 use ilk_cnf::Cnf;
-use ilk_copy::{Table, add_copy, take_copy};
+use ilk_forms::{Table, add_copy, reserve_copy};
 use ilk_ir::{Ranges, System};
 use ilk_step::{Choice, add_step};
 use std::alloc::{AllocError, Global};
@@ -17,10 +17,10 @@ use std::alloc::{AllocError, Global};
 /// The literals of the copy of each moment, from the first on.
 pub type Tables = Row<Table>;
 
-/// For each step, the variables that say which rule is chosen.
+/// The variables that say which rule is chosen, for each step.
 pub type Choices = Row<Choice>;
 
-/// What an unrolled system's formula is read by.
+/// An unrolled system: its literals, and the variables from which a run is read.
 #[derive(Drop)]
 pub struct Unrolled {
     pub tables: Tables,
@@ -29,19 +29,18 @@ pub struct Unrolled {
     pub choices: Choices,
 }
 
-// Adds the variables of so many copies, and no clause.
 fn take_copies(cnf: &mut Cnf, ranges: &Ranges, count: u32) -> Result<(), AllocError>
     ensures { OnOk result
-        (cnf.new ≡ with_vars cnf.old (cnf.old.vars + count * copy_width ranges.now)) }
+        (cnf.new ≡ with_vars cnf.old (cnf.old.vars + count * copy_var_count ranges.now)) }
 {
     for _ in 0..count {
-        take_copy(cnf, ranges)?;
+        reserve_copy(cnf, ranges)?;
     }
     Ok(())
 }
 
-// Adds the clauses of so many copies, from the first moment's to the last's. A copy has `width`
-// variables, and those of the last moment's are the first.
+// Adds the clauses of `count` copies, from the first moment's to the last's. Each has `width`
+// variables, and those of the last moment come first.
 fn add_copies(
     alloc: Global,
     cnf: &mut Cnf,
@@ -49,12 +48,12 @@ fn add_copies(
     width: u64,
     count: u32,
 ) -> Result<Tables, AllocError>
-    requires width { width ≡ copy_width ranges.now }
-    requires there { cnf.old.vars ≡ count * copy_width ranges.now }
+    requires width { width ≡ copy_var_count ranges.now }
+    requires there { cnf.old.vars ≡ count * copy_var_count ranges.now }
     ensures tables { IfOk result (λ tables. tables ≡ (copies_part ranges.now count 0).tables) }
     ensures made { OnOk result
         (cnf.new
-        ≡ grown cnf.old cnf.old.vars
+        ≡ with_clauses cnf.old cnf.old.vars
         (as_clauses (copies_part ranges.now count 0).part.clauses)) }
 {
     let mut tables = Tables::new(alloc);
@@ -92,7 +91,7 @@ fn add_steps(
     Ok(choices)
 }
 
-// The same ranges, each of which is a byte.
+// Returns the ranges unchanged; each is a byte.
 fn bytes_of(ranges: &[u8]) -> &[u8]
     ensures items { result.now ≡ ranges.now }
     ensures bytes { IsTrue (list_all (λ range. nat_lt range 256) ranges.now) }
@@ -100,9 +99,9 @@ fn bytes_of(ranges: &[u8]) -> &[u8]
     ranges
 }
 
-/// Adds a copy for the first values and for those after each step, and then the steps. The variables
-/// of all copies stand before all others, those of the last moment's first. Where memory runs out the
-/// formula may have grown, and its owner drops it.
+/// Adds a copy for the first values and after each step, and then the steps. The copies' variables
+/// come before all others, those of the last moment first. If memory runs out, `cnf` may have
+/// grown.
 pub fn unroll(
     alloc: Global,
     cnf: &mut Cnf,
@@ -130,7 +129,7 @@ pub fn unroll(
     ensures within { IfOk result (λ unrolled. IsTrue (tables_in cnf.new.vars unrolled.tables)) }
     ensures ranges { IfOk result (λ unrolled. HaveRanges system.now.ranges unrolled.tables) }
     ensures numbered { IfOk result
-        (λ unrolled. IsTrue (choices_numbered (2 ^ 62) unrolled.choices)) }
+        (λ unrolled. IsTrue (choices_begin_by (2 ^ 62) unrolled.choices)) }
     ensures reach { IfOk result
         (λ unrolled. unrolled.first + total_bits system.now.ranges ≤ 2 ^ 62 + 1) }
     ensures bytes { OnOk result (IsTrue (list_all (λ range. nat_lt range 256) system.now.ranges)) }
@@ -138,7 +137,7 @@ pub fn unroll(
     let _ranges = bytes_of(system.ranges.as_slice());
     take_copies(cnf, &system.ranges, steps)?;
     let before = cnf.vars();
-    take_copy(cnf, &system.ranges)?;
+    reserve_copy(cnf, &system.ranges)?;
     let all = cnf.vars();
     let tables = add_copies(alloc, cnf, &system.ranges, all - before, steps + 1)?;
     let choices = add_steps(alloc, cnf, system, &tables)?;

@@ -1,19 +1,19 @@
--- Walks side by side: what a step along one chain leaves of the other, and of what is covered.
+-- Walks side by side: a step along one chain keeps the other walk and what is covered.
 use Rattle.std.proofs.Common.{◌≡◌, ◌≢◌, ◌≤◌, ℕ, inl, inr, true, List, [], ◌∷◌, length, get_or, take, Option, sym, ap, ◌∙◌}
 use Rattle.std.proofs.lemmas.Bool.{true≢false}
 use Rattle.std.proofs.lemmas.List.{get_or-set_other}
-use Rattle.ilk_cnf.specs.Literal.{Literal, opposite, same_lit, vars_differ}
+use Rattle.ilk_cnf.specs.Literal.{Literal, negated_lit, same_lit, vars_differ}
 use Rattle.ilk_log.specs.Propagation.{is_false}
 use Rattle.ilk_trail.specs.declared.entry.Entry.{Entry}
 use Rattle.ilk_trail.specs.Laws.{lits_of}
-use Rattle.ilk_arena.specs.Arena.{ArenaLists, place, chain_of, put_first, rewatched, stands_in, taken_out, without_reference}
-use Rattle.ilk_arena.proofs.Watching.{place-one, stands-rewatched}
-use Rattle.ilk_clauses.specs.Chained.{SameClauses}
-use Rattle.ilk_watches.specs.Visits.{ChainsAfter, CoveredBut, Walking, left_of, rest_from}
+use Rattle.ilk_arena.specs.Arena.{ArenaLists, place, chain_of, chains_with_first, with_watch_moved, is_listed_in, chains_without, without_reference}
+use Rattle.ilk_arena.proofs.Watching.{place-one, stands-with_watch_moved}
+use Rattle.ilk_watches.specs.Chained.{SameClauses}
+use Rattle.ilk_watches.specs.Visits.{ChainsAfter, CoveredExcept, IsWalkAt, remaining_clauses, rest_from}
 use Rattle.ilk_watches.proofs.Entries.{lit-kept, not-both}
-use Rattle.ilk_watches.proofs.Covers.{but-chains, but-more, but-rewatched}
+use Rattle.ilk_watches.proofs.Covers.{but-chains, but-more, but-with_watch_moved}
 
--- what a step along the chain of f leaves
+-- The effect of a step along the chain of `f`.
 pub record StepAt (a b : ArenaLists) (es fs : List Entry) (f : Literal) : Type 0 where
   pub same : SameClauses a b
   pub kept : take (length es) fs ≡ es
@@ -21,11 +21,10 @@ pub record StepAt (a b : ArenaLists) (es fs : List Entry) (f : Literal) : Type 0
   pub once : vars_differ (lits_of es) ≡ true
   pub denied : is_false (lits_of es) f ≡ true
 
--- a chain that a clause neither leaves nor enters
-chain-kept : (a : ArenaLists) (c : ℕ) (f t g : Literal) → g ≢ f → g ≢ t → chain_of (rewatched a c f t) g ≡ chain_of a g
+chain-kept : (a : ArenaLists) (c : ℕ) (f t g : Literal) → g ≢ f → g ≢ t → chain_of (with_watch_moved a c f t) g ≡ chain_of a g
 chain-kept a c f t g nf nt =
-    let out = taken_out f c a.chains in
-    let put : get_or (put_first t c out) (place g) [] ≡ get_or out (place g) [] = get_or-set_other out (place t) (place g) (c ∷ get_or out (place t) []) [] (λ e. nt (place-one g t e)) in
+    let out = chains_without f c a.chains in
+    let put : get_or (chains_with_first t c out) (place g) [] ≡ get_or out (place g) [] = get_or-set_other out (place t) (place g) (c ∷ get_or out (place t) []) [] (λ e. nt (place-one g t e)) in
     put ∙ get_or-set_other a.chains (place f) (place g) (without_reference c (get_or a.chains (place f) [])) [] (λ e. nf (place-one g f e))
 
 pub chain-beside : (a b : ArenaLists) (es fs : List Entry) (f g : Literal) → StepAt a b es fs f → is_false (lits_of es) g ≡ true → g ≢ f → chain_of b g ≡ chain_of a g
@@ -34,23 +33,22 @@ chain-beside a b es fs f g s fg n = elim s.chains [
   | inr m ↦ ap (λ (ch : List (List ℕ)). get_or ch (place g) []) m.chains ∙ chain-kept a m.clause f m.to g n (λ q. true≢false (sym fg ∙ ap (is_false (lits_of es)) q ∙ m.open_one))
 ]
 
--- a literal that stays true beside a false one
 still-true : (a b : ArenaLists) (es fs : List Entry) (f g : Literal) (c : ℕ) (l : Literal) →
     StepAt a b es fs f →
-    ((m : Literal) → stands_in c (chain_of a m) ≡ true → m ≢ g →
+    ((m : Literal) → is_listed_in c (chain_of a m) ≡ true → m ≢ g →
     Rattle.ilk_cnf.specs.Literal.has_lit m (lits_of es) ≡ true) → g ≢ f →
-    stands_in c (chain_of b l) ≡ true → l ≢ g → Rattle.ilk_cnf.specs.Literal.has_lit l (lits_of fs) ≡ true
+    is_listed_in c (chain_of b l) ≡ true → l ≢ g → Rattle.ilk_cnf.specs.Literal.has_lit l (lits_of fs) ≡ true
 still-true a b es fs f g c l s h n st ne = elim s.chains [
-  | inl e ↦ lit-kept es fs l s.kept (h l (ap (λ (ch : List (List ℕ)). stands_in c (get_or ch (place l) [])) (sym e) ∙ st) ne)
-  | inr m ↦ (let r : stands_in c (chain_of (rewatched a m.clause f m.to) l) ≡ true = ap (λ (ch : List (List ℕ)). stands_in c (get_or ch (place l) [])) (sym m.chains) ∙ st in
-      elim (stands-rewatched a m.clause f m.to c l r) [
+  | inl e ↦ lit-kept es fs l s.kept (h l (ap (λ (ch : List (List ℕ)). is_listed_in c (get_or ch (place l) [])) (sym e) ∙ st) ne)
+  | inr m ↦ (let r : is_listed_in c (chain_of (with_watch_moved a m.clause f m.to) l) ≡ true = ap (λ (ch : List (List ℕ)). is_listed_in c (get_or ch (place l) [])) (sym m.chains) ∙ st in
+      elim (stands-with_watch_moved a m.clause f m.to c l r) [
         | inl q ↦ lit-kept es fs l s.kept (h l q ne)
-        | inr q ↦ absurd (let here : stands_in c (chain_of a f) ≡ true = ap (λ (x : ℕ). stands_in x (chain_of a f)) q.0 ∙ m.stood in
+        | inr q ↦ absurd (let here : is_listed_in c (chain_of a f) ≡ true = ap (λ (x : ℕ). is_listed_in x (chain_of a f)) q.0 ∙ m.stood in
             not-both es f s.once (h f here (λ x. n (sym x))) s.denied)
       ])
 ]
 
-pub walking-beside : (a b : ArenaLists) (es fs : List Entry) (f g : Literal) (before next : Option ℕ) → StepAt a b es fs f → is_false (lits_of es) g ≡ true → g ≢ f → Walking a es g before next → Walking b fs g before next
+pub walking-beside : (a b : ArenaLists) (es fs : List Entry) (f g : Literal) (before next : Option ℕ) → StepAt a b es fs f → is_false (lits_of es) g ≡ true → g ≢ f → IsWalkAt a es g before next → IsWalkAt b fs g before next
 walking-beside a b es fs f g before next s fg n w = record {
   passed = w.passed;
   rest = w.rest;
@@ -62,11 +60,11 @@ walking-beside a b es fs f g before next s fg n w = record {
   };
 }
 
-pub left-beside : (a b : ArenaLists) (es fs : List Entry) (f g : Literal) (next : Option ℕ) → StepAt a b es fs f → is_false (lits_of es) g ≡ true → g ≢ f → left_of b g next ≡ left_of a g next
+pub left-beside : (a b : ArenaLists) (es fs : List Entry) (f g : Literal) (next : Option ℕ) → StepAt a b es fs f → is_false (lits_of es) g ≡ true → g ≢ f → remaining_clauses b g next ≡ remaining_clauses a g next
 left-beside a b es fs f g next s fg n = ap (λ (cs : List ℕ). length (rest_from next cs)) (chain-beside a b es fs f g s fg n)
 
-pub but-step : (a b : ArenaLists) (es fs : List Entry) (n : ℕ) (f g : Literal) → StepAt a b es fs f → n ≤ length es → CoveredBut a es n f g → CoveredBut b fs n f g
+pub but-step : (a b : ArenaLists) (es fs : List Entry) (n : ℕ) (f g : Literal) → StepAt a b es fs f → n ≤ length es → CoveredExcept a es n f g → CoveredExcept b fs n f g
 but-step a b es fs n f g s le h = but-more b es fs n f g s.kept le (elim s.chains [
   | inl e ↦ but-chains a b es n f g s.same.references e h
-  | inr m ↦ but-chains (rewatched a m.clause f m.to) b es n f g s.same.references m.chains (but-rewatched a es n m.clause f g m.to s.once s.denied m.open_one m.stood h)
+  | inr m ↦ but-chains (with_watch_moved a m.clause f m.to) b es n f g s.same.references m.chains (but-with_watch_moved a es n m.clause f g m.to s.once s.denied m.open_one m.stood h)
 ])

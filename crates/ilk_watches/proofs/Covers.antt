@@ -1,122 +1,114 @@
--- Covered clauses, as the trail grows and as watches move.
+-- Covered clauses, as the trail grows and watches move.
 use Rattle.std.proofs.Common.{◌≡◌, ◌≢◌, ◌<◌, ◌≤◌, ◌⊎◌, ℕ, inl, inr, true, false, eqb, List, [], ◌∷◌, ◌++◌, length, take, get_or, Some, refl, sym, ap, ◌∙◌, subst, arith, append_assoc}
 use Rattle.std.specs.List.{slice_get, IsDistinct}
 use Rattle.std.proofs.lemmas.Bool.{or_cases, or_left, or_right, or_parts, true≢false, eqb-true, eqb-false, ne_eqb}
 use Rattle.std.proofs.lemmas.Map.Keys.{IsDistinct-tail}
 use Rattle.std.proofs.lemmas.List.{append-nil}
-use Rattle.ilk_cnf.specs.Literal.{Literal, opposite, has_lit, vars_differ}
+use Rattle.ilk_cnf.specs.Literal.{Literal, negated_lit, has_lit, vars_differ}
 use Rattle.ilk_log.specs.Propagation.{is_false}
 use Rattle.ilk_trail.specs.declared.entry.Entry.{Entry}
 use Rattle.ilk_trail.specs.Trail.{level_of}
-use Rattle.ilk_trail.specs.Laws.{climbs, lits_of}
-use Rattle.ilk_trail.proofs.Levels.{up_to-all}
-use Rattle.ilk_arena.specs.Arena.{ArenaLists, place, chain_of, rewatched, stands_in, without_reference}
-use Rattle.ilk_arena.proofs.Watching.{chain-left, once-head, stands-front, stands-rewatched, without-between}
+use Rattle.ilk_trail.specs.Laws.{has_rising_levels, lits_of}
+use Rattle.ilk_trail.proofs.Levels.{entries_up_to-all}
+use Rattle.ilk_arena.specs.Arena.{ArenaLists, place, chain_of, with_watch_moved, is_listed_in, without_reference}
+use Rattle.ilk_arena.proofs.Watching.{chain-left, once-head, stands-front, stands-with_watch_moved, without-between}
 use Rattle.ilk_watches.specs.Watched.{is_true_at, IsCovered}
-use Rattle.ilk_watches.specs.Visits.{CoveredBut, IsWalk, OtherTrue}
+use Rattle.ilk_watches.specs.Visits.{CoveredExcept, IsWalk, IsOtherWatchTrue}
 use Rattle.ilk_watches.proofs.Entries.{true-somewhere, true-kept, lit-kept, at-old, not-both, entry-denies}
 
--- more entries, of which as many as before are propagated
 pub covered-more : (a : ArenaLists) (es fs : List Entry) (n c : ℕ) → take (length es) fs ≡ es → n ≤ length es → IsCovered a es n c → IsCovered a fs n c
 covered-more a es fs n c p w h = λ i e l b s w1 w2 d.
     true-kept es fs e.level l p (h i e l b (at-old es fs i e p (omega (arith, b, w)) s) w1 w2 d)
 
--- the same of what is covered but where f and g are false
-pub but-more : (a : ArenaLists) (es fs : List Entry) (n : ℕ) (f g : Literal) → take (length es) fs ≡ es → n ≤ length es → CoveredBut a es n f g → CoveredBut a fs n f g
+pub but-more : (a : ArenaLists) (es fs : List Entry) (n : ℕ) (f g : Literal) → take (length es) fs ≡ es → n ≤ length es → CoveredExcept a es n f g → CoveredExcept a fs n f g
 but-more a es fs n f g p w h = λ c known i e l b s nf ng w1 w2 d.
     true-kept es fs e.level l p (h c known i e l b (at-old es fs i e p (omega (arith, b, w)) s) nf ng w1 w2 d)
 
-pub but-chains : (a b : ArenaLists) (es : List Entry) (n : ℕ) (f g : Literal) → b.references ≡ a.references → b.chains ≡ a.chains → CoveredBut a es n f g → CoveredBut b es n f g
+pub but-chains : (a b : ArenaLists) (es : List Entry) (n : ℕ) (f g : Literal) → b.references ≡ a.references → b.chains ≡ a.chains → CoveredExcept a es n f g → CoveredExcept b es n f g
 but-chains a b es n f g r e h = λ c known.
     (let P : List (List ℕ) → Type 0 = λ ch. (i : ℕ) (x : Entry) (l : Literal) → i < n →
-    slice_get es i ≡ Some x → opposite x.lit ≢ f → opposite x.lit ≢ g →
-    stands_in c (get_or ch (place (opposite x.lit)) []) ≡ true →
-    stands_in c (get_or ch (place l) []) ≡ true → l ≢ opposite x.lit → is_true_at es x.level l ≡ true in
-    subst P (sym e) (h c (ap (stands_in c) (sym r) ∙ known)))
+    slice_get es i ≡ Some x → negated_lit x.lit ≢ f → negated_lit x.lit ≢ g →
+    is_listed_in c (get_or ch (place (negated_lit x.lit)) []) ≡ true →
+    is_listed_in c (get_or ch (place l) []) ≡ true → l ≢ negated_lit x.lit → is_true_at es x.level l ≡ true in
+    subst P (sym e) (h c (ap (is_listed_in c) (sym r) ∙ known)))
 
--- a watch that moves from the false literal f to one that isn't false
-pub but-rewatched : (a : ArenaLists) (es : List Entry) (n c : ℕ) (f g t : Literal) →
+pub but-with_watch_moved : (a : ArenaLists) (es : List Entry) (n c : ℕ) (f g t : Literal) →
     vars_differ (lits_of es) ≡ true → is_false (lits_of es) f ≡ true → is_false (lits_of es) t ≡ false →
-    stands_in c (chain_of a f) ≡ true → CoveredBut a es n f g → CoveredBut (rewatched a c f t) es n f g
-but-rewatched a es n c f g t d ff tf sf h = λ k known i e l b s nf ng w1 w2 ne.
-    elim (stands-rewatched a c f t k (opposite e.lit) w1) [
-      | inl o1 ↦ elim (stands-rewatched a c f t k l w2) [
+    is_listed_in c (chain_of a f) ≡ true → CoveredExcept a es n f g → CoveredExcept (with_watch_moved a c f t) es n f g
+but-with_watch_moved a es n c f g t d ff tf sf h = λ k known i e l b s nf ng w1 w2 ne.
+    elim (stands-with_watch_moved a c f t k (negated_lit e.lit) w1) [
+      | inl o1 ↦ elim (stands-with_watch_moved a c f t k l w2) [
         | inl o2 ↦ h k known i e l b s nf ng o1 o2 ne
-        | inr q ↦ absurd (let here : stands_in k (chain_of a f) ≡ true = ap (λ (x : ℕ). stands_in x (chain_of a f)) q.0 ∙ sf in
+        | inr q ↦ absurd (let here : is_listed_in k (chain_of a f) ≡ true = ap (λ (x : ℕ). is_listed_in x (chain_of a f)) q.0 ∙ sf in
             not-both es f d (true-somewhere es e.level f (h k known i e f b s nf ng o1 here (λ x. nf (sym x)))) ff)
       ]
       | inr q ↦ absurd (true≢false (sym (entry-denies es i e s) ∙ ap (is_false (lits_of es)) q.1 ∙ tf))
     ]
 
--- the two literals in turn
-pub but-turned : (a : ArenaLists) (es : List Entry) (n : ℕ) (f g : Literal) → CoveredBut a es n f g → CoveredBut a es n g f
+pub but-turned : (a : ArenaLists) (es : List Entry) (n : ℕ) (f g : Literal) → CoveredExcept a es n f g → CoveredExcept a es n g f
 but-turned a es n f g h = λ c known i e l b s ng nf. h c known i e l b s nf ng
 
--- one of two lists has what stands in both together
-pub stands-either : (d : ℕ) (xs ys : List ℕ) → stands_in d (xs ++ ys) ≡ true → (stands_in d xs ≡ true) ⊎ (stands_in d ys ≡ true)
+pub stands-either : (d : ℕ) (xs ys : List ℕ) → is_listed_in d (xs ++ ys) ≡ true → (is_listed_in d xs ≡ true) ⊎ (is_listed_in d ys ≡ true)
 stands-either d [] ys h = inr h
 stands-either d (x ∷ xs) ys h =
-    elim (or_cases (eqb x d) (stands_in d (xs ++ ys)) h) [
-      | inl q ↦ inl (or_left (eqb x d) (stands_in d xs) q)
-      | inr q ↦ elim (stands-either d xs ys q) [ inl p ↦ inl (or_right (eqb x d) (stands_in d xs) p) | inr p ↦ inr p ]
+    elim (or_cases (eqb x d) (is_listed_in d (xs ++ ys)) h) [
+      | inl q ↦ inl (or_left (eqb x d) (is_listed_in d xs) q)
+      | inr q ↦ elim (stands-either d xs ys q) [ inl p ↦ inl (or_right (eqb x d) (is_listed_in d xs) p) | inr p ↦ inr p ]
     ]
 
-pub stands-one : (d c : ℕ) → stands_in d (c ∷ []) ≡ true → d ≡ c
+pub stands-one : (d c : ℕ) → is_listed_in d (c ∷ []) ≡ true → d ≡ c
 stands-one d c h = elim (or_cases (eqb c d) false h) [ inl q ↦ sym (eqb-true c d q) | inr q ↦ absurd (cc) ]
 
-pub not-passed : (xs ys : List ℕ) (c : ℕ) → IsDistinct eqb (xs ++ c ∷ ys) → stands_in c xs ≡ false
+pub not-passed : (xs ys : List ℕ) (c : ℕ) → IsDistinct eqb (xs ++ c ∷ ys) → is_listed_in c xs ≡ false
 not-passed [] ys c d = refl
 not-passed (x ∷ xs) ys c d =
     let away = stands-front x xs (c ∷ ys) (once-head x (xs ++ c ∷ ys) d) in
-    let e : eqb x c ≡ false = ne_eqb x c (λ q. eqb-false c x (or_parts (eqb c x) (stands_in x ys) away.1).0 (sym q)) in
+    let e : eqb x c ≡ false = ne_eqb x c (λ q. eqb-false c x (or_parts (eqb c x) (is_listed_in x ys) away.1).0 (sym q)) in
     rw e (not-passed xs ys c (IsDistinct-tail eqb x (xs ++ c ∷ ys) d))
 
--- a walk begins
 pub walk-start : (a : ArenaLists) (es : List Entry) (f : Literal) → IsWalk a es f [] (chain_of a f)
 walk-start a es f = record { split = refl; done = λ c s. absurd (true≢false (sym s)) }
 
--- the clause at hand keeps its watch
 pub walk-stays :
     (a b : ArenaLists) (es fs : List Entry) (f : Literal) (passed : List ℕ) (c : ℕ) (rest : List ℕ) →
-    IsWalk a es f passed (c ∷ rest) → b.chains ≡ a.chains → take (length es) fs ≡ es → OtherTrue a fs c f →
+    IsWalk a es f passed (c ∷ rest) → b.chains ≡ a.chains → take (length es) fs ≡ es → IsOtherWatchTrue a fs c f →
     IsWalk b fs f (passed ++ c ∷ []) rest
 walk-stays a b es fs f passed c rest w e p o =
-    let back : (d : ℕ) (l : Literal) → stands_in d (chain_of b l) ≡ true → stands_in d (chain_of a l) ≡ true = λ d l s. ap (λ (ch : List (List ℕ)). stands_in d (get_or ch (place l) [])) (sym e) ∙ s in
+    let back : (d : ℕ) (l : Literal) → is_listed_in d (chain_of b l) ≡ true → is_listed_in d (chain_of a l) ≡ true = λ d l s. ap (λ (ch : List (List ℕ)). is_listed_in d (get_or ch (place l) [])) (sym e) ∙ s in
     record {
       split = ap (λ (ch : List (List ℕ)). get_or ch (place f) []) e ∙ w.split ∙ sym (append_assoc passed (c ∷ []) rest);
       done = λ d s l s2 ne. elim (stands-either d passed (c ∷ []) s) [
         | inl q ↦ lit-kept es fs l p (w.done d q l (back d l s2) ne)
-        | inr q ↦ (let same_one = stands-one d c q in o l (ap (λ (x : ℕ). stands_in x (chain_of a l)) (sym same_one) ∙ back d l s2) ne)
+        | inr q ↦ (let same_one = stands-one d c q in o l (ap (λ (x : ℕ). is_listed_in x (chain_of a l)) (sym same_one) ∙ back d l s2) ne)
       ];
     }
 
--- it takes another watch
 pub walk-moves :
     (a b : ArenaLists) (es fs : List Entry) (f t : Literal) (passed : List ℕ) (c : ℕ) (rest : List ℕ) →
-    IsWalk a es f passed (c ∷ rest) → b.chains ≡ (rewatched a c f t).chains → take (length es) fs ≡ es →
+    IsWalk a es f passed (c ∷ rest) → b.chains ≡ (with_watch_moved a c f t).chains → take (length es) fs ≡ es →
     IsDistinct eqb (chain_of a f) → is_false (lits_of es) f ≡ true → is_false (lits_of es) t ≡ false →
     IsWalk b fs f passed rest
 walk-moves a b es fs f t passed c rest w e p once ff tf =
-    let r = rewatched a c f t in
+    let r = with_watch_moved a c f t in
     let apart : f ≢ t = λ q. true≢false (sym ff ∙ ap (is_false (lits_of es)) q ∙ tf) in
     let D : List ℕ → Type 0 = λ xs. IsDistinct eqb xs in
     let distinct : IsDistinct eqb (passed ++ c ∷ rest) = subst D w.split once in
     record {
       split = ap (λ (ch : List (List ℕ)). get_or ch (place f) []) e ∙ chain-left a c f t apart ∙ ap (without_reference c) w.split ∙ without-between passed rest c distinct;
-      done = λ k s l s2 ne. (let s3 : stands_in k (chain_of r l) ≡ true = ap (λ (ch : List (List ℕ)). stands_in k (get_or ch (place l) [])) (sym e) ∙ s2 in
-          elim (stands-rewatched a c f t k l s3) [
+      done = λ k s l s2 ne. (let s3 : is_listed_in k (chain_of r l) ≡ true = ap (λ (ch : List (List ℕ)). is_listed_in k (get_or ch (place l) [])) (sym e) ∙ s2 in
+          elim (stands-with_watch_moved a c f t k l s3) [
             | inl q ↦ lit-kept es fs l p (w.done k s l q ne)
-            | inr q ↦ absurd (true≢false (sym s ∙ ap (λ (x : ℕ). stands_in x passed) q.0 ∙ not-passed passed rest c distinct))
+            | inr q ↦ absurd (true≢false (sym s ∙ ap (λ (x : ℕ). is_listed_in x passed) q.0 ∙ not-passed passed rest c distinct))
           ]);
     }
 
--- where a walk along the chain of f is at its end, each clause is covered where an entry of the current
--- level makes f false
+-- After a walk along the chain of `f` each clause is covered for entries of the current level that
+-- make `f` false.
 pub walk-end : (a : ArenaLists) (es : List Entry) (f : Literal) (passed : List ℕ) → IsWalk a es f passed [] →
-    climbs 0 es ≡ true → (c : ℕ) (e : Entry) (l : Literal) → opposite e.lit ≡ f → e.level ≡ level_of es →
-    stands_in c (chain_of a (opposite e.lit)) ≡ true → stands_in c (chain_of a l) ≡ true →
-    l ≢ opposite e.lit → is_true_at es e.level l ≡ true
+    has_rising_levels 0 es ≡ true → (c : ℕ) (e : Entry) (l : Literal) → negated_lit e.lit ≡ f → e.level ≡ level_of es →
+    is_listed_in c (chain_of a (negated_lit e.lit)) ≡ true → is_listed_in c (chain_of a l) ≡ true →
+    l ≢ negated_lit e.lit → is_true_at es e.level l ≡ true
 walk-end a es f passed w climb c e l is level w1 w2 ne =
-    let inside : stands_in c passed ≡ true = ap (stands_in c) (sym (append-nil passed)) ∙ ap (stands_in c) (sym w.split) ∙ ap (λ (x : Literal). stands_in c (chain_of a x)) (sym is) ∙ w1 in
+    let inside : is_listed_in c passed ≡ true = ap (is_listed_in c) (sym (append-nil passed)) ∙ ap (is_listed_in c) (sym w.split) ∙ ap (λ (x : Literal). is_listed_in c (chain_of a x)) (sym is) ∙ w1 in
     let true_now = w.done c inside l w2 (λ x. ne (x ∙ sym is)) in
-    ap (λ (xs : List Entry). has_lit l (lits_of xs)) (up_to-all 0 e.level es climb (omega (arith, level))) ∙ true_now
+    ap (λ (xs : List Entry). has_lit l (lits_of xs)) (entries_up_to-all 0 e.level es climb (omega (arith, level))) ∙ true_now

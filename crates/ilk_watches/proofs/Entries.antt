@@ -1,4 +1,4 @@
--- True and false literals of a trail, and of one with more entries.
+-- True and false literals of a trail, and of a longer one.
 use Rattle.std.proofs.Common.{◌≡◌, ◌||◌, ◌+◌, ◌<◌, ◌≤◌, ℕ, Bool, zero, suc, inl, inr, true, false, not, List, [], ◌∷◌, ◌++◌, length, take, drop, Option, Some, None, refl, sym, ap, ◌∙◌, subst, arith}
 use Rattle.std.specs.Prelude.{nat_le}
 use Rattle.std.specs.List.{slice_get}
@@ -6,8 +6,8 @@ use Rattle.std.proofs.lemmas.Bool.{cases_Bool, or_cases, or_left, or_right, and_
 use Rattle.std.proofs.lemmas.List.{take-append-drop, length-take, length-map}
 use Rattle.ilk_base.specs.Option.{is_some_and}
 use Rattle.ilk_base.proofs.Lists.{at-before, take-at}
-use Rattle.ilk_cnf.specs.Literal.{Literal, opposite, same_lit, has_lit, has_var, vars_differ}
-use Rattle.ilk_cnf.proofs.Gates.{opposite-opposite}
+use Rattle.ilk_cnf.specs.Literal.{Literal, negated_lit, same_lit, has_lit, has_var, vars_differ}
+use Rattle.ilk_cnf.proofs.Gates.{negated_lit-negated_lit}
 use Rattle.ilk_cnf.proofs.SameLiterals.{lit-is, same-lit}
 use Rattle.ilk_log.specs.Propagation.{is_false}
 use Rattle.ilk_trail.specs.declared.entry.Entry.{Entry}
@@ -16,10 +16,9 @@ use Rattle.ilk_trail.specs.Laws.{IsTrail, lits_of}
 use Rattle.std.proofs.lemmas.Bool.Decides.{nat_tests}
 use Rattle.ilk_trail.proofs.Entries.{set-at, entry-lit}
 use Rattle.ilk_trail.proofs.Literals.{count_of_vars}
-use Rattle.ilk_clauses.proofs.Values.{value-tells}
+use Rattle.ilk_watches.proofs.Values.{value-tells}
 use Rattle.ilk_watches.specs.Watched.{is_true_at}
 
--- a literal that is true up to a level is true
 pub true-somewhere : (es : List Entry) (k : ℕ) (l : Literal) → is_true_at es k l ≡ true → has_lit l (lits_of es) ≡ true
 true-somewhere [] k l h = h
 true-somewhere (x ∷ es) k l h =
@@ -32,7 +31,6 @@ true-somewhere (x ∷ es) k l h =
       | inr t ↦ (let s : is_true_at es k l ≡ true = rw t at h in or_right (same_lit l x.lit) (has_lit l (lits_of es)) (true-somewhere es k l s))
     ]
 
--- and stays so with more entries
 true-more : (es more : List Entry) (k : ℕ) (l : Literal) → is_true_at es k l ≡ true → is_true_at (es ++ more) k l ≡ true
 true-more [] more k l h = absurd (cc)
 true-more (x ∷ es) more k l h =
@@ -53,7 +51,6 @@ lit-more (x ∷ es) more l h =
       | inr q ↦ or_right (same_lit l x.lit) (has_lit l (lits_of (es ++ more))) (lit-more es more l q)
     ]
 
--- entries of which the first are the old ones
 joined : (es fs : List Entry) → take (length es) fs ≡ es → fs ≡ es ++ drop (length es) fs
 joined es fs k = sym (take-append-drop (length es) fs) ∙ ap (λ xs. xs ++ drop (length es) fs) k
 
@@ -72,7 +69,6 @@ at-old es fs i e p b h = ap (λ xs. slice_get xs i) (sym p) ∙ take-at fs i (le
 pub length-kept : (es fs : List Entry) → take (length es) fs ≡ es → length es ≤ length fs
 length-kept es fs p = (let m = length-take (length es) fs in let s = ap length p in omega (arith, m, s))
 
--- no literal is true and false
 both : (o : Option Bool) → is_some_and o (λ b. b) ≡ true → is_some_and o not ≡ true → ⊥
 both None h k = absurd (cc)
 both (Some true) h k = absurd (cc)
@@ -84,7 +80,7 @@ not-both es l d h k = (let t = value-tells es l d in both (value_of_literal es l
 pub true-not-false : (es : List Entry) (l : Literal) → vars_differ (lits_of es) ≡ true → has_lit l (lits_of es) ≡ true → is_false (lits_of es) l ≡ false
 true-not-false es l d h = elim (cases_Bool (is_false (lits_of es) l)) [ inl t ↦ absurd (not-both es l d h t) | inr f ↦ f ]
 
--- the entry of a literal that stands in the trail
+-- The entry of a literal in the trail.
 pub record EntryOf (es : List Entry) (l : Literal) : Type 0 where
   pub index : ℕ
   pub entry : Entry
@@ -99,11 +95,9 @@ entry-of-lit (x ∷ es) l h =
       | inr q ↦ (let r = entry-of-lit es l (rw q at h) in record { index = suc r.index; entry = r.entry; stands = r.stands; is = r.is })
     ]
 
--- an entry makes the opposite of its literal false
-pub entry-denies : (es : List Entry) (i : ℕ) (e : Entry) → slice_get es i ≡ Some e → is_false (lits_of es) (opposite e.lit) ≡ true
-entry-denies es i e h = ap (λ (l : Literal). has_lit l (lits_of es)) (opposite-opposite e.lit) ∙ entry-lit es i e h
+pub entry-denies : (es : List Entry) (i : ℕ) (e : Entry) → slice_get es i ≡ Some e → is_false (lits_of es) (negated_lit e.lit) ≡ true
+entry-denies es i e h = ap (λ (l : Literal). has_lit l (lits_of es)) (negated_lit-negated_lit e.lit) ∙ entry-lit es i e h
 
--- no variable has two entries
 twice : (es : List Entry) (x e d : Entry) (j : ℕ) → vars_differ (lits_of (x ∷ es)) ≡ true → x ≡ e → slice_get es j ≡ Some d → e.lit.var ≡ d.lit.var → ⊥
 twice es x e d j v s t q =
     let none = not-true (has_var x.lit.var (lits_of es)) (and_parts (not (has_var x.lit.var (lits_of es))) (vars_differ (lits_of es)) v).0 in
@@ -117,7 +111,6 @@ one-entry (x ∷ es) zero (suc j) e d v s t q = absurd (twice es x e d j v (cc) 
 one-entry (x ∷ es) (suc i) zero e d v s t q = absurd (twice es x d e i v (cc) s (sym q))
 one-entry (x ∷ es) (suc i) (suc j) e d v s t q = ap suc (one-entry es i j e d (and_parts (not (has_var x.lit.var (lits_of es))) (vars_differ (lits_of es)) v).1 s t q)
 
--- a literal that is added is true at its level and above
 pub true-pushed : (es : List Entry) (e : Entry) (k : ℕ) → e.level ≤ k → is_true_at (es ++ e ∷ []) k e.lit ≡ true
 true-pushed [] e k h = (let t : nat_le e.level k ≡ true = grind (arith, nat_tests) in rw t (or_left (same_lit e.lit e.lit) false (same-lit e.lit)))
 true-pushed (x ∷ es) e k h =
@@ -126,7 +119,6 @@ true-pushed (x ∷ es) e k h =
       | inr t ↦ rw t (true-pushed es e k h)
     ]
 
--- a trail has at most one entry for each variable
 pub entries-few : (t : TrailList) → IsTrail t → length t.entries ≤ t.vars + 1
 entries-few t k =
     let m = count_of_vars t.vars (lits_of t.entries) k.within k.once in

@@ -1,19 +1,20 @@
--- One walk, or two side by side, along the chains of literals that entries of the current level make false.
+-- One walk, or two side by side, along the chains of literals that entries of the current level
+-- make false.
 use Rattle.std.proofs.Common.{◌≡◌, ◌≢◌, ◌<◌, ◌≤◌, ◌+◌, ◌⊎◌, ℕ, inl, inr, true, List, [], length, Some, None, refl, sym, ap, ◌∙◌, subst, arith}
 use Rattle.std.specs.List.{slice_get}
 use Rattle.std.proofs.lemmas.Bool.{cases_Bool, true≢false}
 use Rattle.ilk_base.proofs.Ranges.{below_or_past}
-use Rattle.ilk_cnf.specs.Literal.{Literal, opposite, same_lit, vars_differ}
-use Rattle.ilk_cnf.proofs.Gates.{opposite-opposite}
+use Rattle.ilk_cnf.specs.Literal.{Literal, negated_lit, same_lit, vars_differ}
+use Rattle.ilk_cnf.proofs.Gates.{negated_lit-negated_lit}
 use Rattle.ilk_cnf.proofs.SameLiterals.{lit-is, same-lit}
 use Rattle.ilk_trail.specs.declared.entry.Entry.{Entry}
 use Rattle.ilk_trail.specs.Trail.{TrailList, level_of}
-use Rattle.ilk_trail.specs.Laws.{climbs, lits_of}
-use Rattle.ilk_arena.specs.Arena.{ArenaLists, chain_of, first_of, stands_in}
-use Rattle.ilk_clauses.specs.Chained.{SameClauses}
+use Rattle.ilk_trail.specs.Laws.{has_rising_levels, lits_of}
+use Rattle.ilk_arena.specs.Arena.{ArenaLists, chain_of, first_of, is_listed_in}
+use Rattle.ilk_watches.specs.Chained.{SameClauses}
 use Rattle.ilk_watches.specs.Propagated.{IsPropagated}
 use Rattle.ilk_watches.specs.Watched.{AllCovered, is_true_at}
-use Rattle.ilk_watches.specs.Visits.{CoveredBut, MadeFalse, Walking}
+use Rattle.ilk_watches.specs.Visits.{CoveredExcept, IsMadeFalseBy, IsWalkAt}
 use Rattle.ilk_watches.specs.declared.walk.Walk.{Walk}
 use Rattle.ilk_watches.proofs.Beside.{StepAt, but-step, walking-beside}
 use Rattle.ilk_watches.proofs.Covers.{but-turned, walk-end, walk-start}
@@ -23,7 +24,7 @@ use Rattle.ilk_watches.proofs.Propagations.{propagated-join, propagated-same, pr
 use Rattle.ilk_watches.proofs.Visiting.{still-false}
 use Rattle.ilk_watches.proofs.Walks.{all-passed}
 
--- what was done since the beginning
+-- The changes since the beginning.
 pub record Sofar (a0 a : ArenaLists) (t0 t : TrailList) : Type 0 where
   pub trail : t ≡ record t0 { entries = t.entries }
   pub same : SameClauses a0 a
@@ -39,7 +40,6 @@ sofar-more {a0} {a} {b} {t0} {t} {u} s same e p = record {
   propagated = propagated-join a0.clauses t0.entries t.entries u.entries s.propagated (propagated-same a0.clauses a.clauses t.entries u.entries s.same.clauses p);
 }
 
--- an entry that was queued at the beginning, or was added since, is of the current level
 pub at-level : {a0 a : ArenaLists} {t0 t : TrailList} (head : ℕ) → Sofar a0 a t0 t →
     ((i : ℕ) (e : Entry) → head ≤ i → slice_get t0.entries i ≡ Some e → e.level ≡ level_of t0.entries) →
     (i : ℕ) (e : Entry) → head ≤ i → slice_get t.entries i ≡ Some e → e.level ≡ level_of t.entries
@@ -50,26 +50,25 @@ at-level {a0} {a} {t0} {t} head s queued i e low st =
       | inr q ↦ p.levels i e q st ∙ sym p.level
     ]
 
--- a walk along the chain of a literal that an entry from `head` on and before `next` makes false
+-- A walk for an entry from `head` on and before `next`.
 pub record Going (a : ArenaLists) (es : List Entry) (head next : ℕ) (w : Walk) : Type 0 where
   pub index : ℕ
-  pub made : MadeFalse a.vars es index w.f
+  pub made : IsMadeFalseBy a.vars es index w.f
   pub level : (e : Entry) → slice_get es index ≡ Some e → e.level ≡ level_of es
   pub low : head ≤ index
   pub high : index < next
-  pub walking : Walking a es w.f w.before w.next
+  pub walking : IsWalkAt a es w.f w.before w.next
 
--- one walk, and two
 pub record Alone (a : ArenaLists) (es : List Entry) (head next : ℕ) (w : Walk) : Type 0 where
   pub going : Going a es head next w
-  pub covered : CoveredBut a es next w.f w.f
+  pub covered : CoveredExcept a es next w.f w.f
   pub next_in : next ≤ length es
 
 pub record Both (a : ArenaLists) (es : List Entry) (head next : ℕ) (v w : Walk) : Type 0 where
   pub one : Going a es head next v
   pub two : Going a es head next w
   pub apart : w.f ≢ v.f
-  pub covered : CoveredBut a es next v.f w.f
+  pub covered : CoveredExcept a es next v.f w.f
   pub next_in : next ≤ length es
 
 pub both-turned : {a : ArenaLists} {es : List Entry} {head next : ℕ} {v w : Walk} → Both a es head next v w → Both a es head next w v
@@ -81,8 +80,7 @@ both-turned {a} {es} {head} {next} {v} {w} b = record {
   next_in = b.next_in;
 }
 
--- walks begin
-going-start : (a : ArenaLists) (es : List Entry) (head n : ℕ) (w : Walk) → MadeFalse a.vars es n w.f →
+going-start : (a : ArenaLists) (es : List Entry) (head n : ℕ) (w : Walk) → IsMadeFalseBy a.vars es n w.f →
     ((e : Entry) → slice_get es n ≡ Some e → e.level ≡ level_of es) → head ≤ n → w.before ≡ None →
     w.next ≡ first_of (chain_of a w.f) → Going a es head (n + 1) w
 going-start a es head n w m level low before next = record {
@@ -95,7 +93,7 @@ going-start a es head n w m level low before next = record {
 }
 
 pub alone-start : (a : ArenaLists) (es : List Entry) (head : ℕ) (w : Walk) → AllCovered a es head →
-    MadeFalse a.vars es head w.f → ((e : Entry) → slice_get es head ≡ Some e → e.level ≡ level_of es) →
+    IsMadeFalseBy a.vars es head w.f → ((e : Entry) → slice_get es head ≡ Some e → e.level ≡ level_of es) →
     w.before ≡ None → w.next ≡ first_of (chain_of a w.f) → Alone a es head (head + 1) w
 alone-start a es head w all m level before next = record {
   going = going-start a es head head w m level (omega arith) before next;
@@ -106,17 +104,16 @@ alone-start a es head w all m level before next = record {
   next_in = omega (arith, m.below);
 }
   where
-    first : (i : ℕ) (e : Entry) → i ≡ head → slice_get es i ≡ Some e → opposite e.lit ≡ w.f
-    first i e q s = (let one : Some e ≡ Some m.entry = sym s ∙ ap (slice_get es) q ∙ m.stands in let same : e ≡ m.entry = cc in ap (λ (x : Entry). opposite x.lit) same ∙ m.is)
+    first : (i : ℕ) (e : Entry) → i ≡ head → slice_get es i ≡ Some e → negated_lit e.lit ≡ w.f
+    first i e q s = (let one : Some e ≡ Some m.entry = sym s ∙ ap (slice_get es) q ∙ m.stands in let same : e ≡ m.entry = cc in ap (λ (x : Entry). negated_lit x.lit) same ∙ m.is)
 
--- entries that make the same literal false are one
-one-index : (vars n k : ℕ) (es : List Entry) (f : Literal) (e : Entry) → vars_differ (lits_of es) ≡ true → (m : MadeFalse vars es n f) → slice_get es k ≡ Some e → opposite e.lit ≡ f → k ≡ n
+one-index : (vars n k : ℕ) (es : List Entry) (f : Literal) (e : Entry) → vars_differ (lits_of es) ≡ true → (m : IsMadeFalseBy vars es n f) → slice_get es k ≡ Some e → negated_lit e.lit ≡ f → k ≡ n
 one-index vars n k es f e d m s q =
-    let same : e.lit ≡ m.entry.lit = sym (opposite-opposite e.lit) ∙ ap opposite (q ∙ sym m.is) ∙ opposite-opposite m.entry.lit in
+    let same : e.lit ≡ m.entry.lit = sym (negated_lit-negated_lit e.lit) ∙ ap negated_lit (q ∙ sym m.is) ∙ negated_lit-negated_lit m.entry.lit in
     one-entry es k n e m.entry d s m.stands (ap (λ (l : Literal). l.var) same)
 
 pub both-start : (a : ArenaLists) (es : List Entry) (head next : ℕ) (v w : Walk) → Alone a es head next v →
-    vars_differ (lits_of es) ≡ true → MadeFalse a.vars es next w.f →
+    vars_differ (lits_of es) ≡ true → IsMadeFalseBy a.vars es next w.f →
     ((e : Entry) → slice_get es next ≡ Some e → e.level ≡ level_of es) → head ≤ next → w.before ≡ None →
     w.next ≡ first_of (chain_of a w.f) → Both a es head (next + 1) v w
 both-start a es head next v w o d m level low before first =
@@ -132,14 +129,13 @@ both-start a es head next v w o d m level low before first =
       next_in = omega (arith, m.below);
     }
   where
-    newest : (i : ℕ) (e : Entry) → i ≡ next → slice_get es i ≡ Some e → opposite e.lit ≡ w.f
-    newest i e q s = (let one : Some e ≡ Some m.entry = sym s ∙ ap (slice_get es) q ∙ m.stands in let same : e ≡ m.entry = cc in ap (λ (x : Entry). opposite x.lit) same ∙ m.is)
+    newest : (i : ℕ) (e : Entry) → i ≡ next → slice_get es i ≡ Some e → negated_lit e.lit ≡ w.f
+    newest i e q s = (let one : Some e ≡ Some m.entry = sym s ∙ ap (slice_get es) q ∙ m.stands in let same : e ≡ m.entry = cc in ap (λ (x : Entry). negated_lit x.lit) same ∙ m.is)
 
--- a walk goes on, by a step of its own or beside one of the other
-going-own : {a b : ArenaLists} {es fs : List Entry} {head next : ℕ} {v w : Walk} → Going a es head next v → StepAt a b es fs v.f → level_of fs ≡ level_of es → w.f ≡ v.f → Walking b fs v.f w.before w.next → Going b fs head next w
+going-own : {a b : ArenaLists} {es fs : List Entry} {head next : ℕ} {v w : Walk} → Going a es head next v → StepAt a b es fs v.f → level_of fs ≡ level_of es → w.f ≡ v.f → IsWalkAt b fs v.f w.before w.next → Going b fs head next w
 going-own {a} {b} {es} {fs} {head} {next} {v} {w} g s level f walking =
-    let P : Literal → Type 0 = λ x. Walking b fs x w.before w.next in
-    let M : Literal → Type 0 = λ x. MadeFalse b.vars fs g.index x in
+    let P : Literal → Type 0 = λ x. IsWalkAt b fs x w.before w.next in
+    let M : Literal → Type 0 = λ x. IsMadeFalseBy b.vars fs g.index x in
     let made = still-false {a = a} {b = b} {es = es} {fs = fs} g.made s.same s.kept in
     record {
       index = g.index;
@@ -147,7 +143,7 @@ going-own {a} {b} {es} {fs} {head} {next} {v} {w} g s level f walking =
         entry = made.entry;
         stands = made.stands;
         is = made.is ∙ sym f;
-        within = ap (Rattle.ilk_cnf.specs.Formula.lit_in b.vars) f ∙ made.within;
+        within = ap (Rattle.ilk_cnf.specs.Formula.is_lit_over b.vars) f ∙ made.within;
         denied = ap (Rattle.ilk_log.specs.Propagation.is_false (lits_of fs)) f ∙ made.denied;
         below = made.below;
       };
@@ -167,9 +163,9 @@ going-beside {a} {b} {es} {fs} {head} {next} {w} f g s level n = record {
   walking = walking-beside a b es fs f w.f w.before w.next s g.made.denied n g.walking;
 }
 
-pub alone-step : {a b : ArenaLists} {es fs : List Entry} {head next : ℕ} {v w : Walk} → Alone a es head next v → StepAt a b es fs v.f → level_of fs ≡ level_of es → w.f ≡ v.f → Walking b fs v.f w.before w.next → Alone b fs head next w
+pub alone-step : {a b : ArenaLists} {es fs : List Entry} {head next : ℕ} {v w : Walk} → Alone a es head next v → StepAt a b es fs v.f → level_of fs ≡ level_of es → w.f ≡ v.f → IsWalkAt b fs v.f w.before w.next → Alone b fs head next w
 alone-step {a} {b} {es} {fs} {head} {next} {v} {w} o s level f walking =
-    let C : Literal → Type 0 = λ x. CoveredBut b fs next x x in
+    let C : Literal → Type 0 = λ x. CoveredExcept b fs next x x in
     let longer = length-kept es fs s.kept in
     record {
       going = going-own o.going s level f walking;
@@ -177,9 +173,9 @@ alone-step {a} {b} {es} {fs} {head} {next} {v} {w} o s level f walking =
       next_in = omega (arith, longer, o.next_in);
     }
 
-pub both-step : {a b : ArenaLists} {es fs : List Entry} {head next : ℕ} {v w u : Walk} → Both a es head next v u → StepAt a b es fs v.f → level_of fs ≡ level_of es → w.f ≡ v.f → Walking b fs v.f w.before w.next → Both b fs head next w u
+pub both-step : {a b : ArenaLists} {es fs : List Entry} {head next : ℕ} {v w u : Walk} → Both a es head next v u → StepAt a b es fs v.f → level_of fs ≡ level_of es → w.f ≡ v.f → IsWalkAt b fs v.f w.before w.next → Both b fs head next w u
 both-step {a} {b} {es} {fs} {head} {next} {v} {w} {u} o s level f walking =
-    let C : Literal → Type 0 = λ x. CoveredBut b fs next x u.f in
+    let C : Literal → Type 0 = λ x. CoveredExcept b fs next x u.f in
     let longer = length-kept es fs s.kept in
     record {
       one = going-own o.one s level f walking;
@@ -189,7 +185,6 @@ both-step {a} {b} {es} {fs} {head} {next} {v} {w} {u} o s level f walking =
       next_in = omega (arith, longer, o.next_in);
     }
 
--- a walk at its end
 same-or-not : (f g : Literal) → (f ≡ g) ⊎ (f ≢ g)
 same-or-not f g = elim (cases_Bool (same_lit f g)) [
   | inl t ↦ inl (lit-is f g t)
@@ -197,33 +192,32 @@ same-or-not f g = elim (cases_Bool (same_lit f g)) [
 ]
 
 ended : (a : ArenaLists) (es : List Entry) (head next : ℕ) (w : Walk) → Going a es head next w →
-    w.next ≡ None → vars_differ (lits_of es) ≡ true → climbs 0 es ≡ true →
-    (c i : ℕ) (e : Entry) (l : Literal) → slice_get es i ≡ Some e → opposite e.lit ≡ w.f →
-    stands_in c (chain_of a (opposite e.lit)) ≡ true → stands_in c (chain_of a l) ≡ true →
-    l ≢ opposite e.lit → is_true_at es e.level l ≡ true
+    w.next ≡ None → vars_differ (lits_of es) ≡ true → has_rising_levels 0 es ≡ true →
+    (c i : ℕ) (e : Entry) (l : Literal) → slice_get es i ≡ Some e → negated_lit e.lit ≡ w.f →
+    is_listed_in c (chain_of a (negated_lit e.lit)) ≡ true → is_listed_in c (chain_of a l) ≡ true →
+    l ≢ negated_lit e.lit → is_true_at es e.level l ≡ true
 ended a es head next w g none d climb c i e l s is w1 w2 ne =
     let k = one-index a.vars g.index i es w.f e d g.made s is in
     let level : e.level ≡ level_of es = g.level e (ap (slice_get es) (sym k) ∙ s) in
     walk-end a es w.f g.walking.passed (all-passed a es w.f w.before w.next g.walking none) climb c e l is level w1 w2 ne
 
-pub both-ended : {a : ArenaLists} {es : List Entry} {head next : ℕ} {v w : Walk} → Both a es head next v w → v.next ≡ None → vars_differ (lits_of es) ≡ true → climbs 0 es ≡ true → Alone a es head next w
+pub both-ended : {a : ArenaLists} {es : List Entry} {head next : ℕ} {v w : Walk} → Both a es head next v w → v.next ≡ None → vars_differ (lits_of es) ≡ true → has_rising_levels 0 es ≡ true → Alone a es head next w
 both-ended {a} {es} {head} {next} {v} {w} b none d climb = record {
   going = b.two;
-  covered = λ c known i e l below s nw nw2 w1 w2 ne. elim (same-or-not (opposite e.lit) v.f) [
+  covered = λ c known i e l below s nw nw2 w1 w2 ne. elim (same-or-not (negated_lit e.lit) v.f) [
     | inl q ↦ ended a es head next v b.one none d climb c i e l s q w1 w2 ne
     | inr q ↦ b.covered c known i e l below s q nw w1 w2 ne
   ];
   next_in = b.next_in;
 }
 
-pub alone-ended : {a : ArenaLists} {es : List Entry} {head next : ℕ} {w : Walk} → Alone a es head next w → w.next ≡ None → vars_differ (lits_of es) ≡ true → climbs 0 es ≡ true → AllCovered a es next
-alone-ended {a} {es} {head} {next} {w} o none d climb = λ c known i e l below s w1 w2 ne. elim (same-or-not (opposite e.lit) w.f) [
+pub alone-ended : {a : ArenaLists} {es : List Entry} {head next : ℕ} {w : Walk} → Alone a es head next w → w.next ≡ None → vars_differ (lits_of es) ≡ true → has_rising_levels 0 es ≡ true → AllCovered a es next
+alone-ended {a} {es} {head} {next} {w} o none d climb = λ c known i e l below s w1 w2 ne. elim (same-or-not (negated_lit e.lit) w.f) [
   | inl q ↦ ended a es head next w o.going none d climb c i e l s q w1 w2 ne
   | inr q ↦ o.covered c known i e l below s q q w1 w2 ne
 ]
 
--- what was covered at the beginning still is
-before-going : (a : ArenaLists) (es : List Entry) (head next : ℕ) (w : Walk) → Going a es head next w → vars_differ (lits_of es) ≡ true → (i : ℕ) (e : Entry) → i < head → slice_get es i ≡ Some e → opposite e.lit ≢ w.f
+before-going : (a : ArenaLists) (es : List Entry) (head next : ℕ) (w : Walk) → Going a es head next w → vars_differ (lits_of es) ≡ true → (i : ℕ) (e : Entry) → i < head → slice_get es i ≡ Some e → negated_lit e.lit ≢ w.f
 before-going a es head next w g d i e below s q =
     let k = one-index a.vars g.index i es w.f e d g.made s q in
     absurd (omega (arith, k, below, g.low))
@@ -234,7 +228,6 @@ alone-before {a} {es} {head} {next} {w} o d = λ c known i e l below s w1 w2 ne.
     let n = before-going a es head next w g d i e below s in
     o.covered c known i e l (omega (arith, below, g.low, g.high)) s n n w1 w2 ne)
 
--- and where a step found a clause that is false
 pub alone-broken : {a b : ArenaLists} {es fs : List Entry} {head next : ℕ} {w : Walk} → Alone a es head next w → StepAt a b es fs w.f → AllCovered b fs head
 alone-broken {a} {b} {es} {fs} {head} {next} {w} o s = λ c known i e l below st w1 w2 ne.
     (let g = o.going in

@@ -1,3 +1,8 @@
+pub mod Within
+pub mod Values
+pub mod Forced
+pub mod Chained
+pub mod Copied
 pub mod Entries
 pub mod Covers
 pub mod Propagations

@@ -1,25 +1,25 @@
--- A look at a clause that was not looked at yet.
+-- A look at a clause that was not examined yet.
 use Rattle.std.proofs.Common.{◌≡◌, ◌<◌, ◌≤◌, ◌+◌, ℕ, inl, inr, true, List, [], ◌∷◌, length, take, Some, refl, sym, ap, ◌∙◌, arith}
 use Rattle.std.proofs.lemmas.Bool.{and_parts, and_from, or_cases, or_left, or_right}
 use Rattle.std.proofs.Math.Seq.{take-length}
 use Rattle.ilk_base.proofs.Ranges.{below_or_past}
 use Rattle.ilk_base.proofs.Tested.{list_all-slice_get}
-use Rattle.ilk_cnf.specs.Literal.{Literal, opposite, has_lit, vars_differ}
-use Rattle.ilk_cnf.proofs.Gates.{opposite-opposite}
-use Rattle.ilk_log.specs.Fresh.{others}
+use Rattle.ilk_cnf.specs.Literal.{Literal, negated_lit, has_lit, vars_differ}
+use Rattle.ilk_cnf.proofs.Gates.{negated_lit-negated_lit}
+use Rattle.ilk_log.specs.Fresh.{other_lits}
 use Rattle.ilk_log.specs.Propagation.{is_false, is_falsified}
 use Rattle.ilk_trail.specs.declared.entry.Entry.{Entry}
-use Rattle.ilk_trail.specs.Trail.{assigned, level_of}
-use Rattle.ilk_trail.specs.Laws.{climbs, lits_of}
-use Rattle.ilk_trail.proofs.Levels.{up_to-all}
-use Rattle.ilk_arena.specs.Arena.{ArenaLists, literals_of, number_of_clause, stands_in}
-use Rattle.ilk_clauses.specs.Reasons.{clause_at}
-use Rattle.ilk_clauses.specs.Chained.{IsClauses}
-use Rattle.ilk_clauses.proofs.Chained.{by-reference}
-use Rattle.ilk_clauses.proofs.Forced.{unit-forces}
-use Rattle.ilk_clauses.proofs.Within.{clause-there}
-use Rattle.ilk_watches.specs.Look.{look_of}
-use Rattle.ilk_watches.specs.declared.look.Look.TheVariants.{Open, Unit}
+use Rattle.ilk_trail.specs.Trail.{with_assignment, level_of}
+use Rattle.ilk_trail.specs.Laws.{has_rising_levels, lits_of}
+use Rattle.ilk_trail.proofs.Levels.{entries_up_to-all}
+use Rattle.ilk_arena.specs.Arena.{ArenaLists, literals_of, number_of_clause, is_listed_in}
+use Rattle.ilk_watches.specs.Reasons.{clause_at}
+use Rattle.ilk_watches.specs.Chained.{IsClauses}
+use Rattle.ilk_watches.proofs.Chained.{by-reference}
+use Rattle.ilk_watches.proofs.Forced.{unit-forces}
+use Rattle.ilk_watches.proofs.Within.{clause-there}
+use Rattle.ilk_watches.specs.Look.{clause_state}
+use Rattle.ilk_watches.specs.declared.look.ClauseState.TheVariants.{Open, Unit}
 use Rattle.ilk_watches.specs.Propagated.{IsPropagated}
 use Rattle.ilk_watches.specs.Watched.{is_true_at, is_satisfied, IsCovered, IsQueue, MayForce}
 use Rattle.ilk_watches.proofs.Entries.{at-old, length-kept, lit-kept, true-pushed}
@@ -27,16 +27,15 @@ use Rattle.ilk_watches.proofs.Covers.{covered-more}
 use Rattle.ilk_watches.proofs.Finding.{left-open, lone-open, open-told, unit-told}
 use Rattle.ilk_watches.proofs.Others.{pushed-true}
 use Rattle.ilk_watches.proofs.Propagations.{propagated-one, propagated-start}
-use Rattle.ilk_watches.proofs.Satisfied.{is_open, open-true, others-only, satisfied-by, short-satisfied}
+use Rattle.ilk_watches.proofs.Satisfied.{is_open, open-true, other_lits-only, satisfied-by, short-satisfied}
 
--- a clause whose literal is true that it may force
 pub forced-covered : (a : ArenaLists) (es fs : List Entry) (n c : ℕ) (x y : Literal) → MayForce a es n c x y → take (length es) fs ≡ es → n ≤ length es → is_true_at fs (level_of es) x ≡ true → IsCovered a fs n c
 forced-covered a es fs n c x y m p le t = λ i e l b s w1 w2 ne.
     let old = at-old es fs i e p (omega (arith, b, le)) s in
-    elim (m.watches (opposite e.lit) w1) [
-      | inl q ↦ absurd (m.possible i e b old (sym (opposite-opposite e.lit) ∙ ap opposite q))
+    elim (m.watches (negated_lit e.lit) w1) [
+      | inl q ↦ absurd (m.possible i e b old (sym (negated_lit-negated_lit e.lit) ∙ ap negated_lit q))
       | inr q ↦ elim (m.watches l w2) [
-        | inl r ↦ (let level = m.recent i e old (sym (opposite-opposite e.lit) ∙ ap opposite q) in
+        | inl r ↦ (let level = m.recent i e old (sym (negated_lit-negated_lit e.lit) ∙ ap negated_lit q) in
             ap (λ (k : ℕ). is_true_at fs k l) level ∙ ap (is_true_at fs (level_of es)) r ∙ t)
         | inr r ↦ absurd (ne (r ∙ sym q))
       ]
@@ -46,7 +45,7 @@ falsified-kept : (es fs : List Entry) (ls : List Literal) → take (length es) f
 falsified-kept es fs [] p h = refl
 falsified-kept es fs (l ∷ ls) p h =
     let q = and_parts (is_false (lits_of es) l) (is_falsified (lits_of es) ls) h in
-    and_from (is_false (lits_of fs) l) (is_falsified (lits_of fs) ls) (lit-kept es fs (opposite l) p q.0) (falsified-kept es fs ls p q.1)
+    and_from (is_false (lits_of fs) l) (is_falsified (lits_of fs) ls) (lit-kept es fs (negated_lit l) p q.0) (falsified-kept es fs ls p q.1)
 
 pub satisfied-kept : (es fs : List Entry) (ls : List Literal) → take (length es) fs ≡ es → is_satisfied es ls ≡ true → is_satisfied fs ls ≡ true
 satisfied-kept es fs [] p h = absurd (cc)
@@ -56,11 +55,10 @@ satisfied-kept es fs (l ∷ ls) p h =
       | inr q ↦ or_right (has_lit l (lits_of fs)) (is_satisfied fs ls) (satisfied-kept es fs ls p q)
     ]
 
--- entries more of the current level
 may-more : (a : ArenaLists) (es fs : List Entry) (n c : ℕ) (x y : Literal) → IsPropagated a.clauses es fs → n ≤ length es → MayForce a es n c x y → MayForce a fs n c x y
 may-more a es fs n c x y p le m = record {
   watches = m.watches;
-  others_false = falsified-kept es fs (others x (literals_of a c)) p.kept m.others_false;
+  others_false = falsified-kept es fs (other_lits x (literals_of a c)) p.kept m.others_false;
   recent = λ i e s q. elim (below_or_past i (length es)) [
     | inl b ↦ m.recent i e (at-old es fs i e p.kept b s) q ∙ sym p.level
     | inr b ↦ p.levels i e b s ∙ sym p.level
@@ -68,14 +66,14 @@ may-more a es fs n c x y p le m = record {
   possible = λ i e b s. m.possible i e b (at-old es fs i e p.kept (omega (arith, b, le)) s);
 }
 
--- what a look at the next clause has to show of it
+-- Obligations of a look at the next clause.
 pub record Looked (a : ArenaLists) (fs : List Entry) (h c : ℕ) : Type 0 where
   pub covered : IsCovered a fs h c
   pub short : length (literals_of a c) < 2 → is_satisfied fs (literals_of a c) ≡ true
 
 pub queue-next : (a : ArenaLists) (es fs : List Entry) (h s : ℕ) → IsQueue a es h s → s < length a.clauses →
     IsPropagated a.clauses es fs →
-    ((c : ℕ) → stands_in c a.references ≡ true → number_of_clause a c ≡ s + 1 → Looked a fs h c) →
+    ((c : ℕ) → is_listed_in c a.references ≡ true → number_of_clause a c ≡ s + 1 → Looked a fs h c) →
     IsQueue a fs h (s + 1)
 queue-next a es fs h s k w p here = record {
   head_in = (let m = length-kept es fs p.kept in omega (arith, m, k.head_in));
@@ -97,8 +95,7 @@ queue-next a es fs h s k w p here = record {
   ];
 }
 
--- the literals of the clause with a number
-pub at-number : (a : ArenaLists) (c s : ℕ) → IsClauses a → stands_in c a.references ≡ true → number_of_clause a c ≡ s + 1 → literals_of a c ≡ clause_at a.clauses s
+pub at-number : (a : ArenaLists) (c s : ℕ) → IsClauses a → is_listed_in c a.references ≡ true → number_of_clause a c ≡ s + 1 → literals_of a c ≡ clause_at a.clauses s
 at-number a c s k known n =
     let b = by-reference a c k known in
     let same : b.index ≡ s = omega (arith, b.number, n) in
@@ -107,35 +104,33 @@ at-number a c s k known n =
 pub differ-at : (a : ArenaLists) (s : ℕ) → IsClauses a → s < length a.clauses → vars_differ (clause_at a.clauses s) ≡ true
 differ-at a s k w = list_all-slice_get vars_differ a.clauses s (clause_at a.clauses s) k.formula.differ (clause-there a.clauses s w)
 
--- the clause is a unit, and its literal was assigned
 pub queue-unit : (a : ArenaLists) (es : List Entry) (h s : ℕ) (l : Literal) → IsQueue a es h s → IsClauses a →
     vars_differ (lits_of es) ≡ true → s < length a.clauses →
-    look_of (lits_of es) (clause_at a.clauses s) ≡ Unit l → IsQueue a (assigned es l s) h (s + 1)
+    clause_state (lits_of es) (clause_at a.clauses s) ≡ Unit l → IsQueue a (with_assignment es l s) h (s + 1)
 queue-unit a es h s l k cl d w look =
     let set = lits_of es in
     let clause = clause_at a.clauses s in
     let e : Entry = record { lit = l; level = level_of es; reason = Some s } in
     let u = unit-told set clause l look in
     let r = unit-forces a.clauses set s l u in
-    let has = (and_parts (has_lit l clause) (is_falsified set (others l clause)) r).0 in
+    let has = (and_parts (has_lit l clause) (is_falsified set (other_lits l clause)) r).0 in
     let possible = left-open set clause l (lone-open set _ l u).1 in
     let p = propagated-one a.clauses es l s r in
-    queue-next a es (assigned es l s) h s k w p (λ c known n.
+    queue-next a es (with_assignment es l s) h s k w p (λ c known n.
     (let ls = at-number a c s cl known n in
     let inside : has_lit l (literals_of a c) ≡ true = ap (has_lit l) ls ∙ has in
     record {
       covered = elim (k.watched c known) [
-        | inl v ↦ covered-more a es (assigned es l s) h c p.kept k.head_in v
+        | inl v ↦ covered-more a es (with_assignment es l s) h c p.kept k.head_in v
         | inr m ↦ (let x = m.1.0 in
-            let same : l ≡ x = others-only set (literals_of a c) x l m.1.2.others_false inside possible in
-            let t : is_true_at (assigned es l s) (level_of es) x ≡ true = ap (is_true_at (assigned es l s) (level_of es)) (sym same) ∙ true-pushed es e (level_of es) (omega arith) in
-            forced-covered a es (assigned es l s) h c x m.1.1 m.1.2 p.kept k.head_in t)
+            let same : l ≡ x = other_lits-only set (literals_of a c) x l m.1.2.others_false inside possible in
+            let t : is_true_at (with_assignment es l s) (level_of es) x ≡ true = ap (is_true_at (with_assignment es l s) (level_of es)) (sym same) ∙ true-pushed es e (level_of es) (omega arith) in
+            forced-covered a es (with_assignment es l s) h c x m.1.1 m.1.2 p.kept k.head_in t)
       ];
-      short = λ b. satisfied-by (assigned es l s) (literals_of a c) l inside (pushed-true es e);
+      short = λ b. satisfied-by (with_assignment es l s) (literals_of a c) l inside (pushed-true es e);
     }))
 
--- it is neither a unit nor false
-pub queue-open : (a : ArenaLists) (es : List Entry) (h s : ℕ) → IsQueue a es h s → IsClauses a → climbs 0 es ≡ true → s < length a.clauses → look_of (lits_of es) (clause_at a.clauses s) ≡ Open → IsQueue a es h (s + 1)
+pub queue-open : (a : ArenaLists) (es : List Entry) (h s : ℕ) → IsQueue a es h s → IsClauses a → has_rising_levels 0 es ≡ true → s < length a.clauses → clause_state (lits_of es) (clause_at a.clauses s) ≡ Open → IsQueue a es h (s + 1)
 queue-open a es h s k cl climb w look =
     let set = lits_of es in
     let o = open-told set (clause_at a.clauses s) look in
@@ -148,7 +143,7 @@ queue-open a es h s k cl climb w look =
         | inl v ↦ v
         | inr m ↦ (let x = m.1.0 in
             let true_now = open-true set (literals_of a c) x differ m.1.2.others_false open_it in
-            let t : is_true_at es (level_of es) x ≡ true = ap (λ (xs : List Entry). has_lit x (lits_of xs)) (up_to-all 0 (level_of es) es climb (omega arith)) ∙ true_now in
+            let t : is_true_at es (level_of es) x ≡ true = ap (λ (xs : List Entry). has_lit x (lits_of xs)) (entries_up_to-all 0 (level_of es) es climb (omega arith)) ∙ true_now in
             forced-covered a es es h c x m.1.1 m.1.2 (take-length es) k.head_in t)
       ];
       short = λ b. short-satisfied es (literals_of a c) b open_it;

@@ -1,4 +1,4 @@
--- What is so of a clause in the chain of a false literal: its other watch, and what it forces.
+-- A clause in the chain of a false literal: its other watch, and the literal that it forces.
 use Rattle.std.proofs.Common.{◌≡◌, ◌≢◌, ◌⊎◌, ◌+◌, ◌-◌, ◌&&◌, ◌==◌, ℕ, suc, inl, inr, Bool, true, false, not, List, [], ◌∷◌, ◌++◌, length, Option, Some, None, refl, sym, ap, ◌∙◌, subst, arith}
 use Rattle.std.specs.Prelude.{nat_lt, IsSomeAnd}
 use Rattle.std.specs.List.{find, position_or_len, slice_get}
@@ -6,20 +6,20 @@ use Rattle.std.proofs.lemmas.Bool.{and_parts, and_from, cases_Bool, true≢false
 use Rattle.std.proofs.lemmas.Option.{slice_get_within}
 use Rattle.ilk_base.proofs.Ranges.{below_or_past}
 use Rattle.ilk_cnf.specs.Literal.{Literal, same_lit, has_lit}
-use Rattle.ilk_cnf.proofs.SameLiterals.{same-lit, lit-is, lit_in-clause}
-use Rattle.ilk_log.specs.Fresh.{others}
+use Rattle.ilk_cnf.proofs.SameLiterals.{same-lit, lit-is, is_lit_over-clause}
+use Rattle.ilk_log.specs.Fresh.{other_lits}
 use Rattle.ilk_log.specs.Propagation.{is_false, is_falsified}
-use Rattle.ilk_arena.specs.Arena.{ArenaLists, chain_of, literals_of, number_of_clause, other_watch_of, rewatched, stands_in}
+use Rattle.ilk_arena.specs.Arena.{ArenaLists, chain_of, literals_of, number_of_clause, other_watch_of, with_watch_moved, is_listed_in}
 use Rattle.ilk_arena.specs.Chains.{WatchesTwo}
-use Rattle.ilk_clauses.specs.Reasons.{clause_at, is_conflict, is_reason}
-use Rattle.ilk_clauses.specs.Chained.{IsClauses, SameClauses, formula_of}
-use Rattle.ilk_clauses.proofs.Within.{clause-in}
-use Rattle.ilk_cnf.specs.Formula.{clause_in, lit_in}
+use Rattle.ilk_watches.specs.Reasons.{clause_at, is_conflict, is_reason}
+use Rattle.ilk_watches.specs.Chained.{IsClauses, SameClauses, formula_of}
+use Rattle.ilk_watches.proofs.Within.{clause-in}
+use Rattle.ilk_cnf.specs.Formula.{is_clause_over, is_lit_over}
 use Rattle.ilk_base.proofs.Tested.{list_all-slice_get}
-use Rattle.ilk_clauses.proofs.Chained.{by-reference}
+use Rattle.ilk_watches.proofs.Chained.{by-reference}
 use Rattle.ilk_trail.specs.declared.entry.Entry.{Entry}
 use Rattle.ilk_trail.specs.Laws.{lits_of}
-use Rattle.ilk_watches.specs.Visits.{may_watch, IsVisited, MayWatchAt, NoneMayWatch}
+use Rattle.ilk_watches.specs.Visits.{may_watch, IsVisitResult, MayWatchAt, NoneMayWatch}
 use Rattle.ilk_watches.specs.declared.visit.Visited.TheVariants.{Stays}
 
 find-passes : (p : Literal → Bool) (c : List Literal) (l : Literal) → find p c ≡ Some l → p l ≡ true
@@ -30,15 +30,15 @@ find-passes p (m ∷ c) l h =
       | inr f ↦ find-passes p c l (rw f at h)
     ]
 
--- m is the watch of c besides f
+-- `m` is the watch of `c` besides `f`.
 pub record Other (a : ArenaLists) (c : ℕ) (f m : Literal) : Type 0 where
-  pub known : stands_in c a.references ≡ true
-  pub stands : stands_in c (chain_of a m) ≡ true
+  pub known : is_listed_in c a.references ≡ true
+  pub stands : is_listed_in c (chain_of a m) ≡ true
   pub differs : m ≢ f
   pub has : has_lit m (literals_of a c) ≡ true
-  pub only : (l : Literal) → stands_in c (chain_of a l) ≡ true → l ≢ f → l ≡ m
+  pub only : (l : Literal) → is_listed_in c (chain_of a l) ≡ true → l ≢ f → l ≡ m
 
-of-two : (a : ArenaLists) (c : ℕ) (f m x y : Literal) → stands_in c a.references ≡ true → WatchesTwo a c x y → stands_in c (chain_of a f) ≡ true → stands_in c (chain_of a m) ≡ true → m ≢ f → Other a c f m
+of-two : (a : ArenaLists) (c : ℕ) (f m x y : Literal) → is_listed_in c a.references ≡ true → WatchesTwo a c x y → is_listed_in c (chain_of a f) ≡ true → is_listed_in c (chain_of a m) ≡ true → m ≢ f → Other a c f m
 of-two a c f m x y k w sf sm ne = record {
   known = k;
   stands = sm;
@@ -59,53 +59,50 @@ of-two a c f m x y k w sf sm ne = record {
     other-is l x y f (inr p) (inl q) e nl nm = absurd (nm (q ∙ sym e))
     other-is l x y f (inr p) (inr q) e nl nm = p ∙ sym q
 
-pub other-facts : (a : ArenaLists) (c : ℕ) (f m : Literal) → IsClauses a → stands_in c (chain_of a f) ≡ true → other_watch_of a c f ≡ Some m → Other a c f m
+pub other-facts : (a : ArenaLists) (c : ℕ) (f m : Literal) → IsClauses a → is_listed_in c (chain_of a f) ≡ true → other_watch_of a c f ≡ Some m → Other a c f m
 other-facts a c f m k s e =
     let known = k.arena.held f c s in
-    let p = and_parts (stands_in c (chain_of a m)) (not (same_lit f m)) (find-passes (λ l. stands_in c (chain_of a l) && not (same_lit f l)) (literals_of a c) m e) in
+    let p = and_parts (is_listed_in c (chain_of a m)) (not (same_lit f m)) (find-passes (λ l. is_listed_in c (chain_of a l) && not (same_lit f l)) (literals_of a c) m e) in
     let differs : m ≢ f = λ q. true≢false (sym (ap (same_lit f) q ∙ same-lit f) ∙ not-true (same_lit f m) p.1) in
     elim (below_or_past (length (literals_of a c)) 2) [
       | inl b ↦ absurd (true≢false (sym s ∙ k.arena.short c known b f))
       | inr b ↦ (let w = k.arena.long c known b in of-two a c f m w.0 w.1 known w.2 s p.0 differs)
     ]
 
--- the same references have the same numbers
 pub number-same : (a b : ArenaLists) (c : ℕ) → b.references ≡ a.references → number_of_clause b c ≡ number_of_clause a c
 number-same a b c e = ap (λ (rs : List ℕ). position_or_len (λ x. x == c) rs + 1) e
 
--- the literals of a clause are over the variables
-pub clause-within : (a : ArenaLists) (c : ℕ) → IsClauses a → stands_in c a.references ≡ true → clause_in a.vars (literals_of a c) ≡ true
+pub clause-within : (a : ArenaLists) (c : ℕ) → IsClauses a → is_listed_in c a.references ≡ true → is_clause_over a.vars (literals_of a c) ≡ true
 clause-within a c k s =
     let b = by-reference a c k s in
-    ap (clause_in a.vars) (sym b.literals) ∙ clause-in (formula_of a) b.index k.formula b.within
+    ap (is_clause_over a.vars) (sym b.literals) ∙ clause-in (formula_of a) b.index k.formula b.within
 
-pub literal-within : (a : ArenaLists) (c i : ℕ) (l : Literal) → IsClauses a → stands_in c a.references ≡ true → slice_get (literals_of a c) i ≡ Some l → lit_in a.vars l ≡ true
-literal-within a c i l k s e = list_all-slice_get (lit_in a.vars) (literals_of a c) i l (clause-within a c k s) e
+pub literal-within : (a : ArenaLists) (c i : ℕ) (l : Literal) → IsClauses a → is_listed_in c a.references ≡ true → slice_get (literals_of a c) i ≡ Some l → is_lit_over a.vars l ≡ true
+literal-within a c i l k s e = list_all-slice_get (is_lit_over a.vars) (literals_of a c) i l (clause-within a c k s) e
 
-pub other-within : (a : ArenaLists) (c : ℕ) (f m : Literal) → IsClauses a → Other a c f m → lit_in a.vars m ≡ true
-other-within a c f m k o = lit_in-clause a.vars (literals_of a c) m (clause-within a c k o.known) o.has
+pub other-within : (a : ArenaLists) (c : ℕ) (f m : Literal) → IsClauses a → Other a c f m → is_lit_over a.vars m ≡ true
+other-within a c f m k o = is_lit_over-clause a.vars (literals_of a c) m (clause-within a c k o.known) o.has
 
--- the numbers of what it forces, and of what is false
 pub reason-of : (a : ArenaLists) (c : ℕ) (set : List Literal) (m : Literal) → IsClauses a →
-    stands_in c a.references ≡ true → has_lit m (literals_of a c) ≡ true →
-    is_falsified set (others m (literals_of a c)) ≡ true →
+    is_listed_in c a.references ≡ true → has_lit m (literals_of a c) ≡ true →
+    is_falsified set (other_lits m (literals_of a c)) ≡ true →
     is_reason a.clauses set m (number_of_clause a c - 1) ≡ true
 reason-of a c set m k s h o =
     let b = by-reference a c k s in
     let n : number_of_clause a c - 1 ≡ b.index = omega (arith, b.number) in
-    let test : List Literal → Bool = λ ls. has_lit m ls && is_falsified set (others m ls) in
-    ap (λ (i : ℕ). test (clause_at a.clauses i)) n ∙ ap test b.literals ∙ and_from (has_lit m (literals_of a c)) (is_falsified set (others m (literals_of a c))) h o
+    let test : List Literal → Bool = λ ls. has_lit m ls && is_falsified set (other_lits m ls) in
+    ap (λ (i : ℕ). test (clause_at a.clauses i)) n ∙ ap test b.literals ∙ and_from (has_lit m (literals_of a c)) (is_falsified set (other_lits m (literals_of a c))) h o
 
-pub falsified-whole : (set : List Literal) (m : Literal) (c : List Literal) → is_falsified set (others m c) ≡ true → is_false set m ≡ true → is_falsified set c ≡ true
+pub falsified-whole : (set : List Literal) (m : Literal) (c : List Literal) → is_falsified set (other_lits m c) ≡ true → is_false set m ≡ true → is_falsified set c ≡ true
 falsified-whole set m [] h f = refl
 falsified-whole set m (l ∷ c) h f =
     elim (cases_Bool (same_lit m l)) [
       | inl t ↦ (let e = lit-is m l t in and_from (is_false set l) (is_falsified set c) (ap (is_false set) (sym e) ∙ f) (falsified-whole set m c (rw t at h) f))
-      | inr t ↦ (let p = and_parts (is_false set l) (is_falsified set (others m c)) (rw t at h) in and_from (is_false set l) (is_falsified set c) p.0 (falsified-whole set m c p.1 f))
+      | inr t ↦ (let p = and_parts (is_false set l) (is_falsified set (other_lits m c)) (rw t at h) in and_from (is_false set l) (is_falsified set c) p.0 (falsified-whole set m c p.1 f))
     ]
 
 pub conflict-of : (a : ArenaLists) (c : ℕ) (set : List Literal) (m : Literal) → IsClauses a →
-    stands_in c a.references ≡ true → is_falsified set (others m (literals_of a c)) ≡ true →
+    is_listed_in c a.references ≡ true → is_falsified set (other_lits m (literals_of a c)) ≡ true →
     is_false set m ≡ true → is_conflict a.clauses set (number_of_clause a c - 1) ≡ true
 conflict-of a c set m k s o f =
     let b = by-reference a c k s in
@@ -115,8 +112,7 @@ conflict-of a c set m k s o f =
     (lt-ltb b.index (length a.clauses) b.within)
     (ap (is_falsified set) b.literals ∙ falsified-whole set m (literals_of a c) o f)
 
--- where no literal may be watched, all but the other watch are false
-pub none-open : (set : List Literal) (other : Literal) (ls : List Literal) → ((i : ℕ) (l : Literal) → slice_get ls i ≡ Some l → may_watch set other l ≡ false) → is_falsified set (others other ls) ≡ true
+pub none-open : (set : List Literal) (other : Literal) (ls : List Literal) → ((i : ℕ) (l : Literal) → slice_get ls i ≡ Some l → may_watch set other l ≡ false) → is_falsified set (other_lits other ls) ≡ true
 none-open set other [] h = refl
 none-open set other (l ∷ ls) h =
     let rest = none-open set other ls (λ i m s. h (suc i) m s) in
@@ -124,7 +120,7 @@ none-open set other (l ∷ ls) h =
       | inl t ↦ rw t rest
       | inr t ↦ (let n : (not (same_lit other l) && not (is_false set l)) ≡ false = h 0 l refl in
           let f : is_false set l ≡ true = denied (same_lit other l) (is_false set l) t n in
-          rw t (and_from (is_false set l) (is_falsified set (others other ls)) f rest))
+          rw t (and_from (is_false set l) (is_falsified set (other_lits other ls)) f rest))
     ]
   where
     denied : (p q : Bool) → p ≡ false → (not p && not q) ≡ false → q ≡ true
@@ -140,13 +136,12 @@ none-more set other ls from i m h s n = λ k l a b e. elim (below_or_past k i) [
       ap (may_watch set other) z ∙ n)
 ]
 
-pub none-around : (set : List Literal) (other : Literal) (ls : List Literal) (start n : ℕ) → n ≡ length ls → NoneMayWatch set other ls start n → NoneMayWatch set other ls 0 start → is_falsified set (others other ls) ≡ true
+pub none-around : (set : List Literal) (other : Literal) (ls : List Literal) (start n : ℕ) → n ≡ length ls → NoneMayWatch set other ls start n → NoneMayWatch set other ls 0 start → is_falsified set (other_lits other ls) ≡ true
 none-around set other ls start n e h k = none-open set other ls (λ i l s. elim (below_or_past i start) [
   | inl q ↦ k i l (omega arith) q s
   | inr q ↦ (let w = slice_get_within ls i l s in h i l q (omega (arith, w, e)) s)
 ])
 
--- the literal at an index that may be watched
 pub record Chosen (set : List Literal) (other : Literal) (ls : List Literal) (i : ℕ) : Type 0 where
   pub literal : Literal
   pub stands : slice_get ls i ≡ Some literal
@@ -167,29 +162,28 @@ may-watch-at set other ls i l s f n =
     let P : Option Literal → Type 0 = λ o. IsSomeAnd o (λ m. may_watch set other m ≡ true) in
     subst P (sym s) (and_from (not (same_lit other l)) (not (is_false set l)) (not_from_false (same_lit other l) n) (not_from_false (is_false set l) f))
 
--- it isn't watched
-pub unwatched : (a : ArenaLists) (c : ℕ) (f m t : Literal) (set : List Literal) → Other a c f m → is_false set f ≡ true → same_lit m t ≡ false → is_false set t ≡ false → stands_in c (chain_of a t) ≡ false
+pub unwatched : (a : ArenaLists) (c : ℕ) (f m t : Literal) (set : List Literal) → Other a c f m → is_false set f ≡ true → same_lit m t ≡ false → is_false set t ≡ false → is_listed_in c (chain_of a t) ≡ false
 unwatched a c f m t set o ff n ft =
-    elim (cases_Bool (stands_in c (chain_of a t))) [
+    elim (cases_Bool (is_listed_in c (chain_of a t))) [
       | inl s ↦ absurd (let apart : t ≢ f = λ q. true≢false (sym ff ∙ ap (is_false set) (sym q) ∙ ft) in
           let e = o.only t s apart in
           true≢false (sym (ap (same_lit m) e ∙ same-lit m) ∙ n))
       | inr s ↦ s
     ]
 
--- the chains after a watch has moved, though a cursor was set before
+-- The chains after a watch has moved; a cursor may have been set before.
 pub record MovedTo (a b : ArenaLists) (c : ℕ) (f t : Literal) : Type 0 where
   pub same : SameClauses a b
-  pub chains : b.chains ≡ (rewatched a c f t).chains
+  pub chains : b.chains ≡ (with_watch_moved a c f t).chains
 
-pub moved-to : (a m b : ArenaLists) (c : ℕ) (f t : Literal) → m ≡ record a { cursors = m.cursors } → b ≡ rewatched m c f t → MovedTo a b c f t
+pub moved-to : (a m b : ArenaLists) (c : ℕ) (f t : Literal) → m ≡ record a { cursors = m.cursors } → b ≡ with_watch_moved m c f t → MovedTo a b c f t
 moved-to a m b c f t e h = record {
   same = record {
     vars = ap (λ (x : ArenaLists). x.vars) h ∙ ap (λ (x : ArenaLists). x.vars) e;
     references = ap (λ (x : ArenaLists). x.references) h ∙ ap (λ (x : ArenaLists). x.references) e;
     clauses = ap (λ (x : ArenaLists). x.clauses) h ∙ ap (λ (x : ArenaLists). x.clauses) e;
   };
-  chains = ap (λ (x : ArenaLists). x.chains) h ∙ ap (λ (x : ArenaLists). (rewatched x c f t).chains) e;
+  chains = ap (λ (x : ArenaLists). x.chains) h ∙ ap (λ (x : ArenaLists). (with_watch_moved x c f t).chains) e;
 }
 
 pub same-cursors : (a m : ArenaLists) → m ≡ record a { cursors = m.cursors } → SameClauses a m × (m.chains ≡ a.chains)
@@ -208,11 +202,9 @@ same-self a = record { vars = refl; references = refl; clauses = refl }
 pub same-join : (a b c : ArenaLists) → SameClauses a b → SameClauses b c → SameClauses a c
 same-join a b c p q = record { vars = q.vars ∙ p.vars; references = q.references ∙ p.references; clauses = q.clauses ∙ p.clauses }
 
--- what a visit leaves where the other watch is true, or was forced
-pub other-true : (a b : ArenaLists) (es fs : List Entry) (c : ℕ) (f m : Literal) → Other a c f m → b.chains ≡ a.chains → has_lit m (lits_of fs) ≡ true → IsVisited a es b fs c f Stays
+pub other-true : (a b : ArenaLists) (es fs : List Entry) (c : ℕ) (f m : Literal) → Other a c f m → b.chains ≡ a.chains → has_lit m (lits_of fs) ≡ true → IsVisitResult a es b fs c f Stays
 other-true a b es fs c f m o e h = (e, λ l s ne. ap (λ (x : Literal). has_lit x (lits_of fs)) (o.only l s ne) ∙ h)
 
--- a literal that was just added is true
 pub pushed-true : (es : List Entry) (e : Entry) → has_lit e.lit (lits_of (es ++ e ∷ [])) ≡ true
 pushed-true [] e = or_left (same_lit e.lit e.lit) false (same-lit e.lit)
 pushed-true (x ∷ es) e = or_right (same_lit e.lit x.lit) (has_lit e.lit (lits_of (es ++ e ∷ []))) (pushed-true es e)

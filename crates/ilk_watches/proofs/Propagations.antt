@@ -1,4 +1,4 @@
--- Propagation goes on.
+-- Propagation continues.
 use Rattle.std.proofs.Common.{◌≡◌, ◌≤◌, ℕ, true, inl, inr, List, [], ◌∷◌, ◌++◌, length, take, drop, Some, refl, sym, ap, ◌∙◌, subst, arith}
 use Rattle.std.specs.Prelude.{IsSomeAnd}
 use Rattle.std.specs.List.{slice_get}
@@ -9,10 +9,10 @@ use Rattle.ilk_base.proofs.Lists.{slice_get-push_cases}
 use Rattle.ilk_base.proofs.Ranges.{below_or_past}
 use Rattle.ilk_cnf.specs.Literal.{Literal}
 use Rattle.ilk_trail.specs.declared.entry.Entry.{Entry}
-use Rattle.ilk_trail.specs.Trail.{assigned, level_of}
+use Rattle.ilk_trail.specs.Trail.{with_assignment, level_of}
 use Rattle.ilk_trail.specs.Laws.{lits_of}
 use Rattle.ilk_trail.proofs.Levels.{last_level-push}
-use Rattle.ilk_clauses.specs.Reasons.{is_reason}
+use Rattle.ilk_watches.specs.Reasons.{is_reason}
 use Rattle.ilk_watches.specs.Propagated.{IsPropagated}
 use Rattle.ilk_watches.proofs.Entries.{at-old, length-kept}
 
@@ -27,7 +27,7 @@ propagated-start cs es = record {
     past : (es : List Entry) (i : ℕ) (e : Entry) → length es ≤ i → slice_get es i ≡ Some e → ⊥
     past es i e h s = (let w = slice_get_within es i e s in absurd (omega (arith, w, h)))
 
-pub propagated-push : (cs : List (List Literal)) (old new : List Entry) (l : Literal) (c : ℕ) → IsPropagated cs old new → is_reason cs (lits_of new) l c ≡ true → IsPropagated cs old (assigned new l c)
+pub propagated-push : (cs : List (List Literal)) (old new : List Entry) (l : Literal) (c : ℕ) → IsPropagated cs old new → is_reason cs (lits_of new) l c ≡ true → IsPropagated cs old (with_assignment new l c)
 propagated-push cs old new l c p r =
     let e : Entry = record { lit = l; level = level_of new; reason = Some c } in
     record {
@@ -48,10 +48,9 @@ propagated-push cs old new l c p r =
       ];
     }
 
-pub propagated-one : (cs : List (List Literal)) (es : List Entry) (l : Literal) (c : ℕ) → is_reason cs (lits_of es) l c ≡ true → IsPropagated cs es (assigned es l c)
+pub propagated-one : (cs : List (List Literal)) (es : List Entry) (l : Literal) (c : ℕ) → is_reason cs (lits_of es) l c ≡ true → IsPropagated cs es (with_assignment es l c)
 propagated-one cs es l c r = propagated-push cs es es l c (propagated-start cs es) r
 
--- the same first entries
 same-front : (es fs : List Entry) (i : ℕ) → take (length es) fs ≡ es → i ≤ length es → take i es ≡ take i fs
 same-front es fs i k le =
     let size = ap length k in
@@ -72,6 +71,5 @@ propagated-join cs old mid new p q = record {
   ];
 }
 
--- the clauses by another name
 pub propagated-same : (cs ds : List (List Literal)) (old new : List Entry) → ds ≡ cs → IsPropagated ds old new → IsPropagated cs old new
 propagated-same cs ds old new e p = (let P : List (List Literal) → Type 0 = λ x. IsPropagated x old new in subst P e p)

@@ -10,17 +10,17 @@ use Rattle.ilk_base.proofs.Lists.{item_at}
 use Rattle.ilk_base.proofs.Ranges.{below_or_past}
 use Rattle.ilk_base.proofs.Tested.{list_all-slice_get}
 use Rattle.ilk_cnf.specs.Literal.{Literal, has_lit, vars_differ}
-use Rattle.ilk_log.specs.Fresh.{others}
-use Rattle.ilk_log.specs.Propagation.{is_closed, is_falsified, unit_of}
+use Rattle.ilk_log.specs.Fresh.{other_lits}
+use Rattle.ilk_log.specs.Propagation.{is_saturated, is_falsified, unit_lit}
 use Rattle.ilk_trail.specs.declared.entry.Entry.{Entry}
-use Rattle.ilk_trail.specs.Trail.{decided, level_of}
+use Rattle.ilk_trail.specs.Trail.{with_decision, level_of}
 use Rattle.ilk_trail.specs.Laws.{lits_of}
 use Rattle.ilk_trail.proofs.Levels.{last_level-push}
-use Rattle.ilk_arena.specs.Arena.{ArenaLists, literals_of, number_of_clause, paired_with, stands_in}
-use Rattle.ilk_clauses.specs.Reasons.{clause_at, is_conflict, is_reason}
-use Rattle.ilk_clauses.specs.Chained.{IsClauses, SameClauses}
-use Rattle.ilk_clauses.proofs.Chained.{by-reference}
-use Rattle.ilk_clauses.proofs.Within.{clause-there}
+use Rattle.ilk_arena.specs.Arena.{ArenaLists, literals_of, number_of_clause, item_for_reference, is_listed_in}
+use Rattle.ilk_watches.specs.Reasons.{clause_at, is_conflict, is_reason}
+use Rattle.ilk_watches.specs.Chained.{IsClauses, SameClauses}
+use Rattle.ilk_watches.proofs.Chained.{by-reference}
+use Rattle.ilk_watches.proofs.Within.{clause-there}
 use Rattle.ilk_watches.specs.Propagated.{IsPropagated}
 use Rattle.ilk_watches.specs.Watched.{AllCovered, is_satisfied, IsQueue}
 use Rattle.ilk_watches.proofs.Entries.{at-old, entry-of-lit, one-entry, at-kept}
@@ -29,7 +29,6 @@ use Rattle.ilk_watches.proofs.Others.{number-same}
 use Rattle.ilk_watches.proofs.Satisfied.{closed-all, is_open, open-true}
 use Rattle.ilk_watches.proofs.Looks.{differ-at, satisfied-kept}
 
--- nothing is set, and no clause was looked at
 pub queue-start : (a : ArenaLists) → IsQueue a [] 0 0
 queue-start a = record {
   head_in = omega arith;
@@ -43,16 +42,14 @@ queue-start a = record {
     nothing i e s = absurd (cc)
 
 pub literals-same : (a b : ArenaLists) (c : ℕ) → SameClauses a b → literals_of b c ≡ literals_of a c
-literals-same a b c s = ap (λ (rs : List ℕ). paired_with c rs b.clauses []) s.references ∙ ap (λ (cs : List (List Literal)). paired_with c a.references cs []) s.clauses
+literals-same a b c s = ap (λ (rs : List ℕ). item_for_reference c rs b.clauses []) s.references ∙ ap (λ (cs : List (List Literal)). item_for_reference c a.references cs []) s.clauses
 
--- where every clause was looked at, each is covered
 pub all-covered : (a : ArenaLists) (es : List Entry) (h s : ℕ) → IsQueue a es h s → IsClauses a → s ≡ length a.clauses → AllCovered a es h
 all-covered a es h s k cl all = λ c known. elim (k.watched c known) [
   | inl v ↦ v
   | inr m ↦ absurd (let b = by-reference a c cl known in omega (arith, m.0, b.number, b.within, all))
 ]
 
--- after a walk
 pub queue-walked : (a b : ArenaLists) (es fs : List Entry) (h n s : ℕ) → IsQueue a es h s → AllCovered b fs n → IsPropagated a.clauses es fs → SameClauses a b → h ≤ n → n ≤ length fs → IsQueue b fs n s
 queue-walked a b es fs h n s k v p same le m = record {
   head_in = m;
@@ -65,47 +62,44 @@ queue-walked a b es fs h n s k v p same le m = record {
   short = λ c known few b2.
       (let ls = literals-same a b c same in
       let number = number-same a b c same.references in
-      let there : stands_in c a.references ≡ true = ap (stands_in c) (sym same.references) ∙ known in
+      let there : is_listed_in c a.references ≡ true = ap (is_listed_in c) (sym same.references) ∙ known in
       ap (is_satisfied fs) ls ∙ satisfied-kept es fs (literals_of a c) p.kept (k.short c there (omega (arith, few, number)) (omega (arith, b2, ap length ls))));
 }
 
--- the queue is empty
-pub queue-closed : (a : ArenaLists) (es : List Entry) (h s : ℕ) → IsQueue a es h s → IsClauses a → vars_differ (lits_of es) ≡ true → s ≡ length a.clauses → length es ≤ h → (is_closed a.clauses (lits_of es) ≡ true) × (h ≡ length es)
+pub queue-closed : (a : ArenaLists) (es : List Entry) (h s : ℕ) → IsQueue a es h s → IsClauses a → vars_differ (lits_of es) ≡ true → s ≡ length a.clauses → length es ≤ h → (is_saturated a.clauses (lits_of es) ≡ true) × (h ≡ length es)
 queue-closed a es h s k cl d all past =
     let here : h ≡ length es = omega (arith, past, k.head_in) in
     let P : ℕ → Type 0 = λ n. AllCovered a es n in
-    let count : (c : ℕ) → stands_in c a.references ≡ true → number_of_clause a c ≤ s = λ c known. (let b = by-reference a c cl known in omega (arith, b.number, b.within, all)) in
+    let count : (c : ℕ) → is_listed_in c a.references ≡ true → number_of_clause a c ≤ s = λ c known. (let b = by-reference a c cl known in omega (arith, b.number, b.within, all)) in
     (closed-all a es cl d (subst P here (all-covered a es h s k cl all)) (λ c known n. k.short c known (count c known) n), here)
 
--- a decision, where the queue is empty
-pub queue-decided : (a : ArenaLists) (es : List Entry) (h s : ℕ) (l : Literal) → IsQueue a es h s → IsClauses a → s ≡ length a.clauses → h ≡ length es → IsQueue a (decided es l) h s
-queue-decided a es h s l k cl all here =
+pub queue-with_decision : (a : ArenaLists) (es : List Entry) (h s : ℕ) (l : Literal) → IsQueue a es h s → IsClauses a → s ≡ length a.clauses → h ≡ length es → IsQueue a (with_decision es l) h s
+queue-with_decision a es h s l k cl all here =
     let e : Entry = record { lit = l; level = level_of es + 1; reason = None } in
-    let kept : take (length es) (decided es l) ≡ es = take-append_seam es (e ∷ []) in
+    let kept : take (length es) (with_decision es l) ≡ es = take-append_seam es (e ∷ []) in
     let more = length-append es (e ∷ []) in
     let v = all-covered a es h s k cl all in
     record {
       head_in = omega (arith, here, more);
       settled_in = k.settled_in;
       queued = λ i x b t.
-          (let w = slice_get_within (decided es l) i x t in
+          (let w = slice_get_within (with_decision es l) i x t in
           let last : i ≡ length es = omega (arith, w, more, b, here) in
-          let z : Some x ≡ Some e = sym t ∙ ap (slice_get (decided es l)) last ∙ end-of es e in
+          let z : Some x ≡ Some e = sym t ∙ ap (slice_get (with_decision es l)) last ∙ end-of es e in
           let same : x ≡ e = cc in
           ap (λ (y : Entry). y.level) same ∙ sym (last_level-push 0 es e));
-      watched = λ c known. inl (covered-more a es (decided es l) h c kept k.head_in (v c known));
-      short = λ c known le n. satisfied-kept es (decided es l) (literals_of a c) kept (k.short c known le n);
+      watched = λ c known. inl (covered-more a es (with_decision es l) h c kept k.head_in (v c known));
+      short = λ c known le n. satisfied-kept es (with_decision es l) (literals_of a c) kept (k.short c known le n);
     }
   where
     end-of : (xs : List Entry) (x : Entry) → slice_get (xs ++ x ∷ []) (length xs) ≡ Some x
     end-of [] x = refl
     end-of (y ∷ xs) x = end-of xs x
 
--- where propagation is at its end, it adds nothing
-forced-open : (a : ArenaLists) (es : List Entry) (l : Literal) (c : ℕ) → IsClauses a → is_closed a.clauses (lits_of es) ≡ true → is_reason a.clauses (lits_of es) l c ≡ true → has_lit l (lits_of es) ≡ true
+forced-open : (a : ArenaLists) (es : List Entry) (l : Literal) (c : ℕ) → IsClauses a → is_saturated a.clauses (lits_of es) ≡ true → is_reason a.clauses (lits_of es) l c ≡ true → has_lit l (lits_of es) ≡ true
 forced-open a es l c k closed r =
     let clause = clause_at a.clauses c in
-    let p = and_parts (has_lit l clause) (is_falsified (lits_of es) (others l clause)) r in
+    let p = and_parts (has_lit l clause) (is_falsified (lits_of es) (other_lits l clause)) r in
     elim (below_or_past c (length a.clauses)) [
       | inl b ↦ open-true (lits_of es) clause l (differ-at a c k b) p.1 (list_all-slice_get (is_open (lits_of es)) a.clauses c clause closed (clause-there a.clauses c b))
       | inr b ↦ absurd (true≢false (sym p.0 ∙ ap (has_lit l) (get_or_past a.clauses c [] b)))
@@ -117,7 +111,7 @@ drop-past [] (suc n) h = refl
 drop-past (x ∷ xs) zero h = absurd (omega arith)
 drop-past (x ∷ xs) (suc n) h = drop-past xs n (omega arith)
 
-pub nothing-forced : (a : ArenaLists) (es fs : List Entry) → IsClauses a → is_closed a.clauses (lits_of es) ≡ true → IsPropagated a.clauses es fs → vars_differ (lits_of fs) ≡ true → fs ≡ es
+pub nothing-forced : (a : ArenaLists) (es fs : List Entry) → IsClauses a → is_saturated a.clauses (lits_of es) ≡ true → IsPropagated a.clauses es fs → vars_differ (lits_of fs) ≡ true → fs ≡ es
 nothing-forced a es fs k closed p d =
     elim (below_or_past (length es) (length fs)) [
       | inl b ↦ absurd (let x = item_at fs (length es) b in
@@ -135,11 +129,10 @@ nothing-forced a es fs k closed p d =
     reason-true e None r = absurd r
     reason-true e (Some c) r = forced-open a es e.lit c k closed (ap (λ (xs : List Entry). is_reason a.clauses (lits_of xs) e.lit c) (sym p.kept) ∙ r)
 
--- nor is there a conflict
-pub no-conflict : (cs : List (List Literal)) (set : List Literal) (o : Option ℕ) (E : Type 0) → is_closed cs set ≡ true → IfSome o (λ c. is_conflict cs set c ≡ true) → IfNone o E → E
+pub no-conflict : (cs : List (List Literal)) (set : List Literal) (o : Option ℕ) (E : Type 0) → is_saturated cs set ≡ true → IfSome o (λ c. is_conflict cs set c ≡ true) → IfNone o E → E
 no-conflict cs set None E closed f e = e
 no-conflict cs set (Some c) E closed f e =
     let p = and_parts (nat_lt c (length cs)) (is_falsified set (clause_at cs c)) f in
     let b = ltb-true c (length cs) p.0 in
-    let o = and_parts (not (is_falsified set (clause_at cs c))) (is_none (unit_of set (clause_at cs c))) (list_all-slice_get (is_open set) cs c (clause_at cs c) closed (clause-there cs c b)) in
+    let o = and_parts (not (is_falsified set (clause_at cs c))) (is_none (unit_lit set (clause_at cs c))) (list_all-slice_get (is_open set) cs c (clause_at cs c) closed (clause-there cs c b)) in
     absurd (true≢false (sym p.1 ∙ not-true (is_falsified set (clause_at cs c)) o.0))

@@ -1,4 +1,4 @@
--- When a clause is neither false nor a unit.
+-- Clauses that are neither false nor unit.
 use Rattle.std.proofs.Common.{eqb, ◌≡◌, ◌≢◌, ◌&&◌, ◌<◌, ℕ, inl, inr, Bool, true, false, not, List, [], ◌∷◌, length, Option, Some, None, refl, sym, ap, ◌∙◌, arith}
 use Rattle.std.specs.Prelude.{is_none}
 use Rattle.std.specs.List.{filter}
@@ -6,27 +6,25 @@ use Rattle.std.proofs.lemmas.Bool.{and_parts, and_from, cases_Bool, or_cases, or
 use Rattle.std.proofs.lemmas.Option.{slice_get_within, get_or_from_slice_get}
 use Rattle.ilk_base.proofs.Tested.{all-pass}
 use Rattle.ilk_base.proofs.Ranges.{below_or_past}
-use Rattle.ilk_cnf.specs.Literal.{Literal, opposite, same_lit, has_lit, has_var, vars_differ}
-use Rattle.ilk_cnf.proofs.Gates.{opposite-opposite}
+use Rattle.ilk_cnf.specs.Literal.{Literal, negated_lit, same_lit, has_lit, has_var, vars_differ}
+use Rattle.ilk_cnf.proofs.Gates.{negated_lit-negated_lit}
 use Rattle.ilk_cnf.proofs.SameLiterals.{same-lit, lit-is}
-use Rattle.ilk_log.specs.Fresh.{others}
-use Rattle.ilk_log.specs.Propagation.{is_closed, is_false, is_falsified, unit_of}
+use Rattle.ilk_log.specs.Fresh.{other_lits}
+use Rattle.ilk_log.specs.Propagation.{is_saturated, is_false, is_falsified, unit_lit}
 use Rattle.ilk_trail.specs.declared.entry.Entry.{Entry}
 use Rattle.ilk_trail.specs.Laws.{lits_of}
-use Rattle.ilk_arena.specs.Arena.{ArenaLists, chain_of, literals_of, stands_in}
+use Rattle.ilk_arena.specs.Arena.{ArenaLists, chain_of, literals_of, is_listed_in}
 use Rattle.ilk_arena.specs.Chains.{WatchesTwo}
-use Rattle.ilk_clauses.specs.Chained.{IsClauses}
-use Rattle.ilk_clauses.proofs.Chained.{referred}
+use Rattle.ilk_watches.specs.Chained.{IsClauses}
+use Rattle.ilk_watches.proofs.Chained.{referred}
 use Rattle.ilk_watches.specs.Watched.{AllCovered, is_satisfied}
 use Rattle.ilk_watches.proofs.Entries.{entry-of-lit, true-not-false, true-somewhere}
 use Rattle.ilk_watches.proofs.Finding.{lone-open}
 use Rattle.ilk_watches.proofs.Others.{falsified-whole}
 
--- whether a clause is neither false nor a unit
 abbrev pub is_open : List Literal → List Literal → Bool
-is_open set c = not (is_falsified set c) && is_none (unit_of set c)
+is_open set c = not (is_falsified set c) && is_none (unit_lit set c)
 
--- a literal of a false clause is false
 pub falsified-at : (set c : List Literal) (m : Literal) → is_falsified set c ≡ true → has_lit m c ≡ true → is_false set m ≡ true
 falsified-at set [] m h k = absurd (cc)
 falsified-at set (l ∷ c) m h k =
@@ -36,7 +34,6 @@ falsified-at set (l ∷ c) m h k =
       | inr s ↦ falsified-at set c m p.1 s
     ]
 
--- where nothing is left that isn't false, all are
 none-left : (set c : List Literal) (m : Literal) → filter (λ l. not (is_false set l)) c ≡ [] → has_lit m c ≡ true → is_false set m ≡ true
 none-left set [] m h k = absurd (cc)
 none-left set (l ∷ c) m h k =
@@ -49,7 +46,6 @@ none-left set (l ∷ c) m h k =
       | inr t ↦ absurd (let z : l ∷ filter (λ x. not (is_false set x)) c ≡ [] = rw t at h in cc)
     ]
 
--- where one is left, it is each that isn't false
 one-left : (set c : List Literal) (l m : Literal) → filter (λ x. not (is_false set x)) c ≡ l ∷ [] → has_lit m c ≡ true → is_false set m ≡ false → m ≡ l
 one-left set [] l m h k f = absurd (cc)
 one-left set (x ∷ c) l m h k f =
@@ -68,17 +64,16 @@ one-left set (x ∷ c) l m h k f =
           ])
     ]
 
--- a clause with a literal that isn't false, and isn't the one of a unit
 pub open-by : (set c : List Literal) (m : Literal) → has_lit m c ≡ true → is_false set m ≡ false → ((l : Literal) → has_lit l set ≡ false → ((n : Literal) → has_lit n c ≡ true → is_false set n ≡ false → n ≡ l) → ⊥) → is_open set c ≡ true
 open-by set c m h f never =
     let left = filter (λ x. not (is_false set x)) c in
-    and_from (not (is_falsified set c)) (is_none (unit_of set c))
+    and_from (not (is_falsified set c)) (is_none (unit_lit set c))
     (not_from_false (is_falsified set c)
     (elim (cases_Bool (is_falsified set c))
     [ inl t ↦ absurd (true≢false (sym (falsified-at set c m t h) ∙ f)) | inr t ↦ t ]))
-    (go (unit_of set c) refl)
+    (go (unit_lit set c) refl)
   where
-    go : (o : Option Literal) → unit_of set c ≡ o → is_none o ≡ true
+    go : (o : Option Literal) → unit_lit set c ≡ o → is_none o ≡ true
     go None e = refl
     go (Some l) e =
         let one = lone-open set (filter (λ x. not (is_false set x)) c) l e in
@@ -100,14 +95,12 @@ satisfied-by es (l ∷ c) m h k =
       | inr s ↦ or_right (has_lit l (lits_of es)) (is_satisfied es c) (satisfied-by es c m s k)
     ]
 
--- a clause with a true literal
 pub satisfied-open : (es : List Entry) (c : List Literal) → vars_differ (lits_of es) ≡ true → is_satisfied es c ≡ true → is_open (lits_of es) c ≡ true
 satisfied-open es c d h =
     let r = has-satisfied es c h in
     let f = true-not-false es r.0 d r.2 in
     open-by (lits_of es) c r.0 r.1 f (λ l u only. true≢false (sym r.2 ∙ ap (λ (x : Literal). has_lit x (lits_of es)) (only r.0 r.1 f) ∙ u))
 
--- of the short ones there are no others
 pub short-satisfied : (es : List Entry) (c : List Literal) → length c < 2 → is_open (lits_of es) c ≡ true → is_satisfied es c ≡ true
 short-satisfied es [] n h = absurd (true≢false (sym h))
 short-satisfied es (l ∷ []) n h =
@@ -120,7 +113,6 @@ short-satisfied es (l ∷ []) n h =
     ]
 short-satisfied es (l ∷ (m ∷ c)) n h = absurd (omega arith)
 
--- a clause whose watches aren't false, or of which one is true
 pub watched-open : (a : ArenaLists) (es : List Entry) (c : ℕ) (x y : Literal) →
     vars_differ (lits_of es) ≡ true → WatchesTwo a c x y →
     (is_false (lits_of es) x ≡ true → has_lit y (lits_of es) ≡ true) →
@@ -137,27 +129,25 @@ watched-open a es c x y d w fx fy =
       ]
     ]
 
--- where all entries are propagated, a false watch has a true one beside it
 pub other-holds : (a : ArenaLists) (es : List Entry) (c : ℕ) (x y : Literal) →
-    stands_in c a.references ≡ true → AllCovered a es (length es) → stands_in c (chain_of a x) ≡ true →
-    stands_in c (chain_of a y) ≡ true → y ≢ x → is_false (lits_of es) x ≡ true → has_lit y (lits_of es) ≡ true
+    is_listed_in c a.references ≡ true → AllCovered a es (length es) → is_listed_in c (chain_of a x) ≡ true →
+    is_listed_in c (chain_of a y) ≡ true → y ≢ x → is_false (lits_of es) x ≡ true → has_lit y (lits_of es) ≡ true
 other-holds a es c x y known h sx sy ne f =
-    let e = entry-of-lit es (opposite x) f in
-    let same : opposite e.entry.lit ≡ x = ap opposite e.is ∙ opposite-opposite x in
-    true-somewhere es e.entry.level y (h c known e.index e.entry y (slice_get_within es e.index e.entry e.stands) e.stands (ap (λ (l : Literal). stands_in c (chain_of a l)) same ∙ sx) sy (λ q. ne (q ∙ same)))
+    let e = entry-of-lit es (negated_lit x) f in
+    let same : negated_lit e.entry.lit ≡ x = ap negated_lit e.is ∙ negated_lit-negated_lit x in
+    true-somewhere es e.entry.level y (h c known e.index e.entry y (slice_get_within es e.index e.entry e.stands) e.stands (ap (λ (l : Literal). is_listed_in c (chain_of a l)) same ∙ sx) sy (λ q. ne (q ∙ same)))
 
--- propagation is at its end where all entries are propagated, and the short clauses are satisfied
 pub closed-all : (a : ArenaLists) (es : List Entry) → IsClauses a → vars_differ (lits_of es) ≡ true →
     AllCovered a es (length es) →
-    ((c : ℕ) → stands_in c a.references ≡ true → length (literals_of a c) < 2 →
+    ((c : ℕ) → is_listed_in c a.references ≡ true → length (literals_of a c) < 2 →
     is_satisfied es (literals_of a c) ≡ true) →
-    is_closed a.clauses (lits_of es) ≡ true
+    is_saturated a.clauses (lits_of es) ≡ true
 closed-all a es k d h short = all-pass (is_open (lits_of es)) a.clauses (λ i x s.
     (let r = referred a i k (slice_get_within a.clauses i x s) in
     let same : literals_of a r.reference ≡ x = r.is.literals ∙ get_or_from_slice_get a.clauses i x [] s in
     ap (is_open (lits_of es)) (sym same) ∙ one r.reference r.is.known))
   where
-    one : (c : ℕ) → stands_in c a.references ≡ true → is_open (lits_of es) (literals_of a c) ≡ true
+    one : (c : ℕ) → is_listed_in c a.references ≡ true → is_open (lits_of es) (literals_of a c) ≡ true
     one c known = elim (below_or_past (length (literals_of a c)) 2) [
       | inl b ↦ satisfied-open es (literals_of a c) d (short c known b)
       | inr b ↦ (let w = k.arena.long c known b in
@@ -168,34 +158,31 @@ closed-all a es k d h short = all-pass (is_open (lits_of es)) a.clauses (λ i x 
           watched-open a es c x y d w.2 (λ f. other-holds a es c x y known h sx sy (λ q. w.2.differ (sym q)) f) (λ f. other-holds a es c y x known h sy sx w.2.differ f))
     ]
 
--- what isn't among the others is the one
-pub others-only : (set c : List Literal) (x l : Literal) → is_falsified set (others x c) ≡ true → has_lit l c ≡ true → is_false set l ≡ false → l ≡ x
-others-only set [] x l h k f = absurd (cc)
-others-only set (m ∷ c) x l h k f =
+pub other_lits-only : (set c : List Literal) (x l : Literal) → is_falsified set (other_lits x c) ≡ true → has_lit l c ≡ true → is_false set l ≡ false → l ≡ x
+other_lits-only set [] x l h k f = absurd (cc)
+other_lits-only set (m ∷ c) x l h k f =
     elim (cases_Bool (same_lit x m)) [
       | inl t ↦ elim (or_cases (same_lit l m) (has_lit l c) k) [
         | inl s ↦ lit-is l m s ∙ sym (lit-is x m t)
-        | inr s ↦ others-only set c x l (rw t at h) s f
+        | inr s ↦ other_lits-only set c x l (rw t at h) s f
       ]
-      | inr t ↦ (let p = and_parts (is_false set m) (is_falsified set (others x c)) (rw t at h) in
+      | inr t ↦ (let p = and_parts (is_false set m) (is_falsified set (other_lits x c)) (rw t at h) in
           elim (or_cases (same_lit l m) (has_lit l c) k) [
             | inl s ↦ absurd (true≢false (sym p.0 ∙ ap (is_false set) (sym (lit-is l m s)) ∙ f))
-            | inr s ↦ others-only set c x l p.1 s f
+            | inr s ↦ other_lits-only set c x l p.1 s f
           ])
     ]
 
--- without its variable, a clause whose others are false is all false
-none-open : (set c : List Literal) (x : Literal) → has_var x.var c ≡ false → is_falsified set (others x c) ≡ true → filter (λ l. not (is_false set l)) c ≡ []
+none-open : (set c : List Literal) (x : Literal) → has_var x.var c ≡ false → is_falsified set (other_lits x c) ≡ true → filter (λ l. not (is_false set l)) c ≡ []
 none-open set [] x n h = refl
 none-open set (m ∷ c) x n h =
     let q = or_parts (eqb m.var x.var) (has_var x.var c) n in
     elim (cases_Bool (same_lit x m)) [
       | inl t ↦ absurd (true≢false (sym (eq-eqb m.var x.var (ap (λ (l : Literal). l.var) (sym (lit-is x m t)))) ∙ q.0))
-      | inr t ↦ (let p = and_parts (is_false set m) (is_falsified set (others x c)) (rw t at h) in rw p.0 (none-open set c x q.1 p.1))
+      | inr t ↦ (let p = and_parts (is_false set m) (is_falsified set (other_lits x c)) (rw t at h) in rw p.0 (none-open set c x q.1 p.1))
     ]
 
--- a clause that is neither false nor a unit, though all but one of its literals are false
-pub open-true : (set c : List Literal) (x : Literal) → vars_differ c ≡ true → is_falsified set (others x c) ≡ true → is_open set c ≡ true → has_lit x set ≡ true
+pub open-true : (set c : List Literal) (x : Literal) → vars_differ c ≡ true → is_falsified set (other_lits x c) ≡ true → is_open set c ≡ true → has_lit x set ≡ true
 open-true set [] x d h o = absurd (true≢false (sym o))
 open-true set (m ∷ c) x d h o =
     let v = and_parts (not (has_var m.var c)) (vars_differ c) d in
@@ -203,16 +190,16 @@ open-true set (m ∷ c) x d h o =
       | inl t ↦ (let e = lit-is x m t in
           elim (cases_Bool (is_false set m)) [
             | inl f ↦ absurd (let z = falsified-whole set x (m ∷ c) h (ap (is_false set) e ∙ f) in
-                let w = and_parts (not (is_falsified set (m ∷ c))) (is_none (unit_of set (m ∷ c))) o in
+                let w = and_parts (not (is_falsified set (m ∷ c))) (is_none (unit_lit set (m ∷ c))) o in
                 true≢false (sym z ∙ not-true (is_falsified set (m ∷ c)) w.0))
             | inr f ↦ (let alone : has_var x.var c ≡ false = ap (λ (l : Literal). has_var l.var c) e ∙ not-true (has_var m.var c) v.0 in
                 let empty = none-open set c x alone (rw t at h) in
                 elim (cases_Bool (has_lit m set)) [
                   | inl s ↦ ap (λ (l : Literal). has_lit l set) e ∙ s
-                  | inr s ↦ absurd (let w = and_parts (not (is_falsified set (m ∷ c))) (is_none (unit_of set (m ∷ c))) o in
+                  | inr s ↦ absurd (let w = and_parts (not (is_falsified set (m ∷ c))) (is_none (unit_lit set (m ∷ c))) o in
                       let z : false ≡ true = rw (f, empty, s) at w.1 in cc)
                 ])
           ])
-      | inr t ↦ (let p = and_parts (is_false set m) (is_falsified set (others x c)) (rw t at h) in
+      | inr t ↦ (let p = and_parts (is_false set m) (is_falsified set (other_lits x c)) (rw t at h) in
           open-true set c x v.1 p.1 (rw p.0 at o))
     ]

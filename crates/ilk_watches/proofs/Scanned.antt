@@ -1,4 +1,4 @@
--- What one walk over the literals of a clause tells.
+-- One scan of the literals of a clause.
 use Rattle.std.proofs.Common.{◌≡◌, ◌⊎◌, ◌+◌, ◌≤◌, length, arith, zero, suc, is_some, ℕ, Bool, true, false, not, inl, inr, cond, drop, List, [], ◌∷◌, Option, Some, None, refl, sym, ap, ◌∙◌}
 use Rattle.std.specs.List.{slice_get, filter}
 use Rattle.std.specs.Option.{option_map_or}
@@ -6,26 +6,26 @@ use Rattle.std.proofs.lemmas.Bool.{cases_Bool}
 use Rattle.std.proofs.lemmas.Option.{slice_get_within, get_or_from_slice_get}
 use Rattle.ilk_base.proofs.Lists.{drop_at}
 use Rattle.ilk_cnf.specs.Literal.{Literal, has_lit, vars_differ}
-use Rattle.ilk_log.specs.Propagation.{is_false, is_falsified, lone_unset}
+use Rattle.ilk_log.specs.Propagation.{is_false, is_falsified, single_unset_lit}
 use Rattle.ilk_trail.specs.declared.entry.Entry.{Entry}
 use Rattle.ilk_trail.specs.Trail.{value_of_literal}
 use Rattle.ilk_trail.specs.Laws.{lits_of}
-use Rattle.ilk_clauses.proofs.Values.{value-tells}
-use Rattle.ilk_watches.specs.Look.{look_of}
-use Rattle.ilk_watches.specs.declared.look.Look.{Look}
-use Rattle.ilk_watches.specs.declared.look.Look.TheVariants.{Conflict, Unit, Open}
+use Rattle.ilk_watches.proofs.Values.{value-tells}
+use Rattle.ilk_watches.specs.Look.{clause_state}
+use Rattle.ilk_watches.specs.declared.look.ClauseState.{ClauseState}
+use Rattle.ilk_watches.specs.declared.look.ClauseState.TheVariants.{Conflict, Unit, Open}
 
--- a literal without a value, where an open literal stood before or not
-abbrev pub after_open : Option Literal → Literal → (Option Literal → Look) → Look
+-- An unset literal, after an open one or as the first.
+abbrev pub after_open : Option Literal → Literal → (Option Literal → ClauseState) → ClauseState
 after_open None l next = next (Some l)
 after_open (Some k) l next = Open
 
-abbrev pub after_literal : Option Literal → Literal → Option Bool → (Option Literal → Look) → Look
+abbrev pub after_literal : Option Literal → Literal → Option Bool → (Option Literal → ClauseState) → ClauseState
 after_literal first l None next = after_open first l next
 after_literal first l (Some b) next = cond b Open (next first)
 
--- what the rest of a clause tells, after the one open literal before it
-abbrev pub scan : List Entry → Option Literal → List Literal → Look
+-- The result for the rest of a clause, after the one open literal before it.
+abbrev pub scan : List Entry → Option Literal → List Literal → ClauseState
 scan es first [] = option_map_or Unit first Conflict
 scan es first (l ∷ ls) = after_literal first l (value_of_literal es l) (λ next. scan es next ls)
 
@@ -36,8 +36,8 @@ pub scan-next : (es : List Entry) (first : Option Literal) (clause : List Litera
 scan-next es first clause i l e =
     ap (scan es first) (drop_at clause i l (slice_get_within clause i l e) (sym (get_or_from_slice_get clause i l l e)))
 
--- of the literals that aren't false
-meaning : List Literal → List Literal → Look
+-- The result for the literals that aren't false.
+meaning : List Literal → List Literal → ClauseState
 meaning set [] = Conflict
 meaning set (l ∷ []) = cond (has_lit l set) Open (Unit l)
 meaning set (l ∷ (m ∷ ls)) = Open
@@ -92,20 +92,18 @@ falsified-is set [] = refl
 falsified-is set (l ∷ c) =
     elim (cases_Bool (is_false set l)) [ inl t ↦ rw t (falsified-is set c) | inr f ↦ rw f refl ]
 
-meaning-is : (set ls : List Literal) → meaning set ls ≡ cond (no_literal ls) Conflict (option_map_or Unit (lone_unset set ls) Open)
+meaning-is : (set ls : List Literal) → meaning set ls ≡ cond (no_literal ls) Conflict (option_map_or Unit (single_unset_lit set ls) Open)
 unfolding meaning no_literal
 meaning-is set [] = refl
 meaning-is set (l ∷ []) = elim (cases_Bool (has_lit l set)) [ inl t ↦ rw t refl | inr f ↦ rw f refl ]
 meaning-is set (l ∷ (m ∷ ls)) = refl
 
--- the walk over the whole clause tells what the clause is
-pub scan-is : (es : List Entry) (c : List Literal) → vars_differ (lits_of es) ≡ true → scan es None c ≡ look_of (lits_of es) c
+pub scan-is : (es : List Entry) (c : List Literal) → vars_differ (lits_of es) ≡ true → scan es None c ≡ clause_state (lits_of es) c
 scan-is es c d =
     let set = lits_of es in
     let left = filter (λ m. not (is_false set m)) c in
-    scan-none es c d ∙ meaning-is set left ∙ ap (λ (b : Bool). cond b Conflict (option_map_or Unit (lone_unset set left) Open)) (sym (falsified-is set c))
+    scan-none es c d ∙ meaning-is set left ∙ ap (λ (b : Bool). cond b Conflict (option_map_or Unit (single_unset_lit set left) Open)) (sym (falsified-is set c))
 
--- the next literal is true; or false; or has no value, after another that has none or as the first
 pub scan-true : (es : List Entry) (first : Option Literal) (clause : List Literal) (i : ℕ) (l : Literal) → slice_get clause i ≡ Some l → value_of_literal es l ≡ Some true → scan es first (drop i clause) ≡ Open
 scan-true es first clause i l e v = scan-next es first clause i l e ∙ rw v refl
 
@@ -128,6 +126,5 @@ drop-none [] (suc i) h = refl
 drop-none (l ∷ ls) zero h = absurd (omega arith)
 drop-none (l ∷ ls) (suc i) h = drop-none ls i (omega arith)
 
--- no literal is left
 pub scan-end : (es : List Entry) (first : Option Literal) (clause : List Literal) (i : ℕ) → length clause ≤ i → scan es first (drop i clause) ≡ option_map_or Unit first Conflict
 scan-end es first clause i h = ap (scan es first) (drop-none clause i h)

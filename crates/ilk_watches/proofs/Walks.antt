@@ -9,14 +9,13 @@ use Rattle.ilk_cnf.specs.Literal.{Literal}
 use Rattle.ilk_log.specs.Propagation.{is_false}
 use Rattle.ilk_trail.specs.declared.entry.Entry.{Entry}
 use Rattle.ilk_trail.specs.Laws.{lits_of}
-use Rattle.ilk_arena.specs.Arena.{ArenaLists, after, chain_of, first_of, follows, stands_in}
+use Rattle.ilk_arena.specs.Arena.{ArenaLists, reference_after, chain_of, first_of, directly_follows, is_listed_in}
 use Rattle.ilk_arena.specs.Chains.{IsArena}
 use Rattle.ilk_arena.proofs.Watching.{once-head, stands-front}
-use Rattle.ilk_watches.specs.Visits.{from_reference, left_of, rest_from, IsVisited, IsWalk, Walking}
+use Rattle.ilk_watches.specs.Visits.{rest_from_reference, remaining_clauses, rest_from, IsVisitResult, IsWalk, IsWalkAt}
 use Rattle.ilk_watches.specs.declared.visit.Visited.TheVariants.{Stays, Moves}
 use Rattle.ilk_watches.proofs.Covers.{walk-stays, walk-moves}
 
--- the entry whose literal was read
 pub record EntryAt (es : List Entry) (i : ℕ) (l : Literal) : Type 0 where
   pub entry : Entry
   pub stands : slice_get es i ≡ Some entry
@@ -29,43 +28,42 @@ entry-at es i l h = go (slice_get es i) refl h
     go None e h = absurd (cc)
     go (Some x) e h = record { entry = x; stands = e; is = cc }
 
-follows-last : (x : ℕ) (xs : List ℕ) (c : ℕ) (rest : List ℕ) → follows (last_or (Some x) xs) c (x ∷ xs ++ c ∷ rest) ≡ true
-follows-last x [] c rest = or_left (eqb x x && eqb c c) (follows (Some x) c (c ∷ rest)) (and_from (eqb x x) (eqb c c) (eq-eqb x x refl) (eq-eqb c c refl))
-follows-last x (y ∷ xs) c rest =
+directly_follows-last : (x : ℕ) (xs : List ℕ) (c : ℕ) (rest : List ℕ) → directly_follows (last_or (Some x) xs) c (x ∷ xs ++ c ∷ rest) ≡ true
+directly_follows-last x [] c rest = or_left (eqb x x && eqb c c) (directly_follows (Some x) c (c ∷ rest)) (and_from (eqb x x) (eqb c c) (eq-eqb x x refl) (eq-eqb c c refl))
+directly_follows-last x (y ∷ xs) c rest =
     let b = last-some y xs in
-    let r : follows (Some b.0) c (y ∷ xs ++ c ∷ rest) ≡ true = ap (λ (o : Option ℕ). follows o c (y ∷ xs ++ c ∷ rest)) (sym b.1) ∙ follows-last y xs c rest in
-    ap (λ (o : Option ℕ). follows o c (x ∷ (y ∷ xs ++ c ∷ rest))) b.1 ∙ or_right (eqb x b.0 && follows None c (y ∷ xs ++ c ∷ rest)) (follows (Some b.0) c (y ∷ xs ++ c ∷ rest)) r
+    let r : directly_follows (Some b.0) c (y ∷ xs ++ c ∷ rest) ≡ true = ap (λ (o : Option ℕ). directly_follows o c (y ∷ xs ++ c ∷ rest)) (sym b.1) ∙ directly_follows-last y xs c rest in
+    ap (λ (o : Option ℕ). directly_follows o c (x ∷ (y ∷ xs ++ c ∷ rest))) b.1 ∙ or_right (eqb x b.0 && directly_follows None c (y ∷ xs ++ c ∷ rest)) (directly_follows (Some b.0) c (y ∷ xs ++ c ∷ rest)) r
 
-follows-is : (passed : List ℕ) (c : ℕ) (rest : List ℕ) → follows (last_or None passed) c (passed ++ c ∷ rest) ≡ true
-follows-is [] c rest = eq-eqb c c refl
-follows-is (x ∷ passed) c rest = follows-last x passed c rest
+directly_follows-is : (passed : List ℕ) (c : ℕ) (rest : List ℕ) → directly_follows (last_or None passed) c (passed ++ c ∷ rest) ≡ true
+directly_follows-is [] c rest = eq-eqb c c refl
+directly_follows-is (x ∷ passed) c rest = directly_follows-last x passed c rest
 
 last-push : (o : Option ℕ) (xs : List ℕ) (c : ℕ) → last_or o (xs ++ c ∷ []) ≡ Some c
 last-push o [] c = refl
 last-push o (x ∷ xs) c = last-push (Some x) xs c
 
-in-middle : (xs : List ℕ) (c : ℕ) (ys : List ℕ) → stands_in c (xs ++ c ∷ ys) ≡ true
-in-middle [] c ys = or_left (eqb c c) (stands_in c ys) (eq-eqb c c refl)
-in-middle (x ∷ xs) c ys = or_right (eqb x c) (stands_in c (xs ++ c ∷ ys)) (in-middle xs c ys)
+in-middle : (xs : List ℕ) (c : ℕ) (ys : List ℕ) → is_listed_in c (xs ++ c ∷ ys) ≡ true
+in-middle [] c ys = or_left (eqb c c) (is_listed_in c ys) (eq-eqb c c refl)
+in-middle (x ∷ xs) c ys = or_right (eqb x c) (is_listed_in c (xs ++ c ∷ ys)) (in-middle xs c ys)
 
 apart : (x c : ℕ) (xs ys : List ℕ) → IsDistinct eqb (x ∷ xs ++ c ∷ ys) → eqb x c ≡ false
 apart x c xs ys d =
     let away = stands-front x xs (c ∷ ys) (once-head x (xs ++ c ∷ ys) d) in
-    ne_eqb x c (λ q. eqb-false c x (or_parts (eqb c x) (stands_in x ys) away.1).0 (sym q))
+    ne_eqb x c (λ q. eqb-false c x (or_parts (eqb c x) (is_listed_in x ys) away.1).0 (sym q))
 
-after-is : (passed : List ℕ) (c : ℕ) (rest : List ℕ) → IsDistinct eqb (passed ++ c ∷ rest) → after c (passed ++ c ∷ rest) ≡ first_of rest
-after-is [] c rest d = (let e = eq-eqb c c refl in rw e refl)
-after-is (x ∷ passed) c rest d = (let e = apart x c passed rest d in rw e (after-is passed c rest (IsDistinct-tail eqb x (passed ++ c ∷ rest) d)))
+reference_after-is : (passed : List ℕ) (c : ℕ) (rest : List ℕ) → IsDistinct eqb (passed ++ c ∷ rest) → reference_after c (passed ++ c ∷ rest) ≡ first_of rest
+reference_after-is [] c rest d = (let e = eq-eqb c c refl in rw e refl)
+reference_after-is (x ∷ passed) c rest d = (let e = apart x c passed rest d in rw e (reference_after-is passed c rest (IsDistinct-tail eqb x (passed ++ c ∷ rest) d)))
 
 pub rest-is : (passed rest : List ℕ) → IsDistinct eqb (passed ++ rest) → rest_from (first_of rest) (passed ++ rest) ≡ rest
 rest-is passed [] d = refl
 rest-is passed (c ∷ rest) d = go passed d
   where
-    go : (xs : List ℕ) → IsDistinct eqb (xs ++ c ∷ rest) → from_reference c (xs ++ c ∷ rest) ≡ c ∷ rest
+    go : (xs : List ℕ) → IsDistinct eqb (xs ++ c ∷ rest) → rest_from_reference c (xs ++ c ∷ rest) ≡ c ∷ rest
     go [] d = (let e = eq-eqb c c refl in rw e refl)
     go (x ∷ xs) d = (let e = apart x c xs rest d in rw e (go xs (IsDistinct-tail eqb x (xs ++ c ∷ rest) d)))
 
--- fewer references are distinct
 distinct-less : (xs : List ℕ) (c : ℕ) (ys : List ℕ) → IsDistinct eqb (xs ++ c ∷ ys) → IsDistinct eqb (xs ++ ys)
 distinct-less [] c ys d = IsDistinct-tail eqb c ys d
 distinct-less (x ∷ xs) c ys d = IsDistinct-cons eqb x (xs ++ ys) (all-less x xs (IsDistinct-head eqb x (xs ++ c ∷ ys) d)) (distinct-less xs c ys (IsDistinct-tail eqb x (xs ++ c ∷ ys) d))
@@ -74,14 +72,13 @@ distinct-less (x ∷ xs) c ys d = IsDistinct-cons eqb x (xs ++ ys) (all-less x x
     all-less x [] k = k.1
     all-less x (z ∷ zs) k = (k.0, all-less x zs k.1)
 
--- the clause at hand, where there is one
 pub record AtHand (a : ArenaLists) (es : List Entry) (f : Literal) (before : Option ℕ) (c : ℕ) : Type 0 where
   pub passed : List ℕ
   pub rest : List ℕ
   pub before_is : before ≡ last_or None passed
   pub is : IsWalk a es f passed (c ∷ rest)
 
-pub at-hand : (a : ArenaLists) (es : List Entry) (f : Literal) (before next : Option ℕ) (c : ℕ) → Walking a es f before next → next ≡ Some c → AtHand a es f before c
+pub at-hand : (a : ArenaLists) (es : List Entry) (f : Literal) (before next : Option ℕ) (c : ℕ) → IsWalkAt a es f before next → next ≡ Some c → AtHand a es f before c
 at-hand a es f before next c w h = go w.rest w.is (sym w.next_is ∙ h)
   where
     go : (rest : List ℕ) → IsWalk a es f w.passed rest → first_of rest ≡ Some c → AtHand a es f before c
@@ -91,32 +88,31 @@ at-hand a es f before next c w h = go w.rest w.is (sym w.next_is ∙ h)
         let P : ℕ → Type 0 = λ y. IsWalk a es f w.passed (y ∷ rest) in
         record { passed = w.passed; rest = rest; before_is = w.before_is; is = subst P same i }
 
-pub hand-stands : (a : ArenaLists) (es : List Entry) (f : Literal) (before : Option ℕ) (c : ℕ) → AtHand a es f before c → stands_in c (chain_of a f) ≡ true
-hand-stands a es f before c h = ap (stands_in c) h.is.split ∙ in-middle h.passed c h.rest
+pub hand-stands : (a : ArenaLists) (es : List Entry) (f : Literal) (before : Option ℕ) (c : ℕ) → AtHand a es f before c → is_listed_in c (chain_of a f) ≡ true
+hand-stands a es f before c h = ap (is_listed_in c) h.is.split ∙ in-middle h.passed c h.rest
 
-pub hand-follows : (a : ArenaLists) (es : List Entry) (f : Literal) (before : Option ℕ) (c : ℕ) → AtHand a es f before c → follows before c (chain_of a f) ≡ true
-hand-follows a es f before c h = ap (follows before c) h.is.split ∙ ap (λ (o : Option ℕ). follows o c (h.passed ++ c ∷ h.rest)) h.before_is ∙ follows-is h.passed c h.rest
+pub hand-directly_follows : (a : ArenaLists) (es : List Entry) (f : Literal) (before : Option ℕ) (c : ℕ) → AtHand a es f before c → directly_follows before c (chain_of a f) ≡ true
+hand-directly_follows a es f before c h = ap (directly_follows before c) h.is.split ∙ ap (λ (o : Option ℕ). directly_follows o c (h.passed ++ c ∷ h.rest)) h.before_is ∙ directly_follows-is h.passed c h.rest
 
--- a step of a walk, after which less is left
+-- A step of a walk, after which less is left.
 pub record Stepped (a b : ArenaLists) (fs : List Entry) (f : Literal) (now before next : Option ℕ) : Type 0 where
-  pub walking : Walking b fs f before next
-  pub smaller : left_of b f next < left_of a f now
+  pub walking : IsWalkAt b fs f before next
+  pub smaller : remaining_clauses b f next < remaining_clauses a f now
 
 distinct-of : (a : ArenaLists) (es : List Entry) (f : Literal) (passed rest : List ℕ) → IsArena a → IsWalk a es f passed rest → IsDistinct eqb (passed ++ rest)
 distinct-of a es f passed rest k w = (let D : List ℕ → Type 0 = λ xs. IsDistinct eqb xs in subst D w.split (k.once f))
 
--- how much is left
 left-is : (a : ArenaLists) (es : List Entry) (f : Literal) (passed rest : List ℕ) → IsWalk a es f passed rest → IsDistinct eqb (passed ++ rest) → rest_from (first_of rest) (chain_of a f) ≡ rest
 left-is a es f passed rest w d = ap (rest_from (first_of rest)) w.split ∙ rest-is passed rest d
 
 pub step-stays :
     (a b : ArenaLists) (es fs : List Entry) (f : Literal) (before now : Option ℕ) (c : ℕ) (next : Option ℕ) →
-    AtHand a es f before c → now ≡ Some c → next ≡ after c (chain_of a f) → IsArena a →
-    IsVisited a es b fs c f Stays → take (length es) fs ≡ es → Stepped a b fs f now (Some c) next
+    AtHand a es f before c → now ≡ Some c → next ≡ reference_after c (chain_of a f) → IsArena a →
+    IsVisitResult a es b fs c f Stays → take (length es) fs ≡ es → Stepped a b fs f now (Some c) next
 step-stays a b es fs f before now c next h at e k v p =
     let d = distinct-of a es f h.passed (c ∷ h.rest) k h.is in
     let w = walk-stays a b es fs f h.passed c h.rest h.is v.0 p v.1 in
-    let after_it : next ≡ first_of h.rest = e ∙ ap (after c) h.is.split ∙ after-is h.passed c h.rest d in
+    let after_it : next ≡ first_of h.rest = e ∙ ap (reference_after c) h.is.split ∙ reference_after-is h.passed c h.rest d in
     let D : List ℕ → Type 0 = λ xs. IsDistinct eqb xs in
     let left_b = ap length (left-is b fs f (h.passed ++ c ∷ []) h.rest w (subst D (sym (append_assoc h.passed (c ∷ []) h.rest)) d)) in
     let left_a = ap length (left-is a es f h.passed (c ∷ h.rest) h.is d) in
@@ -129,13 +125,13 @@ step-stays a b es fs f before now c next h at e k v p =
 
 pub step-moves :
     (a b : ArenaLists) (es fs : List Entry) (f : Literal) (before now : Option ℕ) (c : ℕ) (next : Option ℕ) →
-    AtHand a es f before c → now ≡ Some c → next ≡ after c (chain_of a f) → IsArena a →
-    IsVisited a es b fs c f Moves → take (length es) fs ≡ es → is_false (lits_of es) f ≡ true →
+    AtHand a es f before c → now ≡ Some c → next ≡ reference_after c (chain_of a f) → IsArena a →
+    IsVisitResult a es b fs c f Moves → take (length es) fs ≡ es → is_false (lits_of es) f ≡ true →
     Stepped a b fs f now before next
 step-moves a b es fs f before now c next h at e k v p denied =
     let d = distinct-of a es f h.passed (c ∷ h.rest) k h.is in
     let w = walk-moves a b es fs f v.0 h.passed c h.rest h.is v.2 p (k.once f) denied v.1 in
-    let after_it : next ≡ first_of h.rest = e ∙ ap (after c) h.is.split ∙ after-is h.passed c h.rest d in
+    let after_it : next ≡ first_of h.rest = e ∙ ap (reference_after c) h.is.split ∙ reference_after-is h.passed c h.rest d in
     let left_b = ap length (left-is b fs f h.passed h.rest w (distinct-less h.passed c h.rest d)) in
     let left_a = ap length (left-is a es f h.passed (c ∷ h.rest) h.is d) in
     let na = ap (λ (o : Option ℕ). length (rest_from o (chain_of a f))) at in
@@ -145,8 +141,7 @@ step-moves a b es fs f before now c next h at e k v p denied =
       smaller = omega (arith, left_a, left_b, na, nb);
     }
 
--- nothing is left
-pub all-passed : (a : ArenaLists) (es : List Entry) (f : Literal) (before next : Option ℕ) → (w : Walking a es f before next) → next ≡ None → IsWalk a es f w.passed []
+pub all-passed : (a : ArenaLists) (es : List Entry) (f : Literal) (before next : Option ℕ) → (w : IsWalkAt a es f before next) → next ≡ None → IsWalk a es f w.passed []
 all-passed a es f before next w h = go w.rest w.is (sym w.next_is ∙ h)
   where
     go : (rest : List ℕ) → IsWalk a es f w.passed rest → first_of rest ≡ None → IsWalk a es f w.passed []

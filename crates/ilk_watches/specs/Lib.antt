@@ -1,3 +1,6 @@
+pub mod Reasons
+pub mod Chained
+pub mod Held
 pub mod Propagated
 pub mod Watched
 pub mod Look

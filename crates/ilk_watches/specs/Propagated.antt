@@ -1,13 +1,13 @@
--- What propagation adds to a trail.
+-- Additions to a trail by propagation.
 use Rattle.std.specs.Prelude.{ℕ, ◌≡◌, ◌≤◌, List, Some, IsSomeAnd, IsTrue, length, take, slice_get}
 use Rattle.ilk_cnf.specs.Literal.{Literal}
 use Rattle.ilk_trail.specs.declared.entry.Entry.{Entry}
 use Rattle.ilk_trail.specs.Trail.{level_of}
 use Rattle.ilk_trail.specs.Laws.{lits_of}
-use Rattle.ilk_clauses.specs.Reasons.{is_reason}
+use Rattle.ilk_watches.specs.Reasons.{is_reason}
 
--- the earlier entries stay, and so does the level; each new entry is at that level, and its reason is
--- a clause that forces its literal where the entries before it are set
+-- Holds if the earlier entries and the level are kept, and each new entry is at that level, with a
+-- reason that forces its literal under the entries before it.
 pub record IsPropagated (clauses : List (List Literal)) (old new : List Entry) : Type 0 where
   pub kept : take (length old) new ≡ old
   pub level : level_of new ≡ level_of old

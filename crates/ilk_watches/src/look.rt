@@ -1,25 +1,27 @@
 ghost use Rattle.std.specs.Prelude.{◌≡◌, ◌<◌, length};
-ghost use Rattle.ilk_clauses.specs.Reasons.{clause_at};
+ghost use Rattle.ilk_watches.specs.Reasons.{clause_at};
 ghost use Rattle.ilk_trail.specs.Laws.{lits_of, IsTrail};
-ghost use Rattle.ilk_watches.specs.Look.{look_of};
+ghost use Rattle.ilk_watches.specs.Look.{clause_state};
 
-use ilk_clauses::Clauses;
+use crate::clauses::Clauses;
 use ilk_cnf::Lit;
 use ilk_trail::Trail;
 
-/// What a clause is under a trail: false, false but for one literal that is unset, or neither.
+/// The state of a clause under a trail: false (`Conflict`), false except for one unset literal
+/// (`Unit`), or neither (`Open`).
 #[derive(Clone, Copy)]
-pub enum Look {
+pub enum ClauseState {
     Conflict,
     Unit(Lit),
     Open,
 }
 
-/// What clause `c` is.
-pub fn look_at(clauses: &Clauses, trail: &Trail, c: u64) -> Look
+/// Returns the state of clause `c` under `trail`.
+pub fn clause_state(clauses: &Clauses, trail: &Trail, c: u64) -> ClauseState
     requires clause { c < length clauses.now.clauses }
     requires vars { trail.now.vars ≡ clauses.now.vars }
-    ensures look { result ≡ look_of (lits_of trail.now.entries) (clause_at clauses.now.clauses c) }
+    ensures look { result ≡ clause_state (lits_of trail.now.entries)
+        (clause_at clauses.now.clauses c) }
     ensures trail { IsTrail trail.now }
 {
     let _ = trail.level();
@@ -29,19 +31,19 @@ pub fn look_at(clauses: &Clauses, trail: &Trail, c: u64) -> Look
         match trail.value(l) {
             Some(value) => {
                 if value {
-                    return Look::Open;
+                    return ClauseState::Open;
                 }
             }
             None => {
                 if unset.is_some() {
-                    return Look::Open;
+                    return ClauseState::Open;
                 }
                 unset = Some(l);
             }
         }
     }
     match unset {
-        Some(l) => Look::Unit(l),
-        None => Look::Conflict,
+        Some(l) => ClauseState::Unit(l),
+        None => ClauseState::Conflict,
     }
 }

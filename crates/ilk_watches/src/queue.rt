@@ -1,47 +1,47 @@
 ghost use Rattle.std.specs.Prelude.{◌≡◌, ◌<◌, ◌≤◌, ℕ, IfNone, IfSome, IsTrue, false, length, min};
-ghost use Rattle.ilk_cnf.specs.Formula.{lit_in};
-ghost use Rattle.ilk_log.specs.Propagation.{is_closed};
-ghost use Rattle.ilk_trail.specs.Trail.{decided};
+ghost use Rattle.ilk_cnf.specs.Formula.{is_lit_over};
+ghost use Rattle.ilk_log.specs.Propagation.{is_saturated};
+ghost use Rattle.ilk_trail.specs.Trail.{with_decision};
 ghost use Rattle.ilk_trail.specs.Laws.{is_set, lits_of};
-ghost use Rattle.ilk_clauses.specs.Reasons.{is_conflict};
-ghost use Rattle.ilk_clauses.specs.Chained.{SameClauses};
+ghost use Rattle.ilk_watches.specs.Reasons.{is_conflict};
+ghost use Rattle.ilk_watches.specs.Chained.{SameClauses};
 ghost use Rattle.ilk_watches.specs.Propagated.{IsPropagated};
 ghost use Rattle.ilk_watches.specs.Watched.{IsQueue};
 
-use crate::look::{Look, look_at};
+use crate::clauses::Clauses;
+use crate::look::{ClauseState, clause_state};
 use crate::walk::walk_from;
-use ilk_clauses::Clauses;
 use ilk_cnf::Lit;
 use ilk_trail::Trail;
 
-/// How far propagation has come: the entries of the trail before `head` are propagated, and the clauses
-/// before `settled` were looked at.
+/// The progress of propagation: the entries of the trail before `head` are propagated, and the
+/// clauses before `settled` were examined.
 #[derive(Clone, Copy)]
-pub struct Queue {
+pub struct Propagator {
     pub head: u64,
     pub settled: u64,
 }
 
-impl Queue {
-    /// Nothing is propagated yet.
-    pub fn new() -> Queue
+impl Propagator {
+    /// Creates the queue for the start, with nothing propagated.
+    pub fn new() -> Propagator
         ensures { result ≡ record { head = 0; settled = 0 } }
     {
-        Queue {
+        Propagator {
             head: 0,
             settled: 0,
         }
     }
 
-    /// Sets what the clauses force until nothing is left to set, or answers the number of a clause that
-    /// is false. It takes no memory.
+    /// Assigns what the clauses force until nothing is left to assign and returns `None`, or
+    /// returns the number of a false clause. Takes no memory.
     pub fn propagate(&mut self, clauses: &mut Clauses, trail: &mut Trail) -> Option<u64>
         requires vars { trail.old.vars ≡ clauses.old.vars }
         requires queue { IsQueue clauses.old trail.old.entries self.old.head self.old.settled }
         ensures conflict { IfSome result
             (λ c. IsTrue (is_conflict clauses.old.clauses (lits_of trail.new.entries) c)) }
         ensures closed { IfNone result
-            (IsTrue (is_closed clauses.old.clauses (lits_of trail.new.entries))) }
+            (IsTrue (is_saturated clauses.old.clauses (lits_of trail.new.entries))) }
         ensures ended { IfNone result
             ((self.new.head ≡ length trail.new.entries) ×
             (self.new.settled ≡ length clauses.old.clauses)) }
@@ -56,7 +56,7 @@ impl Queue {
         }
     }
 
-    // Looks at the clauses that were not looked at yet, and sets what they force.
+    // Examines the clauses that were not examined yet, and assigns what they force.
     fn settle(&mut self, clauses: &Clauses, trail: &mut Trail) -> Option<u64>
         requires vars { trail.old.vars ≡ clauses.now.vars }
         requires queue { IsQueue clauses.now trail.old.entries self.old.head self.old.settled }
@@ -68,17 +68,16 @@ impl Queue {
         ensures propagated { IsPropagated clauses.now.clauses trail.old.entries trail.new.entries }
     {
         'looks: while self.settled < clauses.count() {
-            match look_at(clauses, trail, self.settled) {
-                Look::Conflict => return Some(self.settled),
-                Look::Unit(l) => trail.assign(l, self.settled),
-                Look::Open => {}
+            match clause_state(clauses, trail, self.settled) {
+                ClauseState::Conflict => return Some(self.settled),
+                ClauseState::Unit(l) => trail.assign(l, self.settled),
+                ClauseState::Open => {}
             }
             self.settled += 1;
         }
         None
     }
 
-    // Propagates the entries that are queued.
     fn run(&mut self, clauses: &mut Clauses, trail: &mut Trail) -> Option<u64>
         requires vars { trail.old.vars ≡ clauses.old.vars }
         requires queue { IsQueue clauses.old trail.old.entries self.old.head self.old.settled }
@@ -86,7 +85,7 @@ impl Queue {
         ensures conflict { IfSome result
             (λ c. IsTrue (is_conflict clauses.old.clauses (lits_of trail.new.entries) c)) }
         ensures closed { IfNone result
-            (IsTrue (is_closed clauses.old.clauses (lits_of trail.new.entries))) }
+            (IsTrue (is_saturated clauses.old.clauses (lits_of trail.new.entries))) }
         ensures ended { IfNone result (self.new.head ≡ length trail.new.entries) }
         ensures settled { self.new.settled ≡ self.old.settled }
         ensures queue { IsQueue clauses.new trail.new.entries self.new.head self.new.settled }
@@ -106,14 +105,17 @@ impl Queue {
         None
     }
 
-    /// Opens the next level with `l`, where propagation is at its end.
+    /// Opens the next level with `l`, after propagation has ended.
     pub fn decide(&mut self, clauses: &mut Clauses, trail: &mut Trail, l: Lit)
         requires vars { trail.old.vars ≡ clauses.old.vars }
         requires queue { IsQueue clauses.old trail.old.entries self.old.head self.old.settled }
-        requires within { IsTrue (lit_in trail.old.vars l) }
+        requires within { IsTrue (is_lit_over trail.old.vars l) }
         requires unset { is_set trail.old.entries l.var ≡ false }
-        requires closed { IsTrue (is_closed clauses.old.clauses (lits_of trail.old.entries)) }
-        ensures trail { trail.new ≡ record trail.old { entries = decided trail.old.entries l } }
+        requires closed { IsTrue (is_saturated clauses.old.clauses (lits_of trail.old.entries)) }
+        ensures trail { trail.new ≡ record trail.old {
+          entries =
+              with_decision trail.old.entries l;
+        } }
         ensures clauses { SameClauses clauses.old clauses.new }
         ensures ended { (self.new.head ≡ length trail.old.entries) ×
             (self.new.settled ≡ length clauses.old.clauses) }
@@ -125,7 +127,7 @@ impl Queue {
         trail.decide(l);
     }
 
-    /// The queue after levels were taken off the trail.
+    /// Adjusts the queue after levels were removed from the trail.
     pub fn back_to(&mut self, trail: &Trail)
         ensures { self.new
             ≡ record self.old { head = min self.old.head (length trail.now.entries) } }

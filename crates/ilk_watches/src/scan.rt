@@ -1,16 +1,16 @@
 ghost use Rattle.std.specs.Prelude.{◌≡◌, IfNone, IfSome, IsTrue};
-ghost use Rattle.ilk_log.specs.Propagation.{is_closed};
+ghost use Rattle.ilk_log.specs.Propagation.{is_saturated};
 ghost use Rattle.ilk_trail.specs.Laws.{lits_of, IsTrail};
-ghost use Rattle.ilk_clauses.specs.Reasons.{is_conflict};
-ghost use Rattle.ilk_watches.specs.Found.{IsFound};
+ghost use Rattle.ilk_watches.specs.Reasons.{is_conflict};
+ghost use Rattle.ilk_watches.specs.Found.{IsScanResult};
 ghost use Rattle.ilk_watches.specs.Propagated.{IsPropagated};
 
-use crate::look::{Look, look_at};
-use ilk_clauses::Clauses;
+use crate::clauses::Clauses;
+use crate::look::{ClauseState, clause_state};
 use ilk_cnf::Lit;
 use ilk_trail::Trail;
 
-// What was found among the clauses: one that is false, one that forces a literal, or neither.
+// The result of a scan: a false clause, a clause that forces a literal, or neither.
 #[derive(Clone, Copy)]
 enum Found {
     Falsified(u64),
@@ -18,30 +18,31 @@ enum Found {
     Closed,
 }
 
-// The first clause that is false or forces a literal.
+// Returns the first clause that is false or forces a literal.
 fn find(clauses: &Clauses, trail: &Trail) -> Found
     requires { trail.now.vars ≡ clauses.now.vars }
-    ensures found { IsFound clauses.now.clauses trail.now result }
+    ensures found { IsScanResult clauses.now.clauses trail.now result }
     ensures trail { IsTrail trail.now }
 {
     let _ = trail.level();
     for c in 0..clauses.count() {
-        match look_at(clauses, trail, c) {
-            Look::Conflict => return Found::Falsified(c),
-            Look::Unit(l) => return Found::Forced(c, l),
-            Look::Open => {}
+        match clause_state(clauses, trail, c) {
+            ClauseState::Conflict => return Found::Falsified(c),
+            ClauseState::Unit(l) => return Found::Forced(c, l),
+            ClauseState::Open => {}
         }
     }
     Found::Closed
 }
 
-/// What `Queue::propagate` does, by a scan of all clauses for each literal: for tests beside it.
+/// Does the work of `Propagator::propagate` by a scan of all clauses for each literal. It is a
+/// reference for tests.
 pub fn propagate_by_scan(clauses: &Clauses, trail: &mut Trail) -> Option<u64>
     requires { trail.old.vars ≡ clauses.now.vars }
     ensures conflict { IfSome result
         (λ c. IsTrue (is_conflict clauses.now.clauses (lits_of trail.new.entries) c)) }
     ensures closed { IfNone result
-        (IsTrue (is_closed clauses.now.clauses (lits_of trail.new.entries))) }
+        (IsTrue (is_saturated clauses.now.clauses (lits_of trail.new.entries))) }
     ensures trail { trail.new ≡ record trail.old { entries = trail.new.entries } }
     ensures propagated { IsPropagated clauses.now.clauses trail.old.entries trail.new.entries }
 {

@@ -1,27 +1,27 @@
 ghost use Rattle.std.specs.Prelude.{◌≡◌, ◌≢◌, ◌<◌, ◌≤◌, ◌+◌, ◌-◌, Some, IfNone, IfSome, IsTrue, length, slice_get};
-ghost use Rattle.ilk_cnf.specs.Formula.{lit_in};
-ghost use Rattle.ilk_log.specs.Fresh.{others};
+ghost use Rattle.ilk_cnf.specs.Formula.{is_lit_over};
+ghost use Rattle.ilk_log.specs.Fresh.{other_lits};
 ghost use Rattle.ilk_log.specs.Propagation.{is_false as is_false_by, is_falsified};
 ghost use Rattle.ilk_trail.specs.declared.entry.Entry.{Entry};
 ghost use Rattle.ilk_trail.specs.Trail.{level_of};
 ghost use Rattle.ilk_trail.specs.Laws.{lits_of, IsTrail};
-ghost use Rattle.ilk_arena.specs.Arena.{chain_of, follows, literals_of, other_watch_of, stands_in};
-ghost use Rattle.ilk_clauses.specs.Reasons.{is_conflict};
-ghost use Rattle.ilk_clauses.specs.Chained.{SameClauses};
+ghost use Rattle.ilk_arena.specs.Arena.{chain_of, directly_follows, literals_of, other_watch_of, is_listed_in};
+ghost use Rattle.ilk_watches.specs.Reasons.{is_conflict};
+ghost use Rattle.ilk_watches.specs.Chained.{SameClauses};
 ghost use Rattle.ilk_watches.specs.Propagated.{IsPropagated};
 ghost use Rattle.ilk_watches.specs.Watched.{AllCovered};
-ghost use Rattle.ilk_watches.specs.Visits.{IsReplaced, IsVisited, MayWatchAt, NoneMayWatch};
+ghost use Rattle.ilk_watches.specs.Visits.{IsReplaced, IsVisitResult, MayWatchAt, NoneMayWatch};
 
-use ilk_clauses::Clauses;
+use crate::clauses::Clauses;
 use ilk_cnf::Lit;
 use ilk_trail::Trail;
 
-// A clause with more literals keeps where its last search for a watch ended, and the next one goes on
-// there, around the clause: I. P. Gent, "Optimal implementation of watched literals and more general
-// techniques", JAIR 48, 2013.
+// Clauses longer than this store the position at which the last search for a watch ended. The next
+// search continues there, around the clause: I. P. Gent, "Optimal implementation of watched
+// literals and more general techniques", JAIR 48, 2013.
 const SHORT: u64 = 8;
 
-/// What a visit of a clause did: it keeps its watch, it moved it, or the clause is false.
+/// The result of a visit: the clause keeps its watch, moves it, or is false.
 #[derive(Clone, Copy)]
 pub enum Visited {
     Stays,
@@ -29,10 +29,9 @@ pub enum Visited {
     Broken,
 }
 
-// Whether `l` is false.
 #[inline(always)]
 fn is_false(trail: &Trail, l: Lit) -> bool
-    requires within { IsTrue (lit_in trail.now.vars l) }
+    requires within { IsTrue (is_lit_over trail.now.vars l) }
     requires trail { IsTrail trail.now }
     ensures { result ≡ is_false_by (lits_of trail.now.entries) l }
 {
@@ -42,8 +41,8 @@ fn is_false(trail: &Trail, l: Lit) -> bool
     }
 }
 
-// The first literal of the clause at reference `c`, from `from` on and before `to`, that may be watched
-// beside `other`.
+// Returns the index of the first literal of the clause at reference `c`, from `from` on and before
+// `to`, that may be watched besides `other_watch_place`.
 fn find_between(
     clauses: &Clauses,
     trail: &Trail,
@@ -52,7 +51,7 @@ fn find_between(
     from: u64,
     to: u64,
 ) -> Option<u64>
-    requires known { IsTrue (stands_in c clauses.now.references) }
+    requires known { IsTrue (is_listed_in c clauses.now.references) }
     requires vars { trail.now.vars ≡ clauses.now.vars }
     requires trail { IsTrail trail.now }
     requires to { to ≤ length (literals_of clauses.now c) }
@@ -64,16 +63,16 @@ fn find_between(
     let arena = clauses.arena();
     for i in from..to {
         let l = arena.literal(c, i);
-        if !is_false(trail, l) && !other.is(l) {
+        if !is_false(trail, l) && !other.is_same(l) {
             return Some(i);
         }
     }
     None
 }
 
-// The first such literal from `start` on and around.
+// Returns the first such index from `start` on, then from 0.
 fn find_around(clauses: &Clauses, trail: &Trail, c: u64, other: Lit, start: u64) -> Option<u64>
-    requires known { IsTrue (stands_in c clauses.now.references) }
+    requires known { IsTrue (is_listed_in c clauses.now.references) }
     requires vars { trail.now.vars ≡ clauses.now.vars }
     requires trail { IsTrail trail.now }
     requires start { start ≤ length (literals_of clauses.now c) }
@@ -81,7 +80,7 @@ fn find_around(clauses: &Clauses, trail: &Trail, c: u64, other: Lit, start: u64)
         (λ i. MayWatchAt (lits_of trail.now.entries) other (literals_of clauses.now c) i) }
     ensures none { IfNone result
         (IsTrue
-        (is_falsified (lits_of trail.now.entries) (others other (literals_of clauses.now c)))) }
+        (is_falsified (lits_of trail.now.entries) (other_lits other (literals_of clauses.now c)))) }
 {
     let length = clauses.arena().length(c);
     match find_between(clauses, trail, c, other, start, length) {
@@ -90,9 +89,9 @@ fn find_around(clauses: &Clauses, trail: &Trail, c: u64, other: Lit, start: u64)
     }
 }
 
-// Such a literal, where there is one.
+// Returns the index of such a literal, or `None` if there is none.
 fn find_watch(clauses: &mut Clauses, trail: &Trail, c: u64, other: Lit) -> Option<u64>
-    requires known { IsTrue (stands_in c clauses.old.references) }
+    requires known { IsTrue (is_listed_in c clauses.old.references) }
     requires vars { trail.now.vars ≡ clauses.old.vars }
     requires trail { IsTrail trail.now }
     ensures clauses { clauses.new ≡ record clauses.old { cursors = clauses.new.cursors } }
@@ -100,7 +99,7 @@ fn find_watch(clauses: &mut Clauses, trail: &Trail, c: u64, other: Lit) -> Optio
         (λ i. MayWatchAt (lits_of trail.now.entries) other (literals_of clauses.old c) i) }
     ensures none { IfNone result
         (IsTrue
-        (is_falsified (lits_of trail.now.entries) (others other (literals_of clauses.old c)))) }
+        (is_falsified (lits_of trail.now.entries) (other_lits other (literals_of clauses.old c)))) }
 {
     if clauses.arena().length(c) <= SHORT {
         return find_around(clauses, trail, c, other, 0);
@@ -113,8 +112,8 @@ fn find_watch(clauses: &mut Clauses, trail: &Trail, c: u64, other: Lit) -> Optio
     found
 }
 
-// Moves the watch of the clause at reference `c` from `f`, which is false, to a literal that isn't, where
-// there is one beside `other`, its other watch.
+// Moves the watch of the clause at reference `c` from `f`, which is false, to a literal besides
+// `other_watch_place`, its other watch, that isn't false. Returns whether there is one.
 fn replace_watch(
     clauses: &mut Clauses,
     trail: &Trail,
@@ -125,10 +124,10 @@ fn replace_watch(
 ) -> bool
     requires vars { trail.now.vars ≡ clauses.old.vars }
     requires trail { IsTrail trail.now }
-    requires within { IsTrue (lit_in clauses.old.vars f) }
+    requires within { IsTrue (is_lit_over clauses.old.vars f) }
     requires denied { IsTrue (is_false_by (lits_of trail.now.entries) f) }
-    requires stands { IsTrue (stands_in c (chain_of clauses.old f)) }
-    requires follows { IsTrue (follows before c (chain_of clauses.old f)) }
+    requires stands { IsTrue (is_listed_in c (chain_of clauses.old f)) }
+    requires follows { IsTrue (directly_follows before c (chain_of clauses.old f)) }
     requires other { other_watch_of clauses.old c f ≡ Some other }
     ensures replaced { IsReplaced clauses.old (lits_of trail.now.entries) clauses.new c f other
         result }
@@ -144,8 +143,8 @@ fn replace_watch(
     }
 }
 
-/// Visits the clause at reference `c`, which stands right after `before`, or first, in the chain of `f`,
-/// which is false.
+/// Visits the clause at reference `c` in the chain of `f`, which is false. In this chain `c`
+/// directly follows `before`, or is first.
 #[inline(always)]
 pub fn visit(
     clauses: &mut Clauses,
@@ -155,11 +154,11 @@ pub fn visit(
     f: Lit,
 ) -> Visited
     requires vars { trail.old.vars ≡ clauses.old.vars }
-    requires within { IsTrue (lit_in clauses.old.vars f) }
+    requires within { IsTrue (is_lit_over clauses.old.vars f) }
     requires denied { IsTrue (is_false_by (lits_of trail.old.entries) f) }
-    requires stands { IsTrue (stands_in c (chain_of clauses.old f)) }
-    requires follows { IsTrue (follows before c (chain_of clauses.old f)) }
-    ensures visited { IsVisited clauses.old trail.old.entries clauses.new trail.new.entries c f
+    requires stands { IsTrue (is_listed_in c (chain_of clauses.old f)) }
+    requires follows { IsTrue (directly_follows before c (chain_of clauses.old f)) }
+    ensures visited { IsVisitResult clauses.old trail.old.entries clauses.new trail.new.entries c f
         result }
     ensures clauses { SameClauses clauses.old clauses.new }
     ensures trail { trail.new ≡ record trail.old { entries = trail.new.entries } }

@@ -1,22 +1,23 @@
 ghost use Rattle.std.specs.Prelude.{◌≡◌, ◌≢◌, ◌<◌, ◌≤◌, ℕ, None, Some, IfNone, IfSome, IsTrue, length, slice_get};
-ghost use Rattle.ilk_cnf.specs.Formula.{lit_in};
+ghost use Rattle.ilk_cnf.specs.Formula.{is_lit_over};
 ghost use Rattle.ilk_log.specs.Propagation.{is_false as is_false_by};
 ghost use Rattle.ilk_trail.specs.declared.entry.Entry.{Entry};
 ghost use Rattle.ilk_trail.specs.Trail.{level_of};
 ghost use Rattle.ilk_trail.specs.Laws.{lits_of, IsTrail};
 ghost use Rattle.ilk_arena.specs.Arena.{chain_of, first_of};
-ghost use Rattle.ilk_clauses.specs.Reasons.{is_conflict};
-ghost use Rattle.ilk_clauses.specs.Chained.{SameClauses};
+ghost use Rattle.ilk_watches.specs.Reasons.{is_conflict};
+ghost use Rattle.ilk_watches.specs.Chained.{SameClauses};
 ghost use Rattle.ilk_watches.specs.Propagated.{IsPropagated};
 ghost use Rattle.ilk_watches.specs.Watched.{AllCovered};
-ghost use Rattle.ilk_watches.specs.Visits.{ChainsAfter, MadeFalse, Walking, left_of};
+ghost use Rattle.ilk_watches.specs.Visits.{ChainsAfter, IsMadeFalseBy, IsWalkAt, remaining_clauses};
 
+use crate::clauses::Clauses;
 use crate::visit::{Visited, visit};
-use ilk_clauses::Clauses;
 use ilk_cnf::Lit;
 use ilk_trail::Trail;
 
-// A walk along the chain of a false literal: the clause that is next, and the one before it that stayed.
+// A walk along the chain of a false literal: the next clause, and the last one before it that
+// stayed.
 #[derive(Clone, Copy)]
 struct Walk {
     f: Lit,
@@ -24,11 +25,11 @@ struct Walk {
     next: Option<u64>,
 }
 
-// The walk along the chain of the literal that entry `i` makes false, at its start.
+// Starts the walk along the chain of the literal that entry `i` makes false.
 fn start(clauses: &Clauses, trail: &Trail, i: u64) -> Walk
     requires vars { trail.now.vars ≡ clauses.now.vars }
     requires entry { i < length trail.now.entries }
-    ensures literal { MadeFalse clauses.now.vars trail.now.entries i result.f }
+    ensures literal { IsMadeFalseBy clauses.now.vars trail.now.entries i result.f }
     ensures before { result.before ≡ None }
     ensures next { result.next ≡ first_of (chain_of clauses.now result.f) }
     ensures trail { IsTrail trail.now }
@@ -42,23 +43,23 @@ fn start(clauses: &Clauses, trail: &Trail, i: u64) -> Walk
     }
 }
 
-// Visits the next clause of a walk, where there is one, or answers the number of a clause that is false.
+// Visits the next clause of a walk, if there is one. Returns the number of a clause if it is false.
 #[inline(always)]
 fn step(clauses: &mut Clauses, trail: &mut Trail, walk: &mut Walk) -> Option<u64>
     requires vars { trail.old.vars ≡ clauses.old.vars }
-    requires within { IsTrue (lit_in clauses.old.vars walk.old.f) }
+    requires within { IsTrue (is_lit_over clauses.old.vars walk.old.f) }
     requires denied { IsTrue (is_false_by (lits_of trail.old.entries) walk.old.f) }
-    requires walking { Walking clauses.old trail.old.entries walk.old.f walk.old.before
+    requires walking { IsWalkAt clauses.old trail.old.entries walk.old.f walk.old.before
         walk.old.next }
     ensures conflict { IfSome result
         (λ c. IsTrue (is_conflict clauses.old.clauses (lits_of trail.new.entries) c)) }
     ensures literal { walk.new.f ≡ walk.old.f }
     ensures walking { IfNone result
-        (Walking clauses.new trail.new.entries walk.old.f walk.new.before walk.new.next) }
+        (IsWalkAt clauses.new trail.new.entries walk.old.f walk.new.before walk.new.next) }
     ensures shorter { IfNone result
         (walk.old.next ≢ None →
-        left_of clauses.new walk.old.f walk.new.next
-        < left_of clauses.old walk.old.f walk.old.next) }
+        remaining_clauses clauses.new walk.old.f walk.new.next
+        < remaining_clauses clauses.old walk.old.f walk.old.next) }
     ensures chains { ChainsAfter clauses.old trail.old.entries clauses.new walk.old.f }
     ensures clauses { SameClauses clauses.old clauses.new }
     ensures trail { trail.new ≡ record trail.old { entries = trail.new.entries } }
@@ -80,11 +81,11 @@ fn step(clauses: &mut Clauses, trail: &mut Trail, walk: &mut Walk) -> Option<u64
     }
 }
 
-/// Walks along the chains of the literals that the entries from `head` on make false, until nothing is
-/// queued. It sets what their clauses force, or answers the number of a clause that is false.
+/// Walks the chains of the literals that the entries from `head` on make false, until nothing is
+/// queued. Assigns what their clauses force, or returns the number of a false clause.
 ///
-/// A clause stands far off in memory, and only it tells the next one of its chain. So where two entries
-/// are queued their chains are walked side by side, and both clauses are waited for at once.
+/// A clause is far away in memory, and only it names the next one of its chain. So if two entries
+/// are queued, their chains are walked side by side, and both clauses are loaded at once.
 pub fn walk_from(clauses: &mut Clauses, trail: &mut Trail, head: u64) -> Option<u64>
     requires vars { trail.old.vars ≡ clauses.old.vars }
     requires head { head < length trail.old.entries }

@@ -1,4 +1,4 @@
--- What some command lines mean, each computed.
+-- Some command lines and their computed meaning.
 use Rattle.std.proofs.Common.{◌≡◌, refl, [], ◌∷◌, Some, None, codes}
 use Rattle.std.specs.Fmt.{digits}
 use Rattle.clap.proofs.OnLiterals.{clap_on_literals}
@@ -6,188 +6,188 @@ use Rattle.ilk_words.specs.declared.command.Columns.TheVariants.{Strict, Free}
 use Rattle.ilk_words.specs.declared.command.Command.TheVariants.{Check, Verify, Audit, Replay, Make, Demo, Table, Export, Rup, Drive}
 use Rattle.ilk_words.specs.declared.command.QueryKind.TheVariants.{Hazard, Step}
 use Rattle.ilk_words.specs.Line.{app}
-use Rattle.ilk_words.specs.Words.{command_of}
+use Rattle.ilk_words.specs.Words.{parsed_command}
 
-no_word : command_of [] ≡ None
+no_word : parsed_command [] ≡ None
 unfolding clap_on_literals app
 no_word = refl
 
-program_alone : command_of (codes "irv" ∷ []) ≡ None
+program_alone : parsed_command (codes "irv" ∷ []) ≡ None
 unfolding clap_on_literals app
 program_alone = refl
 
-check_alone : command_of (codes "irv" ∷ codes "check" ∷ []) ≡ Some (Check Strict)
+check_alone : parsed_command (codes "irv" ∷ codes "check" ∷ []) ≡ Some (Check Strict)
 unfolding clap_on_literals app
 check_alone = refl
 
-check_free : command_of (codes "irv" ∷ codes "--columns" ∷ codes "free" ∷ codes "check" ∷ []) ≡ Some (Check Free)
+check_free : parsed_command (codes "irv" ∷ codes "--columns" ∷ codes "free" ∷ codes "check" ∷ []) ≡ Some (Check Free)
 unfolding clap_on_literals app
 check_free = refl
 
-check_strict : command_of (codes "irv" ∷ codes "check" ∷ codes "--columns=strict" ∷ []) ≡ Some (Check Strict)
+check_strict : parsed_command (codes "irv" ∷ codes "check" ∷ codes "--columns=strict" ∷ []) ≡ Some (Check Strict)
 unfolding clap_on_literals app
 check_strict = refl
 
-unknown_columns : command_of (codes "irv" ∷ codes "check" ∷ codes "--columns" ∷ codes "loose" ∷ []) ≡ None
+unknown_columns : parsed_command (codes "irv" ∷ codes "check" ∷ codes "--columns" ∷ codes "loose" ∷ []) ≡ None
 unfolding clap_on_literals app
 unknown_columns = refl
 
-empty_columns : command_of (codes "irv" ∷ codes "check" ∷ codes "--columns=" ∷ []) ≡ None
+empty_columns : parsed_command (codes "irv" ∷ codes "check" ∷ codes "--columns=" ∷ []) ≡ None
 unfolding clap_on_literals app
 empty_columns = refl
 
-check_with_run : command_of (codes "irv" ∷ codes "check" ∷ codes "--run" ∷ codes "r" ∷ []) ≡ None
+check_with_run : parsed_command (codes "irv" ∷ codes "check" ∷ codes "--run" ∷ codes "r" ∷ []) ≡ None
 unfolding clap_on_literals app
 check_with_run = refl
 
-replay_run : command_of (codes "irv" ∷ codes "replay" ∷ codes "--run" ∷ codes "r" ∷ []) ≡ Some (Replay Strict (codes "r"))
+replay_run : parsed_command (codes "irv" ∷ codes "replay" ∷ codes "--run" ∷ codes "r" ∷ []) ≡ Some (Replay Strict (codes "r"))
 unfolding clap_on_literals app
 replay_run = refl
 
-replay_run_attached : command_of (codes "irv" ∷ codes "replay" ∷ codes "--run=r" ∷ codes "--columns" ∷ codes "free" ∷ []) ≡ Some (Replay Free (codes "r"))
+replay_run_attached : parsed_command (codes "irv" ∷ codes "replay" ∷ codes "--run=r" ∷ codes "--columns" ∷ codes "free" ∷ []) ≡ Some (Replay Free (codes "r"))
 unfolding clap_on_literals app
 replay_run_attached = refl
 
-replay_run_empty : command_of (codes "irv" ∷ codes "replay" ∷ codes "--run=" ∷ []) ≡ Some (Replay Strict [])
+replay_run_empty : parsed_command (codes "irv" ∷ codes "replay" ∷ codes "--run=" ∷ []) ≡ Some (Replay Strict [])
 unfolding clap_on_literals app
 replay_run_empty = refl
 
-replay_run_hyphen : command_of (codes "irv" ∷ codes "replay" ∷ codes "--run" ∷ codes "-" ∷ []) ≡ Some (Replay Strict (codes "-"))
+replay_run_hyphen : parsed_command (codes "irv" ∷ codes "replay" ∷ codes "--run" ∷ codes "-" ∷ []) ≡ Some (Replay Strict (codes "-"))
 unfolding clap_on_literals app
 replay_run_hyphen = refl
 
-replay_alone : command_of (codes "irv" ∷ codes "replay" ∷ []) ≡ None
+replay_alone : parsed_command (codes "irv" ∷ codes "replay" ∷ []) ≡ None
 unfolding clap_on_literals app
 replay_alone = refl
 
-replay_run_twice : command_of (codes "irv" ∷ codes "replay" ∷ codes "--run" ∷ codes "r" ∷ codes "--run" ∷ codes "s" ∷ []) ≡ None
+replay_run_twice : parsed_command (codes "irv" ∷ codes "replay" ∷ codes "--run" ∷ codes "r" ∷ codes "--run" ∷ codes "s" ∷ []) ≡ None
 unfolding clap_on_literals app
 replay_run_twice = refl
 
-replay_run_without_value : command_of (codes "irv" ∷ codes "replay" ∷ codes "--run" ∷ []) ≡ None
+replay_run_without_value : parsed_command (codes "irv" ∷ codes "replay" ∷ codes "--run" ∷ []) ≡ None
 unfolding clap_on_literals app
 replay_run_without_value = refl
 
-command_after_escape : command_of (codes "irv" ∷ codes "--run" ∷ codes "r" ∷ codes "--" ∷ codes "replay" ∷ []) ≡ Some (Replay Strict (codes "r"))
+command_after_escape : parsed_command (codes "irv" ∷ codes "--run" ∷ codes "r" ∷ codes "--" ∷ codes "replay" ∷ []) ≡ Some (Replay Strict (codes "r"))
 unfolding clap_on_literals app
 command_after_escape = refl
 
-option_after_escape : command_of (codes "irv" ∷ codes "replay" ∷ codes "--" ∷ codes "--run" ∷ codes "r" ∷ []) ≡ None
+option_after_escape : parsed_command (codes "irv" ∷ codes "replay" ∷ codes "--" ∷ codes "--run" ∷ codes "r" ∷ []) ≡ None
 unfolding clap_on_literals app
 option_after_escape = refl
 
-two_commands : command_of (codes "irv" ∷ codes "check" ∷ codes "check" ∷ []) ≡ None
+two_commands : parsed_command (codes "irv" ∷ codes "check" ∷ codes "check" ∷ []) ≡ None
 unfolding clap_on_literals app
 two_commands = refl
 
-unknown_command : command_of (codes "irv" ∷ codes "prove" ∷ []) ≡ None
+unknown_command : parsed_command (codes "irv" ∷ codes "prove" ∷ []) ≡ None
 unfolding clap_on_literals app
 unknown_command = refl
 
-check_with_depth : command_of (codes "irv" ∷ codes "check" ∷ codes "--depth" ∷ codes "3" ∷ []) ≡ None
+check_with_depth : parsed_command (codes "irv" ∷ codes "check" ∷ codes "--depth" ∷ codes "3" ∷ []) ≡ None
 unfolding clap_on_literals app
 check_with_depth = refl
 
-unknown_option : command_of (codes "irv" ∷ codes "check" ∷ codes "--limit" ∷ codes "3" ∷ []) ≡ None
+unknown_option : parsed_command (codes "irv" ∷ codes "check" ∷ codes "--limit" ∷ codes "3" ∷ []) ≡ None
 unfolding clap_on_literals app
 unknown_option = refl
 
-help : command_of (codes "irv" ∷ codes "--help" ∷ []) ≡ None
+help : parsed_command (codes "irv" ∷ codes "--help" ∷ []) ≡ None
 unfolding clap_on_literals app
 help = refl
 
-short_help : command_of (codes "irv" ∷ codes "check" ∷ codes "-h" ∷ []) ≡ None
+short_help : parsed_command (codes "irv" ∷ codes "check" ∷ codes "-h" ∷ []) ≡ None
 unfolding clap_on_literals app
 short_help = refl
 
-verify_by_default : command_of (codes "irv" ∷ codes "verify" ∷ codes "--cert" ∷ codes "c" ∷ []) ≡ Some (Verify Strict 4 100000 (codes "c"))
+verify_by_default : parsed_command (codes "irv" ∷ codes "verify" ∷ codes "--cert" ∷ codes "c" ∷ []) ≡ Some (Verify Strict 4 100000 (codes "c"))
 unfolding clap_on_literals app digits
 verify_by_default = refl
 
-verify_with_numbers : command_of (codes "irv" ∷ codes "verify" ∷ codes "--depth" ∷ codes "16" ∷ codes "--conflicts=0" ∷ codes "--cert=c" ∷ []) ≡ Some (Verify Strict 16 0 (codes "c"))
+verify_with_numbers : parsed_command (codes "irv" ∷ codes "verify" ∷ codes "--depth" ∷ codes "16" ∷ codes "--conflicts=0" ∷ codes "--cert=c" ∷ []) ≡ Some (Verify Strict 16 0 (codes "c"))
 unfolding clap_on_literals app digits
 verify_with_numbers = refl
 
-verify_with_spellings : command_of (codes "irv" ∷ codes "verify" ∷ codes "--depth" ∷ codes "007" ∷ codes "--conflicts" ∷ codes "+3" ∷ codes "--cert=c" ∷ []) ≡ Some (Verify Strict 7 3 (codes "c"))
+verify_with_spellings : parsed_command (codes "irv" ∷ codes "verify" ∷ codes "--depth" ∷ codes "007" ∷ codes "--conflicts" ∷ codes "+3" ∷ codes "--cert=c" ∷ []) ≡ Some (Verify Strict 7 3 (codes "c"))
 unfolding clap_on_literals app digits
 verify_with_spellings = refl
 
-verify_depth_0 : command_of (codes "irv" ∷ codes "verify" ∷ codes "--depth" ∷ codes "0" ∷ codes "--cert=c" ∷ []) ≡ None
+verify_depth_0 : parsed_command (codes "irv" ∷ codes "verify" ∷ codes "--depth" ∷ codes "0" ∷ codes "--cert=c" ∷ []) ≡ None
 unfolding clap_on_literals app
 verify_depth_0 = refl
 
-verify_depth_17 : command_of (codes "irv" ∷ codes "verify" ∷ codes "--depth" ∷ codes "17" ∷ codes "--cert=c" ∷ []) ≡ None
+verify_depth_17 : parsed_command (codes "irv" ∷ codes "verify" ∷ codes "--depth" ∷ codes "17" ∷ codes "--cert=c" ∷ []) ≡ None
 unfolding clap_on_literals app
 verify_depth_17 = refl
 
-verify_alone : command_of (codes "irv" ∷ codes "verify" ∷ []) ≡ None
+verify_alone : parsed_command (codes "irv" ∷ codes "verify" ∷ []) ≡ None
 unfolding clap_on_literals app digits
 verify_alone = refl
 
-verify_with_run : command_of (codes "irv" ∷ codes "verify" ∷ codes "--cert" ∷ codes "c" ∷ codes "--run" ∷ codes "r" ∷ []) ≡ None
+verify_with_run : parsed_command (codes "irv" ∷ codes "verify" ∷ codes "--cert" ∷ codes "c" ∷ codes "--run" ∷ codes "r" ∷ []) ≡ None
 unfolding clap_on_literals app
 verify_with_run = refl
 
-export_hazard_0 : command_of (codes "irv" ∷ codes "export" ∷ codes "--query" ∷ codes "hazard" ∷ codes "--number" ∷ codes "0" ∷ []) ≡ Some (Export Strict Hazard 0)
+export_hazard_0 : parsed_command (codes "irv" ∷ codes "export" ∷ codes "--query" ∷ codes "hazard" ∷ codes "--number" ∷ codes "0" ∷ []) ≡ Some (Export Strict Hazard 0)
 unfolding clap_on_literals app
 export_hazard_0 = refl
 
-export_step_0 : command_of (codes "irv" ∷ codes "export" ∷ codes "--query" ∷ codes "step" ∷ codes "--number" ∷ codes "0" ∷ []) ≡ None
+export_step_0 : parsed_command (codes "irv" ∷ codes "export" ∷ codes "--query" ∷ codes "step" ∷ codes "--number" ∷ codes "0" ∷ []) ≡ None
 unfolding clap_on_literals app
 export_step_0 = refl
 
-export_step_1 : command_of (codes "irv" ∷ codes "export" ∷ codes "--query" ∷ codes "step" ∷ codes "--number" ∷ codes "1" ∷ []) ≡ Some (Export Strict Step 1)
+export_step_1 : parsed_command (codes "irv" ∷ codes "export" ∷ codes "--query" ∷ codes "step" ∷ codes "--number" ∷ codes "1" ∷ []) ≡ Some (Export Strict Step 1)
 unfolding clap_on_literals app
 export_step_1 = refl
 
-export_minus_0 : command_of (codes "irv" ∷ codes "export" ∷ codes "--query" ∷ codes "breach" ∷ codes "--number=-0" ∷ []) ≡ None
+export_minus_0 : parsed_command (codes "irv" ∷ codes "export" ∷ codes "--query" ∷ codes "breach" ∷ codes "--number=-0" ∷ []) ≡ None
 unfolding clap_on_literals app
 export_minus_0 = refl
 
-export_without_query : command_of (codes "irv" ∷ codes "export" ∷ codes "--number" ∷ codes "0" ∷ []) ≡ None
+export_without_query : parsed_command (codes "irv" ∷ codes "export" ∷ codes "--number" ∷ codes "0" ∷ []) ≡ None
 unfolding clap_on_literals app
 export_without_query = refl
 
-audit_named : command_of (codes "irv" ∷ codes "audit" ∷ codes "--cert" ∷ codes "c" ∷ []) ≡ Some (Audit Strict (codes "c"))
+audit_named : parsed_command (codes "irv" ∷ codes "audit" ∷ codes "--cert" ∷ codes "c" ∷ []) ≡ Some (Audit Strict (codes "c"))
 unfolding clap_on_literals app
 audit_named = refl
 
-audit_with_depth : command_of (codes "irv" ∷ codes "audit" ∷ codes "--cert=c" ∷ codes "--depth=3" ∷ []) ≡ None
+audit_with_depth : parsed_command (codes "irv" ∷ codes "audit" ∷ codes "--cert=c" ∷ codes "--depth=3" ∷ []) ≡ None
 unfolding clap_on_literals app
 audit_with_depth = refl
 
-make_16 : command_of (codes "irv" ∷ codes "make" ∷ codes "--stations" ∷ codes "16" ∷ []) ≡ Some (Make 16)
+make_16 : parsed_command (codes "irv" ∷ codes "make" ∷ codes "--stations" ∷ codes "16" ∷ []) ≡ Some (Make 16)
 unfolding clap_on_literals app
 make_16 = refl
 
-make_17 : command_of (codes "irv" ∷ codes "make" ∷ codes "--stations" ∷ codes "17" ∷ []) ≡ None
+make_17 : parsed_command (codes "irv" ∷ codes "make" ∷ codes "--stations" ∷ codes "17" ∷ []) ≡ None
 unfolding clap_on_literals app
 make_17 = refl
 
-make_with_columns : command_of (codes "irv" ∷ codes "make" ∷ codes "--stations=1" ∷ codes "--columns=free" ∷ []) ≡ None
+make_with_columns : parsed_command (codes "irv" ∷ codes "make" ∷ codes "--stations=1" ∷ codes "--columns=free" ∷ []) ≡ None
 unfolding clap_on_literals app
 make_with_columns = refl
 
-demo_by_default : command_of (codes "irv" ∷ codes "demo" ∷ codes "--stations=2" ∷ codes "--cert=c" ∷ []) ≡ Some (Demo 2 4 100000 (codes "c"))
+demo_by_default : parsed_command (codes "irv" ∷ codes "demo" ∷ codes "--stations=2" ∷ codes "--cert=c" ∷ []) ≡ Some (Demo 2 4 100000 (codes "c"))
 unfolding clap_on_literals app digits
 demo_by_default = refl
 
-table_free : command_of (codes "irv" ∷ codes "table" ∷ codes "--columns=free" ∷ []) ≡ Some (Table Free)
+table_free : parsed_command (codes "irv" ∷ codes "table" ∷ codes "--columns=free" ∷ []) ≡ Some (Table Free)
 unfolding clap_on_literals app
 table_free = refl
 
-rup_step_1 : command_of (codes "irv" ∷ codes "rup" ∷ codes "--query=step" ∷ codes "--number=1" ∷ codes "--cert=c" ∷ []) ≡ Some (Rup Strict Step 1 (codes "c"))
+rup_step_1 : parsed_command (codes "irv" ∷ codes "rup" ∷ codes "--query=step" ∷ codes "--number=1" ∷ codes "--cert=c" ∷ []) ≡ Some (Rup Strict Step 1 (codes "c"))
 unfolding clap_on_literals app
 rup_step_1 = refl
 
-rup_step_0 : command_of (codes "irv" ∷ codes "rup" ∷ codes "--query=step" ∷ codes "--number=0" ∷ codes "--cert=c" ∷ []) ≡ None
+rup_step_0 : parsed_command (codes "irv" ∷ codes "rup" ∷ codes "--query=step" ∷ codes "--number=0" ∷ codes "--cert=c" ∷ []) ≡ None
 unfolding clap_on_literals app
 rup_step_0 = refl
 
-rup_without_cert : command_of (codes "irv" ∷ codes "rup" ∷ codes "--query=step" ∷ codes "--number=1" ∷ []) ≡ None
+rup_without_cert : parsed_command (codes "irv" ∷ codes "rup" ∷ codes "--query=step" ∷ codes "--number=1" ∷ []) ≡ None
 unfolding clap_on_literals app
 rup_without_cert = refl
 
-drive_named : command_of (codes "irv" ∷ codes "drive" ∷ codes "--run" ∷ codes "s" ∷ []) ≡ Some (Drive Strict (codes "s"))
+drive_named : parsed_command (codes "irv" ∷ codes "drive" ∷ codes "--run" ∷ codes "s" ∷ []) ≡ Some (Drive Strict (codes "s"))
 unfolding clap_on_literals app
 drive_named = refl

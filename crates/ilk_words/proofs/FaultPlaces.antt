@@ -1,4 +1,4 @@
--- Which faults the words have doesn't depend on where the texts of the possible values lie.
+-- Faults don't depend on the location of the value texts.
 use Rattle.std.proofs.Common.{◌≡◌, ◌∙◌, ap, ap₂, ℕ, Bool, not, ◌&&◌, ◌||◌, List, [], ◌∷◌, length, drop, zero, suc, Option, Some, None, is_some, option_map, refl, sym}
 use Rattle.std.specs.Prelude.{if◌then◌else◌, encode_utf8, slice_get}
 use Rattle.std.specs.List.{list_any}
@@ -16,11 +16,11 @@ use Rattle.clap.specs.declared.builder.action.ArgAction.{ArgAction}
 use Rattle.clap.specs.declared.builder.action.ArgAction.TheVariants.{Set, Append, SetTrue, SetFalse, Count}
 use Rattle.clap.specs.declared.builder.value_parser.ValueParser.TheVariants as parser
 use Rattle.clap.specs.declared.error.kind.ErrorKind.TheVariants as kind
-use Rattle.ilk_words.specs.Options.{held}
+use Rattle.ilk_words.specs.Options.{as_reference}
 use Rattle.ilk_words.specs.Places.{moved_rule, moved_rules, moved_shape}
 use Rattle.ilk_words.proofs.WalkPlaces.{by_id, by_index, by_long, by_short, default_as, finishes, reacts, settles, value_as, values_as, walks, walks_on, word_meets}
 
--- ---- the faults of one use
+-- Faults of one use.
 
 faults_of_values : (a : Rule) (values : List Text) → values_fault (moved_rule a) values ≡ values_fault a values
 faults_of_values a values = values_as a.ignore_case a.parser values
@@ -44,7 +44,7 @@ faults_of_use : (again : Bool) (a : Rule) (values : List Text) (rows : List Row)
 faults_of_use again a values rows = ap (or_else (range_kinds (unwrap_or_range a.range).start_inclusive (most_values a) (length values)))
     (faults_of_action (action_of a) again a (values_or_missing a values) rows)
 
--- ---- the faults of the walk
+-- Faults of the walk.
 
 faults_of_found : (again : Bool) (o : Option Rule) (values : List Text) (rows : List Row) → option_map_or (λ (a : Rule). use_fault again a values rows) (option_map moved_rule o) [] ≡ option_map_or (λ (a : Rule). use_fault again a values rows) o []
 faults_of_found again None values rows = refl
@@ -144,7 +144,7 @@ faults_of_walk s names w [] = refl
 faults_of_walk s names w (word ∷ rest) = ap₂ or_else (faults_of_turn s names w word)
     (ap (λ (v : Walk). walk_fault (moved_shape s) names v rest) (walks_on s.rules names w word) ∙ faults_of_walk s names (walked s.rules names w word) rest)
 
--- ---- the faults after the walk
+-- Faults after the walk.
 
 faults_of_default : (rows : List Row) (a : Rule) → default_fault rows (moved_rule a) ≡ default_fault rows a
 faults_of_default rows a = ap (λ (x : Kinds). if has_row a.id rows || is_empty a.defaults then [] else or_else (request_kinds (action_of a)) x) (faults_of_values a a.defaults)
@@ -162,7 +162,7 @@ faults_of_check s rows has_subcommand = ap (λ (b : Bool). check_kinds
     (not (s.subcommand_negates_reqs && has_subcommand) && b))
     (sym (list_any-map (λ (a : Rule). a.required && not (is_given a.id rows)) moved_rule s.rules))
 
--- what is asked once the words are read
+-- Checks after the arguments are read.
 abbrev faults_at_end : Shape → Bool → Held → Kinds
 faults_at_end s has_subcommand h = or_else (settle_fault s.rules s.args_override_self h)
     (or_else (defaults_fault (settled s.rules h).rows s.rules) (check_fault s (finished s.rules h) has_subcommand))
@@ -172,7 +172,6 @@ same_end s has_subcommand h = ap₂ or_else (faults_of_settling s.rules s.args_o
     (ap (λ (x : Held). defaults_fault x.rows (moved_rules s.rules)) (settles s.rules h) ∙ faults_of_defaults (settled s.rules h).rows s.rules)
     (ap (λ (rows : List Row). check_fault (moved_shape s) rows has_subcommand) (finishes s.rules h) ∙ faults_of_check s (finished s.rules h) has_subcommand))
 
--- the faults are the same
 pub same_faults : (s : Shape) (names : Names) (h : Held) (words : List Text) (has_subcommand : Bool) (below : Kinds) → level_fault (moved_shape s) names h words has_subcommand below ≡ level_fault s names h words has_subcommand below
 same_faults s names h words has_subcommand below = ap₂ or_else (faults_of_walk s names (walk_from h) words) (ap (or_else below)
     (ap (λ (w : Walk). faults_at_end (moved_shape s) has_subcommand w.held) (walks s.rules names h words) ∙ same_end s has_subcommand (walk s.rules names h words).held))

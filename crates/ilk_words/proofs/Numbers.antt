@@ -1,4 +1,4 @@
--- The numbers of options, and of the commands that have them.
+-- The numbers of options, and of the commands with these options.
 use Rattle.std.proofs.Common.{◌≡◌, ◌∙◌, ◌≤◌, ℕ, codes, Bool, true, false, ap, refl, sym, subst, List, Some, None, IfSome, zero, suc}
 use Rattle.std.specs.Prelude.{IsTrue, find, slice_get}
 use Rattle.std.specs.List.{list_any}
@@ -17,14 +17,14 @@ use Rattle.ilk_base.proofs.Tested.{find-at}
 use Rattle.ilk_words.specs.Commands.{LineCommand, audit_command, check_command, columns_of, commands, demo_command, drive_command, export_command, make_command, query_of, replay_command, rup_command, table_command, verify_command}
 use Rattle.ilk_words.specs.Limits.{has_option_limits, has_query_limits, has_search_limits, has_station_limits}
 use Rattle.ilk_words.specs.Options.{Line, LineOption, cert_option, conflicts_option, depth_option, number_between, number_of_option, number_of_value, number_option, run_option, stations_option, value_of_option}
-use Rattle.ilk_words.specs.Queries.{has_number}
-use Rattle.ilk_words.specs.Words.{command_on, has_only, on_line}
+use Rattle.ilk_words.specs.Queries.{query_exists}
+use Rattle.ilk_words.specs.Words.{command_on_line, has_only_own_options, command_if_allowed}
 use Rattle.ilk_words.specs.declared.command.Command.{Command}
 use Rattle.ilk_words.specs.declared.command.Command.TheVariants.{Check, Verify, Audit, Replay, Make, Demo, Table, Export, Rup, Drive}
 use Rattle.ilk_words.specs.declared.command.QueryKind.{QueryKind}
 use Rattle.ilk_words.specs.declared.limits.TheConstants.{DEFAULT_SEARCH_CONFLICTS, DEFAULT_DEPTH, MAX_SEARCH_CONFLICTS, MAX_DEPTH, MAX_NUMBER, MAX_STATIONS}
 
--- ---- the number that a value writes
+-- Numbers of values.
 
 pub number_read : (least most : ℕ) (value : List ℕ) → IsUnsignedIn least most value → Some (digits_value 10 (without_leading_plus value)) ≡ number_of_value (number_between least most) value
 number_read least most value h = rw (Accepts-accepts false (number_between least most) value h) refl
@@ -36,7 +36,7 @@ no_number_read least most value h = go (accepts false (number_between least most
     go true e = absurd (h (accepts-Accepts false (number_between least most) value e))
     go false e = refl
 
--- ---- the limits that a command keeps
+-- Limits that a command keeps.
 
 number_within : (least most : ℕ) (value : List ℕ) (n : ℕ) → number_of_value (number_between least most) value ≡ Some n → (least ≤ n) × (n ≤ most)
 number_within least most value n e =
@@ -60,7 +60,6 @@ check_keeps line command e =
     let columns = bind_some (columns_of line) _ command e in
     subst HasLimits (same_Some (Check columns.0) command columns.2) refl
 
--- the numbers of options, within their limits
 search_within : (line : Line) (depth conflicts : ℕ) → number_of_option line depth_option ≡ Some depth → number_of_option line conflicts_option ≡ Some conflicts → has_search_limits depth conflicts ≡ true
 search_within line depth conflicts deep spent =
     let d = option_within line depth_option 1 MAX_DEPTH depth refl deep in
@@ -72,7 +71,7 @@ stations_within line stations e =
     let s = option_within line stations_option 1 MAX_STATIONS stations refl e in
     rw (le-leb 1 stations s.0, le-leb stations MAX_STATIONS s.1) refl
 
-query_within : (line : Line) (query : QueryKind) (number : ℕ) → number_of_option line number_option ≡ Some number → has_number query number ≡ true → has_query_limits query number ≡ true
+query_within : (line : Line) (query : QueryKind) (number : ℕ) → number_of_option line number_option ≡ Some number → query_exists query number ≡ true → has_query_limits query number ≡ true
 query_within line query number e has =
     let n = option_within line number_option 0 MAX_NUMBER number refl e in
     rw (le-leb number MAX_NUMBER n.1, has) refl
@@ -159,16 +158,16 @@ keeps_limits (suc (suc (suc (suc (suc (suc (suc (suc zero)))))))) c e = subst Ke
 keeps_limits (suc (suc (suc (suc (suc (suc (suc (suc (suc zero))))))))) c e = subst KeepsLimits (same_Some _ _ e) drive_keeps
 keeps_limits (suc (suc (suc (suc (suc (suc (suc (suc (suc (suc i)))))))))) c e = cc
 
--- the command that a line gives has the numbers that its options let through
-pub line_limits : (line : Line) → IfSome (command_on line) (λ (command : Command). IsTrue (has_option_limits command))
-line_limits line = IfSome-from (command_on line) (λ (command : Command). IsTrue (has_option_limits command)) (λ command e.
-    let name = bind_some (line (codes "command")) (λ name. find (λ (c : LineCommand). bytes_eq name c.name) commands >>= on_line line) command e in
-    let chosen = bind_some (find (λ (c : LineCommand). bytes_eq name.0 c.name) commands) (on_line line) command name.2 in
+-- The numbers of a line's command are within the limits of its options.
+pub line_limits : (line : Line) → IfSome (command_on_line line) (λ (command : Command). IsTrue (has_option_limits command))
+line_limits line = IfSome-from (command_on_line line) (λ (command : Command). IsTrue (has_option_limits command)) (λ command e.
+    let name = bind_some (line (codes "command")) (λ name. find (λ (c : LineCommand). bytes_eq name c.name) commands >>= command_if_allowed line) command e in
+    let chosen = bind_some (find (λ (c : LineCommand). bytes_eq name.0 c.name) commands) (command_if_allowed line) command name.2 in
     let place = find-at (λ (c : LineCommand). bytes_eq name.0 c.name) commands chosen.0 chosen.1 in
-    let taken = bind_some (only_if (has_only line (λ option. list_any (λ (o : LineOption). bytes_eq option o.name) chosen.0.options)) chosen.0) (λ c. chosen.0.command line) command chosen.2 in
+    let taken = bind_some (only_if (has_only_own_options line (λ option. list_any (λ (o : LineOption). bytes_eq option o.name) chosen.0.options)) chosen.0) (λ c. chosen.0.command line) command chosen.2 in
     keeps_limits place.0 chosen.0 place.1 line command taken.2)
 
--- ---- the defaults
+-- Defaults.
 
 pub depth_by_default : (line : Line) → line (codes "depth") ≡ None → Some DEFAULT_DEPTH ≡ number_of_option line depth_option
 unfolding digits

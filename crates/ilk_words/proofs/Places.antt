@@ -1,4 +1,4 @@
--- What a parse makes of the words doesn't depend on where the texts of its possible values lie.
+-- Parsing doesn't depend on the location of the value texts.
 use Rattle.std.proofs.Common.{◌≡◌, ◌∙◌, ap, ap₂, ℕ, Bool, true, false, not, ◌&&◌, List, [], ◌∷◌, drop, ◌++◌, unwrap_or, Option, Some, None, is_some, option_map, refl, sym}
 use Rattle.std.specs.List.{count_by, list_all, list_any}
 use Rattle.clap.specs.Walk.{Rule, Text, is_early_multiple, nothing_held, rows_after}
@@ -23,7 +23,7 @@ use Rattle.ilk_words.specs.Places.{with_held_texts, moved_app, moved_rule, moved
 use Rattle.ilk_words.proofs.FaultPlaces.{same_faults}
 use Rattle.ilk_words.proofs.WalkPlaces.{same_rows}
 
--- ---- building
+-- Construction.
 
 same_default_parser : (x : ArgAction) → with_held_texts (parser_for x) ≡ parser_for x
 same_default_parser SetTrue = refl
@@ -45,9 +45,9 @@ with_help : (c : List Rule) → moved_rules (c ++ help_rule ∷ []) ≡ moved_ru
 with_help [] = refl
 with_help (a ∷ c) = ap (λ (xs : List Rule). moved_rule a ∷ xs) (with_help c)
 
--- ---- the command line
+-- The command line.
 
--- the line, with other rules
+-- The line with other rules.
 abbrev of_rules : List Rule → App
 of_rules rules = record app { top = record app.top { rules = rules } }
 
@@ -67,7 +67,6 @@ rows_of_line : (rules : List Rule) (words : List Text) → matches_of (of_rules 
 unfolding clap_on_literals app
 rows_of_line rules words = refl
 
--- a line like ours finds the faults of ours
 pub faults_like_ours : (a : App) (words : List Text) → moved_app a ≡ app → fault_of a words ≡ fault_of app words
 faults_like_ours a words e =
     let rules = a.top.rules in
@@ -76,7 +75,6 @@ faults_like_ours a words e =
     ∙ ap (λ (s : Shape). level_fault s [] nothing_held (drop 1 words) false []) (builds rules (ap (λ (x : App). x.top.rules) e))
     ∙ sym (faults_of_line app.top.rules words)
 
--- and the matches of ours
 pub rows_like_ours : (a : App) (words : List Text) → moved_app a ≡ app → matches_of a words ≡ matches_of app words
 rows_like_ours a words e =
     let rules = a.top.rules in
@@ -85,15 +83,13 @@ rows_like_ours a words e =
     ∙ ap (λ (s : Shape). rows_after s.rules [] (drop 1 words)) (builds rules (ap (λ (x : App). x.top.rules) e))
     ∙ sym (rows_of_line app.top.rules words)
 
--- ---- the line that the program makes
+-- The line of the program.
 
--- an argument more
 pub with_argument : (old new : Command) (a : Arg) (line : App) (given : Rule) → AddsArg old a new → a.global ≡ false → moved_rule (rule_of a) ≡ given → moved_app (app_of old) ≡ line → moved_app (app_of new) ≡ with_rule line given
 with_argument old new a line given adds local same e = ap moved_app (adds.shape local)
     ∙ ap (λ (rules : List Rule). record (app_of old) { top = record (app_of old).top { rules = rules } }) (map-append moved_rule (app_of old).top.rules (rule_of a ∷ []))
     ∙ ap₂ with_rule e same
 
--- an option more
 pub with_option : (old new : Command) (a : Arg) (line : App) (o : LineOption) (values : ValueParser) →
     AddsArg old a new → a.global ≡ false →
     moved_rule (rule_of a) ≡ rule_of_option o.name (with_held_texts values) →
@@ -114,7 +110,6 @@ all_simple : (rules : List Rule) → moved_rules rules ≡ app.top.rules → lis
 unfolding app
 all_simple rules e = sym (list_all-map (λ (a : Rule). a.is_simple) moved_rule rules) ∙ ap (list_all (λ (a : Rule). a.is_simple)) e
 
--- a line like ours is simple and free
 pub simple_like_ours : (a : App) → moved_app a ≡ app → is_simple_and_free a ≡ true
 unfolding clap_on_literals app
 simple_like_ours a e =

@@ -1,4 +1,4 @@
--- What the walk over the words makes of them doesn't depend on where the texts of the possible values lie.
+-- The walk over the arguments doesn't depend on the location of the value texts.
 use Rattle.std.proofs.Common.{◌≡◌, ◌∙◌, ap, ap₂, ℕ, Bool, false, not, ◌&&◌, List, [], ◌∷◌, length, drop, zero, suc, Option, Some, None, is_some, option_map, refl, sym}
 use Rattle.std.specs.Prelude.{◌==◌, if◌then◌else◌, fold, encode_utf8, slice_get}
 use Rattle.std.specs.Option.{option_map_or}
@@ -17,10 +17,10 @@ use Rattle.clap.specs.declared.builder.value_parser.ValueParser.{ValueParser}
 use Rattle.clap.specs.declared.builder.value_parser.ValueParser.TheVariants as parser
 use Rattle.clap.specs.declared.error.kind.ErrorKind.{ErrorKind}
 use Rattle.clap.specs.declared.error.kind.ErrorKind.TheVariants as kind
-use Rattle.ilk_words.specs.Options.{held}
+use Rattle.ilk_words.specs.Options.{as_reference}
 use Rattle.ilk_words.specs.Places.{with_held_texts, moved_rule, moved_rules}
 
--- ---- one value
+-- One value.
 
 same_reading : (o : Option ValueParser) → reading_of (parser_of_value (option_map with_held_texts o)) ≡ reading_of (parser_of_value o)
 same_reading None = refl
@@ -34,7 +34,7 @@ same_refusal (Some p) = refl
 
 same_values : (ignore_case : Bool) (o : Option ValueParser) (text : Text) → accepts ignore_case (parser_of_value (option_map with_held_texts o)) text ≡ accepts ignore_case (parser_of_value o) text
 same_values ignore_case None text = refl
-same_values ignore_case (Some (parser.Names names)) text = sym (list_any-map (λ (name : Bor Text). same_text ignore_case name.now text) (λ (s : Bor Text). held s.now) names.now)
+same_values ignore_case (Some (parser.Names names)) text = sym (list_any-map (λ (name : Bor Text). same_text ignore_case name.now text) (λ (s : Bor Text). as_reference s.now) names.now)
 same_values ignore_case (Some p) text = refl
 
 pub value_as : (ignore_case : Bool) (o : Option ValueParser) (text : Text) → value_kinds ignore_case (parser_of_value (option_map with_held_texts o)) text ≡ value_kinds ignore_case (parser_of_value o) text
@@ -44,7 +44,7 @@ pub values_as : (ignore_case : Bool) (o : Option ValueParser) (texts : List Text
 values_as ignore_case o [] = refl
 values_as ignore_case o (v ∷ vs) = ap₂ or_else (value_as ignore_case o v) (values_as ignore_case o vs)
 
--- ---- the argument that is found
+-- The argument found.
 
 pub by_id : (c : List Rule) (id : Text) → arg_by_id (moved_rules c) id ≡ option_map moved_rule (arg_by_id c id)
 by_id c id = sym (find-map (λ (a : Rule). bytes_eq a.id id) moved_rule c)
@@ -58,7 +58,7 @@ by_short c x = sym (find-map (λ (a : Rule). not (is_some a.index) && has_short 
 pub by_index : (c : List Rule) (i : ℕ) → arg_by_index (moved_rules c) i ≡ option_map moved_rule (arg_by_index c i)
 by_index c i = sym (find-map (λ (a : Rule). option_map_or (λ k. k == i) a.index false) moved_rule c)
 
--- ---- the walk
+-- The walk.
 
 used_as_before : (a : Rule) (values : List Text) (rows : List Row) → used (moved_rule a) values rows ≡ used a values rows
 used_as_before a values rows = ap (λ (how : Reading). used_as (action_of a) a.id how (values_or_missing a values) rows) (same_reading a.parser)
@@ -200,6 +200,5 @@ defaults_as (a ∷ c) rows = ap (λ (r : List Row). fold with_default r (moved_r
 pub finishes : (c : List Rule) (h : Held) → finished (moved_rules c) h ≡ finished c h
 finishes c h = ap (λ (s : Held). fold with_default s.rows (moved_rules c)) (settles c h) ∙ defaults_as c (settled c h).rows
 
--- the matches are the same
 pub same_rows : (c : List Rule) (names : Names) (words : List Text) → rows_after (moved_rules c) names words ≡ rows_after c names words
 same_rows c names words = ap (λ (w : Walk). finished (moved_rules c) w.held) (walks c names nothing_held words) ∙ finishes c (walk c names nothing_held words).held

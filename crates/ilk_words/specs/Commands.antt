@@ -1,10 +1,10 @@
--- The table of commands: what each is called, the options that it takes, and what it is on a line.
+-- The table of commands: the name of each, its options, and its meaning on a line.
 use Rattle.std.specs.Prelude.{Option, Some, List, [], ◌∷◌, codes}
 use Rattle.clap.specs.Words.{Text}
 use Rattle.ilk_base.specs.Option.{◌>>=◌, only_if}
 use Rattle.ilk_words.specs.Columns.{columns_of_word}
 use Rattle.ilk_words.specs.Options.{Line, LineOption, cert_option, columns_option, conflicts_option, depth_option, number_of_option, number_option, query_option, run_option, stations_option, value_of_option}
-use Rattle.ilk_words.specs.Queries.{has_number, query_of_word}
+use Rattle.ilk_words.specs.Queries.{query_exists, query_of_word}
 use Rattle.ilk_words.specs.declared.command.Columns.{Columns}
 use Rattle.ilk_words.specs.declared.command.Command.{Command}
 use Rattle.ilk_words.specs.declared.command.Command.TheVariants.{Check, Verify, Audit, Replay, Make, Demo, Table, Export, Rup, Drive}
@@ -13,7 +13,7 @@ use Rattle.ilk_words.specs.declared.command.QueryKind.{QueryKind}
 pub record LineCommand : Type 0 where
   pub name : Text
   pub options : List LineOption
-  -- the command with its options; none where a needed one is missing, or there is no such query
+  -- The command with its options, or `None` if a required one is missing or no such query exists.
   pub command : Line → Option Command
 
 abbrev pub columns_of : Line → Option Columns
@@ -105,7 +105,7 @@ export_command = record {
     columns ← columns_of line
     query ← query_of line
     number ← number_of_option line number_option
-    only_if (has_number query number) (Export columns query number);
+    only_if (query_exists query number) (Export columns query number);
 }
 
 abbrev pub rup_command : LineCommand
@@ -117,7 +117,7 @@ rup_command = record {
     query ← query_of line
     number ← number_of_option line number_option
     cert ← value_of_option line cert_option
-    only_if (has_number query number) (Rup columns query number cert);
+    only_if (query_exists query number) (Rup columns query number cert);
 }
 
 abbrev pub drive_command : LineCommand

@@ -1,25 +1,25 @@
--- Which numbers a command may have: those within the limits of its options, and of a query those of queries that there are.
+-- Limits of the numbers of a command: those of its options, and for a query also that it exists.
 use Rattle.std.specs.Prelude.{ℕ, Bool, true, ◌&&◌, nat_le}
-use Rattle.ilk_words.specs.Queries.{has_number}
+use Rattle.ilk_words.specs.Queries.{query_exists}
 use Rattle.ilk_words.specs.declared.command.Command.{Command}
 use Rattle.ilk_words.specs.declared.command.Command.TheVariants.{Verify, Make, Demo, Export, Rup}
 use Rattle.ilk_words.specs.declared.command.QueryKind.{QueryKind}
 use Rattle.ilk_words.specs.declared.limits.TheConstants.{MAX_SEARCH_CONFLICTS, MAX_DEPTH, MAX_NUMBER, MAX_STATIONS}
 
--- the depth and the conflicts of a verdict
+-- Returns whether the depth and the conflicts of a verdict are within their limits.
 abbrev pub has_search_limits : ℕ → ℕ → Bool
 has_search_limits depth conflicts =
     nat_le 1 depth && nat_le depth MAX_DEPTH && nat_le conflicts MAX_SEARCH_CONFLICTS
 
--- the stations of a made line
+-- Returns whether the number of stations of a generated line is within its limits.
 abbrev pub has_station_limits : ℕ → Bool
 has_station_limits stations = nat_le 1 stations && nat_le stations MAX_STATIONS
 
--- the number of a query by itself
+-- Returns whether the number of a single query is within its limits.
 abbrev pub has_query_limits : QueryKind → ℕ → Bool
-has_query_limits query number = nat_le number MAX_NUMBER && has_number query number
+has_query_limits query number = nat_le number MAX_NUMBER && query_exists query number
 
--- whether a command's numbers are those that its options let through
+-- Returns whether a command's numbers are within the limits of its options.
 abbrev pub has_option_limits : Command → Bool
 has_option_limits (Verify columns depth conflicts cert) = has_search_limits depth conflicts
 has_option_limits (Make stations) = has_station_limits stations

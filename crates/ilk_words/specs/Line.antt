@@ -1,20 +1,20 @@
--- The command line as `clap` sees it: one simple command, with the tables of commands and options.
+-- The command line for `clap`: one simple command, with the tables of commands and options.
 use Rattle.std.specs.Prelude.{true, Some, ◌∷◌, codes, map, fold}
 use Rattle.clap.specs.Words.{App, Rule, Text, new_app, new_rule, with_rule}
 use Rattle.clap.specs.declared.builder.ArgAction.TheVariants.{Set}
 use Rattle.clap.specs.declared.builder.value_parser.ValueParser.{ValueParser}
 use Rattle.ilk_words.specs.Commands.{commands}
-use Rattle.ilk_words.specs.Options.{LineOption, one_among, options}
+use Rattle.ilk_words.specs.Options.{LineOption, one_of_texts, options}
 
--- the command's name: the one word that is neither an option nor an option's value
+-- The command's name: the one argument that is neither an option nor an option's value.
 abbrev pub command_rule : Rule
 command_rule = record (new_rule (codes "command")) {
   required = true;
   action = Some Set;
-  parser = Some (one_among (map (λ c. c.name) commands));
+  parser = Some (one_of_texts (map (λ c. c.name) commands));
 }
 
--- an option of this name, which is taken once, with one value of these
+-- An option with this name that occurs at most once and takes one of these values.
 abbrev pub rule_of_option : Text → ValueParser → Rule
 rule_of_option name values = record (new_rule name) {
   long = Some name;
@@ -25,6 +25,6 @@ rule_of_option name values = record (new_rule name) {
 abbrev pub option_rule : LineOption → Rule
 option_rule o = rule_of_option o.name o.values
 
--- the command line, for `clap`
+-- The command line for `clap`.
 unfoldable pub app : App
 app = fold with_rule (new_app (codes "irv")) (command_rule ∷ map option_rule options)

@@ -1,4 +1,4 @@
--- The table of options: what each is called, what its values may be, and its default; and its value on a line.
+-- The table of options: the name of each, its allowed values, its default, and its value on a line.
 use Rattle.std.specs.Prelude.{ℕ, false, Option, Some, None, List, [], ◌∷◌, codes, map}
 use Rattle.std.specs.Borrow.{Bor}
 use Rattle.std.specs.Fmt.{decimal}
@@ -14,33 +14,33 @@ use Rattle.ilk_words.specs.Queries.{all_queries, query_word}
 use Rattle.ilk_words.specs.declared.command.Columns.TheVariants.{Strict}
 use Rattle.ilk_words.specs.declared.limits.TheConstants.{DEFAULT_SEARCH_CONFLICTS, DEFAULT_DEPTH, MAX_SEARCH_CONFLICTS, MAX_DEPTH, MAX_NUMBER, MAX_STATIONS}
 
--- a reference, as `clap` holds texts; where a text lies makes no difference to what `clap` reads
-abbrev pub held : {X : Type 0} → X → Bor X
-held x = record { ref_ptr = (0, 0); now = x }
+-- A reference, as `clap` holds texts. The location of a text in memory doesn't affect parsing.
+abbrev pub as_reference : {X : Type 0} → X → Bor X
+as_reference x = record { ref_ptr = (0, 0); now = x }
 
--- `clap` refuses a value that isn't one of these
-abbrev pub one_among : List Text → ValueParser
-one_among values = parser.Names (held (map held values))
+-- A parser that accepts only these values.
+abbrev pub one_of_texts : List Text → ValueParser
+one_of_texts values = parser.Names (as_reference (map as_reference values))
 
--- `clap` refuses a value that isn't a whole number between these
+-- A parser that accepts only whole numbers between these bounds.
 abbrev pub number_between : ℕ → ℕ → ValueParser
 number_between = parser.Unsigned
 
 abbrev pub any_text : ValueParser
 any_text = parser.String
 
--- an option, which is taken once, with one value
+-- An option, which occurs at most once with one value.
 pub record LineOption : Type 0 where
   pub name : Text
-  -- which values `clap` takes
+  -- The values that `clap` accepts.
   pub values : ValueParser
-  -- the value where it isn't on the line; an option without one is needed
+  -- The value if the option isn't on the line. An option without a default is required.
   pub default : Option Text
 
 abbrev pub columns_option : LineOption
 columns_option = record {
   name = codes "columns";
-  values = one_among (map columns_word all_columns);
+  values = one_of_texts (map columns_word all_columns);
   default = Some (columns_word Strict);
 }
 
@@ -74,7 +74,7 @@ stations_option = record {
 abbrev pub query_option : LineOption
 query_option = record {
   name = codes "query";
-  values = one_among (map query_word all_queries);
+  values = one_of_texts (map query_word all_queries);
   default = None;
 }
 
@@ -84,15 +84,15 @@ number_option = record { name = codes "number"; values = number_between 0 MAX_NU
 abbrev pub options : List LineOption
 options = columns_option ∷ depth_option ∷ conflicts_option ∷ cert_option ∷ run_option ∷ stations_option ∷ query_option ∷ number_option ∷ []
 
--- the value of each argument that is on the line
+-- The value of each argument on the line.
 abbrev pub Line : Type 0
 Line = Text → Option Text
 
--- an option has the value that is on the line, or else its default
+-- The option's value on the line, or its default.
 abbrev pub value_of_option : Line → LineOption → Option Text
 value_of_option line o = option_or (line o.name) o.default
 
--- the number that a value writes, where it is one that `clap` takes
+-- The number of a value, if `clap` accepts the value.
 abbrev pub number_of_value : ValueParser → Text → Option ℕ
 number_of_value values value = only_if (accepts false values value) (digits_value 10 (without_leading_plus value))
 

@@ -1,14 +1,14 @@
--- Cited by private contracts alone: a command line but for where the texts of its possible values lie in memory.
+-- Used only by private contracts: a command line up to the location of its value texts in memory.
 use Rattle.std.specs.Prelude.{List, map, option_map}
 use Rattle.std.specs.Borrow.{Bor}
 use Rattle.clap.specs.Words.{App, Rule, Shape, Text}
 use Rattle.clap.specs.declared.builder.value_parser.ValueParser.{ValueParser}
 use Rattle.clap.specs.declared.builder.value_parser.ValueParser.TheVariants as parser
-use Rattle.ilk_words.specs.Options.{held}
+use Rattle.ilk_words.specs.Options.{as_reference}
 
--- the same parser, with its texts where the definition of the line has them
+-- The same parser, with its texts placed as in the definition of the line.
 abbrev pub with_held_texts : ValueParser → ValueParser
-with_held_texts (parser.Names names) = parser.Names (held (map (λ (s : Bor Text). held s.now) names.now))
+with_held_texts (parser.Names names) = parser.Names (as_reference (map (λ (s : Bor Text). as_reference s.now) names.now))
 with_held_texts p = p
 
 abbrev pub moved_rule : Rule → Rule

@@ -1,4 +1,4 @@
--- The table of what each command reads, asks and writes. Which files its words name stands beside it, in `Files`.
+-- The plans of commands: inputs, checks and outputs. `Files` has the files that they name.
 use Rattle.std.specs.Prelude.{true, false, Some, None}
 use Rattle.ilk_words.specs.declared.command.Command.{Command}
 use Rattle.ilk_words.specs.declared.command.Command.TheVariants.{Check, Verify, Audit, Replay, Make, Demo, Table, Export, Rup, Drive}
@@ -6,7 +6,8 @@ use Rattle.ilk_words.specs.declared.lengths.TheConstants.{MAX_CERTIFICATE, MAX_R
 use Rattle.ilk_words.specs.declared.plan.Plan.{Plan}
 use Rattle.ilk_words.specs.declared.plan.Stages.TheVariants.{All, Network}
 
--- which rules are asked of the configuration, the most bytes that are read besides, and whether a certificate may be written
+-- The rules checked on the configuration, the maximum length of other input, and whether a
+-- certificate may be written.
 abbrev pub plan_of : Command → Plan
 plan_of (Check columns) = record { stages = Some (All columns); extra = None; certifies = false }
 plan_of (Verify columns depth conflicts cert) = record { stages = Some (All columns); extra = None; certifies = true }

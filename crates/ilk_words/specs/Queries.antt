@@ -1,4 +1,5 @@
--- The words of the kinds of queries: one table, by which they are read and which `clap` is given; and for which numbers of events there is a query.
+-- Words for the kinds of queries: one table, used for reading and given to `clap`. Also the event
+-- numbers for which queries exist.
 use Rattle.std.specs.Prelude.{ℕ, Bool, true, Option, List, [], ◌∷◌, codes, nat_le}
 use Rattle.ilk_base.specs.Words.{value_of_word}
 use Rattle.ilk_words.specs.declared.command.QueryKind.{QueryKind}
@@ -12,11 +13,12 @@ query_word Step = codes "step"
 abbrev pub all_queries : List QueryKind
 all_queries = Hazard ∷ Breach ∷ Step ∷ []
 
--- the kind that has a word; none where no kind has it
+-- The kind with a word, or `None` if there is none.
 abbrev pub query_of_word : List ℕ → Option QueryKind
 query_of_word = value_of_word query_word all_queries
 
--- whether there is a query of a kind for runs of this many events; a step has at least one
-abbrev pub has_number : QueryKind → ℕ → Bool
-has_number Step number = nat_le 1 number
-has_number kind number = true
+-- Returns whether a query of this kind exists for runs of this many events; a step has at least
+-- one.
+abbrev pub query_exists : QueryKind → ℕ → Bool
+query_exists Step number = nat_le 1 number
+query_exists kind number = true

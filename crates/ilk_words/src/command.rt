@@ -1,10 +1,10 @@
 ghost use Rattle.std.specs.Prelude.{◌≡◌};
 ghost use Rattle.ilk_words.specs.Columns.{columns_of_word};
-ghost use Rattle.ilk_words.specs.Queries.{has_number, query_of_word};
+ghost use Rattle.ilk_words.specs.Queries.{query_exists, query_of_word};
 
 use ilk_base::{Text, Worded, value_of_word};
 
-/// How strict the checks are: with the rules of the columns of routes, or without them.
+/// The strictness of the checks: with or without the column rules.
 #[derive(Clone, Copy, PartialEq, Eq, Debug)]
 pub enum Columns {
     Strict,
@@ -32,7 +32,7 @@ impl Worded for Columns {
 }
 
 impl Columns {
-    // The value that has this word. None where it is the word of none.
+    // Returns the value with this word. Returns `None` if there is none.
     pub(crate) fn of_word(word: &[u8]) -> Option<Columns>
         ensures { result ≡ columns_of_word word.now }
     {
@@ -40,15 +40,15 @@ impl Columns {
     }
 }
 
-/// What a query asks for a run to.
+/// The kind of run that a query asks for.
 #[derive(Clone, Copy, PartialEq, Eq, Debug)]
 pub enum QueryKind {
     /// From the start to a hazard.
     Hazard,
-    /// From the start to a state that breaks a family of the invariant.
+    /// From the start to a state that violates a family of the invariant.
     Breach,
-    /// From any state, through states that keep all families, to a hazard or to one that breaks a
-    /// family.
+    /// From any state, through states that satisfy all families, to a hazard or to a state that
+    /// violates a family.
     Step,
 }
 
@@ -76,7 +76,7 @@ impl Worded for QueryKind {
 }
 
 impl QueryKind {
-    // The value that has this word. None where it is the word of none.
+    // Returns the value with this word. Returns `None` if there is none.
     pub(crate) fn of_word(word: &[u8]) -> Option<QueryKind>
         ensures { result ≡ query_of_word word.now }
     {
@@ -86,9 +86,9 @@ impl QueryKind {
         )
     }
 
-    // Whether there is a query of this kind for runs of this many events.
+    // Returns whether a query of this kind exists for runs of `number` events.
     pub(crate) fn has_number(self, number: u32) -> bool
-        ensures { result ≡ has_number self number }
+        ensures { result ≡ query_exists self number }
     {
         match self {
             QueryKind::Hazard | QueryKind::Breach => true,
@@ -97,36 +97,36 @@ impl QueryKind {
     }
 }
 
-/// What the program is asked to do.
+/// The command to run.
 #[derive(Drop)]
 pub enum Command {
-    /// Print every rule that the configuration breaks.
+    /// Print every rule that the configuration violates.
     Check {
         columns: Columns,
     },
-    /// Decide whether the plant is safe, by runs of up to `depth` events and searches that take at
-    /// most `conflicts` conflicts together. The certificate goes to the file of the name `cert`.
+    /// Decide whether the plant is safe, by runs of up to `depth` events and searches of at most
+    /// `conflicts` conflicts in total. The certificate is written to the file `cert`.
     Verify {
         columns: Columns,
         depth: u32,
         conflicts: u64,
         cert: Text,
     },
-    /// Check the certificate in the file of the name `cert`.
+    /// Check the certificate in the file `cert`.
     Audit {
         columns: Columns,
         cert: Text,
     },
-    /// Replay the run in the file of the name `run`.
+    /// Replay the run in the file `run`.
     Replay {
         columns: Columns,
         run: Text,
     },
-    /// Print the configuration of a line of so many stations.
+    /// Print the configuration of a line of `stations` stations.
     Make {
         stations: u32,
     },
-    /// Decide whether the plant of a line of so many stations is safe, as `Verify` does.
+    /// Decide whether the plant of a line of `stations` stations is safe, as `Verify` does.
     Demo {
         stations: u32,
         depth: u32,
@@ -143,15 +143,14 @@ pub enum Command {
         query: QueryKind,
         number: u32,
     },
-    /// Check the refutation of that query's formula in the file of the name `cert`, which another
-    /// solver wrote.
+    /// Check another solver's refutation of that query's formula, in the file `cert`.
     Rup {
         columns: Columns,
         query: QueryKind,
         number: u32,
         cert: Text,
     },
-    /// Run the scenario in the file of the name `run` to its rest.
+    /// Run the scenario in the file `run` until it terminates.
     Drive {
         columns: Columns,
         run: Text,

@@ -1,7 +1,7 @@
 ghost use Rattle.std.specs.Prelude.{◌≡◌, IfOk, map, string_bytes};
-ghost use Rattle.ilk_words.specs.Files.{files_named, files_of};
+ghost use Rattle.ilk_words.specs.Files.{files_named, files_of_command};
 
-use crate::{Command, read_words};
+use crate::{Command, parse_arguments};
 use ilk_base::Text;
 use std::alloc::{AllocError, Global};
 
@@ -10,22 +10,22 @@ use std::alloc::{AllocError, Global};
 pub struct FileNames {
     /// The file that the command reads.
     pub extra: Option<Text>,
-    /// The file that the command writes its certificate to.
+    /// The file to which the command writes its certificate.
     pub cert: Option<Text>,
 }
 
-/// The names of the files that the words of the command line name, the program's name first. For audit
-/// and rup, `extra` is the value of `--cert`, and for replay and drive that of `--run`; for verify and
-/// demo, `cert` is the value of `--cert`; otherwise there is none. `None` exactly where `read_words`
-/// gives `None` for these words.
+/// Returns the names of the files in the arguments; the first argument is the program's name. For
+/// audit and rup, `extra` is the value of `--cert`; for replay and drive, it is that of `--run`.
+/// For verify and demo, `cert` is the value of `--cert`. All other fields are `None`. Returns
+/// `None` if and only if `parse_arguments` does.
 pub fn names_of(alloc: Global, words: &Vec<String>) -> Result<Option<FileNames>, AllocError>
     ensures { IfOk result (λ names. names ≡ files_named (map string_bytes words.now.items)) }
 {
-    Ok(read_words(alloc, words)?.map(files_of))
+    Ok(parse_arguments(alloc, words)?.map(files_of))
 }
 
 fn files_of(command: Command) -> FileNames
-    ensures { result ≡ files_of command }
+    ensures { result ≡ files_of_command command }
 {
     match command {
         Command::Verify { cert, .. } | Command::Demo { cert, .. } => FileNames {

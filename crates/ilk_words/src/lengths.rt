@@ -1,17 +1,16 @@
-//! The greatest lengths of what is read. Every definition, contract and body that has one names it
-//! here.
+//! The maximum lengths of inputs. Every definition, contract and body uses these names.
 
-/// The most bytes of a configuration.
+/// The maximum number of bytes of a configuration.
 pub const MAX_CONFIGURATION: u64 = 4194304;
 
-/// The most bytes of a run text.
+/// The maximum number of bytes of a run text.
 pub const MAX_RUN_TEXT: u64 = 1048576;
 
-/// The most bytes of a certificate that is checked.
+/// The maximum number of bytes of a certificate to check.
 pub const MAX_CERTIFICATE: u64 = 1073741824;
 
-/// The most bytes of a refutation that another solver wrote.
+/// The maximum number of bytes of another solver's refutation.
 pub const MAX_REFUTATION: u64 = 67108864;
 
-/// The most bytes of a scenario.
+/// The maximum number of bytes of a scenario.
 pub const MAX_SCENARIO: u64 = 8192;

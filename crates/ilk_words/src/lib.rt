@@ -1,11 +1,12 @@
-//! What the words of the command line mean, read by `clap` as one simple command.
+//! The meaning of the command-line arguments, which `clap` parses as one simple command.
 //!
-//! `read_words` gives the command with its options, or none, which is a usage error; `names_of` gives
-//! the files that a command names, for the caller that opens them; `Command::plan` says what it reads,
-//! asks and writes. `specs/Commands.antt` is the table of commands and `specs/Options.antt` that of
-//! options; `specs/Line.antt` is the line made of them, which the code hands to `clap`;
-//! `specs/Plan.antt` is the table of plans, and `specs/Files.antt` has the files beside it. The limits
-//! of numbers have their names in `limits`, and those of what is read in `lengths`.
+//! `parse_arguments` returns the command with its options, or `None` for a usage error. `names_of`
+//! returns the files that a command names, for the caller that opens them. `Command::plan` returns
+//! what the command reads, checks and writes.
+//!
+//! Definitions in `specs/`: `Commands` has the table of commands, `Options` that of options, and
+//! `Line` the resulting line for `clap`. `Plan` has the table of plans, and `Files` the named
+//! files. `limits` names the limits of numbers, `lengths` those of inputs.
 #![tactic(auto)]
 
 mod command;
@@ -26,4 +27,4 @@ pub use limits::{
     MAX_STATIONS,
 };
 pub use plan::{Plan, Stages, files_are_planned};
-pub use read::read_words;
+pub use read::parse_arguments;

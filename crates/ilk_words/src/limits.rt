@@ -1,20 +1,20 @@
-//! The limits of the numbers on a command line, and what they are where the line doesn't say. Every
-//! definition, contract and body that has one names it here.
+//! The limits and defaults of the numbers on a command line. Every definition, contract and body
+//! uses these names.
 
-/// The most events of the runs that `verify` asks for, which is at least 1.
+/// The maximum number of events of the runs that `verify` asks for; the minimum is 1.
 pub const MAX_DEPTH: u64 = 16;
 
-/// The most events of those runs, where the line doesn't say.
+/// The maximum number of events of the runs that `verify` asks for, if no depth is given.
 pub const DEFAULT_DEPTH: u64 = 4;
 
-/// The most conflicts that the searches of `verify` may be let take together.
+/// The maximum conflict budget of all searches of `verify` together.
 pub const MAX_SEARCH_CONFLICTS: u64 = 200000;
 
-/// The most that they take, where the line doesn't say.
+/// The conflict budget of all searches of `verify` together, if none is given.
 pub const DEFAULT_SEARCH_CONFLICTS: u64 = 100000;
 
-/// The most stations of a made line, which has at least 1.
+/// The maximum number of stations of a generated line; the minimum is 1.
 pub const MAX_STATIONS: u64 = 16;
 
-/// The most events of the runs that a query by itself asks for.
+/// The maximum number of events of the runs of a single query.
 pub const MAX_NUMBER: u64 = 16;

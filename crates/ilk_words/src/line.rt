@@ -1,5 +1,5 @@
-//! The command line as `clap` reads it. The names of commands and options stand here once; a
-//! further option is its name, a place in `OPTIONS`, and one `arg` of `line_command`.
+//! The command line for `clap`. Names of commands and options occur only here. A new option needs a
+//! name, an entry in `OPTIONS`, and one `arg` in `line_command`.
 ghost use Rattle.std.specs.Prelude.{◌≡◌, IfOk, false};
 ghost use Rattle.clap.specs.Words.{app_of, rule_of};
 ghost use Rattle.ilk_words.specs.Line.{app, command_rule, rule_of_option};
@@ -52,12 +52,11 @@ pub(crate) const QUERY: &str = "query";
 
 pub(crate) const NUMBER: &str = "number";
 
-// Every option.
 pub(crate) static OPTIONS: [&str; 8] = [
     COLUMNS, DEPTH, CONFLICTS, CERT, RUN, STATIONS, QUERY, NUMBER,
 ];
 
-// The whole line, whose texts lie where they may.
+// Creates the whole command line; its texts may be anywhere in memory.
 pub(crate) fn line_command<'a>(alloc: Global) -> Result<clap::Command<'a>, AllocError>
     ensures { IfOk result (λ c. moved_app (app_of c) ≡ app) }
 {
@@ -87,7 +86,7 @@ fn command_argument<'a>(alloc: Global) -> Arg<'a>
         .value_parser(COMMANDS.as_slice())
 }
 
-// An option of this name, which is taken once, with one value of these.
+// Creates an option with this name that occurs at most once and takes one of these values.
 fn option_argument<'a>(alloc: Global, name: &'a str, values: ValueParser<'a>) -> Arg<'a>
     ensures rule { moved_rule (rule_of result)
         ≡ rule_of_option name.entry.now (with_held_texts values.entry) }

@@ -1,4 +1,4 @@
-//! What a line has of each option, and whether it has others than a command's own.
+//! The values of options on a line, and the check for options of other commands.
 ghost use Rattle.std.specs.Prelude.{◌≡◌, ◌||◌, is_none};
 ghost use Rattle.clap.specs.Words.{first_value, found_of};
 ghost use Rattle.std.specs.List.{list_all, list_any};
@@ -6,7 +6,7 @@ ghost use Rattle.std.specs.Str.{bytes_eq};
 ghost use Rattle.ilk_words.specs.Commands.{columns_of, query_of};
 ghost use Rattle.ilk_words.specs.Options.{conflicts_option, depth_option, number_of_option};
 ghost use Rattle.ilk_words.specs.Options.{number_option, stations_option};
-ghost use Rattle.ilk_words.specs.Words.{has_only};
+ghost use Rattle.ilk_words.specs.Words.{has_only_own_options};
 
 use crate::line::{COLUMNS, CONFLICTS, DEPTH, NUMBER, OPTIONS, QUERY, STATIONS};
 use crate::number::number_between;
@@ -17,16 +17,15 @@ use crate::{
 use clap::ArgMatches;
 use ilk_base::Worded;
 
-/// Whether no option is on the line but these.
+/// Returns whether only options in `own` are on the line.
 pub(crate) fn has_only(matches: &ArgMatches<'_>, own: &[&str]) -> bool
     ensures { result
-        ≡ has_only (first_value (found_of matches.now))
+        ≡ has_only_own_options (first_value (found_of matches.now))
         (λ name. list_any (λ o. bytes_eq name o.now) own.now) }
 {
     each_allowed(matches, OPTIONS.as_slice(), own)
 }
 
-// Whether each of these options isn't on the line, or is one of a command's own.
 fn each_allowed(matches: &ArgMatches<'_>, options: &[&str], own: &[&str]) -> bool
     ensures { result
         ≡ list_all
@@ -38,7 +37,6 @@ fn each_allowed(matches: &ArgMatches<'_>, options: &[&str], own: &[&str]) -> boo
         .all(|option| is_allowed(matches, own, option))
 }
 
-// Whether an option isn't on the line, or is one of these.
 fn is_allowed(matches: &ArgMatches<'_>, own: &[&str], option: &str) -> bool
     ensures { result
         ≡
@@ -48,14 +46,13 @@ fn is_allowed(matches: &ArgMatches<'_>, own: &[&str], option: &str) -> bool
     matches.get_str(option).is_none() || is_among(own, option)
 }
 
-// Whether an option is one of these.
 fn is_among(own: &[&str], option: &str) -> bool
     ensures { result ≡ list_any (λ o. bytes_eq option.now o.now) own.now }
 {
     own.iter().any(|name| option == *name)
 }
 
-/// How strict the checks are to be: strict, where the line doesn't say.
+/// Returns the strictness of the checks; strict by default.
 pub(crate) fn columns(matches: &ArgMatches<'_>) -> Option<Columns>
     ensures { result ≡ columns_of (first_value (found_of matches.now)) }
 {
@@ -63,7 +60,7 @@ pub(crate) fn columns(matches: &ArgMatches<'_>) -> Option<Columns>
     Columns::of_word(word.as_bytes())
 }
 
-/// The most events of the runs that are asked for: the default, where the line doesn't say.
+/// Returns the maximum number of events of the runs, or its default.
 pub(crate) fn depth(matches: &ArgMatches<'_>) -> Option<u32>
     ensures { result ≡ number_of_option (first_value (found_of matches.now)) depth_option }
 {
@@ -73,7 +70,7 @@ pub(crate) fn depth(matches: &ArgMatches<'_>) -> Option<u32>
     }
 }
 
-/// The most conflicts of the searches: the default, where the line doesn't say.
+/// Returns the conflict budget of the searches, or its default.
 pub(crate) fn conflicts(matches: &ArgMatches<'_>) -> Option<u64>
     ensures { result ≡ number_of_option (first_value (found_of matches.now)) conflicts_option }
 {
@@ -83,7 +80,7 @@ pub(crate) fn conflicts(matches: &ArgMatches<'_>) -> Option<u64>
     }
 }
 
-/// How many stations are made. None where the line doesn't say.
+/// Returns the number of stations. Returns `None` if it isn't on the line.
 pub(crate) fn stations(matches: &ArgMatches<'_>) -> Option<u32>
     ensures { result ≡ number_of_option (first_value (found_of matches.now)) stations_option }
 {
@@ -91,14 +88,14 @@ pub(crate) fn stations(matches: &ArgMatches<'_>) -> Option<u32>
     Some(stations as u32)
 }
 
-/// The kind of the query. None where the line doesn't say.
+/// Returns the kind of the query. Returns `None` if it isn't on the line.
 pub(crate) fn query(matches: &ArgMatches<'_>) -> Option<QueryKind>
     ensures { result ≡ query_of (first_value (found_of matches.now)) }
 {
     QueryKind::of_word(matches.get_str(QUERY)?.as_bytes())
 }
 
-/// The number of the query. None where the line doesn't say.
+/// Returns the number of the query. Returns `None` if it isn't on the line.
 pub(crate) fn number(matches: &ArgMatches<'_>) -> Option<u32>
     ensures { result ≡ number_of_option (first_value (found_of matches.now)) number_option }
 {

@@ -1,35 +1,36 @@
-//! What each command reads, asks and writes: the code of the one table of this, `specs/Plan.antt`.
+//! The plan of each command: its inputs, checks and outputs. The table is in `specs/Plan.antt`.
 ghost use Rattle.std.specs.Prelude.{◌≡◌, ◌^◌, ◌<◌, IfSome, None, Some, false, is_some};
-ghost use Rattle.ilk_words.specs.Files.{files_of};
+ghost use Rattle.ilk_words.specs.Files.{files_of_command};
 ghost use Rattle.ilk_words.specs.Plan.{plan_of};
 
 use crate::{Columns, Command, MAX_CERTIFICATE, MAX_REFUTATION, MAX_RUN_TEXT, MAX_SCENARIO};
 
-/// Which rules are asked of a configuration, in their stages.
+/// The stages of rules checked on a configuration.
 #[derive(Clone, Copy, PartialEq, Eq, Debug)]
 pub enum Stages {
-    /// All: those of the form, of the network, of the table of routes, and of its columns where these
-    /// are strict.
+    /// All rules: those of the form, the network, the interlocking table and, if strict, its
+    /// columns.
     All(Columns),
-    /// Those of the form and of the network, and where the columns are strict the one of these that
-    /// asks the network alone: that each border has its board. Routes are asked for their form, and
-    /// passed over otherwise.
+    /// The rules of the form and of the network. If the columns are strict, also the one column
+    /// rule about the network alone: each border has its board. Routes are only checked for their
+    /// form.
     Network(Columns),
 }
 
-/// What a command reads, asks and writes.
+/// The inputs, checks and outputs of a command.
 #[derive(Clone, Copy, PartialEq, Eq, Debug)]
 pub struct Plan {
-    /// Which rules are asked of the configuration; none where no configuration is read.
+    /// The rules checked on the configuration, or `None` if no configuration is read.
     pub stages: Option<Stages>,
-    /// The most bytes of what is read besides the configuration; none where nothing is.
+    /// The maximum number of bytes of the input besides the configuration, or `None` if there is no
+    /// such input.
     pub extra: Option<u64>,
-    /// Whether a certificate may be written.
+    /// Set if a certificate may be written.
     pub certifies: bool,
 }
 
 impl Plan {
-    // A plan that reads nothing.
+    // Creates a plan that reads nothing.
     fn alone(certifies: bool) -> Plan
         ensures { result ≡ record { stages = None; extra = None; certifies = certifies } }
     {
@@ -40,7 +41,7 @@ impl Plan {
         }
     }
 
-    // A plan that asks a configuration these stages, and reads and certifies nothing besides.
+    // Creates a plan that checks a configuration by `stages`, without other input or certificate.
     fn over(stages: Stages) -> Plan
         ensures { result ≡ record { stages = Some stages; extra = None; certifies = false } }
     {
@@ -51,7 +52,7 @@ impl Plan {
         }
     }
 
-    // A plan that asks all stages, and reads so many bytes besides at most.
+    // Creates a plan with all stages and other input of at most `limit` bytes.
     fn beside(columns: Columns, limit: u64) -> Plan
         ensures { result
             ≡ record { stages = Some (Stages.All columns); extra = Some limit; certifies = false } }
@@ -64,8 +65,8 @@ impl Plan {
 }
 
 impl Command {
-    /// What the command reads, asks and writes. What it reads besides the configuration is shorter
-    /// than 2^40 bytes.
+    /// Returns the plan of the command. Its input besides the configuration is shorter than 2^40
+    /// bytes.
     pub fn plan(&self) -> Plan
         ensures plan { result ≡ plan_of self.now }
         ensures limit { IfSome result.extra (λ limit. limit < 2 ^ 40) }
@@ -89,10 +90,13 @@ impl Command {
     }
 }
 
-/// A command names a file exactly where its plan reads or writes one. Does nothing, and tells a proof.
+/// A command names a file if and only if its plan reads or writes one. Proof only; no run-time
+/// effect.
 pub fn files_are_planned(command: &Command)
-    ensures read { is_some (files_of command.now).extra ≡ is_some (plan_of command.now).extra }
-    ensures written { is_some (files_of command.now).cert ≡ (plan_of command.now).certifies }
+    ensures read { is_some (files_of_command command.now).extra
+        ≡ is_some (plan_of command.now).extra }
+    ensures written { is_some (files_of_command command.now).cert
+        ≡ (plan_of command.now).certifies }
 {
     let _ = command;
 }

@@ -1,12 +1,12 @@
-//! What a line means: `chosen` finds the command by its name, and each command has a function that
-//! takes what the line has of its options (`options`).
+//! The meaning of a line: `chosen` finds the command by its name. One function for each command
+//! reads its options (`options`).
 ghost use Rattle.std.specs.Prelude.{◌≡◌, IfOk, IfSome, IsTrue, map, string_bytes};
 ghost use Rattle.clap.specs.Words.{first_value, found_of};
 ghost use Rattle.ilk_words.specs.Commands.{audit_command, check_command, demo_command, drive_command};
 ghost use Rattle.ilk_words.specs.Commands.{export_command, make_command, replay_command, rup_command};
 ghost use Rattle.ilk_words.specs.Commands.{table_command, verify_command};
 ghost use Rattle.ilk_words.specs.Limits.{has_option_limits};
-ghost use Rattle.ilk_words.specs.Words.{command_of, command_on, on_line};
+ghost use Rattle.ilk_words.specs.Words.{parsed_command, command_on_line, command_if_allowed};
 
 use crate::Command;
 use crate::line::{
@@ -19,11 +19,14 @@ use clap::error::ErrorKind;
 use ilk_base::Text;
 use std::alloc::{AllocError, Global};
 
-/// What the words of the command line ask for, the program's name first. `None` where `clap`
-/// refuses them (a request for help is such a refusal), an option isn't the command's, a needed
-/// one is missing, or there is no such query. The numbers of a command are within their limits.
-pub fn read_words(alloc: Global, words: &Vec<String>) -> Result<Option<Command>, AllocError>
-    ensures command { IfOk result (λ c. c ≡ command_of (map string_bytes words.now.items)) }
+/// Returns the command in the arguments; the first argument is the program's name. Its numbers are
+/// within their limits. Returns `None` if:
+///
+/// - `clap` rejects the arguments; a request for help counts as one such case.
+/// - An option belongs to another command, or a required one is missing.
+/// - No such query exists.
+pub fn parse_arguments(alloc: Global, words: &Vec<String>) -> Result<Option<Command>, AllocError>
+    ensures command { IfOk result (λ c. c ≡ parsed_command (map string_bytes words.now.items)) }
     ensures options { IfOk result (λ c. IfSome c (λ command. IsTrue (has_option_limits command))) }
 {
     match line_command(alloc)?.try_get_matches_from(words.as_slice()) {
@@ -35,9 +38,9 @@ pub fn read_words(alloc: Global, words: &Vec<String>) -> Result<Option<Command>,
     }
 }
 
-// The command that the matches give.
+// Returns the command that the matches name.
 fn chosen(alloc: Global, matches: &ArgMatches<'_>) -> Result<Option<Command>, AllocError>
-    ensures { IfOk result (λ c. c ≡ command_on (first_value (found_of matches.now))) }
+    ensures { IfOk result (λ c. c ≡ command_on_line (first_value (found_of matches.now))) }
 {
     match matches.get_str("command") {
         Some(CHECK) => Ok(check(matches)),
@@ -54,9 +57,10 @@ fn chosen(alloc: Global, matches: &ArgMatches<'_>) -> Result<Option<Command>, Al
     }
 }
 
-// Check, where no other option than its own is on the line.
+// Returns the command if the line has its required options and no others, as do the functions
+// below. For export and rup, the query must exist too.
 fn check(matches: &ArgMatches<'_>) -> Option<Command>
-    ensures { result ≡ on_line (first_value (found_of matches.now)) check_command }
+    ensures { result ≡ command_if_allowed (first_value (found_of matches.now)) check_command }
 {
     if !has_only(matches, &[COLUMNS]) {
         return None;
@@ -65,9 +69,9 @@ fn check(matches: &ArgMatches<'_>) -> Option<Command>
     Some(Command::Check { columns })
 }
 
-// Verify, where its options are on the line and no other is.
 fn verify(alloc: Global, matches: &ArgMatches<'_>) -> Result<Option<Command>, AllocError>
-    ensures { IfOk result (λ c. c ≡ on_line (first_value (found_of matches.now)) verify_command) }
+    ensures { IfOk result (λ c. c ≡ command_if_allowed (first_value (found_of matches.now))
+        verify_command) }
 {
     if !has_only(matches, &[COLUMNS, DEPTH, CONFLICTS, CERT]) {
         return Ok(None);
@@ -89,9 +93,9 @@ fn verify(alloc: Global, matches: &ArgMatches<'_>) -> Result<Option<Command>, Al
     }))
 }
 
-// Audit, where its options are on the line and no other is.
 fn audit(alloc: Global, matches: &ArgMatches<'_>) -> Result<Option<Command>, AllocError>
-    ensures { IfOk result (λ c. c ≡ on_line (first_value (found_of matches.now)) audit_command) }
+    ensures { IfOk result (λ c. c ≡ command_if_allowed (first_value (found_of matches.now))
+        audit_command) }
 {
     if !has_only(matches, &[COLUMNS, CERT]) {
         return Ok(None);
@@ -103,9 +107,9 @@ fn audit(alloc: Global, matches: &ArgMatches<'_>) -> Result<Option<Command>, All
     Ok(Some(Command::Audit { columns, cert }))
 }
 
-// Replay, where its options are on the line and no other is.
 fn replay(alloc: Global, matches: &ArgMatches<'_>) -> Result<Option<Command>, AllocError>
-    ensures { IfOk result (λ c. c ≡ on_line (first_value (found_of matches.now)) replay_command) }
+    ensures { IfOk result (λ c. c ≡ command_if_allowed (first_value (found_of matches.now))
+        replay_command) }
 {
     if !has_only(matches, &[COLUMNS, RUN]) {
         return Ok(None);
@@ -117,9 +121,8 @@ fn replay(alloc: Global, matches: &ArgMatches<'_>) -> Result<Option<Command>, Al
     Ok(Some(Command::Replay { columns, run }))
 }
 
-// Make, where its option is on the line and no other is.
 fn make(matches: &ArgMatches<'_>) -> Option<Command>
-    ensures { result ≡ on_line (first_value (found_of matches.now)) make_command }
+    ensures { result ≡ command_if_allowed (first_value (found_of matches.now)) make_command }
 {
     if !has_only(matches, &[STATIONS]) {
         return None;
@@ -128,9 +131,9 @@ fn make(matches: &ArgMatches<'_>) -> Option<Command>
     Some(Command::Make { stations })
 }
 
-// Demo, where its options are on the line and no other is.
 fn demo(alloc: Global, matches: &ArgMatches<'_>) -> Result<Option<Command>, AllocError>
-    ensures { IfOk result (λ c. c ≡ on_line (first_value (found_of matches.now)) demo_command) }
+    ensures { IfOk result (λ c. c ≡ command_if_allowed (first_value (found_of matches.now))
+        demo_command) }
 {
     if !has_only(matches, &[STATIONS, DEPTH, CONFLICTS, CERT]) {
         return Ok(None);
@@ -152,9 +155,8 @@ fn demo(alloc: Global, matches: &ArgMatches<'_>) -> Result<Option<Command>, Allo
     }))
 }
 
-// Table, where no other option than its own is on the line.
 fn table(matches: &ArgMatches<'_>) -> Option<Command>
-    ensures { result ≡ on_line (first_value (found_of matches.now)) table_command }
+    ensures { result ≡ command_if_allowed (first_value (found_of matches.now)) table_command }
 {
     if !has_only(matches, &[COLUMNS]) {
         return None;
@@ -163,9 +165,8 @@ fn table(matches: &ArgMatches<'_>) -> Option<Command>
     Some(Command::Table { columns })
 }
 
-// Export, where its options are on the line, no other is, and there is such a query.
 fn export(matches: &ArgMatches<'_>) -> Option<Command>
-    ensures { result ≡ on_line (first_value (found_of matches.now)) export_command }
+    ensures { result ≡ command_if_allowed (first_value (found_of matches.now)) export_command }
 {
     if !has_only(matches, &[COLUMNS, QUERY, NUMBER]) {
         return None;
@@ -183,9 +184,9 @@ fn export(matches: &ArgMatches<'_>) -> Option<Command>
     })
 }
 
-// Rup, where its options are on the line, no other is, and there is such a query.
 fn rup(alloc: Global, matches: &ArgMatches<'_>) -> Result<Option<Command>, AllocError>
-    ensures { IfOk result (λ c. c ≡ on_line (first_value (found_of matches.now)) rup_command) }
+    ensures { IfOk result (λ c. c ≡ command_if_allowed (first_value (found_of matches.now))
+        rup_command) }
 {
     if !has_only(matches, &[COLUMNS, QUERY, NUMBER, CERT]) {
         return Ok(None);
@@ -210,9 +211,9 @@ fn rup(alloc: Global, matches: &ArgMatches<'_>) -> Result<Option<Command>, Alloc
     }))
 }
 
-// Drive, where its options are on the line and no other is.
 fn drive(alloc: Global, matches: &ArgMatches<'_>) -> Result<Option<Command>, AllocError>
-    ensures { IfOk result (λ c. c ≡ on_line (first_value (found_of matches.now)) drive_command) }
+    ensures { IfOk result (λ c. c ≡ command_if_allowed (first_value (found_of matches.now))
+        drive_command) }
 {
     if !has_only(matches, &[COLUMNS, RUN]) {
         return Ok(None);

@@ -1,8 +1,8 @@
--- What the status of a call of `run` is, as far as it is told without what standard input and files have.
+-- The status of a call of `run`, as far as it is known without standard input and files.
 use Rattle.std.proofs.Common.{◌≡◌, ℕ, Option, Some, None, List, [], option_map, refl, subst, sym}
-use Rattle.ilk_words.specs.Files.{files_named, files_of}
+use Rattle.ilk_words.specs.Files.{files_named, files_of_command}
 use Rattle.ilk_words.specs.Plan.{plan_of}
-use Rattle.ilk_words.specs.Words.{command_of}
+use Rattle.ilk_words.specs.Words.{parsed_command}
 use Rattle.ilk_words.specs.declared.command.Command.{Command}
 use Rattle.ilk_words.specs.declared.plan.Stages.{Stages}
 use Rattle.ilk_answers.specs.Answer.{AnswersConf, IsAnswerTo}
@@ -10,10 +10,9 @@ use Rattle.ilk_answers.specs.Report.{reply}
 use Rattle.ilk_answers.specs.declared.reply.Reply.{Reply}
 use Rattle.ilk_answers.specs.declared.status.Status.{Status}
 use Rattle.ilk_answers.specs.declared.status.Status.TheVariants.{Usage}
-use Rattle.ilk_top.specs.Outside.{Tells}
+use Rattle.ilk_top.specs.Outside.{WritesAnswer}
 use Rattle.irv.specs.Edge.{IsAnswered}
 
--- an answer to a configuration that isn't told is one whatever is told of what is read besides
 answer-untold : (asked : Option Command) (extra : Option (List ℕ)) (made : Reply) → IsAnswerTo asked None extra made → IsAnswerTo asked None None made
 answer-untold None extra made is = is
 answer-untold (Some command) extra made is = of_stages (plan_of command).stages is
@@ -22,28 +21,24 @@ answer-untold (Some command) extra made is = of_stages (plan_of command).stages 
     of_stages None h = h
     of_stages (Some stages) h = tt
 
--- what `run` tells of a whole answer is kept
 pub answered :
     {L O : Type 0} (cert_written : L → Option (List ℕ)) (cert_faults : L → ℕ)
     (out_written : O → Option (List ℕ)) (out_faults : O → ℕ) (asked : Option Command)
     (extra : Option (List ℕ)) (status : Status) (cert_old cert_new : L) (out_old out_new : O) →
-    Tells (IsAnswerTo asked None extra) cert_written cert_faults out_written out_faults status cert_old cert_new out_old out_new →
+    WritesAnswer (IsAnswerTo asked None extra) cert_written cert_faults out_written out_faults status cert_old cert_new out_old out_new →
     IsAnswered asked (cert_written cert_old) (cert_written cert_new) status
 answered cert_written cert_faults out_written out_faults asked extra status cert_old cert_new out_old out_new told is =
     let t = told.whole is in (t.0, answer-untold asked extra t.0 t.1, t.2, t.3.certificate)
 
--- so it is where the sink of the certificate isn't told
 pub answered-untold : (asked : Option Command) (old new : Option (List ℕ)) (status : Status) → IsAnswered asked old new status → IsAnswered asked None None status
 answered-untold asked old new status answer is = let t = answer is in (t.0, t.1, t.2, refl)
 
--- words that give no command are answered with a usage error
 pub answered-usage : (asked : Option Command) → asked ≡ None → IsAnswered asked None None Usage
 answered-usage asked none = subst (λ a. IsAnswered a None None Usage) (sym none) (λ is. (reply Usage [], refl, refl, refl))
 
--- words that name no files give no command
-pub none-named : (words : List (List ℕ)) → None ≡ files_named words → command_of words ≡ None
-none-named words e = of_command (command_of words) e
+pub none-named : (words : List (List ℕ)) → None ≡ files_named words → parsed_command words ≡ None
+none-named words e = of_command (parsed_command words) e
   where
-    of_command : (asked : Option Command) → None ≡ option_map files_of asked → asked ≡ None
+    of_command : (asked : Option Command) → None ≡ option_map files_of_command asked → asked ≡ None
     of_command None h = refl
     of_command (Some command) h = absurd (cc)

@@ -1,5 +1,5 @@
--- What the program adds to the answer of `run`: how it ends if its words can't be read, and what standard error has; and what
--- it keeps of that answer.
+-- The program's additions to the answer of `run`: the status for unreadable arguments, and standard
+-- error. Also the part of that answer which it keeps.
 use Rattle.std.specs.Prelude.{ℕ, ◌≡◌, IsTrue, Option, Some, None, List, codes}
 use Rattle.std.specs.declared.io.ErrorKind.{ErrorKind}
 use Rattle.std.specs.declared.io.ErrorKind.TheVariants.{OutOfMemory as NoMemory}
@@ -11,12 +11,13 @@ use Rattle.ilk_answers.specs.declared.reply.Reply.{Reply}
 use Rattle.ilk_answers.specs.declared.status.Status.{Status}
 use Rattle.ilk_answers.specs.declared.status.Status.TheVariants.{Usage, ReadFault, WriteFault, OutOfMemory}
 
--- where the words can't be read for another cause than memory, one isn't UTF-8, and is no right word
-abbrev pub unread_words : ErrorKind → Status
-unread_words NoMemory = OutOfMemory
-unread_words _ = Usage
+-- The status for unreadable arguments. Unless memory ran out, one isn't UTF-8, which is a usage
+-- error.
+abbrev pub unreadable_status : ErrorKind → Status
+unreadable_status NoMemory = OutOfMemory
+unreadable_status _ = Usage
 
--- the line on standard error, for a status that has one
+-- The line on standard error, or `None` if the status has none.
 abbrev pub complaint : Status → Option (List ℕ)
 complaint Usage = Some (codes "irv: usage")
 complaint ReadFault = Some (codes "irv: read fault")
@@ -24,8 +25,9 @@ complaint WriteFault = Some (codes "irv: write fault")
 complaint OutOfMemory = Some (codes "irv: out of memory")
 complaint _ = None
 
--- a status that tells no fault is that of an answer to words that give this command, or none, as far as that is told without
--- what standard input and files have; the sink of the certificate, where it tells what was written, gained the answer's
+-- Holds if a status without a fault is that of an answer to these arguments, as far as that is
+-- known without standard input and files. The certificate's sink, if it exposes what was written,
+-- gained that of the answer.
 abbrev pub IsAnswered : Option Command → Option (List ℕ) → Option (List ℕ) → Status → Type 0
 IsAnswered asked cert_old cert_new status =
     IsTrue (is_answer status) → (made : Reply) × IsAnswerTo asked None None made × (status ≡ made.status) × Adds cert_old cert_new made.certificate

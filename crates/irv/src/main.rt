@@ -1,16 +1,16 @@
-//! `irv`: checks a configuration of an interlocking, decides whether it is safe and checks the certificate of that,
-//! replays runs and drives scenarios over it, makes the table of its routes, writes its formulas for other solvers
-//! and checks their refutations, and makes configurations for trials.
+//! `irv` checks the configuration of an interlocking, decides whether it is safe, and checks
+//! certificates. It replays runs, drives scenarios, makes the table of routes, writes formulas for
+//! other solvers and checks their refutations, and generates configurations for tests.
 #![tactic(auto)]
 
 ghost use Rattle.std.specs.Prelude.{◌≡◌, ◌≢◌, ◌↔◌, IsTrue, None, false, map, string_bytes};
 ghost use Rattle.std.specs.IoError.{error_kind};
 ghost use Rattle.std.specs.Option.{option_copied};
-ghost use Rattle.ilk_answers.specs.Answer.{plan_asked};
-ghost use Rattle.ilk_answers.specs.Status.{came_to_writing};
-ghost use Rattle.ilk_top.specs.Outside.{RisesOnlyAt};
-ghost use Rattle.ilk_words.specs.Words.{command_of};
-ghost use Rattle.irv.specs.Edge.{IsAnswered, complaint, unread_words};
+ghost use Rattle.ilk_answers.specs.Answer.{plan_if_asked};
+ghost use Rattle.ilk_answers.specs.Status.{reached_writing};
+ghost use Rattle.ilk_top.specs.Outside.{FaultsRiseOnlyWith};
+ghost use Rattle.ilk_words.specs.Words.{parsed_command};
+ghost use Rattle.irv.specs.Edge.{IsAnswered, complaint, unreadable_status};
 
 use ilk_io::{FileSink, FileSource, MemSink, Sink, StdSink, StdSource, SteadySink, SteadySource};
 use ilk_plant::Text;
@@ -21,12 +21,12 @@ use std::os::fd::AsRawFd;
 use std::process::ExitCode;
 use std::{env, io};
 
-// The descriptors of the standard streams are those from 0 to LAST_STREAM: input, output and error.
+// The descriptors of the standard streams are 0 to `LAST_STREAM`: input, output and error.
 const OUTPUT: i32 = 1;
 
 const LAST_STREAM: i32 = 2;
 
-// The words of the command line, the program's name first.
+// Returns the command-line arguments, the program's name first.
 fn words(rt: &HostRuntime) -> Result<Vec<String>, Status> {
     let words = match env::args(rt) {
         Ok(words) => words,
@@ -37,9 +37,9 @@ fn words(rt: &HostRuntime) -> Result<Vec<String>, Status> {
         .map_err(|_error: AllocError| Status::OutOfMemory)
 }
 
-// How the program ends where its words can't be read: a word that isn't UTF-8 is no right word.
+// Returns the status if the arguments can't be read: an argument that isn't UTF-8 is a usage error.
 fn status_of(error: &io::Error) -> Status
-    ensures { result ≡ unread_words (error_kind error.now) }
+    ensures { result ≡ unreadable_status (error_kind error.now) }
 {
     match error.kind() {
         io::ErrorKind::OutOfMemory => Status::OutOfMemory,
@@ -47,22 +47,23 @@ fn status_of(error: &io::Error) -> Status
     }
 }
 
-// Runs over standard input and output, the sink of the certificate, and the file of this name, if
-// there is one. What `run` ensures of its status and of the sink is ensured here too.
+// Runs over standard input and output, `cert`, and the file named `extra`, if any. Ensures for its
+// status and `cert` what `run` does.
 fn run_over<L: Sink>(
     rt: &HostRuntime,
     words: &Vec<String>,
     extra: Option<Text>,
     cert: &mut L,
 ) -> Status
-    ensures usage { let asked = command_of (map string_bytes words.now.items) in
+    ensures usage { let asked = parsed_command (map string_bytes words.now.items) in
         result ≢ Status.OutOfMemory → (result ≡ Status.Usage) ↔ (asked ≡ None) }
-    ensures answer { let asked = command_of (map string_bytes words.now.items) in
+    ensures answer { let asked = parsed_command (map string_bytes words.now.items) in
         IsAnswered asked (L.written cert.old) (L.written cert.new) result }
-    ensures cert_faults { RisesOnlyAt (result ≡ Status.WriteFault) (L.faults cert.old)
+    ensures cert_faults { FaultsRiseOnlyWith (result ≡ Status.WriteFault) (L.faults cert.old)
         (L.faults cert.new) }
-    ensures unwritten { came_to_writing result ≡ false → cert.new ≡ cert.old }
-    ensures uncertified { let plan = plan_asked (command_of (map string_bytes words.now.items)) in
+    ensures unwritten { reached_writing result ≡ false → cert.new ≡ cert.old }
+    ensures uncertified { let plan = plan_if_asked
+        (parsed_command (map string_bytes words.now.items)) in
         plan.certifies ≡ false → cert.new ≡ cert.old }
 {
     let alloc: Global = rt.alloc();
@@ -80,11 +81,11 @@ fn run_over<L: Sink>(
     }
 }
 
-// Runs over a sink of the certificate that takes no byte: each write to it is a write fault.
+// Runs with a certificate sink that takes no byte: each write to it is a write fault.
 fn run_without_certificate(rt: &HostRuntime, words: &Vec<String>, extra: Option<Text>) -> Status
-    ensures usage { let asked = command_of (map string_bytes words.now.items) in
+    ensures usage { let asked = parsed_command (map string_bytes words.now.items) in
         result ≢ Status.OutOfMemory → (result ≡ Status.Usage) ↔ (asked ≡ None) }
-    ensures answer { let asked = command_of (map string_bytes words.now.items) in
+    ensures answer { let asked = parsed_command (map string_bytes words.now.items) in
         IsAnswered asked None None result }
 {
     let alloc: Global = rt.alloc();
@@ -94,16 +95,16 @@ fn run_without_certificate(rt: &HostRuntime, words: &Vec<String>, extra: Option<
     }
 }
 
-// Runs over the files of these names. That of the certificate is made or emptied if there is
-// something to write to it, and not before.
+// Runs over the files of these names. The certificate's file is created or emptied only when there
+// is something to write to it.
 //
-// A file takes the least descriptor that is free. So the standard streams that are closed are held
-// until the end. If standard output or standard error is closed and can't be held, no certificate
-// is written: its file would take the stream's place.
+// A file takes the least free descriptor, so closed standard streams are held until the end. If
+// standard output or standard error is closed and can't be held, no certificate is written: its
+// file would take the stream's place.
 fn run_with(rt: &HostRuntime, words: &Vec<String>, names: FileNames) -> Status
-    ensures usage { let asked = command_of (map string_bytes words.now.items) in
+    ensures usage { let asked = parsed_command (map string_bytes words.now.items) in
         result ≢ Status.OutOfMemory → (result ≡ Status.Usage) ↔ (asked ≡ None) }
-    ensures answer { let asked = command_of (map string_bytes words.now.items) in
+    ensures answer { let asked = parsed_command (map string_bytes words.now.items) in
         IsAnswered asked None None result }
 {
     let FileNames { extra, cert } = names;
@@ -118,11 +119,11 @@ fn run_with(rt: &HostRuntime, words: &Vec<String>, names: FileNames) -> Status
     }
 }
 
-// How the program ends for these words.
+// Returns the status for these arguments.
 fn status_for(rt: &HostRuntime, words: &Vec<String>) -> Status
-    ensures usage { let asked = command_of (map string_bytes words.now.items) in
+    ensures usage { let asked = parsed_command (map string_bytes words.now.items) in
         result ≢ Status.OutOfMemory → (result ≡ Status.Usage) ↔ (asked ≡ None) }
-    ensures answer { let asked = command_of (map string_bytes words.now.items) in
+    ensures answer { let asked = parsed_command (map string_bytes words.now.items) in
         IsAnswered asked None None result }
 {
     match names_of(rt.alloc(), words) {
@@ -132,7 +133,7 @@ fn status_for(rt: &HostRuntime, words: &Vec<String>) -> Status
     }
 }
 
-// The line on standard error, for a status that has one.
+// Returns the line on standard error, for a status that has one.
 fn complaint(status: Status) -> Option<&'static str>
     ensures { option_copied result ≡ complaint status }
 {
@@ -153,8 +154,8 @@ fn directory(rt: &HostRuntime) -> Option<File> {
     }
 }
 
-// Holds the least standard stream that is closed, if there is one and a directory can be opened. A
-// directory can be neither read nor written as a file in its place could be.
+// Holds the least standard stream that is closed, if there is one and a directory can be opened.
+// Unlike a file, a directory can't be read or written in its place.
 fn held_stream(rt: &HostRuntime) -> Option<File> {
     let held = directory(rt)?;
     if held.as_raw_fd() <= LAST_STREAM {
@@ -164,14 +165,14 @@ fn held_stream(rt: &HostRuntime) -> Option<File> {
     }
 }
 
-// Returns whether a descriptor is that of standard output or standard error.
+// Returns whether `descriptor` is standard output or standard error.
 fn is_output(descriptor: i32) -> bool {
     (OUTPUT..=LAST_STREAM).contains(&descriptor)
 }
 
-// Returns whether a file that is opened next may take the place of standard output or standard
-// error. If no directory can be opened, the two ends of a pipe tell it: they take the two least
-// descriptors that are free.
+// Returns whether the next file opened may take the place of standard output or standard error. If
+// no directory can be opened, the two ends of a pipe show it: they take the two least free
+// descriptors.
 fn is_output_free(rt: &HostRuntime) -> bool {
     if let Some(least) = directory(rt) {
         return is_output(least.as_raw_fd());

@@ -1,6 +1,5 @@
-"""The report as a value: the configurations, the questions about each, their answers and the
-verdicts. The page and the files that a pipeline reads are made only from this value, so they can
-be made again."""
+"""The report as a value: configurations, questions, answers and verdicts. Only this value makes the
+page and the pipeline's files, so they can be made again."""
 
 from __future__ import annotations
 
@@ -17,8 +16,7 @@ from irvtools.calls.verdict import SAFE, SAFE_WITH_DEVIATIONS
 from irvtools.paths import TOP
 
 FILE = "report.json"
-# the outcomes of questions, the worst first; a question about safety has a verdict's word if it
-# isn't good
+# Outcomes, worst first. An answer about safety that isn't good has its verdict's word.
 CONTRADICTION, NO_ANSWER, LEFT_OUT, GOOD = "contradiction", "no answer", "left out", "good"
 OUTCOMES = (CONTRADICTION, HAZARD_FOUND, NO_ANSWER, REFUSED, NOT_SHOWN, SAFE_WITH_DEVIATIONS,
             LEFT_OUT, GOOD)
@@ -26,8 +24,7 @@ NOT_BEGUN = "the job was not begun"
 
 
 def sizes_of(data: bytes) -> dict[str, int] | None:
-    """Returns how many sections, points and routes a configuration has, or None if it can't be
-    read."""
+    """Returns a configuration's numbers of sections, points and routes, or `None` if unreadable."""
     try:
         value = json.loads(data) if len(data) <= MOST_BYTES else None
         kinds = [section["kind"] for section in value["sections"]]
@@ -39,8 +36,8 @@ def sizes_of(data: bytes) -> dict[str, int] | None:
 
 
 def why_failed(store, jobs, key):
-    """Returns why a job has no answer: the reason of the first job that it needs and that has
-    none either, or its own."""
+    """Returns why a job has no answer: the reason of the first needed job without an answer, or its
+    own."""
     for need in jobs[key]["needs"].values():
         if store.answer(jobs[need]) is None:
             return why_failed(store, jobs, need)
@@ -48,8 +45,7 @@ def why_failed(store, jobs, key):
 
 
 def job_value(store, jobs, key):
-    """Returns a job with its answer, or why there is none, and the verdict to which it comes, if
-    any."""
+    """Returns a job with its answer, or why it is missing, and with its verdict, if any."""
     answer = store.answer(jobs[key])
     value = {
         "job": jobs[key], "answer": answer,
@@ -59,7 +55,7 @@ def job_value(store, jobs, key):
 
 
 def verdict_value(found: tuple[str, str] | None) -> dict[str, str] | None:
-    """Returns a word and a sentence as a value, or None."""
+    """Returns a word and a sentence as a value, or `None`."""
     return found and {"word": found[0], "sentence": found[1]}
 
 
@@ -80,13 +76,13 @@ def make(store: Store, about: dict[str, Any], configurations: dict[str, tuple[st
 
 def configuration_verdict(store: Store, values: dict[str, dict[str, Any]],
                           keys: list[str]) -> dict[str, str]:
-    """Returns the verdict of a configuration as a value, by the jobs with these keys."""
+    """Returns a configuration's verdict as a value, from these jobs."""
     return verdict_value(verdicts.of_configuration(
         store, [(values[key]["job"], values[key]["answer"]) for key in keys]))
 
 
 class Result:
-    """What came of a question about a configuration."""
+    """The result of a question about a configuration."""
 
     def __init__(self, report, question, key):
         value = report["jobs"][key]
@@ -97,7 +93,7 @@ class Result:
         self.below = [report["jobs"][each] for each in self.keys_below(report, key)]
 
     def keys_below(self, report, key):
-        """Returns the keys of the jobs that were done only for this question, its own first."""
+        """Returns the keys of the jobs only for this question, its own first."""
         found = [key]
         if self.kind == "verify_with":
             for need in report["jobs"][key]["job"]["needs"].values():
@@ -108,14 +104,14 @@ class Result:
 
     @property
     def line(self):
-        """The line of the answer, or why there is none."""
+        """Returns the line of the answer, or why there is none."""
         if self.answer is None:
             return f"no answer: {shown(self.failure)}"
         return shown(self.answer["line"])
 
     @property
     def outcome(self):
-        """The outcome, one of OUTCOMES."""
+        """Returns the outcome, one of OUTCOMES."""
         if self.answer is None:
             return NO_ANSWER
         if self.answer["is_good"] is None:
@@ -126,27 +122,26 @@ class Result:
 
     @property
     def says_safe(self):
-        """Whether the answer says that the interlocking is safe."""
+        """Returns whether the answer says that the interlocking is safe."""
         return self.word in (SAFE,
                              SAFE_WITH_DEVIATIONS) or self.kind == "audit" and self.outcome == GOOD
 
     def measure(self, what, fold=math.fsum):
-        """Returns a measure of all that was done for this question. A sum is exact before it is
-        rounded, and so the same in any order of the jobs."""
+        """Returns a measure of this question's work. A sum is exact until rounded, so job order
+        doesn't matter."""
         return fold([each["answer"][what] for each in self.below if each["answer"]] or [0])
 
     def machines(self):
-        """Returns the machines on which it was done."""
+        """Returns the machines that did the work."""
         return sorted({each["answer"]["machine"] for each in self.below if each["answer"]})
 
     def solvers(self):
-        """Returns the solvers that were used."""
+        """Returns the solvers used."""
         return sorted({each["answer"]["solver"] for each in self.below
                        if each["answer"] and "solver" in each["answer"]})
 
     def files(self):
-        """Returns the files of the answer: of each its role, its path in the directory of the
-        results, its checksum."""
+        """Returns role, path in the results directory and checksum of each answer file."""
         place = f"results/{self.kind}/{self.key}"
         files = self.answer["files"] if self.answer else {}
         return [(role, f"{place}/{file['name']}", file["checksum"])
@@ -154,7 +149,7 @@ class Result:
 
 
 class Row:
-    """A configuration, with its verdict and the results of all questions about it."""
+    """A configuration with its verdict and the results of all its questions."""
 
     def __init__(self, report, configuration):
         self.name, self.checksum = shown(configuration["name"]), configuration["checksum"]
@@ -168,20 +163,20 @@ class Row:
 
     @property
     def is_contradiction(self):
-        """Whether one answer says safe and another one has a hazard, or a certificate of verify
-        is rejected."""
+        """Returns whether one answer says safe and another has a hazard, or verify's certificate is
+        rejected."""
         outcomes = [each.outcome for each in self.results]
         is_both = self.word == HAZARD_FOUND and any(each.says_safe for each in self.results)
         return is_both or CONTRADICTION in outcomes
 
     @property
     def verdict(self):
-        """The word of the verdict. A contradiction without a hazard shows nothing."""
+        """Returns the verdict's word. A contradiction without a hazard shows nothing."""
         return NOT_SHOWN if self.is_contradiction and self.word != HAZARD_FOUND else self.word
 
     @property
     def sentence(self):
-        """The sentence of the verdict."""
+        """Returns the verdict's sentence."""
         if not self.is_contradiction:
             return self.own_sentence
         said = "; ".join(f"{each.question}: {each.line}" for each in self.results)
@@ -190,19 +185,18 @@ class Row:
 
     @property
     def is_good(self):
-        """Whether every answer is good, or was left out."""
+        """Returns whether every answer is good or was left out."""
         outcomes = {each.outcome for each in self.results}
         return outcomes <= {GOOD, LEFT_OUT} and GOOD in outcomes and not self.is_contradiction
 
     @property
     def missing(self):
-        """The questions without an answer."""
+        """Returns the questions without an answer."""
         return [each for each in self.results if each.outcome == NO_ANSWER]
 
     @property
     def rank(self):
-        """Where the row comes, the smallest first: hazards, contradictions, then the other words
-        in their order."""
+        """Returns the row's rank, smallest first: hazards, contradictions, then the other words."""
         place = RANKING.index(self.verdict)
         is_late = not self.is_contradiction
         outcomes = [OUTCOMES.index(each.outcome) for each in self.results]
@@ -211,12 +205,12 @@ class Row:
 
 
 def rows_of(report: dict[str, Any]) -> list[Row]:
-    """Returns the rows, the worst first."""
+    """Returns the rows, worst first."""
     rows = [Row(report, each) for each in report["configurations"]]
     return sorted(rows, key=lambda row: row.rank)
 
 
 def verdict_counts(rows: list[Row]) -> str:
-    """Returns how many rows have each verdict's word, in the order of the ranking, in words."""
+    """Returns in words the count of each verdict, in ranking order."""
     words = [row.verdict for row in rows]
     return ", ".join(f"{words.count(word)} {word}" for word in RANKING if word in words)

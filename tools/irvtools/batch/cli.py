@@ -24,21 +24,21 @@ from irvtools.calls.refusal import Refused, reason
 
 GOOD, NOT_GOOD, NOTHING_DONE, UNANSWERED = range(4)
 PASSED_ON = ("cores", "jobs", "profile", "cluster")
-MOST_BYTES = 1 << 40            # the most bytes of configurations in one group
-# other options of Snakemake by which it knows how much it may do at once
+MOST_BYTES = 1 << 40            # of configurations in one group
+# Snakemake's other options that limit how much it does at once.
 SAYS_HOW_MUCH = re.compile(r"-[cj]\d*|--(cores|jobs|profile|cluster\S*|drmaa\S*|kubernetes)(=.*)?")
 
 
 def joined(words):
-    """Returns the command line with Snakemake's options in one argument with `--snakemake`: by
-    itself one that begins with a dash would be taken for an option."""
+    """Returns the arguments with Snakemake's options joined to `--snakemake`. A separate value with
+    a leading dash would be an option."""
     place = words.index("--snakemake") if "--snakemake" in words[:-1] else len(words)
     after = place + 2
     return words[:place] + ["=".join(words[place:after])] * (place < len(words)) + words[after:]
 
 
 def parser():
-    """Returns the parser of the command line."""
+    """Returns the command-line parser."""
     line = Parser(
         "irv --batch",
         "Verifies every .json file below DIRECTORY in parallel, on this machine or on a cluster, "
@@ -71,7 +71,7 @@ def parser():
 
 
 def arguments_of(words):
-    """Returns what the arguments ask for."""
+    """Returns the options in the arguments."""
     line = parser()
     given = line.parse_args(joined(words))
     if (given.verify_report is None) == (given.out is None):
@@ -82,8 +82,7 @@ def arguments_of(words):
 
 
 def passed_on(given):
-    """Returns the options that Snakemake gets. Without one that says how much it may do, it uses
-    all processors."""
+    """Returns the options for Snakemake. Without a limit among them it uses all processors."""
     words = [word for name in PASSED_ON if (value := getattr(given, name)) is not None
              for word in (f"--{name}", value)]
     try:
@@ -96,14 +95,14 @@ def passed_on(given):
 
 
 def at_once(given):
-    """Returns how many jobs may run at once, as far as Snakemake's options say that as a number."""
+    """Returns how many jobs may run at once, if Snakemake's options say so."""
     number = given.jobs or given.cores or ""
     return int(
         number) if number.isascii() and number.isdigit() and int(number) else os.cpu_count() or 1
 
 
 def open_store(directory, out):
-    """Returns the directory of the results: a new one, an empty one, or one of an earlier call."""
+    """Opens a results directory: new, empty, or from an earlier call."""
     if is_inside(directory, out):
         raise Refused(
             f"{shown(str(out))}: the results cannot be inside the directory of the configurations")
@@ -117,8 +116,7 @@ def open_store(directory, out):
 
 
 def read_program(path):
-    """Returns the bytes of the program, and the note of its proof or None if it is not known to
-    be proved."""
+    """Returns the program's bytes, and the note of its proof, or `None` if not known to be proved."""
     try:
         data = path.read_bytes()
         note = path.with_name(path.name + PROVED_NOTE).read_bytes() if is_proved(path) else None
@@ -138,9 +136,9 @@ def read_questions(given, names):
 
 
 def plan(store, read, asked, scenarios, program):
-    """Makes the jobs, and keeps what they need; returns the jobs, the questions about each
-    configuration with the keys of their jobs, and each configuration's checksum and bytes.
-    `program` is its checksum, and whether it is known to be proved."""
+    """Makes the jobs and keeps their inputs. Returns the jobs, each configuration's questions with
+    job keys, and its checksum and bytes. `program` is the checksum and whether it is known to be
+    proved."""
     planner = Planner(store, *program, {name: store.give(data) for name, data in scenarios.items()})
     checksums = {name: store.give(data) for name, data in read.items()}
     keys = {name: list(planner.asked(name, checksums[name], asked[name])) for name in read}
@@ -151,14 +149,14 @@ def plan(store, read, asked, scenarios, program):
 
 
 def write_report(store, value):
-    """Writes the report; its value comes last."""
+    """Writes the report, its value last."""
     for file, text in texts_of(value).items():
         store.put(store.top / file, text)
     store.put(store.top / batch_report.FILE, text_of(value))
 
 
 def run_batch(given, progress):
-    """Asks all questions about a directory; returns the exit status."""
+    """Asks all questions about a directory. Returns the exit status."""
     snakemake_run.need_engine()
     words = passed_on(given)
     progress.step(f"reading {shown(str(given.directory))}")
@@ -190,8 +188,8 @@ def run_batch(given, progress):
 
 
 def print_end(store, value, jobs, status):
-    """Prints how the call ended; returns the exit status. `jobs` is how many were done and how
-    many were known."""
+    """Prints how the call ended. Returns the exit status. `jobs` counts those done and those
+    already known."""
     rows = batch_report.rows_of(value)
     missing = [(row, result) for row in rows for result in row.missing]
     for row, result in missing:
@@ -209,7 +207,7 @@ def print_end(store, value, jobs, status):
 
 
 def verify_report(given, progress):
-    """Checks a finished directory of results; returns the exit status."""
+    """Checks finished results. Returns the exit status."""
     store = Store(given.verify_report.resolve())
     if not (store.top / batch_report.FILE).is_file():
         raise Refused(f"{shown(str(given.verify_report))}: it has no {batch_report.FILE}")
@@ -223,7 +221,7 @@ def verify_report(given, progress):
 
 
 def main(words):
-    """Does what the arguments ask for; returns the exit status."""
+    """Runs the command. Returns the exit status."""
     sys.stdout.reconfigure(errors="backslashreplace")
     sys.stderr.reconfigure(errors="backslashreplace")
     if len(words) == 2 and words[0] in ("--run-job", "--run-group"):

@@ -1,5 +1,4 @@
-"""Reads the directory of configurations. What it returns is data: a name may be any bytes, and
-no link leads out of the directory."""
+"""Reads the directory of configurations. Names may be any bytes, and no link leads outside."""
 
 from __future__ import annotations
 
@@ -11,18 +10,18 @@ from irvtools.batch.file_names import shown
 from irvtools.calls.refusal import Refused, reason
 
 ENDING = ".json"
-MOST_BYTES = 4194304            # the greatest length of a configuration
-MOST_SCENARIO = 8192            # the greatest length of a scenario
+MOST_BYTES = 4194304            # most bytes of a configuration
+MOST_SCENARIO = 8192            # most bytes of a scenario
 
 
 def is_inside(directory: Path, path: Path) -> bool:
-    """Returns whether a path, its links followed, is in a directory or below it."""
+    """Returns whether a path, after following links, is inside a directory or equal to it."""
     return Path(os.path.realpath(path)).is_relative_to(os.path.realpath(directory))
 
 
 def read_file(directory: Path, name: str, most: int) -> bytes:
-    """Returns the bytes of a file of the directory. One byte more than `most` is read of a
-    longer file, so that the program refuses it."""
+    """Returns the bytes of a file of the directory. One byte more than `most` is read of a longer
+    file, so the program rejects it."""
     path = Path(directory, name)
     if not is_inside(directory, path):
         raise Refused(f"{shown(name)}: the link leads out of the directory")
@@ -36,7 +35,7 @@ def read_file(directory: Path, name: str, most: int) -> bytes:
 
 
 def names_in(directory):
-    """Returns the names of all configurations in order, each as its path from the directory."""
+    """Returns the relative paths of all configurations, in order."""
     faults, found = [], []
 
     def unread(fault):
@@ -55,7 +54,7 @@ def names_in(directory):
 
 
 def read_directory(directory: Path) -> dict[str, bytes]:
-    """Returns the configurations of a directory: the bytes of each by its name."""
+    """Returns the bytes of each configuration, by name."""
     if not Path(directory).is_dir():
         raise Refused(f"{shown(str(directory))}: not a directory")
     faults, read = [], {}

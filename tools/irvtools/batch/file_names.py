@@ -1,15 +1,14 @@
-"""Shows names of files, which may be any bytes."""
+"""Shows file names, which may be any bytes."""
 
 import re
 
-# what XML can't hold, or what isn't seen
+# Characters that XML can't hold or that are invisible.
 UNSEEN = re.compile(
     "[\\\\\x00-\x1f\x7f-\x9f\ud800-\udfff\ufffe\uffff\u2028\u2029\u200b-\u200f\u202a-\u202e]")
 
 
 def escaped(found):
-    """Returns a character as its number; a byte that isn't UTF-8, as the system passes it on, as
-    that byte."""
+    """Returns a character as its number, or a byte that isn't UTF-8 as that byte."""
     number = ord(found[0])
     if found[0] == "\\":
         return "\\\\"
@@ -19,5 +18,5 @@ def escaped(found):
 
 
 def shown(name: str) -> str:
-    """Returns a name on one line. Two names are never shown alike."""
+    """Returns a name on one line. Different names are shown differently."""
     return UNSEEN.sub(escaped, name)

@@ -1,4 +1,4 @@
-"""Reads the verdict that an HTML report says first, and finds the frame of its hazard."""
+"""Reads the verdict at the top of an HTML report, and the frame of its hazard."""
 
 from __future__ import annotations
 
@@ -10,12 +10,11 @@ from irvtools.batch.program_answers import NoAnswer
 from irvtools.calls.verdict import RANKING, UNPROVED
 
 LINE = re.compile(f"({'|'.join(map(re.escape, RANKING))})\\. (.+)")
-VERDICT, HAZARD = "verdict", "hazard"  # the ids of a report's first line and of its hazard's frame
+VERDICT, HAZARD = "verdict", "hazard"  # ids of a report's first line and of its hazard's frame
 
 
 class FirstLine(HTMLParser):
-    """Reads the texts of the element with the verdict, without its links, and the ids of a
-    report."""
+    """Reads the verdict's text without links, and all ids of a report."""
 
     def __init__(self) -> None:
         super().__init__(convert_charrefs=True)
@@ -23,7 +22,7 @@ class FirstLine(HTMLParser):
         self.depth = self.links = 0
 
     def handle_starttag(self, tag, attrs):
-        """Notes an element's id, and whether the verdict or a link in it begins."""
+        """Notes an id, and the start of the verdict or of a link in it."""
         id_ = dict(attrs).get("id")
         self.ids.add(id_)
         self.depth += 1 if self.depth or id_ == VERDICT else 0
@@ -41,8 +40,8 @@ class FirstLine(HTMLParser):
 
 
 def read(page: Path) -> tuple[str, str, str | None]:
-    """Returns the word of the verdict that a report says first, its line without the remark on
-    the program's proof, and the id of the frame of its hazard or None if it shows none."""
+    """Returns a report's verdict: its word, its line without the comment on the proof, and its
+    hazard frame's id, or `None` if no hazard is shown."""
     reader = FirstLine()
     reader.feed(page.read_text(encoding="utf-8", errors="replace"))
     line = ". ".join(reader.texts).removesuffix(f" {UNPROVED}")
@@ -53,6 +52,6 @@ def read(page: Path) -> tuple[str, str, str | None]:
 
 
 def word_and_sentence(line: str) -> tuple[str, str]:
-    """Returns the word and the sentence of a verdict's line."""
+    """Returns the word and sentence of a verdict's line."""
     match = LINE.fullmatch(line)
     return match[1], match[2]

@@ -1,12 +1,10 @@
-"""Groups the jobs of small configurations, so that each group is one job for Snakemake: the tenth
-of a second or two that Snakemake takes for a job is then shared by many. Each job of a group still
-has its own key, its own process and its own answer, and a job that fails does not affect the
-others.
+"""Groups the jobs of small configurations. A group is one job for Snakemake, which takes 0.1 to 0.2
+seconds for each. Each job of a group still has its own key, process and answer. A failed job does
+not affect the others.
 
-A job is not grouped if it takes long: an HTML report; the queries of verify_with unless the
-configuration is small; all jobs of a configuration that fills a group alone. Nor are the jobs of a
-configuration of which an earlier call began a job that gave no answer: whatever it does, it does to
-itself only.
+Long jobs are not grouped: HTML reports; the queries of verify_with unless the configuration is
+small; all jobs of a configuration that fills a group alone. A configuration's jobs are not grouped
+either if an earlier call began one of them and got no answer, so its effects stay separate.
 """
 
 from __future__ import annotations
@@ -15,18 +13,18 @@ from typing import Any
 
 from irvtools.batch.store import Store
 
-BYTES = 131072  # bytes of configurations in a group, unless another number is given
-SHARES = 3  # a group is a part of what is left: 1 / (SHARES * jobs that run at once)
+BYTES = 131072  # default bytes of configurations in a group
+SHARES = 3  # a group is 1 / (SHARES * jobs at once) of the rest
 ALWAYS_APART = ("html",)
 OF_QUERIES = ("export", "solve", "rup", "verify_with")
-SHORT_QUERIES = 8192            # bytes of a configuration below which its queries are short
+SHORT_QUERIES = 8192            # queries of smaller configurations (bytes) are short
 
 
 def grouped(store: Store, missing: list[dict[str, Any]], tried: set[str], most: int, at_once: int
             ) -> tuple[list[list[dict[str, Any]]], list[dict[str, Any]]]:
-    """Returns these jobs as groups, each in the order of the plan, and the jobs that are not
-    grouped. `tried` has the keys of jobs that were begun before, `most` is the greatest number
-    of bytes of configurations in a group, and `at_once` is how many jobs may run at once."""
+    """Returns these jobs as groups, each in plan order, and those not grouped. `tried` has the keys
+    of jobs begun before. `most` limits the configuration bytes in a group, and `at_once` the jobs
+    that run at once."""
     alone = {job["configuration"] for job in missing if job["key"] in tried}
     joined, apart = {}, []
     for job in missing:
@@ -39,15 +37,15 @@ def grouped(store: Store, missing: list[dict[str, Any]], tried: set[str], most: 
 
 
 def is_long(store, job, most):
-    """Returns whether a job may take long, by the length of its configuration."""
+    """Returns whether a job may take long, by its configuration's length."""
     short = min(most, SHORT_QUERIES) if job["kind"] in OF_QUERIES else most
     return store.given(job["configuration"]).stat().st_size >= short
 
 
 def filled(store, joined, most, at_once):
-    """Returns groups of the jobs of these configurations, the longest first; all jobs of one
-    configuration are in one group. Each group is a part of what is left: the last groups are
-    short, and none is waited for at the end."""
+    """Returns groups of the jobs of these configurations, longest first. A configuration's jobs are
+    in one group. Each group is a fraction of the rest, so the last ones are short and the end isn't
+    delayed."""
     sizes = {checksum: store.given(checksum).stat().st_size for checksum in joined}
     groups, room, left = [], 0, sum(sizes.values())
     for checksum in sorted(joined, key=sizes.get, reverse=True):

@@ -1,7 +1,6 @@
 """Does the jobs that call the program, and HTML reports; solver_jobs.py does those of other
-solvers. Each returns its answer as a value: `line`, what is shown; `is_good`; what it took; and
-`files`, made in the room of the job, by their roles. `is_good` is None if there was nothing to
-do."""
+solvers. Each answer is a value: `line` to show, `is_good`, measures, and `files` in the job's room
+by role. `is_good` is `None` if there was nothing to do."""
 
 from __future__ import annotations
 
@@ -18,14 +17,14 @@ from irvtools.calls.verdict import SAFE
 from irvtools.paths import TOP
 
 HTML_TOOL = TOP / "tools/html"
-# of each file whose checksum was right: its length and the times that it had then
+# Length and times of each file when its checksum was last right.
 SEEN = {}
 NOTHING_TOOK = {"seconds": 0.0, "processor_seconds": 0.0, "memory_kib": 0}
 
 
 def checked(store, checksum):
-    """Returns the path of a configuration, a scenario or the program, whose checksum is right.
-    The checksum is made again if the file has changed since that was last seen."""
+    """Returns the path of a configuration, a scenario or the program, with a correct checksum. It
+    is computed again only if the file has changed."""
     path = store.given(checksum)
     about = os.stat(path)
     mark = about.st_dev, about.st_ino, about.st_size, about.st_mtime_ns, about.st_ctime_ns
@@ -37,8 +36,7 @@ def checked(store, checksum):
 
 def call_program(program: Path, configuration: Path, room: Path, command: str,
                  *words: str) -> Called:
-    """Calls a command with a configuration; raises NoAnswer if what comes is no answer of the
-    program."""
+    """Calls a command with a configuration. Raises NoAnswer if no valid answer comes."""
     done = Called([str(program), command, *words], configuration, room)
     why = why_no_answer(command, done.status, done.line, done.complaint)
     if why:
@@ -47,25 +45,25 @@ def call_program(program: Path, configuration: Path, room: Path, command: str,
 
 
 def ask(store: Store, job: dict[str, Any], room: Path, command: str, *words: str) -> Called:
-    """Asks the program about the job's configuration; returns the call."""
+    """Asks the program about the job's configuration. Returns the call."""
     return call_program(checked(store, job["program"]), checked(store, job["configuration"]), room,
                         command, *words)
 
 
 def answered(done: Called, is_good: bool, **files: Path) -> dict[str, Any]:
-    """Returns the answer of a call, with its output as a file."""
+    """Returns a call's answer, with its output as a file."""
     return {"line": done.line, "status": done.status, "is_good": is_good, **done.measures(),
             "files": {"report": done.output, **files}}
 
 
 def without_call(line: str, is_good: bool | None) -> dict[str, Any]:
-    """Returns an answer for which nothing was called."""
+    """Returns an answer that needed no call."""
     return {"line": line, "status": None, "is_good": is_good, **NOTHING_TOOK, "files": {}}
 
 
 def file_of(store: Store, job: dict[str, Any], role: str) -> tuple[Path | None, dict[str, Any]]:
-    """Returns the path of a file of another job that this one needs, whose checksum is right, or
-    None if that job's answer has no such file; and the answer."""
+    """Returns the path of another job's file that this one needs, and that job's answer. The
+    checksum is right. The path is `None` if the answer has no such file."""
     other = store.job(job["needs"][role.partition(" ")[0]])
     answer = store.answer(other)
     if answer is None:
@@ -80,15 +78,14 @@ def file_of(store: Store, job: dict[str, Any], role: str) -> tuple[Path | None, 
 
 
 def do_check(store, job, room):
-    """Asks which rules the configuration breaks."""
+    """Asks for the rules that the configuration breaks."""
     done = ask(store, job, room, "check", *job["words"])
     return answered(done, done.status == 0)
 
 
 def do_verify(store, job, room):
-    """Asks for the verdict. The certificate is kept only if it is safe: what a search had
-    learned before its budget was exhausted says nothing about the interlocking, and may be very
-    long."""
+    """Asks for the verdict. The certificate is kept only if it is safe: the clauses of a spent
+    search say nothing about the interlocking, and may be very long."""
     certificate = room / "certificate.cert"
     done = ask(store, job, room, "verify", *job["words"], f"--cert={certificate}")
     files = {"certificate": certificate} if done.status == 0 else {}
@@ -98,7 +95,7 @@ def do_verify(store, job, room):
 
 
 def do_audit(store, job, room):
-    """Has the certificate of verify checked."""
+    """Checks verify's certificate with audit."""
     path, verdict = file_of(store, job, "verify certificate")
     if path is None or verdict["status"] != 0:
         return without_call(f"no certificate of safety: {verdict['line']}", None)
@@ -107,14 +104,14 @@ def do_audit(store, job, room):
 
 
 def do_drive(store, job, room):
-    """Drives the scenario."""
+    """Simulates the scenario."""
     scenario = checked(store, job["scenario"])
     done = ask(store, job, room, "drive", *job["words"], f"--run={scenario}")
     return answered(done, done.status == 0)
 
 
 def do_html(store, job, room):
-    """Writes the HTML report. Its line is the verdict that the report says first."""
+    """Writes the HTML report. Its verdict is the line."""
     page = room / "report.html"
     done = Called([sys.executable, str(HTML_TOOL), str(page), "--program",
                    str(checked(store, job["program"])), *job["words"]],

@@ -1,4 +1,4 @@
-"""Calls a program and measures it: its time, its memory, and the machine."""
+"""Calls a program and measures its time, its memory and the machine."""
 
 from __future__ import annotations
 
@@ -13,30 +13,28 @@ import time
 from irvtools.batch.program_answers import NoAnswer
 
 PARENT_DIES = 1         # PR_SET_PDEATHSIG of prctl(2)
-TAIL = 4000             # bytes of a complaint that are read
+TAIL = 4000             # bytes read of an error message
 
 
 def machine() -> str:
-    """Returns this machine in one line."""
+    """Returns a description of this machine in one line."""
     return f"{platform.node()} {platform.system()} {platform.release()} {platform.machine()}"
 
 
 def end_with_parent(number: int = signal.SIGKILL) -> None:
-    """Makes this process end when its parent does; for a child before it becomes another
-    program."""
+    """Makes this process end with its parent. A child calls it before it becomes another program."""
     ctypes.CDLL(None).prctl(PARENT_DIES, int(number))
 
 
 def last_line(data: bytes) -> str:
-    """Returns the last line of a text that isn't empty."""
+    """Returns the last non-empty line of a text."""
     lines = data.decode(errors="replace").split("\n")
     return next((line.strip() for line in reversed(lines) if line.strip()), "")
 
 
 class Called:
-    """A call that has ended: its status, its first line, its complaint, and what it took. Its
-    status is None if it was ended because its seconds were over. Its temporary files are in its
-    own room."""
+    """An ended call: status, first line, error message and measures. The status is `None` after a
+    time limit. Its temporary files are in its own room."""
 
     def __init__(self, words, given, room, seconds=None):
         self.output = room / "output.txt"
@@ -54,7 +52,7 @@ class Called:
 
     @staticmethod
     def start(words, given, room, out, errors):
-        """Starts the program; its standard input is a file, or nothing."""
+        """Starts the program with a file, or nothing, as standard input."""
         try:
             with open(given or os.devnull, "rb") as source:
                 return subprocess.Popen(words, stdin=source, stdout=out, stderr=errors,
@@ -64,8 +62,8 @@ class Called:
             raise NoAnswer(f"{words[0]} cannot be called: {fault.strerror}") from fault
 
     def wait(self, child, seconds):
-        """Waits for the end, and takes the status and the measures; returns whether the call was
-        ended because its seconds were over."""
+        """Waits for the end, and takes status and measures. Returns whether the time limit was
+        reached."""
         late = threading.Event()
         timer = threading.Timer(seconds or 0, lambda: (late.set(), child.kill()))
         if seconds is not None:
@@ -78,6 +76,6 @@ class Called:
         return late.is_set()
 
     def measures(self):
-        """Returns what the call took."""
+        """Returns the call's measures."""
         return {"seconds": self.seconds, "processor_seconds": self.processor_seconds,
                 "memory_kib": self.memory_kib}

@@ -1,5 +1,5 @@
-"""Makes jobs of questions. A job's key is the checksum of what its answer is made of, and the
-keys of the jobs that it needs are a part of that: so equal keys are equal work."""
+"""Makes jobs of questions. A job's key is the checksum of all inputs of its answer, including the
+keys of needed jobs. So equal keys mean equal work."""
 
 from __future__ import annotations
 
@@ -15,7 +15,7 @@ from irvtools.checkers.verify_with import queries_for
 from irvtools.html.options import MOST_CHARACTERS
 from irvtools.batch.store import checksum_of, checksum_of_file, text_of
 
-FORM = 3                        # another number if a kind of job comes to do something else
+FORM = 3                        # changes when a kind of job does something else
 
 
 def html_tool_checksum():
@@ -29,8 +29,7 @@ def html_tool_checksum():
 
 
 def read_scenarios(directory: Path, asked: dict[str, list[Question]]) -> dict[str, bytes]:
-    """Returns the scenarios that questions name, which are in the directory too: the bytes of
-    each by its name."""
+    """Returns the bytes of the scenarios in questions, by name. They are in the directory too."""
     read = {}
     for name in sorted({question.says.run for questions in asked.values() for question in questions
                         if question.kind == "drive"}):
@@ -41,14 +40,14 @@ def read_scenarios(directory: Path, asked: dict[str, list[Question]]) -> dict[st
 
 
 def title_of(name: str) -> str:
-    """Returns the title of a configuration's HTML report: its name, of a long one the end."""
+    """Returns the title of a configuration's HTML report: its name, or a long name's end."""
     title = "".join(one if one.isprintable() else f"\\u{ord(one):04x}" for one in shown(name))
     return title if len(title) <= MOST_CHARACTERS else "…" + title[1 - MOST_CHARACTERS:]
 
 
 class Planner:
-    """Makes the jobs of one directory: with the program of this checksum, which is known to be
-    proved or not, and scenarios of these checksums."""
+    """Makes the jobs of a directory, for the program with this checksum, proved or not, and
+    scenarios with these."""
 
     def __init__(self, store, program, is_proved, scenarios):
         self.store, self.scenarios = store, scenarios
@@ -57,7 +56,7 @@ class Planner:
         self.jobs = {}
 
     def job(self, kind, needs=None, **what):
-        """Adds a job; equal jobs are one. Returns its key."""
+        """Adds a job and returns its key. Equal jobs are one."""
         value = {"form": FORM, "kind": kind, "program": self.program, "needs": needs or {}, **what}
         key = checksum_of(text_of(value))
         value["after"] = [self.answer_path(other) for other in value["needs"].values()]
@@ -65,12 +64,12 @@ class Planner:
         return key
 
     def answer_path(self, key):
-        """Returns the path of a job's answer, from the directory of the results."""
+        """Returns the path of a job's answer in the results."""
         return os.path.relpath(self.store.answer_file(self.jobs[key]), self.store.top)
 
     def asked(self, name, configuration, questions):
-        """Adds the jobs of all questions about a configuration, by its name and its checksum;
-        yields each question in words with its job's key."""
+        """Adds the jobs for a configuration's questions, by its name and checksum. Yields each
+        question in words with its job's key."""
         verified = {}
         for question in questions:
             if question.kind == "verify":
@@ -99,8 +98,8 @@ class Planner:
                         words=["--columns", columns])
 
     def html(self, name, configuration, question):
-        """Adds an HTML report, which shows the configuration's name and whether the program is
-        known to be proved."""
+        """Adds an HTML report with the configuration's name, and whether the program is known to be
+        proved."""
         says = question.says
         words = ["--columns", says.columns, "--depth", str(says.depth),
                  "--conflicts", str(says.conflicts), "--verify-seconds", str(says.verify_seconds),
@@ -110,14 +109,13 @@ class Planner:
                         tool=self.html_tool, is_proved=self.is_proved)
 
     def drive(self, configuration, question):
-        """Adds the drive of a scenario."""
+        """Adds the simulation of a scenario."""
         columns = question.says.columns
         return self.job("drive", configuration=configuration, columns=columns,
                         words=["--columns", columns], scenario=self.scenarios[question.says.run])
 
     def verify_with(self, configuration, question):
-        """Adds jobs for each query on which safety at k depends: its formula, a solver's
-        refutation, and rup."""
+        """Adds jobs for each query on which safety at k depends: formula, refutation, and rup."""
         says, needs, queries = question.says, {}, queries_for(question.says.k)
         for kind, at in queries:
             about = {"configuration": configuration, "columns": says.columns, "query": [kind, at],

@@ -1,6 +1,6 @@
-"""The program's answers: which first lines come with which status, and which of them are good.
+"""The program's answers: the first lines for each status, and the good ones.
 
-A status without its line is no answer: it may be that of a signal, of a shell or of a full machine.
+A status without its line is not an answer: it may come from a signal, a shell or a full machine.
 """
 
 from __future__ import annotations
@@ -13,7 +13,7 @@ from irvtools.calls.first_lines import HAZARD, NUMBER, STATUS_OF, VERDICT, kind_
 
 REFUSED = 5
 REFUSAL = r"refused [A-Z][0-9] (?:document|extra|[a-z]+\[[0-9]+\](?: routes\[[0-9]+\])?)"
-# of each command but verify the first line by the status
+# First line by status, for each command but verify.
 LINES = {
     "check": {0: "clean"},
     "audit": {0: f"accepted k={NUMBER}", 6: f"rejected line {NUMBER}"},
@@ -28,7 +28,7 @@ FAULTS = {7: "usage", 8: "a read fault", 9: "a write fault", 10: "out of memory"
 
 
 class NoAnswer(Exception):
-    """No answer came: the message says why."""
+    """No answer came. The message says why."""
 
 
 def signal_name(number):
@@ -50,8 +50,8 @@ def is_answer(command, status, line):
 
 
 def why_no_answer(command: str, status: int, line: str, complaint: str) -> str | None:
-    """Returns why a status, a line and a complaint are no answer of the program, or None if they
-    are one."""
+    """Returns why status, line and error message are not a valid answer of the program, or `None`
+    if they are."""
     if is_answer(command, status, line):
         return None
     if status < 0 or status > 128:

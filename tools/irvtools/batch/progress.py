@@ -1,11 +1,11 @@
-"""Says on standard error how far a batch is: on a terminal in one line that is written anew,
-otherwise now and then in a line of its own."""
+"""Reports a batch's progress on standard error: on a terminal in one overwritten line, otherwise
+now and then in a new line."""
 
 import sys
 import time
 
 TERMINAL_SECONDS, OTHER_SECONDS = 1, 10         # between two messages
-CLEAR = "\r\x1b[K"  # goes to the beginning of a terminal's line and clears it
+CLEAR = "\r\x1b[K"  # clears a terminal's line, from its beginning
 
 
 class Progress:
@@ -18,13 +18,13 @@ class Progress:
         self.begin, self.last = time.monotonic(), ""
 
     def step(self, words):
-        """Says on a terminal what is done now."""
+        """Shows the current step on a terminal."""
         if self.is_terminal:
             self.stream.write(f"{CLEAR}irv --batch: {words}")
             self.stream.flush()
 
     def count(self, done, total):
-        """Says how many jobs are done, if that has changed; on a terminal also how long it took."""
+        """Shows how many jobs are done, if that has changed, and on a terminal the time."""
         words = f"{done} of {total} jobs"
         if self.is_terminal:
             self.step(f"{words} done, {clock(time.monotonic() - self.begin)}")

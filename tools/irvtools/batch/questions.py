@@ -1,4 +1,4 @@
-"""Questions about a configuration: the arguments that ask them, and the file that lists them."""
+"""Questions about a configuration: their arguments, and the file that lists them."""
 
 from __future__ import annotations
 
@@ -19,7 +19,7 @@ USUAL = ("check", "verify", "audit")
 
 
 class Words(argparse.ArgumentParser):
-    """Reads the arguments of a question; wrong ones are refused."""
+    """Reads the arguments of a question; wrong ones are rejected."""
 
     def __init__(self):
         super().__init__(add_help=False, allow_abbrev=False)
@@ -29,7 +29,7 @@ class Words(argparse.ArgumentParser):
 
 
 def number(least: int, most: int) -> Callable[[str], int]:
-    """Returns a reader of whole numbers between two bounds."""
+    """Returns a reader of integers within two bounds."""
     def read(word):
         if not (word.isascii() and word.isdigit() and least <= int(word) <= most):
             raise argparse.ArgumentTypeError(
@@ -82,8 +82,7 @@ TAKES = {
 
 
 class Question:
-    """A question about a configuration: its kind, its arguments as they are given, and what they
-    say."""
+    """A question about a configuration: kind, arguments as given, and their values."""
 
     def __init__(self, kind, text):
         if kind not in TAKES:
@@ -106,7 +105,7 @@ class Question:
 
 
 def from_words(texts: Iterable[str]) -> list[Question]:
-    """Returns the questions about each configuration, by the arguments of the command line."""
+    """Returns the questions about each configuration, from the arguments."""
     questions = []
     for text in texts:
         kind, _, words = text.strip().partition(" ")
@@ -115,7 +114,7 @@ def from_words(texts: Iterable[str]) -> list[Question]:
 
 
 def without_duplicates(questions, place):
-    """Returns questions, each once; refuses an audit without a certificate."""
+    """Returns the questions without duplicates. Rejects an audit without a certificate."""
     once = [
         question for number_, question in enumerate(questions)
         if question not in questions[:number_]
@@ -127,7 +126,7 @@ def without_duplicates(questions, place):
 
 
 def read_list(file: Path, names: Iterable[str]) -> dict[str, list[Question]]:
-    """Returns the questions about each of these configurations, by a file."""
+    """Returns the questions about each configuration, from a file."""
     try:
         text = file.read_bytes().decode()
     except OSError as fault:
@@ -152,7 +151,7 @@ def read_list(file: Path, names: Iterable[str]) -> dict[str, list[Question]]:
 
 
 def take_row(row, asked):
-    """Takes a row of the file; an empty line is ignored."""
+    """Takes a row of the file; ignores empty lines."""
     if row.cells == [""]:
         return
     if len(row.cells) != len(HEADER):

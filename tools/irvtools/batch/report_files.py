@@ -1,4 +1,4 @@
-"""The files of a report that a pipeline reads: JUnit and CSV."""
+"""The report files for a pipeline: JUnit and CSV."""
 
 from __future__ import annotations
 
@@ -17,7 +17,7 @@ HEADER = ("configuration", "verdict", "question", "outcome", "answer", "seconds"
 
 
 def attributes(**values):
-    """Returns attributes of an element."""
+    """Returns an element's attributes."""
     return "".join(f" {key}={quoteattr(str(value))}" for key, value in values.items())
 
 
@@ -41,7 +41,7 @@ def test_case(row, result):
 
 
 def proved_word(report):
-    """Returns whether the program is known to be proved, in a word."""
+    """Returns in one word whether the program is known to be proved."""
     return "yes" if report["is_proved"] else "no"
 
 
@@ -62,18 +62,18 @@ def junit(report: dict[str, Any]) -> str:
 
 
 def cell(text):
-    """Returns a text that no spreadsheet takes for a formula: if it begins like one, its first
-    character is a number."""
+    """Returns a text that no spreadsheet takes for a formula. If it looks like one, its first
+    character becomes a number."""
     return f"\\x{ord(text[0]):02x}{text[1:]}" if text[:1] in tuple("=+-@") else text
 
 
 def checksums_of(result):
-    """Returns the checksums of an answer's files, each after the file's role."""
+    """Returns the checksums of an answer's files, each after its role."""
     return " ".join(f"{role}={checksum}" for role, _, checksum in result.files())
 
 
 def table(report: dict[str, Any]) -> str:
-    """Returns the report as CSV, with a line for each question."""
+    """Returns the report as CSV, one line per question."""
     out = io.StringIO()
     writer = csv.writer(out, lineterminator="\r\n")
     writer.writerow(HEADER)

@@ -1,5 +1,4 @@
-"""The index of a batch: a row for each configuration, the worst first, and below it the answer
-to each question."""
+"""The index of a batch: a row per configuration, worst first, then the answers."""
 
 from __future__ import annotations
 
@@ -19,20 +18,19 @@ SCRIPT = Path(__file__).with_name("index.js")
 HEADER = ("verdict", "configuration", "sections", "points", "routes", "broken rules", "safe by",
           "seconds", "MiB", "files")
 ANSWER_HEADER = ("configuration", "question", "outcome", "answer", "machine", "checksums (SHA-256)")
-# how the run below the first line of verify is called, by the first word of that line
+# Run names, by the first word of verify's first line.
 RUNS = {"unsafe": "run to the hazard", "breach": "run to the breach of the invariant",
         "not": "step out of the invariant"}
 
 
 def short_question(row, result):
-    """Returns a question in one word if the row has no other one of its kind, otherwise as a
-    whole."""
+    """Returns a question's kind if no other in the row has it, otherwise the whole question."""
     kinds = [each.kind for each in row.results]
     return result.kind if kinds.count(result.kind) == 1 else result.question
 
 
 def files_shown(row):
-    """Returns the links to the files of a row's answers: what each shows, and where it is."""
+    """Returns the links to a row's answer files, each with meaning and target."""
     for result in row.results:
         paths = {role: path for role, path, _ in result.files()}
         names = {"html": "HTML report", "certificate": "certificate", "report": report_name(result)}
@@ -41,7 +39,7 @@ def files_shown(row):
 
 
 def report_name(result):
-    """Returns what the output of a call shows."""
+    """Returns what a call's output shows."""
     first = result.line.split(" ")[0]
     if first == "refused":
         return "broken rules"
@@ -53,8 +51,7 @@ def report_name(result):
 
 
 def hazard_link(row):
-    """Returns the link to the hazard of a row: the frame of an HTML report, otherwise the run of
-    an answer, and nothing if the row has no hazard."""
+    """Returns the link to a row's hazard, if any: an HTML report's frame, or else an answer's run."""
     if row.verdict != HAZARD_FOUND:
         return ""
     found = [each for each in row.results if each.word == HAZARD_FOUND]
@@ -68,8 +65,7 @@ def hazard_link(row):
 
 
 def verdict_cell(row):
-    """Returns the cell with the word, the sentence, a link to the hazard, and what has no
-    answer."""
+    """Returns the cell with word, sentence, hazard link, and unanswered questions."""
     parts = [
         tag("span", text(row.verdict), class_="word") + text(f". {row.sentence}"),
         hazard_link(row)
@@ -81,13 +77,13 @@ def verdict_cell(row):
 
 
 def rules(row):
-    """Returns what check says about the rules."""
+    """Returns the answer of check about the rules."""
     lines = [each.line for each in row.results if each.kind == "check"]
     return "; ".join(lines) or "not asked"
 
 
 def row_markup(row, number):
-    """Returns a row of the index; `number` is its place."""
+    """Returns a row of the index; `number` is its position."""
     sizes = row.sizes or {}
     seconds = math.fsum(each.measure("seconds") for each in row.results)
     memory = max([each.measure("memory_kib", max) for each in row.results], default=0) / 1024
@@ -109,7 +105,7 @@ def number_cell(label, value):
 
 
 def labelled(label, markup, class_=None):
-    """Returns a cell that has its column's title before it on a narrow screen."""
+    """Returns a cell that shows its column's title on a narrow screen."""
     return tag("td", markup, class_=class_, data_label=label)
 
 
@@ -121,7 +117,7 @@ def index(rows):
 
 
 def tools(rows):
-    """Returns what filters the table. It is shown by the script."""
+    """Returns the controls that filter the table. The script shows them."""
     words = [row.verdict for row in rows]
     options = tag("option", "all", value="") + "".join(
         tag("option", text(f"{word} ({words.count(word)})"), value=word)
@@ -133,14 +129,14 @@ def tools(rows):
 
 
 def tone_of(result):
-    """Returns how an outcome is coloured."""
+    """Returns the colour of an outcome."""
     if result.outcome in (CONTRADICTION, HAZARD_FOUND, NO_ANSWER):
         return "bad"
     return "warn" if result.outcome not in (GOOD, LEFT_OUT) else None
 
 
 def answer_rows(row):
-    """Returns a row for each question: its outcome, its answer, and folded its checksums."""
+    """Returns a row per question: outcome, answer, and folded checksums."""
     for result in row.results:
         sums = [("configuration", row.checksum), ("job", result.key),
                 *((role, checksum) for role, _, checksum in result.files())]
@@ -163,7 +159,7 @@ def answers(rows):
 
 
 def notes(report, rows):
-    """Returns what a reader must know before the table."""
+    """Returns what a reader must know first."""
     missing = sum(len(row.missing) for row in rows)
     wrong = sum(row.is_contradiction for row in rows)
     found = []
@@ -192,7 +188,7 @@ def foundations(report):
 
 
 def page(report: dict[str, Any]) -> str:
-    """Returns the page's text."""
+    """Returns the page as a text."""
     rows, title = rows_of(report), "Batch verification of interlockings"
     counts = f"{len(rows)} configurations of {report['directory']}: {verdict_counts(rows)}."
     parts = [tag("h1", title), tag("p", text(counts)), *notes(report, rows), tools(rows),

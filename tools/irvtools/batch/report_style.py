@@ -1,4 +1,4 @@
-"""What the index of a batch has in its style besides what all pages share."""
+"""The style of a batch's index, besides the shared style."""
 
 CSS = """
 table{width:100%}td{overflow-wrap:anywhere}th{white-space:nowrap}

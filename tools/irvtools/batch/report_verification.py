@@ -1,10 +1,9 @@
-"""Checks a finished directory of results on one machine, with a program of this machine: each
-checksum, each certificate by audit, each run by replay, each refutation by rup, each verdict, and
-that the report files say what the answers are.
+"""Checks finished results with a program of this machine: checksums and verdicts, certificates by
+audit, runs by replay, and refutations by rup. The report files have to match the answers.
 
-Nothing is believed of the machines that did the work. Answers that can't be checked are counted:
-those that say nothing about the interlocking, and HTML reports, of which the checksum and the first
-line are compared.
+The machines that did the work are not trusted. Answers that can't be checked are counted: those
+that say nothing about the interlocking, and HTML reports. Only a report's checksum and first line
+are compared.
 """
 
 from __future__ import annotations
@@ -32,8 +31,8 @@ from irvtools.calls.refusal import Refused
 from irvtools.calls.verdict import SAFE
 from irvtools.checkers.verify_with import name_of, queries_for
 
-AFTERWARDS = ("key", "after")           # what a job has besides what its key is the checksum of
-# how a good answer of each kind begins, and the answer of an audit that had nothing to do
+AFTERWARDS = ("key", "after")           # a job's members outside its key's checksum
+# Start of a good answer by kind; the last is audit's answer without a task.
 GOOD_LINES = {
     "check": "clean", "verify": "safe k=", "audit": "accepted k=", "drive": "driven steps=",
     "html": f"{SAFE}. ", "export": "p cnf ", "solve": "a refutation", "rup": "refuted ",
@@ -44,18 +43,18 @@ HAS_WORDS = ("check", "verify", "audit", "drive", "export", "rup")
 
 
 class Fault(Exception):
-    """Something isn't as the report says: the message says what."""
+    """Something differs from the report. The message says what."""
 
 
 def texts_of(report: dict[str, Any]) -> dict[str, bytes]:
-    """Returns the texts that are made of a report, by their files."""
+    """Returns the texts made from a report, by file."""
     return {report_page.FILE: report_page.page(report).encode(),
             report_files.XML: report_files.junit(report).encode(),
             report_files.TABLE: report_files.table(report).encode()}
 
 
 def same_bytes(path, checksum, what):
-    """Returns the path of a file if it has this checksum; otherwise that is a fault."""
+    """Returns a file's path. Raises a fault if its checksum differs."""
     try:
         found = checksum_of_file(path)
     except OSError as fault:
@@ -66,7 +65,7 @@ def same_bytes(path, checksum, what):
 
 
 class Verifier:
-    """Checks a directory of results by a program."""
+    """Checks a results directory with a program."""
 
     def __init__(self, store, program, room, progress):
         self.store, self.program, self.room, self.progress = store, program, Path(room), progress
@@ -74,7 +73,7 @@ class Verifier:
         self.jobs, self.seen, self.unchecked = self.report["jobs"], {}, 0
 
     def faults(self):
-        """Yields all that isn't as the report says."""
+        """Yields everything that differs from the report."""
         try:
             texts, rows = texts_of(self.report), rows_of(self.report)
         except (KeyError, TypeError, ValueError, AttributeError) as fault:
@@ -93,7 +92,7 @@ class Verifier:
 
     @staticmethod
     def tried(where, check):
-        """Yields the fault that a check finds, if it finds one."""
+        """Yields the fault that a check finds, if any."""
         try:
             check()
         except (Fault, NoAnswer, Refused, OSError) as fault:
@@ -102,8 +101,8 @@ class Verifier:
             yield f"{where}: the report is not as it should be: {fault!r}"
 
     def check_program(self):
-        """Sees that the program has its checksum. If the report says that it is proved, this
-        machine must know the same program as proved."""
+        """Checks the program's checksum. If the report calls the program proved, this machine must
+        too."""
         checksum = self.report["program"]
         same_bytes(self.store.given(checksum), checksum, "the file")
         is_known = checksum_of_file(self.program) == checksum and is_proved(self.program)
@@ -112,7 +111,7 @@ class Verifier:
                         "program with its checksum")
 
     def check_row(self, row):
-        """Sees that the sizes and the verdict of a configuration are right."""
+        """Checks the sizes and the verdict of a configuration."""
         path = same_bytes(self.store.given(row.checksum), row.checksum, "the configuration")
         if sizes_of(path.read_bytes()) != row.sizes:
             raise Fault("the configuration has other sizes")
@@ -121,7 +120,7 @@ class Verifier:
             raise Fault(f"the verdict {row.word} is not that of the answers")
 
     def check_result(self, row, result):
-        """Sees that the answer to a question is right, with all that was done for it."""
+        """Checks a question's answer, and all jobs for it."""
         kind, _, words = result.asked.partition(" ")
         if result.job["configuration"] != row.checksum or result.kind != kind:
             raise Fault("the answer is to something else")
@@ -135,7 +134,7 @@ class Verifier:
         self.checked(result.key)
 
     def checked(self, key):
-        """Checks a job and all that it needs; each once."""
+        """Checks a job and all that it needs, each once."""
         if key not in self.seen:
             self.seen[key] = None
             try:
@@ -146,7 +145,7 @@ class Verifier:
             raise Fault(self.seen[key])
 
     def check_job(self, key, job, answer, **more):
-        """Sees that a job's answer is its own, and right as far as that can be checked."""
+        """Checks that an answer is its job's, and right as far as possible."""
         made_of = {name: job[name] for name in job if name not in AFTERWARDS}
         is_of_here = job["program"] == self.report["program"] and job["form"] == FORM
         if checksum_of(text_of(made_of)) != key or not is_of_here:
@@ -165,7 +164,7 @@ class Verifier:
 
     @staticmethod
     def check_form(job, answer):
-        """Sees that a job is asked with its columns, and that only a good line is called good."""
+        """Checks that a job has its columns, and that only good lines are called good."""
         kind, line = job["kind"], answer["line"]
         if kind in HAS_WORDS and job["words"][:2] != ["--columns", job["columns"]]:
             raise Fault("its arguments have other columns")
@@ -174,50 +173,49 @@ class Verifier:
             raise Fault(f"{line} is wrongly called good, or not good")
 
     def file(self, job, key, file):
-        """Returns the path of a file of an answer."""
+        """Returns the path of an answer's file."""
         return self.store.directory({**job, "key": key}) / Path(file["name"]).name
 
     def ask(self, job, command, *words):
-        """Asks the program of this machine about a job's configuration, whose checksum must be
-        right."""
+        """Asks this machine's program about a job's configuration. Its checksum must be right."""
         path = same_bytes(self.store.given(job["configuration"]), job["configuration"],
                           "the configuration")
         return call_program(self.program, path, self.room, command, *words)
 
     def expect(self, done, line, what):
-        """Sees that a call answers with this line."""
+        """Checks that a call answers with this line."""
         if done.line != line:
             raise Fault(f"{what} says {done.line}, and the report says {line}")
 
     def leave(self, _job, _answer):
-        """Counts an answer that is checked only by its checksum."""
+        """Counts an answer that only its checksum checks."""
         self.unchecked += 1
 
     def again(self, job, answer, *words):
-        """Asks the same again: all of the output must be the same."""
+        """Repeats a call. The whole output must be the same."""
         done = self.ask(job, job["kind"], *job["words"], *words)
         self.expect(done, answer["line"], f"irv {job['kind']}")
         if checksum_of_file(done.output) != answer["files"]["report"]["checksum"]:
             raise Fault(f"irv {job['kind']} prints another output")
 
     def check_check(self, job, answer):
-        """Asks again which rules are broken."""
+        """Asks again for the broken rules."""
         self.again(job, answer)
 
     def check_drive(self, job, answer):
-        """Drives the scenario again."""
+        """Simulates the scenario again."""
         scenario = same_bytes(self.store.given(job["scenario"]), job["scenario"], "the scenario")
         self.again(job, answer, f"--run={scenario}")
 
     def check_html(self, job, answer):
-        """Sees that the report's first line is the answer."""
+        """Checks that the report's first line is the answer."""
         page = self.file(job, job["key"], answer["files"]["html"])
         if html_verdicts.read(page)[1:] != (answer["line"], answer["anchor"]):
             raise Fault("the HTML report has another first line than its answer")
         self.unchecked += 1
 
     def check_verify(self, job, answer):
-        """Has a certificate audited or a run replayed, or asks for a refusal again."""
+        """Audits a certificate, replays a run, or asks again for a refusal."""
         columns, line = ["--columns", job["columns"]], answer["line"]
         if line.startswith("safe "):
             if "certificate" not in answer["files"]:
@@ -233,7 +231,7 @@ class Verifier:
             self.replayed(job, answer, columns)
 
     def replayed(self, job, answer, columns):
-        """Has the run below a verdict replayed."""
+        """Replays the run below a verdict."""
         report = self.file(job, job["key"], answer["files"]["report"]).read_bytes()
         line, _, run = report.partition(b"\n")
         (self.room / "printed.run").write_bytes(run)
@@ -245,8 +243,7 @@ class Verifier:
             raise Fault(f"irv replay says {done.line} about the run below {answer['line']}")
 
     def check_audit(self, job, answer):
-        """Sees that the answer is the one to the certificate of verify, which was checked with
-        verify."""
+        """Checks that the answer is for verify's certificate, which verify's check covers."""
         verdict = self.jobs[job["needs"]["verify"]]
         line = verdict["answer"]["line"]
         expected = f"accepted {line[5:]}" if line.startswith("safe ") else f"{NO_CERTIFICATE}{line}"
@@ -254,7 +251,7 @@ class Verifier:
             raise Fault(f"the report says {answer['line']} instead of {expected}")
 
     def check_rup(self, job, answer):
-        """Checks a refutation again. If there is none, that says nothing about the interlocking."""
+        """Checks a refutation again. A missing one says nothing about the interlocking."""
         if not answer["files"]:
             if answer["is_good"]:
                 raise Fault(f"the report says {answer['line']} without a refutation")
@@ -269,7 +266,7 @@ class Verifier:
             raise Fault(f"the report says {answer['line']} about {name_of(job['query'])}")
 
     def check_verify_with(self, job, answer):
-        """Sees that the answer follows from those of rup to each query."""
+        """Checks that the answer follows from rup's answers for the queries."""
         if job["queries"] != [list(query) for query in queries_for(job["k"])]:
             raise Fault(f"these are not the queries of k={job['k']}")
         others = {name: self.jobs[key] for name, key in job["needs"].items()}
@@ -280,8 +277,8 @@ class Verifier:
 
 
 def verify(store: Store, program: Path, progress: Progress) -> tuple[list[str], int, int]:
-    """Checks a directory; returns the faults, how many answers there are, and how many of them
-    were checked only by their checksums."""
+    """Checks a directory. Returns the faults, the number of answers, and how many only their
+    checksums check."""
     with tempfile.TemporaryDirectory(prefix="irv-batch-") as room:
         verifier = Verifier(store, program, room, progress)
         faults = list(verifier.faults())

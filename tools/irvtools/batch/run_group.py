@@ -1,8 +1,8 @@
-"""Does what Snakemake asks for: one job, or the jobs of a group one after the other.
+"""Does what Snakemake asks for: one job, or a group's jobs in turn.
 
-Snakemake calls `tools/batch --run-job KEY` or `tools/batch --run-group GROUP` in the directory of
-the results. Each job of a group has its own process: if one is killed, the others go on. A job that
-needs an answer which does not exist is not begun.
+Snakemake calls `tools/batch --run-job KEY` or `tools/batch --run-group GROUP` in the results
+directory. Each job of a group has its own process: if one is killed, the others continue. A job
+without a needed answer is not begun.
 """
 
 from __future__ import annotations
@@ -18,7 +18,7 @@ from irvtools.batch.worker import prepare, work
 
 
 def work_apart(store, key):
-    """Does a job in its own process, which ends with this one, and waits for its end."""
+    """Does a job in its own process, which ends with this one. Waits for its end."""
     worker = os.fork()
     if worker:
         os.waitpid(worker, 0)
@@ -27,15 +27,15 @@ def work_apart(store, key):
     try:
         end_with_parent()
         status = work(store, key)
-    except BaseException:  # shown as by a process that has no other above it
+    except BaseException:  # shown as by a process without a parent here
         sys.excepthook(*sys.exc_info())
     finally:
         os._exit(status)
 
 
 def is_done(store, key):
-    """Does a job if it has no answer yet and all that it needs have theirs; returns whether it
-    has an answer then."""
+    """Does a job if it has no answer and its needed jobs have theirs. Returns whether it then has
+    an answer."""
     job = store.job(key)
     if store.answer(job) is None and all(
             store.answer(store.job(need)) for need in job["needs"].values()):
@@ -45,8 +45,8 @@ def is_done(store, key):
 
 
 def run(option: str, name: str) -> int:
-    """Does the job or the group with this name in the current directory; returns 0 if each job
-    has its answer, otherwise 1."""
+    """Does the named job or group in the current directory. Returns 0 if each job has its answer,
+    otherwise 1."""
     store = Store(Path.cwd().resolve())
     if option == "--run-job":
         return work(store, name)

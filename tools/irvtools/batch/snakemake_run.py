@@ -1,5 +1,4 @@
-"""Has Snakemake do the jobs that have no answer yet. One call at a time works in a directory of
-results."""
+"""Runs Snakemake on the jobs without an answer. One call at a time works in a results directory."""
 
 from __future__ import annotations
 
@@ -23,20 +22,19 @@ from irvtools.calls.refusal import Refused
 
 ENGINE = "snakemake"
 SNAKEFILE = Path(__file__).resolve().parent / "Snakefile"
-SEEN_WITHIN = 60        # seconds within which this machine sees what another one wrote
+SEEN_WITHIN = 60        # seconds until this machine sees what another one wrote
 MISSING = ("Snakemake is not installed, and runs the jobs; install it, for example by "
            "`apt-get install --no-install-recommends snakemake`")
 
 
 def need_engine() -> None:
-    """Refuses to go on without Snakemake."""
+    """Raises an error if Snakemake is missing."""
     if shutil.which(ENGINE) is None:
         raise Refused(MISSING)
 
 
 def version_in(store: Store) -> str:
-    """Returns Snakemake's name and version, which it wrote when it last had something to do
-    here."""
+    """Returns Snakemake's name and version, from its last run in this directory."""
     try:
         return f"{ENGINE} {(store.top / 'engine').read_text(encoding='utf-8').strip()}"
     except (OSError, ValueError):
@@ -45,8 +43,7 @@ def version_in(store: Store) -> str:
 
 @contextlib.contextmanager
 def alone(store: Store) -> Iterator[BinaryIO]:
-    """While it is open no other call works in the directory, nor a Snakemake that an earlier
-    call left."""
+    """Locks the directory against other calls, and against a Snakemake that an earlier call left."""
     with open(store.top / "lock", "wb") as lock:
         try:
             fcntl.flock(lock, fcntl.LOCK_EX | fcntl.LOCK_NB)
@@ -58,7 +55,7 @@ def alone(store: Store) -> Iterator[BinaryIO]:
 
 
 def remove_temporary(store):
-    """Removes what jobs that were stopped have left, and the groups."""
+    """Removes the groups and the temporary files of stopped jobs."""
     for left in (*store.making.iterdir(), *store.groups.iterdir()):
         if left.is_dir() and not left.is_symlink():
             shutil.rmtree(left, ignore_errors=True)
@@ -67,8 +64,8 @@ def remove_temporary(store):
 
 
 def sweep(store: Store, jobs: dict[str, dict[str, Any]]) -> tuple[list[dict[str, Any]], set[str]]:
-    """Removes what earlier calls left, and each answer that is not whole; returns the jobs that
-    have no answer, and the keys of those of them that were begun before."""
+    """Removes the remains of earlier calls and incomplete answers. Returns the jobs without an
+    answer, and the keys of those begun before."""
     remove_temporary(store)
     missing = [job for job in jobs.values() if store.answer(job) is None]
     tried = {job["key"] for job in missing if store.failure(job) is not None}
@@ -79,7 +76,7 @@ def sweep(store: Store, jobs: dict[str, dict[str, Any]]) -> tuple[list[dict[str,
 
 
 def words_of(store, handed_on):
-    """Returns the command line of Snakemake. It does a job again only if that was stopped."""
+    """Returns Snakemake's command line. It repeats only stopped jobs."""
     return [
         ENGINE, "--snakefile",
         str(SNAKEFILE), "--directory",
@@ -89,7 +86,7 @@ def words_of(store, handed_on):
 
 
 def watch(child, store, missing, progress):
-    """Waits for Snakemake's end, and says meanwhile how far it is."""
+    """Waits for Snakemake's end and reports progress meanwhile."""
     while True:
         progress.count(sum(store.answer_file(job).exists() for job in missing), len(missing))
         with contextlib.suppress(subprocess.TimeoutExpired):
@@ -98,7 +95,7 @@ def watch(child, store, missing, progress):
 
 def put_targets(store: Store, groups: list[list[dict[str, Any]]],
                 apart: list[dict[str, Any]]) -> None:
-    """Keeps the groups, and the files for which Snakemake is asked."""
+    """Keeps the groups and the list of Snakemake's target files."""
     ends = [store.group_end(store.put_group(group))
             for group in groups] + [store.answer_file(job) for job in apart]
     targets = [os.path.relpath(end, store.top) for end in ends]
@@ -106,8 +103,8 @@ def put_targets(store: Store, groups: list[list[dict[str, Any]]],
 
 
 def see_groups(store):
-    """Waits until the answers of finished groups are seen: a file system that many machines
-    share may show a file late, and Snakemake has seen only the ends of groups."""
+    """Waits until the answers of finished groups are visible. A file system shared by many machines
+    may show them late, and Snakemake saw only the group ends."""
     end = time.monotonic() + SEEN_WITHIN
     keys = {key for group in store.groups.glob("*.done") for key in store.group(group.stem)}
     while any(store.answer(store.job(key)) is None for key in keys) and time.monotonic() < end:
@@ -115,8 +112,8 @@ def see_groups(store):
 
 
 def stop(child, store):
-    """Ends Snakemake and its jobs on this machine, and removes their temporary files. If it is
-    interrupted again, it waits no longer."""
+    """Ends Snakemake and its jobs on this machine, and removes their temporary files. A second
+    interrupt ends the wait."""
     number = signal.SIGTERM
     while child.poll() is None:
         with contextlib.suppress(ProcessLookupError):
@@ -130,9 +127,8 @@ def stop(child, store):
 
 def do_all(store: Store, missing: list[dict[str, Any]], handed_on: list[str], lock: BinaryIO,
            progress: Progress) -> int:
-    """Has Snakemake do what it was asked for, which gives these jobs their answers; returns its
-    exit status. Its output goes to a file. It has its own group of processes, so that all of
-    them can be ended."""
+    """Runs Snakemake on the targets to answer these jobs. Returns its exit status. Its output goes
+    to a file. It has its own process group, so all its processes can be ended."""
     with open(store.top / "snakemake.log", "wb") as log:
         child = subprocess.Popen(words_of(store, handed_on), stdin=subprocess.DEVNULL, stdout=log,
                                  stderr=log, pass_fds=[lock.fileno()], start_new_session=True,

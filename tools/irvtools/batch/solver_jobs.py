@@ -1,4 +1,4 @@
-"""Does the jobs that show safety by refutations of another solver; job_kinds.py does the others."""
+"""Does the jobs that show safety by another solver's refutations; job_kinds.py does the others."""
 
 from __future__ import annotations
 
@@ -11,7 +11,7 @@ from irvtools.batch.program_answers import NoAnswer
 
 
 def do_export(store, job, room):
-    """Writes the formula of a query."""
+    """Writes a query's formula."""
     done = ask(store, job, room, "export", *job["words"])
     if done.status != 0:
         return answered(done, False)
@@ -22,7 +22,7 @@ def do_export(store, job, room):
 
 
 def version_of(program, room):
-    """Returns what a solver prints as its version."""
+    """Returns the version that a solver prints."""
     try:
         done = Called([program, "--version"], None, room, 10)
     except NoAnswer:
@@ -31,7 +31,7 @@ def version_of(program, room):
 
 
 def do_solve(store, job, room):
-    """Has another solver refute a formula; the line says if there is no refutation, and why."""
+    """Asks another solver to refute a formula. The line says so if there is no refutation, and why."""
     cnf, formula = file_of(store, job, "export formula")
     if cnf is None:
         return without_call(formula["line"], False)
@@ -58,7 +58,7 @@ def do_solve(store, job, room):
 
 
 def do_rup(store, job, room):
-    """Has the program check whether the solver's text refutes the query."""
+    """Checks with the program whether the solver's text refutes the query."""
     proof, solved = file_of(store, job, "solve refutation")
     if proof is None:
         return without_call(solved["line"], False)
@@ -68,9 +68,9 @@ def do_rup(store, job, room):
 
 def safe_by_line(job: dict[str, Any],
                  rups: dict[str, tuple[dict[str, Any], dict[str, Any]]]) -> tuple[str, bool]:
-    """Returns the line of verify_with, and whether it says safe. `rups` has the jobs of rup and
-    their answers by the names of the queries on which safety at k depends. Each must be for its
-    query, for this configuration with these columns, and by this program."""
+    """Returns the line of verify_with, and whether it says safe. `rups` has rup jobs and answers,
+    by the queries on which safety at k depends. Each must be for its query, this program,
+    configuration and columns."""
     left, refused = [], None
     for query in job["queries"]:
         other, answer = rups[name_of(query)]
@@ -85,7 +85,7 @@ def safe_by_line(job: dict[str, Any],
 
 
 def do_verify_with(store, job, _room):
-    """Says safe if each query on which safety at k depends was refuted."""
+    """Answers safe if each query on which safety at k depends was refuted."""
     rups = {}
     for name, key in job["needs"].items():
         other = store.job(key)

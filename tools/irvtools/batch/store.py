@@ -1,11 +1,10 @@
-"""The directory of the results, in which each thing is named by the checksum of what it is made of.
+"""The results directory. Everything in it is named by the checksum of its inputs.
 
-No file in it is ever half written: it is written under another name, and gets its own when all of
-it is there. The answer of a job is the last of its files that gets its name, and it names the
-checksums of the others; so a job that was stopped has no answer. An answer and its files are on the
-disk before they get their names. That is not waited for if the bytes or the checksum are compared
-before a file is used again: configurations, scenarios, the program, and the files that list jobs
-and groups.
+No file is ever incomplete: it is written under another name and renamed at the end. A job's answer
+is renamed last, and names the other files' checksums. So a stopped job has no answer. An answer and
+its files are on the disk before they are renamed. This wait is omitted if bytes or checksum are
+compared before each use: for configurations, scenarios, the program, and the lists of jobs and
+groups.
 """
 
 from __future__ import annotations
@@ -17,9 +16,9 @@ import tempfile
 from pathlib import Path
 from typing import Any
 
-MARK = "irv-batch"               # the file by which a directory of results is known
+MARK = "irv-batch"               # marks a results directory
 PIECE = 1 << 20
-PROVED_NOTE = ".built"          # what the name of the note of a proof has after the program's
+PROVED_NOTE = ".built"          # suffix of the note of a program's proof
 RIGHTS = 0o666
 
 
@@ -38,7 +37,7 @@ def checksum_of_file(path: Path) -> str:
 
 
 def text_of(value: Any) -> bytes:
-    """Returns a value as the bytes of which a checksum is made: one text for one value."""
+    """Returns a value as bytes for a checksum: one text per value."""
     return json.dumps(value, sort_keys=True, separators=(",", ":")).encode()
 
 
@@ -49,14 +48,14 @@ def settle(path):
 
 
 def usual_rights():
-    """Returns the rights that a new file has here."""
+    """Returns the permissions of a new file here."""
     mask = os.umask(0)
     os.umask(mask)
     return RIGHTS & ~mask
 
 
 class Store:
-    """The directory of the results."""
+    """The results directory."""
 
     def __init__(self, top):
         self.top = Path(top)
@@ -65,14 +64,14 @@ class Store:
         self.groups = self.top / "groups"
 
     def prepare(self):
-        """Makes the directories that always exist."""
+        """Creates the fixed directories."""
         for path in (self.making, self.failures, self.groups, self.top / "jobs",
                      self.top / "given"):
             path.mkdir(parents=True, exist_ok=True)
 
     def put(self, path, data, is_settled=True):
-        """Writes a file as a whole or not at all, and waits until it is on the disk if
-        `is_settled`; returns its path."""
+        """Writes a file completely or not at all. Returns its path. Waits until it is on the disk
+        if `is_settled`."""
         path.parent.mkdir(parents=True, exist_ok=True)
         handle, name = tempfile.mkstemp(dir=self.making)
         try:
@@ -86,18 +85,18 @@ class Store:
         return path
 
     def take_in(self, made, path, is_settled=True):
-        """Gives a file that was made in this directory its name."""
+        """Renames a file that was made in this directory."""
         if is_settled:
             settle(made)
         path.parent.mkdir(parents=True, exist_ok=True)
         os.replace(made, path)
 
     def given(self, checksum):
-        """Returns the path of a configuration, a scenario or the program with this checksum."""
+        """Returns the path of a configuration, scenario or program with this checksum."""
         return self.top / "given" / checksum
 
     def give(self, data):
-        """Keeps a configuration, a scenario or the program; returns its checksum."""
+        """Keeps a configuration, scenario or program. Returns its checksum."""
         checksum = checksum_of(data)
         path = self.given(checksum)
         if not path.is_file() or checksum_of_file(path) != checksum:
@@ -105,8 +104,7 @@ class Store:
         return checksum
 
     def give_program(self, data, note):
-        """Keeps the program, with the note of its proof or without one if it is None; returns
-        its checksum."""
+        """Keeps the program, and the note of its proof unless `None`. Returns its checksum."""
         checksum = self.give(data)
         path = self.given(checksum)
         path.chmod(0o755)
@@ -118,11 +116,11 @@ class Store:
         return checksum
 
     def job_file(self, key):
-        """Returns the path of the file that describes a job."""
+        """Returns the path of a job's description."""
         return self.top / "jobs" / f"{key}.json"
 
     def job(self, key):
-        """Returns the description of a job."""
+        """Returns a job's description."""
         return json.loads(self.job_file(key).read_bytes())
 
     def directory(self, job):
@@ -134,8 +132,7 @@ class Store:
         return self.directory(job) / "answer.json"
 
     def answer(self, job):
-        """Returns a job's answer, or None if there is none or if one of its files has another
-        length."""
+        """Returns a job's answer, or `None` if it is missing or a file's length differs."""
         try:
             answer = json.loads(self.answer_file(job).read_bytes())
             whole = answer["key"] == job["key"] and all(
@@ -146,15 +143,15 @@ class Store:
         return answer if whole else None
 
     def group_file(self, group):
-        """Returns the path of the file with the keys of a group's jobs."""
+        """Returns the path of a group's job keys."""
         return self.groups / f"{group}.json"
 
     def group_end(self, group):
-        """Returns the path of the file that exists once each job of a group has its answer."""
+        """Returns the path of the file that exists if all jobs of a group have answers."""
         return self.groups / f"{group}.done"
 
     def put_group(self, jobs):
-        """Keeps a group; returns its name."""
+        """Keeps a group. Returns its name."""
         keys = text_of([job["key"] for job in jobs])
         self.put(self.group_file(checksum_of(keys)), keys, is_settled=False)
         return checksum_of(keys)
@@ -164,11 +161,11 @@ class Store:
         return json.loads(self.group_file(group).read_bytes())
 
     def failure_file(self, key):
-        """Returns the path of the file that says why a job has no answer."""
+        """Returns the path of the reason for a job's missing answer."""
         return self.failures / f"{key}.json"
 
     def failure(self, job):
-        """Returns why a job has no answer, or None if that is not known."""
+        """Returns why a job has no answer, or `None` if unknown."""
         try:
             return json.loads(self.failure_file(job["key"]).read_bytes())["why"]
         except (OSError, ValueError, KeyError, TypeError):

@@ -1,10 +1,8 @@
-"""What the answers to all questions about a configuration come to: a verdict's word and its
-sentence.
+"""The verdict from all answers about a configuration: its word and its sentence.
 
-`irvtools.calls.verdict` gives the verdict of the program's own answers. The verdict of an HTML
-report is the one that the report says first. A verdict of verify_with depends on `irv rup` and
-on the script that asked for all queries. The strongest of these is the configuration's, in the
-order of `STRENGTH`."""
+`irvtools.calls.verdict` gives the verdict of the program's own answers. An HTML report has its
+verdict at the top. A verdict of verify_with depends on `irv rup` and on the script that asked all
+queries. The configuration gets the strongest verdict, in the order of `STRENGTH`."""
 
 from __future__ import annotations
 
@@ -15,17 +13,17 @@ from irvtools.batch.store import Store
 from irvtools.calls import verdict
 from irvtools.calls.verdict import Answered, Verdict
 
-# which word prevails if answers come to different ones, the strongest first
+# Strongest word first, for answers that disagree.
 STRENGTH = (verdict.HAZARD_FOUND, verdict.SAFE_WITH_DEVIATIONS, verdict.SAFE, verdict.REFUSED,
             verdict.NOT_SHOWN)
 OF_PROGRAM = ("check", "verify", "drive")
 NAMES = {"html": "--html",
-         "verify_with": "--verify-with"}  # of the calls that aren't commands of the program
+         "verify_with": "--verify-with"}  # calls that aren't commands of the program
 REFUSED_STATUS = 5
 
 
 def output_of(store, job, answer) -> str:
-    """Returns the output of a call as far as a verdict needs it: all of a refusal, otherwise the
+    """Returns the part of a call's output that a verdict needs: a whole refusal, otherwise the
     first line."""
     if answer["status"] != REFUSED_STATUS:
         return f"{answer['line']}\n"
@@ -34,8 +32,7 @@ def output_of(store, job, answer) -> str:
 
 
 def answered(store, job, answer) -> Answered:
-    """Returns an answer of the program in the form that a verdict takes. `answer` is None if
-    there is none."""
+    """Returns an answer of the program in a verdict's form. `answer` is `None` if missing."""
     if answer is None:
         return Answered(NAMES.get(job["kind"], job["kind"]), job["columns"], None, "")
     return Answered(job["kind"], job["columns"], answer["status"], output_of(store, job, answer))
@@ -43,8 +40,7 @@ def answered(store, job, answer) -> Answered:
 
 def of_job(store: Store, job: dict[str, Any],
            answer: dict[str, Any] | None) -> tuple[str, str] | None:
-    """Returns the word and the sentence to which one answer comes, or None if its kind says
-    nothing of that."""
+    """Returns one answer's word and sentence, or `None` if its kind has no verdict."""
     if answer is None:
         return None
     if job["kind"] == "html":
@@ -58,7 +54,7 @@ def of_job(store: Store, job: dict[str, Any],
 
 
 def of_refutations(job, answer) -> tuple[str, str]:
-    """Returns the word and the sentence of verify_with."""
+    """Returns the word and sentence of verify_with."""
     call = f"verify_with with {job['columns']} columns: {answer['line']}"
     if answer["is_good"]:
         return verdict.SAFE, (
@@ -72,8 +68,7 @@ def of_refutations(job, answer) -> tuple[str, str]:
 def of_configuration(
         store: Store,
         jobs: list[tuple[dict[str, Any], dict[str, Any] | None]]) -> tuple[str, str]:
-    """Returns the word and the sentence of a configuration, by all jobs about it and their
-    answers, in pairs."""
+    """Returns a configuration's word and sentence, from pairs of jobs and answers."""
     of_program = [answered(store, job, answer) for job, answer in jobs
                   if job["kind"] in OF_PROGRAM or answer is None and job["kind"] in NAMES]
     others = [of_job(store, job, answer) for job, answer in jobs if job["kind"] not in OF_PROGRAM]
@@ -85,10 +80,10 @@ def of_configuration(
 
 
 def strongest(found: Iterable[tuple[str, str]]) -> tuple[str, str]:
-    """Returns the strongest of words with their sentences; the first of equal ones."""
+    """Returns the strongest word with its sentence; the first of equal ones."""
     return min(found, key=lambda pair: STRENGTH.index(pair[0]))
 
 
 def tone(word: str, is_proved: bool) -> str:
-    """Returns how a word is coloured: good, warn or bad."""
+    """Returns a word's colour: good, warn or bad."""
     return Verdict(word, "", is_proved).tone

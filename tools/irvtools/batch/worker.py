@@ -1,6 +1,5 @@
-"""Does one job in this process, and keeps its answer. The answer gets its name last, when all
-its files are on the disk. From the beginning of the job until then failures/KEY.json says why
-there is no answer."""
+"""Does one job in this process, and keeps its answer. The answer is renamed last, when all its
+files are on the disk. Until then failures/KEY.json says why it is missing."""
 
 from __future__ import annotations
 
@@ -20,8 +19,7 @@ NO_WORD = "the job ended without a message, which happens if it is killed"
 
 
 def keep(store, job, answer):
-    """Keeps the files of a job's answer, then the answer. If another worker was earlier, its
-    answer stays."""
+    """Keeps a job's files, then its answer. An earlier worker's answer stays."""
     files = {}
     for role, path in answer.pop("files").items():
         length, checksum = path.stat().st_size, checksum_of_file(path)
@@ -34,7 +32,7 @@ def keep(store, job, answer):
 
 
 def note_failure(store, key, why):
-    """Keeps why there is no answer. If nothing can be written, says so."""
+    """Records why there is no answer, or reports that this can't be written."""
     try:
         store.put(store.failure_file(key), text_of({"why": why, "machine": machine()}),
                   is_settled=False)
@@ -43,26 +41,26 @@ def note_failure(store, key, why):
 
 
 def module_for(kind):
-    """Returns the module that does a kind of job. Only that one is imported, since most jobs
-    take less time than the imports."""
+    """Returns the module for a kind of job. Only that one is imported: most jobs are shorter than
+    the imports."""
     return importlib.import_module(
         f"irvtools.batch.{'job_kinds' if kind in OF_PROGRAM else 'solver_jobs'}")
 
 
 def doer(kind):
-    """Returns the function that does a kind of job."""
+    """Returns the function for a kind of job."""
     return module_for(kind).DOES[kind]
 
 
 def prepare(store: Store, job: dict[str, Any]) -> None:
-    """Reads what a job needs besides its own files, once for all jobs of a group."""
+    """Reads a job's shared inputs, once for all jobs of a group."""
     doer(job["kind"])
     with contextlib.suppress(NoAnswer, OSError):
         module_for("check").checked(store, job["program"])
 
 
 def work(store: Store, key: str) -> int:
-    """Does a job; returns the exit status."""
+    """Does a job. Returns the exit status."""
     try:
         note_failure(store, key, NO_WORD)
         job = store.job(key)

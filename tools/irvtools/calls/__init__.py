@@ -1,1 +1,1 @@
-"""Calls of the program, and what its answers look like."""
+"""Calls of the program, and its answers."""

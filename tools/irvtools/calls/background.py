@@ -1,4 +1,4 @@
-"""A call of the program that runs beside other work, and can be ended."""
+"""A call that runs beside other work and can be ended."""
 
 import subprocess
 import time
@@ -6,11 +6,11 @@ from pathlib import Path
 
 from irvtools.calls.program import Answer
 
-END_SECONDS = 5         # in which a call that is ended has to be gone
+END_SECONDS = 5         # time for an ended call to stop
 
 
 class Beside:
-    """A call that runs. Its streams are files, so that it waits for nobody."""
+    """A running call. Its streams are files, so it never blocks."""
 
     def __init__(self, program, words):
         self.words, self.begin = words, time.monotonic()
@@ -27,11 +27,11 @@ class Beside:
 
     @property
     def seconds(self):
-        """How long ago it began."""
+        """Returns the seconds since it began."""
         return time.monotonic() - self.begin
 
     def poll(self):
-        """The answer, or None if it hasn't come."""
+        """Returns the answer, or `None` so far."""
         if self.answer is None and self.process.poll() is not None:
             seconds = self.seconds
             output, errors = (file.read_bytes().decode(errors="replace") for file in self.files[1:])
@@ -40,7 +40,7 @@ class Beside:
         return self.answer
 
     def end(self, why):
-        """Ends it if it hasn't answered; returns what came of it."""
+        """Ends the call if unanswered; returns its result."""
         if self.poll() is None:
             seconds = self.seconds
             self.process.kill()

@@ -1,4 +1,4 @@
-"""The first lines of answers that aren't known to the byte, and their statuses."""
+"""First lines and exit statuses of answers without known bytes."""
 
 from __future__ import annotations
 
@@ -14,10 +14,10 @@ STATUS_OF = {"safe": 0, "unsafe": 1, "not": 2, "breach": 3, "spent": 4}
 
 
 def judgement(line: str) -> str:
-    """A verdict without what demo prints before it."""
+    """Returns a verdict without demo's prefix."""
     return re.sub(f"^{STATIONS}", "", line)
 
 
 def kind_of(verdict: str) -> str:
-    """The first word of a verdict."""
+    """Returns the first word of a verdict."""
     return judgement(verdict).split(" ")[0]

@@ -1,4 +1,4 @@
-"""Asks the program. What a page calls an answer comes from here, and from nowhere else."""
+"""Calls the program. All answers on a page come from here."""
 
 from __future__ import annotations
 
@@ -14,8 +14,7 @@ REPLAY_SECONDS = 60
 
 
 class Answer:
-    """What a call answered. `status` is None if it was ended or nothing could be called; `trouble`
-    then says which."""
+    """An answer. `status` is `None` if the call was ended or failed to start; `trouble` says which."""
 
     def __init__(self, words, status, output, seconds, trouble=""):
         self.words, self.status, self.output = words, status, output
@@ -23,12 +22,12 @@ class Answer:
 
     @property
     def line(self):
-        """The first line of the report."""
+        """Returns the first line of the report."""
         return self.output.partition("\n")[0]
 
     @property
     def said(self):
-        """The first line, or what came instead."""
+        """Returns the first line, or the fault instead."""
         return self.line or self.trouble or f"nothing, with status {self.status}"
 
 
@@ -41,7 +40,7 @@ class Program:
         self.replays, self.numbers = 0, itertools.count()
 
     def ask(self, words, seconds):
-        """Calls it, and waits for up to `seconds`. Then the call is ended."""
+        """Calls the program for up to `seconds`."""
         begin = time.monotonic()
         try:
             done = subprocess.run([self.file, *words], input=self.given, capture_output=True,
@@ -56,7 +55,7 @@ class Program:
                       time.monotonic() - begin, errors)
 
     def replay(self, columns, run):
-        """What it answers to the text of a run."""
+        """Returns the answer of `replay` to a run."""
         file = Path(self.room.name, f"run{next(self.numbers)}")
         file.write_text(run, encoding="ascii")
         self.replays += 1
@@ -66,5 +65,5 @@ class Program:
 
 
 def replay_line(plant: Plant, hazard: tuple[str, int] | None) -> str:
-    """Returns the line by which replay names a hazard of the page's own model, or no hazard."""
+    """Returns replay's line for a hazard of the page's own model, or for none."""
     return "no hazard" if hazard is None else f"hazard {hazard[0]} {plant.name(hazard[1])}"

@@ -1,4 +1,4 @@
-"""What a tool says about its progress on a terminal, and how it ends if it is interrupted."""
+"""A tool's progress on a terminal, and its end by signals."""
 
 from __future__ import annotations
 
@@ -11,19 +11,19 @@ SIGNALS = (signal.SIGINT, signal.SIGTERM, signal.SIGHUP)
 
 
 class Progress:
-    """Says on standard error what a tool is doing, if that is a terminal."""
+    """Prints a tool's activity if standard error is a terminal."""
 
     def __init__(self, name: str) -> None:
         self.name, self.is_shown = name, sys.stderr.isatty()
 
     def say(self, words: str) -> None:
-        """Says what is being done."""
+        """Prints the current activity."""
         if self.is_shown:
             print(f"{self.name}: {words}", file=sys.stderr, flush=True)
 
 
 class Interrupted(BaseException):
-    """A signal came that ends the tool: `number` is the signal's."""
+    """Signal `number`, which ends the tool."""
 
     def __init__(self, number: int) -> None:
         super().__init__(number)
@@ -31,14 +31,14 @@ class Interrupted(BaseException):
 
     @property
     def status(self) -> int:
-        """The exit status of a tool that the signal ended."""
+        """Returns the exit status after the signal."""
         return 128 + self.number
 
 
 @contextmanager
 def interruptible() -> Iterator[None]:
-    """Makes a signal that would end the tool raise `Interrupted`, so that what was begun is taken
-    down. A signal that is ignored stays ignored."""
+    """Makes each ending signal raise `Interrupted`, so that the tool can clean up. Ignored signals
+    stay ignored."""
     def end(number, _):
         raise Interrupted(number)
     before = {number: signal.getsignal(number) for number in SIGNALS}

@@ -1,4 +1,4 @@
-"""Whether a program is known to be the proved one: by the note that the build leaves beside it."""
+"""Recognises the proved program by the build's note beside it."""
 
 from __future__ import annotations
 
@@ -8,8 +8,7 @@ from irvtools.package.program_version import note_beside, sum_of
 
 
 def is_proved(program: Path) -> bool:
-    """Returns whether a note of a proof is beside the program and names the checksum of its
-    bytes."""
+    """Returns whether a proof note beside the program names its checksum."""
     try:
         return note_beside(program).get("program") == sum_of(program)
     except OSError:

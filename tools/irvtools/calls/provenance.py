@@ -1,5 +1,5 @@
-"""What a safety case quotes: checksums of files, where the program comes from, and the assumptions
-and application conditions of the qualification page."""
+"""Quotes for an evidence package: checksums, the program's origin, and the assumptions and
+application conditions of the qualification page."""
 
 from __future__ import annotations
 
@@ -13,15 +13,15 @@ from pathlib import Path
 from irvtools.paths import TOP
 
 QUALIFICATION = TOP / "docs/assurance/qualification.md"
-# an environment variable: the version file of an evidence package, from which its report quotes
+# the environment variable with an evidence package's version file, for its report
 VERSION_FILE = "IRV_VERSION_FILE"
 ITEM = re.compile(r"^### ((?:AS|SRAC)-[0-9]+): (.+)$", re.M)
 
 
 @dataclass
 class Item:
-    """An assumption or an application condition of the qualification page: its identifier and
-    title, its statement, and the named lines below it, such as `Duty holder`."""
+    """An assumption or application condition: identifier, title, statement, and the named lines
+    below it, such as `Duty holder`."""
     name: str
     title: str
     statement: str
@@ -34,7 +34,7 @@ def sum_of(data: bytes) -> str:
 
 
 def sum_of_file(file: str | Path) -> str:
-    """Returns the SHA-256 checksum of a file, with its length; or why there is none."""
+    """Returns a file's SHA-256 checksum and length, or why there is none."""
     try:
         digest, length = hashlib.sha256(), 0
         with open(file, "rb") as data:
@@ -47,8 +47,7 @@ def sum_of_file(file: str | Path) -> str:
 
 
 def said_by(command: list[str]) -> str | None:
-    """Returns what a command prints, called in the checkout; `None` if it fails or prints
-    nothing."""
+    """Returns a command's output in the checkout; `None` if it fails or prints nothing."""
     try:
         done = subprocess.run(command, cwd=TOP, capture_output=True, text=True, timeout=30,
                               check=False)
@@ -58,7 +57,7 @@ def said_by(command: list[str]) -> str | None:
 
 
 def filed(name: str) -> str | None:
-    """Returns what the version file of a package says, if one is named; `None` otherwise."""
+    """Returns an entry of the package's version file; `None` if none is named."""
     if VERSION_FILE not in os.environ:
         return None
     lines = Path(os.environ[VERSION_FILE]).read_text(encoding="utf-8").splitlines()
@@ -66,12 +65,12 @@ def filed(name: str) -> str | None:
 
 
 def sources() -> str:
-    """Returns the commit of the sources, and whether they were changed since."""
+    """Returns the commit of the sources, and whether they changed since."""
     return filed("commit") or commit()
 
 
 def commit() -> str:
-    """Returns the commit of this checkout, and whether files were changed since."""
+    """Returns this checkout's commit, and whether files changed since."""
     name = said_by(["git", "rev-parse", "HEAD"])
     if name is None or said_by(["git", "rev-parse", "--show-prefix"]):
         return "no commit: the sources are not a clone of git"
@@ -85,7 +84,7 @@ def toolchain() -> str:
 
 
 def version() -> str | None:
-    """Returns the version of the sources; `None` if they have no file of it."""
+    """Returns the sources' version; `None` if they have no version file."""
     try:
         return (TOP / "VERSION").read_text(encoding="utf-8").strip()
     except OSError:
@@ -93,19 +92,18 @@ def version() -> str | None:
 
 
 def premises() -> list[tuple[str, str]]:
-    """Returns the assumptions of the qualification page, each with its identifier; none if the page
-    does not exist."""
+    """Returns the qualification page's assumptions with identifiers; none without the page."""
     return [(it.name, it.statement) for it in items("AS")]
 
 
 def premises_in(document: str) -> list[tuple[str, str]]:
-    """Returns the assumptions in the text of a qualification page, each with its identifier."""
+    """Returns a page's assumptions with identifiers."""
     return [(it.name, it.statement) for it in items_in(document) if it.name.startswith("AS-")]
 
 
 def items(kind: str, document: Path = QUALIFICATION) -> list[Item]:
-    """Returns the assumptions (`AS`) or application conditions (`SRAC`) of the qualification page,
-    in their order; none if the page does not exist."""
+    """Returns the qualification page's assumptions (`AS`) or application conditions (`SRAC`) in
+    order; none without the page."""
     try:
         text = document.read_text(encoding="utf-8")
     except OSError:
@@ -114,8 +112,8 @@ def items(kind: str, document: Path = QUALIFICATION) -> list[Item]:
 
 
 def items_in(document: str) -> list[Item]:
-    """Returns the assumptions and application conditions in the text of a qualification page. The
-    statement is the line `Statement`, or the first paragraph if there is none."""
+    """Returns a qualification page's assumptions and application conditions. The statement is the
+    line `Statement`, or otherwise the first paragraph."""
     found = []
     parts = ITEM.split(document)
     for name, title, rest in zip(parts[1::3], parts[2::3], parts[3::3]):
@@ -128,6 +126,6 @@ def items_in(document: str) -> list[Item]:
 
 
 def plain(line: str) -> str:
-    """Returns a line of a document without its links and its marks."""
+    """Returns a document's line without links and marks."""
     line = re.sub(r"\[([^\]]*)\]\([^)]*\)", r"\1", line)
     return line.replace("**", "").replace("`", "").strip()

@@ -1,14 +1,18 @@
-"""The verdict's word: what all answers about one configuration come to, in a word and a sentence.
+"""The verdict on one configuration's answers: a word and a sentence.
 
 The HTML report, the evidence package, a batch, the simulator and `--explain` take it from here. The
-words and what they need:
+words:
 
-- HAZARD FOUND: a run from the initial state to a hazard was answered by `replay`, `verify` or
-  `drive`. It beats everything.
-- SAFE WITH DEVIATIONS: proved: `check` with strict columns was read to its end, with status 5, and
-  each line of it names C4, C5, C6 or C8.
+- HAZARD FOUND: `replay`, `verify` or `drive` answered with a run from the initial state to a
+  hazard. It overrides all others.
+
+- SAFE WITH DEVIATIONS: proved: `check` with strict columns ended with status 5, its output was read
+  to the end, and each line names C4, C5, C6 or C8.
+
 - SAFE: `check` with strict columns answered `clean`, or `verify` answered `safe k=K`.
+
 - REFUSED: another rule is broken.
+
 - NOT SHOWN: everything else."""
 
 from __future__ import annotations
@@ -23,11 +27,11 @@ SAFE = "SAFE"
 SAFE_WITH_DEVIATIONS = "SAFE WITH DEVIATIONS: proved"
 REFUSED = "REFUSED"
 NOT_SHOWN = "NOT SHOWN"
-RANKING = (HAZARD_FOUND, REFUSED, NOT_SHOWN, SAFE_WITH_DEVIATIONS, SAFE)    # the worst first
+RANKING = (HAZARD_FOUND, REFUSED, NOT_SHOWN, SAFE_WITH_DEVIATIONS, SAFE)    # worst first
 TONES = {HAZARD_FOUND: "bad", REFUSED: "warn", NOT_SHOWN: "warn", SAFE_WITH_DEVIATIONS: "good",
          SAFE: "good"}
 
-DEVIATIONS_ARE_PROVED = True        # the clause `strict_deviations` of `run` is among what is proved
+DEVIATIONS_ARE_PROVED = True        # `run` has the proved clause `strict_deviations`
 DEVIATIONS = ("C4", "C5", "C6", "C8")
 UNPROVED = "Nothing is proved by this: the program is not known to be the proved build."
 
@@ -41,9 +45,8 @@ PROVED_SAFE = re.compile(r"safe k=(?:[1-9]|1[0-6])")
 
 @dataclass(frozen=True)
 class Answered:
-    """What one call of the program answered: its command and columns, the exit status, which is
-    None if it did not end by itself, and its output. `is_whole` tells whether the output was read
-    to its end; `run` is the text of the run that `replay` was given."""
+    """A call's answer: command, columns, exit status (`None` if it did not end by itself) and
+    output. `is_whole`: the output was read to its end. `run`: the text for `replay`."""
 
     command: str
     columns: str
@@ -54,19 +57,18 @@ class Answered:
 
     @property
     def line(self) -> str:
-        """The first line of the output."""
+        """Returns the first line of the output."""
         return self.output.partition("\n")[0]
 
     @property
     def call(self) -> str:
-        """The call in words."""
+        """Returns the call in words."""
         return f"irv {self.command} with {self.columns} columns"
 
 
 @dataclass(frozen=True)
 class Verdict:
-    """A verdict: its word, its sentence, and whether the program that answered is known to be
-    proved."""
+    """A verdict: word, sentence, and whether the program is known to be proved."""
 
     word: str
     sentence: str
@@ -74,19 +76,19 @@ class Verdict:
 
     @property
     def tone(self) -> str:
-        """How it is coloured: good, warn or bad. Only an answer of the proved program is good."""
+        """Returns the colour: good, warn or bad; good only from the proved program."""
         tone = TONES[self.word]
         return "warn" if tone == "good" and not self.is_proved else tone
 
     @property
     def line(self) -> str:
-        """The word and the sentence, and that nothing is proved if that is so."""
+        """Returns word and sentence, with a note if nothing is proved."""
         return f"{self.word}. {self.sentence}" + ("" if self.is_proved else f" {UNPROVED}")
 
 
 def verdict(answers: Iterable[Answered], is_proved: bool) -> Verdict:
-    """Returns the verdict of all answers about one configuration; `is_proved` tells whether the
-    program that gave them is known to be the proved one."""
+    """Returns the verdict of all answers about one configuration. `is_proved`: the program is known
+    to be proved."""
     known = list(answers)
     for word, rule in ((HAZARD_FOUND, hazard_sentence), (SAFE_WITH_DEVIATIONS, deviations_sentence),
                        (SAFE, safe_sentence), (REFUSED, refused_sentence)):
@@ -103,8 +105,8 @@ def hazard_words(kind: str, name: str) -> str:
 
 
 def hazard_sentence(answer: Answered) -> str | None:
-    """Returns the sentence of a hazard, or None if the answer tells none. A run of `replay` that
-    begins in another state than the initial one tells none."""
+    """Returns a hazard's sentence, or `None` if the answer reports none. A `replay` from a state
+    other than the initial one reports none."""
     pattern, status = {"replay": (HAZARD, 0), "verify": (UNSAFE, 1), "drive": (DRIVEN, 1)}.get(
         answer.command, (None, None))
     match = pattern.fullmatch(answer.line) if pattern and answer.status == status else None
@@ -116,8 +118,7 @@ def hazard_sentence(answer: Answered) -> str | None:
 
 
 def broken_rules(answer: Answered) -> Counter | None:
-    """Returns how often each rule is broken by the lines of a refusal, or None if it is no
-    refusal."""
+    """Returns how often a refusal's lines break each rule, or `None` if it is not a refusal."""
     matches = [REFUSAL.fullmatch(line) for line in answer.output.splitlines()]
     if answer.status != BROKEN or not matches or None in matches:
         return None
@@ -125,13 +126,13 @@ def broken_rules(answer: Answered) -> Counter | None:
 
 
 def counted(rules: Counter) -> str:
-    """Returns broken rules in words, each with its count."""
+    """Returns broken rules with their counts, in words."""
     return ", ".join(f"{rule} ({count}x)" if count > 1 else rule for rule, count in sorted(rules.items()))
 
 
 def deviations_sentence(answer: Answered) -> str | None:
-    """Returns the sentence of a table that is safe though it breaks rules, or None if that isn't
-    proved."""
+    """Returns the sentence for a table that is safe despite broken rules, or `None` if that is
+    unproved."""
     rules = broken_rules(answer)
     is_read = (answer.command, answer.columns) == ("check", "strict") and answer.is_whole \
         and answer.output.endswith("\n")
@@ -141,7 +142,7 @@ def deviations_sentence(answer: Answered) -> str | None:
 
 
 def safe_sentence(answer: Answered) -> str | None:
-    """Returns the sentence of a safe table, or None if the answer doesn't prove it safe."""
+    """Returns the sentence for a safe table, or `None` if the answer proves nothing."""
     is_clean = (answer.command, answer.columns, answer.status, answer.output) == (
         "check", "strict", 0, "clean\n")
     is_proved = answer.command == "verify" and answer.status == 0 and PROVED_SAFE.fullmatch(answer.line)
@@ -151,7 +152,7 @@ def safe_sentence(answer: Answered) -> str | None:
 
 
 def refused_sentence(answer: Answered) -> str | None:
-    """Returns the sentence of a broken rule, or None if the answer names none."""
+    """Returns a broken rule's sentence, or `None` without one."""
     rules = broken_rules(answer)
     if rules is None:
         return None
@@ -160,11 +161,11 @@ def refused_sentence(answer: Answered) -> str | None:
 
 
 def not_shown_sentence(answers: list[Answered]) -> str:
-    """Returns what was answered, of which nothing shows the table safe or unsafe."""
+    """Returns a sentence of answers that show the table neither safe nor unsafe."""
     said = [f"{answer.call}: {no_proof(answer)}" for answer in answers]
     return f"No statement about safety. {'; '.join(said) if said else 'Nothing was asked'}."
 
 
 def no_proof(answer: Answered) -> str:
-    """Returns an answer that shows nothing, in words."""
+    """Returns an inconclusive answer in words."""
     return "no answer" if answer.status is None or not answer.line else answer.line

@@ -1,8 +1,8 @@
-"""The command line of `tools/audit`: checks a certificate by a checker that is independent of the program.
+"""The command line of `tools/audit`: checks a certificate independently of the program.
 
-The checker (`certificate.py`) reads the certificate by its grammar and follows each step by its hints. It
-shares only the formulas with the program, which `irv export` prints. That these formulas are those of the
-plant is not checked here: the contract of the program says it, and is proved.
+The checker (`certificate.py`) reads the certificate by its grammar and follows each step by its
+hints. It shares only the formulas with the program; `irv export` prints them. It does not check
+that they are the plant's: the program's contract says so, and is proved.
 """
 
 import sys
@@ -20,7 +20,7 @@ ACCEPTED, REFUSED, NO_ANSWER, SPENT = 0, 1, 2, 4
 
 
 def parser():
-    """Returns the parser of the command line."""
+    """Returns the command-line parser."""
     line = Parser("tools/audit", "Checks a certificate that `irv verify` wrote, by a checker that is independent "
                   "of the program.\n\nThe exit status is 0 if it was accepted and says that the plant is safe; "
                   "4 if it was accepted and is spent, which says\nnothing about the plant; 1 if it was refused; "
@@ -36,7 +36,7 @@ def parser():
 
 
 def main(words):
-    """Checks the certificate that the arguments name; returns the exit status."""
+    """Checks the certificate in the arguments. Returns the exit status."""
     given = parser().parse_args(words)
     try:
         formula_of = exported.formulas_of(given.program.resolve(), given.conf.read_bytes(),

@@ -1,8 +1,8 @@
-"""Checks certificates, by the rules of docs/reference/formats.md alone, over formulas that another gives.
+"""Checks certificates by the rules of docs/reference/formats.md only, over formulas from elsewhere.
 
-Nothing of a search is needed for it: each step names the clauses from which it follows. `audited`
-reads the bytes of a certificate line by line and names the first bad one. `check` tells what is wrong
-with a certificate, also with a spent one.
+It needs no search: each step names the clauses from which it follows. `audited` reads a certificate
+line by line and names the first bad line. `check` says what is wrong with a certificate, also a
+spent one.
 """
 
 from __future__ import annotations
@@ -24,21 +24,21 @@ SAFE = re.compile(rb"safe ([1-9]|1[0-6])")
 
 
 class BadLine(Exception):
-    """A line that can't stand where it stands."""
+    """A line that is wrong at its place."""
 
 
 class CertificateError(Exception):
-    """A text that is no certificate, or not of these formulas."""
+    """A text that is not a certificate, or not one of these formulas."""
 
 
 def need(test, message):
-    """Refuses the certificate where a test fails."""
+    """Raises an error with `message` if `test` is false."""
     if not test:
         raise CertificateError(message)
 
 
 def read_step(line: str, number: int) -> tuple[tuple[int, ...], list[int]]:
-    """The clause and the hints of a step's line."""
+    """Returns the clause and the hints of a step's line."""
     match = STEP.fullmatch(line)
     need(match, f"line {number}: neither a step nor what may follow it: {line[:100]!r}")
     clause = tuple(int(word) for word in match[1].split())
@@ -51,7 +51,7 @@ def read_step(line: str, number: int) -> tuple[tuple[int, ...], list[int]]:
 def read(
         text: bytes
 ) -> tuple[str, str, list[tuple[str, int, list[tuple[tuple[int, ...], list[int]]]]]]:
-    """What a certificate tells, `safe` or `spent`, with its number, and its queries with their steps."""
+    """Returns `safe` or `spent` with its number, and the queries with their steps."""
     try:
         lines = dimacs.lines_of(text)
     except dimacs.DimacsError as fault:
@@ -73,9 +73,9 @@ def read(
 
 
 def follows(clauses, clause, hints):
-    """Whether a clause follows by its hints: once its literals are false, each hint but the last
-    names a clause with one literal unset and all others false, which becomes true, and the last
-    names a clause with all literals false."""
+    """Returns whether `clause` follows by its hints. First its literals are set false. Each hint
+    but the last names a clause with one unset literal, which becomes true, and all others false.
+    The last hint's clause has only false literals."""
     true = {-literal for literal in clause}
     for place, hint in enumerate(hints):
         if not 1 <= hint <= len(clauses):
@@ -90,8 +90,8 @@ def follows(clauses, clause, hints):
 
 
 def is_fresh(clauses, clause):
-    """Whether some literal of a clause stays unset, and no clause false, by propagation alone once
-    all its other literals are false."""
+    """Returns whether some literal of `clause` stays unset, and no clause is false, after all
+    others are set false and propagated."""
     for literal in clause:
         true = dimacs.propagated(clauses, [-other for other in clause if other != literal])
         if true is not None and literal not in true and -literal not in true:
@@ -102,8 +102,8 @@ def is_fresh(clauses, clause):
 def checked_steps(name: str, formula: tuple[int, list[tuple[int, ...]]],
                   steps: list[tuple[tuple[int, ...], list[int]]],
                   want_fresh: bool) -> list[tuple[int, ...]]:
-    """The clauses of a formula with those of all steps, each of which follows; the empty one, if
-    any, comes last."""
+    """Returns the clauses of a formula and of all steps; each step has to follow. An empty clause
+    comes last."""
     variables, clauses = formula[0], list(formula[1])
     for number, (clause, hints) in enumerate(steps, 1):
         place = f"{name}, step {number}"
@@ -118,13 +118,13 @@ def checked_steps(name: str, formula: tuple[int, list[tuple[int, ...]]],
 
 
 def queries_of(most: int) -> list[tuple[str, int]]:
-    """The queries that a safe certificate with this number rests on, in order."""
+    """Returns the queries on which a safe certificate with this number depends, in order."""
     bases = [(kind, number) for number in range(most + 1) for kind in ("hazard", "breach")]
     return [*bases, ("step", most)]
 
 
 def taken(line, variables, clauses, is_known):
-    """The clause of a step's line, which follows from the clauses before it, or is known to."""
+    """Returns the clause of a step's line, which follows from earlier clauses or is known to."""
     try:
         clause, hints = read_step(line.decode("ascii"), 0)
     except (UnicodeDecodeError, CertificateError) as fault:
@@ -138,14 +138,15 @@ def taken(line, variables, clauses, is_known):
 
 
 def stand(line, wanted):
-    """Refuses a line that isn't the one that has to stand there."""
+    """Rejects a line other than the wanted one."""
     if line != wanted:
         raise BadLine
 
 
 def lines_taken(formula_of, known):
-    """Takes the lines of a certificate, one by one, each sent to it. It raises BadLine at the first
-    bad one, and yields the number of the certificate after the last. So many lines are known to be right."""
+    """Takes the lines of a certificate, sent one by one. Raises BadLine at the first bad one.
+    Yields the certificate's number at the end. The steps in the first `known` lines are known to
+    follow."""
     stand((yield None), HEAD)
     told = SAFE.fullmatch((yield None))
     if not told:
@@ -167,10 +168,9 @@ def lines_taken(formula_of, known):
 
 def audited(text: bytes, formula_of: Callable[[str, int], tuple[int, list[tuple[int, ...]]]],
             known: int = 0) -> str:
-    """What an audit answers to these bytes: `accepted k=K`, or `rejected line N` with the first bad
-    line. A line is bad too where it is missing, or where no line feed ends it. Who has had so many of
-    the lines audited before, at the beginning of another text, may say so: of their steps it isn't asked
-    again whether they follow."""
+    """Returns an audit's answer to these bytes: `accepted k=K`, or `rejected line N` for the first
+    bad line. A missing line, or one without a line feed, is bad too. If `known` lines were audited
+    before, at the beginning of another text, their steps are not checked again."""
     *lines, rest = text.split(b"\n")
     reading = lines_taken(formula_of, known)
     told = next(reading)
@@ -185,12 +185,12 @@ def audited(text: bytes, formula_of: Callable[[str, int], tuple[int, list[tuple[
 
 
 def is_refuted(steps: list[tuple[tuple[int, ...], list[int]]]) -> bool:
-    """Whether the last step has the empty clause."""
+    """Returns whether the last step has the empty clause."""
     return bool(steps) and steps[-1][0] == ()
 
 
 def check_safe(most, queries, formula_of):
-    """Each query that the verdict rests on, and no other, is refuted."""
+    """Checks that exactly the verdict's queries are refuted."""
     need([query[:2] for query in queries] == queries_of(most),
          "not the queries that the verdict rests on")
     for kind, number, steps in queries:
@@ -200,7 +200,7 @@ def check_safe(most, queries, formula_of):
 
 
 def next_query(query, breach_found):
-    """The query that is asked after one that didn't end the asking."""
+    """Returns the next query, after one that didn't end the series."""
     kind, number = query
     if breach_found:
         return "hazard", number + 1
@@ -212,7 +212,7 @@ def next_query(query, breach_found):
 
 
 def check_spent(count, queries, formula_of):
-    """The queries are in their order, with as many steps as are counted, and the last is given up."""
+    """Checks that the queries are in order, with the counted steps, and the last is given up."""
     wanted, breach_found = ("hazard", 0), False
     for place, (kind, number, steps) in enumerate(queries):
         name = f"{kind} {number}"
@@ -232,7 +232,7 @@ def check_spent(count, queries, formula_of):
 
 def check(text: bytes,
           formula_of: Callable[[str, int], tuple[int, list[tuple[int, ...]]]]) -> str:
-    """Checks a certificate over the formulas of its queries; answers its second line."""
+    """Checks a certificate over the formulas of its queries. Returns its second line."""
     told, number, queries = read(text)
     (check_safe if told == "safe" else check_spent)(int(number), queries, formula_of)
     answer = audited(text, formula_of)

@@ -1,7 +1,8 @@
-"""Compiled checkers: programs in C that check the same texts as certificate.py and rup.py, many times as fast.
+"""Compiled checkers: C programs that check the same texts as certificate.py and rup.py, many times
+as fast.
 
-They are independent implementations, which share no code with the Python, and only the formulas with the
-program. gcc compiles them in a temporary directory. Without gcc there are none, and Python checks.
+They are independent implementations: they share no code with the Python, and only the formulas with
+the program. gcc compiles them in a temporary directory. Without gcc, Python checks.
 """
 
 from __future__ import annotations
@@ -18,15 +19,15 @@ from typing import Callable
 SOURCES = Path(__file__).resolve().parent
 WANTS = re.compile(r"wants (hazard|breach|step) ([0-9]+)")
 
-TextOf = Callable[[str, int], bytes]        # the text of the formula of a query, by its kind and number
+TextOf = Callable[[str, int], bytes]        # returns a query's formula, by kind and number
 
 
 class CheckerError(Exception):
-    """A compiled checker gave no answer; the message has what it printed."""
+    """A compiled checker gave no answer. The message has its output."""
 
 
 def compiled(name: str, directory: Path) -> Path | None:
-    """Compiles a checker in a directory; returns its path, or None if gcc is not installed."""
+    """Compiles a checker in a directory. Returns its path, or `None` if gcc is not installed."""
     if shutil.which("gcc") is None:
         return None
     path = directory / name
@@ -35,7 +36,7 @@ def compiled(name: str, directory: Path) -> Path | None:
 
 
 def said(path: Path, *words: object) -> str:
-    """Returns what a compiled checker prints about some files."""
+    """Returns a compiled checker's output about some files."""
     done = subprocess.run([str(path), *map(str, words)], stdout=subprocess.PIPE, stderr=subprocess.PIPE)
     if done.returncode != 0 or done.stderr:
         raise CheckerError(f"{path.name} ends with {done.returncode}: {(done.stdout + done.stderr).decode()}")
@@ -43,14 +44,14 @@ def said(path: Path, *words: object) -> str:
 
 
 def put(path: Path, data: bytes) -> None:
-    """Writes a file in one step, so that no other process sees a part of it."""
+    """Writes a file in one step, so other processes never see a part of it."""
     part = path.with_name(f"{path.name}-{os.getpid()}-{threading.get_ident()}")
     part.write_bytes(data)
     os.replace(part, path)
 
 
 class Formulas:
-    """Files with the formulas of a configuration's queries, each written when it is first needed."""
+    """Files with a configuration's query formulas, each written at first need."""
 
     def __init__(self, directory: Path, text_of: TextOf) -> None:
         self.directory, self.text_of = directory, text_of
@@ -64,13 +65,13 @@ class Formulas:
 
 
 class CompiledCertificateChecker:
-    """Checks certificates as certificate.audited does, over the formulas that `text_of` gives as texts."""
+    """Checks certificates like certificate.audited, over the formulas of `text_of`."""
 
     def __init__(self, path: Path, directory: Path, text_of: TextOf) -> None:
         self.path, self.formulas = path, Formulas(Path(tempfile.mkdtemp(dir=directory)), text_of)
 
     def audited(self, files: list[Path]) -> list[str]:
-        """Returns what an audit has to answer to each of these files."""
+        """Returns the expected audit answer for each of these files."""
         while True:
             answers = said(self.path, self.formulas.directory, *files).splitlines()
             queries = {query.groups() for query in map(WANTS.fullmatch, answers) if query}
@@ -81,13 +82,13 @@ class CompiledCertificateChecker:
 
 
 class CompiledRupChecker:
-    """Checks refutations as rup.answer does, over the formulas that `text_of` gives as texts."""
+    """Checks refutations like rup.answer, over the formulas of `text_of`."""
 
     def __init__(self, path: Path, directory: Path, text_of: TextOf) -> None:
         self.path, self.formulas = path, Formulas(Path(tempfile.mkdtemp(dir=directory)), text_of)
 
     def answer(self, kind: str, number: int, text: bytes) -> str:
-        """Returns what `rup` has to answer to a text that should refute the formula of a query."""
+        """Returns the expected answer of `rup` to a text for a query."""
         file = self.formulas.directory / f"text-{os.getpid()}-{threading.get_ident()}"
         file.write_bytes(text)
         answer = said(self.path, self.formulas.path_of(kind, number), file).removesuffix("\n")

@@ -1,4 +1,4 @@
-"""Formulas in the DIMACS CNF format: reads them exactly, and counts their satisfying assignments."""
+"""Reads formulas in the DIMACS CNF format strictly, and counts their satisfying assignments."""
 
 from __future__ import annotations
 
@@ -11,11 +11,11 @@ CLAUSE = re.compile(r"(?:-?[1-9][0-9]* )*0")
 
 
 class DimacsError(Exception):
-    """A text that isn't of the format: the message names the line."""
+    """A text that isn't in the format. The message names the line."""
 
 
 def lines_of(text: bytes) -> list[str]:
-    """The lines of a text of ASCII, each of which is ended by one line feed."""
+    """Returns the lines of an ASCII text, each ended by one line feed."""
     if not text.isascii():
         raise DimacsError("a byte that isn't ASCII")
     *lines, rest = text.decode().split("\n")
@@ -25,7 +25,7 @@ def lines_of(text: bytes) -> list[str]:
 
 
 def read_clause(line, number, variables):
-    """The literals of a clause's line."""
+    """Returns the literals of a clause's line."""
     if not CLAUSE.fullmatch(line):
         raise DimacsError(f"line {number}: no clause: {line[:100]!r}")
     clause = tuple(int(word) for word in line.split(" ")[:-1])
@@ -35,7 +35,7 @@ def read_clause(line, number, variables):
 
 
 def read(text: bytes) -> tuple[int, list[tuple[int, ...]]]:
-    """The number of variables and the clauses, in order."""
+    """Returns the number of variables and the clauses, in order."""
     lines = lines_of(text)
     header = HEADER.fullmatch(lines[0]) if lines else None
     if not header:
@@ -48,7 +48,7 @@ def read(text: bytes) -> tuple[int, list[tuple[int, ...]]]:
 
 
 def propagated(clauses: list[tuple[int, ...]], literals: Iterable[int]) -> set[int] | None:
-    """The literals that are set once propagation is at its end, or none where a clause is false."""
+    """Returns the literals that are true after propagation, or `None` if a clause is false."""
     true = set(literals)
     moved = True
     while moved:
@@ -66,8 +66,8 @@ def propagated(clauses: list[tuple[int, ...]], literals: Iterable[int]) -> set[i
 
 
 def count_assignments(formula: tuple[int, list[tuple[int, ...]]], most: int) -> int:
-    """How many assignments satisfy a small formula, by trying both values of each variable; the
-    counting ends above `most`."""
+    """Returns the number of satisfying assignments of a small formula, by trying both values of
+    each variable. It stops above `most`."""
     variables, clauses = formula
     count = 0
     open_ones = [()]

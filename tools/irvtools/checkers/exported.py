@@ -1,4 +1,4 @@
-"""The formulas of a configuration's queries, as the program exports them."""
+"""The formulas of a configuration's queries, exported by the program."""
 
 from __future__ import annotations
 
@@ -10,11 +10,11 @@ from irvtools.checkers import dimacs
 
 
 class ExportError(Exception):
-    """A formula that the program didn't export: the message says which, and what it answered."""
+    """A formula that the program didn't export. The message has its name and the program's answer."""
 
 
 def text_of(program: Path | str, conf: bytes, columns: str, kind: str, number: int) -> bytes:
-    """The text of the formula of one query."""
+    """Returns the text of a query's formula."""
     words = ["export", "--columns", columns, "--query", kind, "--number", str(number)]
     try:
         done = subprocess.run([str(program), *words], input=conf, stdout=subprocess.PIPE,
@@ -29,5 +29,5 @@ def text_of(program: Path | str, conf: bytes, columns: str, kind: str, number: i
 
 def formulas_of(program: Path | str, conf: bytes,
                 columns: str) -> Callable[[str, int], tuple[int, list[tuple[int, ...]]]]:
-    """What gives the formula of each query of a configuration."""
+    """Returns a function for the formula of each query of a configuration."""
     return lambda kind, number: dimacs.read(text_of(program, conf, columns, kind, number))

@@ -1,16 +1,16 @@
 """Checks refutations in the LRAT format, over formulas in the DIMACS CNF format.
 
-Written from the published format alone (L. Cruz-Filipe, M. J. H. Heule, W. A. Hunt, M. Kaufmann and
-P. Schneider-Kamp, "Efficient certified RAT verification", CADE 2017): it knows nothing of
-certificates, and shares nothing with their checker. A line is
+It is written from the published format only (L. Cruz-Filipe, M. J. H. Heule, W. A. Hunt, M.
+Kaufmann and P. Schneider-Kamp, "Efficient certified RAT verification", CADE 2017). It knows nothing
+of certificates, and shares nothing with their checker. A line is
 
     NUMBER LITERALS 0 HINTS 0      adds a clause, which follows by unit propagation along its hints
     NUMBER d NUMBERS 0             deletes clauses
 
-The clauses of the formula have the numbers from 1 on in their order; the number of a line that adds a
-clause is greater than all before. Once every literal of the clause is false, each hint names a clause
-whose literals are all false, which ends the line, or all but one that is unset, which is true from
-then on. Hints by resolution (those with a sign) are refused: they are more than a certificate needs.
+The formula's clauses are numbered from 1. Each added clause has a greater number than all before.
+First its literals are set false. Each hint then names a clause whose literals are all false, which
+ends the line, or all but an unset one, which becomes true. Hints by resolution (those with a sign)
+are rejected: a certificate doesn't need them.
 """
 
 from __future__ import annotations
@@ -22,11 +22,11 @@ DELETED = re.compile(r"[1-9][0-9]* d ((?:[1-9][0-9]* )*)0")
 
 
 class LratError(Exception):
-    """A text that is no refutation of its formula: the message names the line."""
+    """A text that is not a refutation of its formula. The message names the line."""
 
 
 def read_formula(text):
-    """The clauses of a formula by their numbers."""
+    """Returns the clauses of a formula by their numbers."""
     clauses, open_literals, wanted = {}, [], None
     for line in text.splitlines():
         words = line.split()
@@ -47,8 +47,8 @@ def read_formula(text):
 
 
 def falsified_along(clauses, clause, hints, place):
-    """Whether unit propagation along the hints, from the clause's literals made false, finds a clause
-    whose literals are all false."""
+    """Returns whether unit propagation along the hints finds a clause with all literals false, from
+    the clause's literals set false."""
     false = set(clause)
     for hint in hints:
         if hint not in clauses:
@@ -64,7 +64,7 @@ def falsified_along(clauses, clause, hints, place):
 
 
 def check(formula: str, proof: str) -> int:
-    """Checks that a text is a refutation of a formula; answers how many clauses it adds."""
+    """Checks that a text refutes a formula. Returns how many clauses it adds."""
     clauses, last, added, refuted = read_formula(formula), None, 0, False
     last = len(clauses)
     for number, line in enumerate(proof.splitlines(), 1):

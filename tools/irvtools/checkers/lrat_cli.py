@@ -1,7 +1,9 @@
-"""The command line of `tools/lrat`: writes the queries of a certificate as CNF formulas and LRAT refutations.
+"""The command line of `tools/lrat`: writes a certificate's queries as CNF formulas and LRAT
+refutations.
 
-Each step's line has the number of its clause before it, counted on from the formula's clauses. Nothing is
-checked here. Some queries of a spent certificate end without the empty clause; the printed line says so.
+Each step's line starts with its clause's number, counted on from the formula's clauses. Nothing is
+checked here. Some queries of a spent certificate end without the empty clause; the printed line
+says so.
 """
 
 import sys
@@ -16,13 +18,13 @@ from irvtools.paths import TOP
 
 
 def lines_of_steps(steps, clauses):
-    """The steps of a query as lines of LRAT, after that many clauses of its formula."""
+    """Yields the steps of a query as LRAT lines. `clauses` is how many its formula has."""
     for number, (clause, hints) in enumerate(steps, clauses + 1):
         yield " ".join(map(str, (number, *clause, 0, *hints, 0))) + "\n"
 
 
 def write_query(directory, name, formula, steps):
-    """Writes one query; returns the line about it."""
+    """Writes one query. Returns the line about it."""
     clauses = len(dimacs.read(formula)[1])
     (directory / f"{name}.cnf").write_bytes(formula)
     with open(directory / f"{name}.lrat", "w", encoding="ascii") as file:
@@ -32,7 +34,7 @@ def write_query(directory, name, formula, steps):
 
 
 def parser():
-    """Returns the parser of the command line."""
+    """Returns the command-line parser."""
     line = Parser("tools/lrat", "Writes each query of a certificate as DIRECTORY/KIND-NUMBER.cnf, the formula that "
                   "`irv export` prints, and\nDIRECTORY/KIND-NUMBER.lrat, its steps in the LRAT format, which other "
                   "checkers read. It prints a line a query.\n\nThe exit status is 0 if all is written, "
@@ -48,7 +50,7 @@ def parser():
 
 
 def main(words):
-    """Writes the queries of the certificate that the arguments name; returns the exit status."""
+    """Writes the queries of the certificate in the arguments. Returns the exit status."""
     given = parser().parse_args(words)
     try:
         conf = given.conf.read_bytes()

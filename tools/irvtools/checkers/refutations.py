@@ -1,7 +1,7 @@
-"""Texts that refute the formula of a query, changes of them, and the program's own answers.
+"""Texts that refute a query's formula, changes of them, and the program's own answers.
 
-The expected answers are those of rup.py, which shares only the formula with the program. `irv export`
-prints that formula.
+The expected answers are those of rup.py. It shares only the formula, which `irv export` prints,
+with the program.
 """
 
 from __future__ import annotations
@@ -22,8 +22,8 @@ Items = list
 OTHER_WORDS = [b"1", b"-1", b"2", b"-7", b"d", b"x", b"01", b"-0", b"+1", b"99999999",
                b"18446744073709551617"]
 STATUS_OF = {"refuted": 0, "refused": 5, "rejected": 6}
-LONGEST = 67108864      # bytes that rup reads
-SHORT = 20000           # a text of at most this many bytes is also given to rup.py
+LONGEST = 67108864      # most bytes that rup reads
+SHORT = 20000           # rup.py also gets texts up to this many bytes
 
 
 def items_of(text: bytes) -> Items:
@@ -32,12 +32,12 @@ def items_of(text: bytes) -> Items:
 
 
 def text_of(items: Items) -> bytes:
-    """Returns a text of these items, each on a line."""
+    """Returns a text with each of these items on a line."""
     return b"".join(b" ".join(item) + b"\n" for item in items)
 
 
 def only_additions(lines: Iterable[bytes]) -> Iterator[bytes]:
-    """Returns the lines of a solver's text without deletions, which may be half of it."""
+    """Yields a solver's lines without deletions, which may be half of them."""
     return (line for line in lines if not line.startswith(b"d"))
 
 
@@ -57,8 +57,8 @@ def opposite(word):
 
 
 def with_literal(items, chance, change):
-    """Returns the items after `change` replaced a random literal by other words, and how many items before it
-    stay; or None if no item has a literal."""
+    """Returns the items after `change` replaced a random literal, and how many items before it
+    stay, or `None` without a literal."""
     places = [(one, place) for one, item in enumerate(items) for place, word in enumerate(item)
               if word not in (b"0", b"d")]
     if not places:
@@ -74,12 +74,12 @@ def sign_changed(items, chance):
 
 
 def literal_doubled(items, chance):
-    """Doubles a literal, which changes nothing."""
+    """Duplicates a literal, which changes nothing."""
     return with_literal(items, chance, lambda word: [word, word])
 
 
 def literal_added(items, chance):
-    """Adds a literal, or a word that is none."""
+    """Adds a literal, or a word that is not one."""
     new = chance.choice(OTHER_WORDS)
     return with_literal(items, chance, lambda word: [word, new])
 
@@ -121,8 +121,8 @@ def cut(items, chance):
 
 
 def changes(text: bytes, count: int, seed: int) -> Iterator[tuple[bytes, int]]:
-    """Yields up to `count` random changes of a text whose items are right, each with the number of items that
-    stay. With the same seed they are the same."""
+    """Yields up to `count` random changes of a text with right items, each with the number of items
+    that stay. The same seed gives the same changes."""
     items, chance = items_of(text), random.Random(seed)
     if not items:
         return
@@ -136,9 +136,9 @@ def changes(text: bytes, count: int, seed: int) -> Iterator[tuple[bytes, int]]:
 
 
 class Refutations:
-    """The queries of a configuration under free columns, with a directory for files.
+    """A configuration's queries under free columns, with a directory for files.
 
-    If `judge` is the path of the compiled checker, that gives the expected answers, otherwise rup.py."""
+    The compiled checker at `judge` gives the expected answers, or if that is `None` rup.py."""
 
     def __init__(self, program, conf: bytes, directory: Path, judge: Path | None = None) -> None:
         self.program, self.conf, self.directory = program, conf, directory
@@ -147,7 +147,7 @@ class Refutations:
             judge, directory, lambda kind, number: exported.text_of(program, conf, "free", kind, number))
 
     def expected(self, kind: str, number: int, text: bytes, known: int = 0) -> str:
-        """Returns what the program has to answer to a text, of which the first `known` items are right."""
+        """Returns the program's expected answer to a text whose first `known` items are right."""
         by_compiled = self.compiled and self.compiled.answer(kind, number, text)
         if by_compiled and len(text) > SHORT:
             return by_compiled
@@ -155,7 +155,7 @@ class Refutations:
         return found if by_compiled in (None, found) else f"{found} by rup.py, and {by_compiled} by rup_judge.c"
 
     def answer(self, kind: str, number: int, text: bytes) -> str:
-        """Returns the line that the program answers to a text, or what came instead."""
+        """Returns the line that the program answers to a text, or its other output."""
         path = self.directory / f"text-{os.getpid()}-{threading.get_ident()}"
         path.write_bytes(text)
         words = ["rup", "--columns", "free", "--query", kind, "--number", str(number), "--cert", str(path)]

@@ -1,5 +1,6 @@
-"""Checks a refutation without hints, in the text of clauses that solvers write. It shares nothing with the
-program but the grammar: an item is tried by setting the opposites of its literals, in plain lists.
+"""Checks a refutation without hints, in the clause text that solvers write. It shares nothing with
+the program but the grammar: it tests an item by setting the opposites of its literals, in plain
+lists.
 
     checkers/rup.py FORMULA TEXT
 
@@ -17,15 +18,15 @@ LITERAL = re.compile(rb"-?[1-9][0-9]*")
 
 
 def words_of(text: bytes) -> Iterator[bytes]:
-    """The words of a text: lines whose first byte is c are left out, and the rest is cut at spaces, tabs
-    and carriage returns."""
+    """Yields the words of a text. Lines whose first byte is c are left out, the rest is split at
+    spaces, tabs and carriage returns."""
     for line in text.split(b"\n"):
         if not line.startswith(b"c"):
             yield from (word for word in re.split(rb"[ \t\r]", line) if word)
 
 
 def items_of(words: Iterable[bytes]) -> Iterator[list[bytes]]:
-    """The items: each ends with the next word 0, which the last may lack."""
+    """Yields the items. Each ends with the next word 0, which the last may lack."""
     item = []
     for word in words:
         item.append(word)
@@ -37,7 +38,8 @@ def items_of(words: Iterable[bytes]) -> Iterator[list[bytes]]:
 
 
 def literals_of(words: list[bytes], variables: int) -> list[int] | None:
-    """The literals before the last word, which must be 0; None where a word is none."""
+    """Returns the literals before the last word, which must be 0; `None` if a word is not a
+    literal."""
     if not words or words[-1] != b"0":
         return None
     if not all(LITERAL.fullmatch(word) for word in words[:-1]):
@@ -47,11 +49,11 @@ def literals_of(words: list[bytes], variables: int) -> list[int] | None:
 
 
 class Clauses:
-    """Clauses, and what they set at the start. Each clause with two literals that aren't false is looked
-    at again only where one of its first two becomes false."""
+    """Clauses, with what they set at the start. A clause with two literals that aren't false is
+    visited only if one of its first two becomes false."""
 
     def __init__(self, variables, clauses):
-        # by literal, a negative one from the end: 1 is true, -1 false
+        # By literal, negative ones from the end: 1 is true, -1 false.
         self.value = [0] * (2 * variables + 1)
         self.watching = [[] for _ in self.value]
         self.true = []
@@ -60,12 +62,12 @@ class Clauses:
             self.add(set(clause))
 
     def set_true(self, literal):
-        """Sets a literal that wasn't set."""
+        """Sets an unset literal."""
         self.value[literal], self.value[-literal] = 1, -1
         self.true.append(literal)
 
     def add(self, clause):
-        """Adds a clause, and what it sets."""
+        """Adds a clause with its consequences."""
         if self.refuted:
             return
         literals = sorted(clause, key=lambda literal: self.value[literal] < 0)
@@ -81,7 +83,7 @@ class Clauses:
             self.refuted = not self.close(begin)
 
     def close(self, at):
-        """Sets what follows from what was set from this place on; false where a clause is false."""
+        """Sets all consequences of the literals from `at` on. Returns `False` if a clause is false."""
         value, watching, true = self.value, self.watching, self.true
         while at < len(true):
             lost = -true[at]
@@ -109,7 +111,7 @@ class Clauses:
         return True
 
     def gives(self, clause):
-        """Whether a clause is false by propagation from the opposites of its literals."""
+        """Returns whether propagation from the clause's opposite literals makes a clause false."""
         if self.refuted or any(self.value[literal] > 0 for literal in clause):
             return True
         begin = len(self.true)
@@ -125,8 +127,8 @@ class Clauses:
 
 def first_bad(variables: int, formula: Iterable[Iterable[int]], text: bytes,
               known: int = 0) -> int | None:
-    """The number of the first bad item, or None where the text is accepted. So many items are known to be
-    right, since they stand at the beginning of a text that was judged before."""
+    """Returns the number of the first bad item, or `None` if the text is accepted. The first
+    `known` items are right: they begin a text judged before."""
     clauses = Clauses(variables, formula)
     number = 0
     for number, item in enumerate(items_of(words_of(text)), 1):
@@ -145,13 +147,13 @@ def first_bad(variables: int, formula: Iterable[Iterable[int]], text: bytes,
 
 def answer(query: str, variables: int, formula: Iterable[Iterable[int]], text: bytes,
            known: int = 0) -> str:
-    """What the program answers to a text that is to refute the formula of a query."""
+    """Returns the program's expected answer to a text for a query."""
     bad = first_bad(variables, formula, text, known)
     return f"refuted {query}" if bad is None else f"rejected item {bad}"
 
 
 def main():
-    """Reads the two files, and says what was found."""
+    """Reads the two files and prints the result."""
     from irvtools.checkers import dimacs
 
     if len(sys.argv) != 3:

@@ -1,19 +1,24 @@
-"""Shows by another solver that a plant is safe; `irv rup` checks each of its refutations.
+"""Shows with another solver that a plant is safe; `irv rup` checks each refutation.
 
-For a plant to be safe at K these queries must have no run: hazard and breach from 0 to K, and step K. `irv
-export` prints each formula, the solver writes a refutation of it, and `irv rup` says whether it is one.
+For a plant to be safe at K these queries must have no run: hazard and breach from 0 to K, and step
+K. `irv export` prints each formula, the solver writes a refutation, and `irv rup` checks it.
 
-`safe k=K` rests here on:
+`safe k=K` depends here on four claims:
 
-- `irv rup` says `refuted` only if no such run exists, whoever wrote the text: proved, with the formula, in the
-  contract of `run`. Nothing rests on the solver.
-- No run of any length ends in a hazard if these queries have none: proved as `safe_forever` of ilk_forever.
-- This script: that it asks all of these queries, over the same bytes and columns, and reads the answers
-  rightly. No contract says that; `irv audit`, which takes all of them in one certificate, needs no script.
-- The assumptions of docs/assurance/qualification.md, as each answer.
+- Proved, with the formula, in the contract of `run`: `irv rup` says `refuted` only if no such run
+  exists, regardless of the text's origin. Nothing depends on the solver.
 
-The first line of a refutation is left out if it begins with `%`, since picosat writes one so; lines that begin
-with `d` are too, since rup takes nothing from an item that only deletes, and reads at most 64 MiB.
+- Proved as `induction_implies_safety` of ilk_forever: no run of any length ends in a hazard if these queries
+  have none.
+
+- This script asks all of these queries, over the same bytes and columns, and reads the answers
+  rightly. No contract says so. `irv audit` takes all queries in one certificate, and needs no
+  script.
+
+- The assumptions of docs/assurance/qualification.md hold, as for each answer.
+
+The first line of a refutation is left out if it begins with `%`; picosat writes such a line. Lines
+that begin with `d` are left out too: rup ignores items that only delete, and reads at most 64 MiB.
 """
 
 from __future__ import annotations
@@ -30,17 +35,17 @@ from irvtools.arguments import Parser, whole_number
 from irvtools.paths import TOP
 
 CADICAL = "cadical -q -n --no-binary {cnf} {proof}"
-# the status with which a solver says that the formula has a satisfying assignment
+# A solver's status if the formula has a satisfying assignment.
 HAS_ASSIGNMENT = 10
 MOST_EVENTS = 16
 
 
 class NoAnswer(Exception):
-    """What is asked can't be had: the message says why."""
+    """The result is not available. The message says why."""
 
 
 def called(words, given=b"", seconds=None):
-    """What a command that is handed these bytes answers: its status, its output, its complaint."""
+    """Returns the status, output and error output of a command with these bytes as input."""
     try:
         done = subprocess.run(words, input=given, stdout=subprocess.PIPE, stderr=subprocess.PIPE,
                               timeout=seconds)
@@ -50,30 +55,30 @@ def called(words, given=b"", seconds=None):
 
 
 def said(*texts):
-    """What was printed, for a line: the last line of it that isn't empty."""
+    """Returns the last non-empty line of what was printed."""
     lines = b"\n".join(texts).decode(errors="replace").split("\n")
     return next((line.strip() for line in reversed(lines) if line.strip()), "nothing")
 
 
 def queries_for(k: int) -> list[tuple[str, int]]:
-    """The queries that have to be refuted for a plant to be safe at k."""
+    """Returns the queries to refute for a plant to be safe at k."""
     return [(kind, n) for n in range(k + 1) for kind in ("hazard", "breach")] + [("step", k)]
 
 
 class Plant:
-    """A configuration with its columns, of which the program is asked."""
+    """A configuration with its columns, and the program."""
 
     def __init__(self, program, conf, columns):
         self.program, self.conf, self.columns = program, conf, columns
 
     def asked(self, command, query, *words):
-        """What a command of the program answers about a query."""
+        """Returns a command's answer about a query."""
         kind, number = query
         return called([str(self.program), command, "--columns", self.columns, "--query", kind,
                        "--number", str(number), *words], self.conf)
 
     def formula(self, query):
-        """The text of a query's formula."""
+        """Returns the text of a query's formula."""
         status, out, complaint = self.asked("export", query)
         if status != 0:
             raise NoAnswer(f"no formula of {name_of(query)}: status {status}, "
@@ -81,7 +86,7 @@ class Plant:
         return out
 
     def why_not_refuted(self, query, proof):
-        """Why a text doesn't refute a query; none where it does."""
+        """Returns why a text doesn't refute a query, or `None` if it does."""
         status, out, complaint = self.asked("rup", query, f"--cert={proof}")
         if status == 0 and out == f"refuted {name_of(query)}\n".encode():
             return None
@@ -89,12 +94,12 @@ class Plant:
 
 
 def name_of(query: Sequence[str | int]) -> str:
-    """A query, as the reports call it."""
+    """Returns a query's name in reports."""
     return f"{query[0]} {query[1]}"
 
 
 def leave_out_what_adds_nothing(proof: Path) -> None:
-    """Leaves out the first line of a refutation, where it begins with `%`, and each that begins with `d`."""
+    """Removes the first line of a refutation if it begins with `%`, and each that begins with `d`."""
     taken = proof.with_suffix(".taken")
     with open(proof, "rb") as lines, open(taken, "wb") as out:
         for number, line in enumerate(lines):
@@ -104,7 +109,7 @@ def leave_out_what_adds_nothing(proof: Path) -> None:
 
 
 def why_unrefuted(plant, solver, seconds, directory, query):
-    """Why a query isn't refuted; none where the solver's text refutes it, as the program finds."""
+    """Returns why a query isn't refuted, or `None` if the program accepts the solver's refutation."""
     stem = directory.resolve() / f"{query[0]}-{query[1]}"
     cnf, proof = stem.with_suffix(".cnf"), stem.with_suffix(".proof")
     cnf.write_bytes(plant.formula(query))
@@ -123,11 +128,12 @@ def why_unrefuted(plant, solver, seconds, directory, query):
 
 
 def ask_all(plant, given, directory):
-    """Has every query refuted, and prints what came of each; answers those that weren't."""
+    """Refutes every query with the solver, and prints each result. Returns the queries that were
+    not refuted."""
     solver = shlex.split(given.solver)
     queries = queries_for(given.k)
-    # before all others, alone: the launcher may have to build the program, and a configuration that
-    # is refused is printed once
+    # Alone and first: the launcher may have to build the program, and a rejected configuration is
+    # reported once.
     plant.formula(queries[0])
     left = []
     with concurrent.futures.ThreadPoolExecutor(given.jobs) as pool:
@@ -147,7 +153,7 @@ def ask_all(plant, given, directory):
 
 
 def parser():
-    """Returns the parser of the command line."""
+    """Returns the command-line parser."""
     line = Parser("tools/verify_with", "Shows by another solver that a plant is safe: the solver refutes each query, "
                   "and `irv rup` checks each refutation.\n\n--solver is a command line in which {cnf} stands for the "
                   "formula's file and {proof} for the refutation's, which\nhas to be plain text. For PicoSAT: "
@@ -173,7 +179,7 @@ def parser():
 
 
 def options_of(words):
-    """Returns what the arguments ask for."""
+    """Returns the options in the arguments."""
     line = parser()
     given = line.parse_args(words)
     if not all(place in given.solver for place in ("{cnf}", "{proof}")):
@@ -182,7 +188,7 @@ def options_of(words):
 
 
 def main(words):
-    """Asks every query; returns the exit status."""
+    """Asks every query. Returns the exit status."""
     given = options_of(words)
     try:
         plant = Plant(given.program.resolve(), given.conf.read_bytes(), given.columns)

@@ -1,4 +1,4 @@
-"""The command line of `irv --csv`: reads and writes interlocking tables as CSV, and compares two."""
+"""The command line of `irv --csv`: reads, writes and compares interlocking tables as CSV."""
 
 from __future__ import annotations
 
@@ -20,14 +20,14 @@ OF_FILL = ("write", "exact")
 
 
 class _Change(argparse.Action):
-    """Notes a change in the order in which it was given."""
+    """Records a change in its place in the order."""
 
     def __call__(self, parser, namespace, values, option_string=None):
         namespace.changes = [*(namespace.changes or []), (option_string, values)]
 
 
 def parser():
-    """Returns the parser of the command line."""
+    """Returns the command-line parser."""
     line = Parser("irv --csv", "Writes a configuration as two CSV files that a spreadsheet opens, reads them "
                   "back, renames or drops entries,\nfills derived columns, writes the control table, "
                   "and prints in which entries two tables differ.\nWithout --in or FILE the "
@@ -62,7 +62,7 @@ def parser():
 
 
 def options_of(words):
-    """Returns what the arguments ask for."""
+    """Returns the options in the arguments."""
     line = parser()
     given = line.parse_args(words)
     mixed = [name for name in (OF_CHANGES if given.compare else OF_COMPARE) if getattr(given, name)]
@@ -84,12 +84,12 @@ def options_of(words):
 
 
 def option_of(name):
-    """Returns an option, by the name of its value."""
+    """Returns an option by the name of its value."""
     return f"--{name.rstrip('_').replace('_', '-')}"
 
 
 def see_input(line, given):
-    """Refuses more than one input, and a FILE if nothing reads it."""
+    """Rejects more than one input, and a FILE that nothing reads."""
     takes_file = given.fill or given.control_table
     if given.names[takes_file and 1 or 0:]:
         line.error(f"unexpected argument {given.names[takes_file and 1 or 0]}")
@@ -98,7 +98,7 @@ def see_input(line, given):
 
 
 def see_output(line, given):
-    """Refuses outputs that do not go together."""
+    """Rejects outputs that do not go together."""
     if given.write and given.out is not None:
         line.error("--write and --out do not go together")
     if given.write and not given.names and given.in_ is None:
@@ -113,7 +113,7 @@ def given_configuration():
 
 
 def compared(name):
-    """Returns the configuration of a directory with both CSV files, or of a file."""
+    """Returns the configuration of a directory with both CSV files, or a file."""
     if Path(name).is_dir():
         value = reading.read_directory(name)
     else:
@@ -123,12 +123,12 @@ def compared(name):
 
 
 def source_of(options):
-    """Returns the directory or file that is read, or None for standard input."""
+    """Returns the directory or file to read, or `None` for standard input."""
     return options.in_ if options.in_ is not None else (options.names[0] if options.names else None)
 
 
 def read_source(options):
-    """Returns the configuration that is read."""
+    """Returns the configuration that was read."""
     source = source_of(options)
     if source is None:
         return given_configuration()
@@ -137,7 +137,7 @@ def read_source(options):
 
 
 def changed(options):
-    """Returns the configuration that is asked for, with its changes."""
+    """Returns the requested configuration with its changes."""
     value = read_source(options)
     changes = renaming.Changes()
     for option, word in options.changes or []:
@@ -178,18 +178,18 @@ def compare(options):
 
 
 def print_out(text):
-    """Prints a text whole."""
+    """Prints a text completely."""
     try:
         sys.stdout.write(text)
         sys.stdout.flush()
     except OSError as fault:
-        # what is left in the stream can't be written at the end either
+        # The rest of the stream can't be written at exit either.
         sys.stdout = None
         raise Refused(f"standard output: it can't be written: {reason(fault)}") from None
 
 
 def main(words: list[str]) -> int:
-    """Does what the arguments ask for; returns the exit status."""
+    """Runs the command. Returns the exit status."""
     options = options_of(words)
     try:
         return compare(options) if options.compare else convert(options)

@@ -1,5 +1,5 @@
-"""The columns of both CSV files: their headings, the members of a configuration that they are, and how a
-cell of each is written and read.
+"""The columns of both CSV files: headings, members of a configuration, and how cells are written
+and read.
 """
 
 from __future__ import annotations
@@ -9,17 +9,17 @@ from irvtools.rules.schema_rules import CHOICES, LINEAR, POINT, ROUTE, SECOND
 from irvtools.html.control_table import heading
 
 SECTIONS, ROUTES = "sections.csv", "routes.csv"
-COMMENT = "#"           # a heading that begins with it is that of a comment
-LABEL = "label"         # the column of what a section or a route is called on screen and paper
+COMMENT = "#"           # a comment's heading begins with it
+LABEL = "label"         # column of the label of a section or route on screen and paper
 BOARD_LABELS = {"down": "board down label", "up": "board up label"}
 LABELS = {SECTIONS: (LABEL, *BOARD_LABELS.values()), ROUTES: (LABEL,)}
-# Where comments and labels are kept, as texts by their headings: a member that no configuration has, of an
-# entry; and of the whole, with the headings of each file.
+# Member for comments and labels, which no configuration has: an entry's texts by heading, and all
+# headings of each file.
 EXTRA = "#"
 
 
 class Column:
-    """A column: its heading, the member, how a cell is written, and how it is read."""
+    """A column: its heading, its member, its writer and its reader of cells."""
 
     def __init__(self, member, write, read):
         self.member, self.write, self.read = member, write, read
@@ -27,12 +27,12 @@ class Column:
 
 
 def word_text(word):
-    """A cell with a word, or an empty one for null."""
+    """Returns a cell with a word, or an empty one for null."""
     return cells.kept(word or "")
 
 
 def column(member, kind):
-    """The column of a member, by what the form says of it."""
+    """Returns the column of a member, by its kind in the schema."""
     if member in CHOICES:
         return Column(member, word_text, cells.one_of(CHOICES[member]))
     write, read = {
@@ -45,23 +45,23 @@ def column(member, kind):
 
 
 def columns(members):
-    """The columns of these members, in order."""
+    """Returns the columns of these members, in order."""
     return [column(member, kind) for member, kind in members.items()]
 
 
 OF_SECTIONS = columns({
     **{member: LINEAR[member] for member in ("name", "kind", "down", "up", "board_down", "board_up")},
     **{member: POINT[member] for member in ("stem", "plus", "minus", "faces")}})
-MEMBERS = {"linear": LINEAR, "point": POINT}    # which of them a section of each kind has
+MEMBERS = {"linear": LINEAR, "point": POINT}    # those of each kind of section
 OF_ROUTES = columns(ROUTE)
-PROTECTING = columns(SECOND)                    # what a route of version 2 has besides
+PROTECTING = columns(SECOND)                    # additional ones of a version 2 route
 
 
 def of_routes(version: int) -> list[Column]:
-    """The columns of the routes of a version."""
+    """Returns the route columns of a version."""
     return OF_ROUTES + (PROTECTING if version == 2 else [])
 
 
 def of_section(kind: str) -> list[Column]:
-    """The columns that a section of a kind has."""
+    """Returns the columns of a kind of section."""
     return [one for one in OF_SECTIONS if one.member in MEMBERS[kind]]

@@ -1,4 +1,4 @@
-"""In which entries two configurations differ, in order."""
+"""The entries in which two configurations differ, in order."""
 
 from collections import Counter
 
@@ -8,21 +8,22 @@ from irvtools.csvtables.matching import Match, first_numbers
 from irvtools.csvtables.renaming import BOARD, SECTION
 from irvtools.model.phrases import list_words
 
-IN_ORDER = ("path", "overlap")      # lists whose order says something
+IN_ORDER = ("path", "overlap")      # lists whose order matters
 CAME, WENT, RENAMED, CHANGED = "came", "went", "renamed", "changed"
 
 
 class Difference:
-    """A difference: of what, which, the numbers of its entry in the old and the new configuration (None
-    where it isn't there), and the sentence."""
+    """A difference: thing, change, the numbers of its entry in both configurations (`None` if
+    missing), and sentence."""
 
     def __init__(self, thing, what, old, new, line):
         self.thing, self.what, self.old, self.new, self.line = thing, what, old, new, line
 
 
 class Comparison:
-    """Two configurations, compared. Where the old one is the table that `irv table` gives of the new
-    one's network, its names say nothing, and a route that it has alone is a way without a route."""
+    """Two compared configurations. If the old one is the table that `irv table` makes of the new
+    one's network, its route names mean nothing. A route in that table only is a way without a
+    route."""
 
     def __init__(self, old, new, is_of_network=False):
         self.match = Match(old, new, not is_of_network)
@@ -33,7 +34,7 @@ class Comparison:
         self.differences = [*self.sections(), *self.boards(), *self.routes()]
 
     def lines(self):
-        """What is told."""
+        """Returns the report's lines."""
         lines = [difference.line for difference in self.differences]
         if not lines:
             lines = [self.same()]
@@ -44,22 +45,22 @@ class Comparison:
         return lines
 
     def same(self):
-        """That nothing differs, and whether the order does."""
+        """Returns that nothing differs, and whether the order does."""
         if self.is_of_network:
             return "the same: each way has its route"
         return "the same, in another order" if self.has_another_order() else "the same"
 
     def has_another_order(self):
-        """Whether entries, or names in a list, stand in another order."""
+        """Returns whether entries, or names in a list, are in another order."""
         pairs = [*self.match.sections.items(), *self.match.routes.items()]
         return any(x != y for x, y in pairs) or any(
             (self.old["routes"][r].get(one.member) or []) != (self.new["routes"][s].get(one.member) or [])
             for r, s in self.match.routes.items() for one in columns.of_routes(2))
 
-    # -- sections and boards
+    # -- sections, boards
 
     def sections(self):
-        """Differences of sections: those of the old ones in their order, then those that came."""
+        """Yields the section differences: old ones in their order, then added ones."""
         names = {new: old for old, new in self.match.new_names[SECTION].items()}
         for x, section in enumerate(self.old["sections"]):
             y = self.match.sections.get(x)
@@ -82,14 +83,14 @@ class Comparison:
                                  f"section {section['name']} came: {of_section(section)}")
 
     def boards(self):
-        """Boards under other names."""
+        """Yields the renamed boards."""
         for old, new in self.match.new_names[BOARD].items():
             yield Difference(BOARD, RENAMED, None, None, f"board {old} is now called {new}")
 
     # -- routes
 
     def routes(self):
-        """Differences of routes: those of the old ones in their order, then those that came."""
+        """Yields the route differences: old ones in their order, then added ones."""
         for r, route in enumerate(self.old["routes"]):
             s = self.match.routes.get(r)
             if s is None:
@@ -108,7 +109,7 @@ class Comparison:
                 yield Difference("route", CAME, None, s, self.came(route))
 
     def went(self, route):
-        """That a route went; of the network's own table, that a way has none."""
+        """Returns that a route was removed, or that a way of the network has none."""
         if self.is_of_network:
             return f"no route: {of_route(route)}"
         lists = in_conflicts(route["name"], self.old, self.new, self.match.routes)
@@ -116,7 +117,7 @@ class Comparison:
                 + (f"; it was in the conflicts of {' '.join(lists)}" if lists else ""))
 
     def came(self, route):
-        """That a route came; or that it is no way of the network."""
+        """Returns that a route was added, or that it is not a way of the network."""
         if self.is_of_network:
             return f"route {route['name']} is no way of the network: {of_route(route)}"
         pairs = {s: r for r, s in self.match.routes.items()}
@@ -125,7 +126,7 @@ class Comparison:
                 + (f"; it is in the conflicts of {' '.join(lists)}" if lists else ""))
 
     def changes(self, route, other):
-        """The entries in which a route differs."""
+        """Yields the entries in which a route differs."""
         for column in columns.of_routes(2):
             if column.member in ("name", "conflicts"):
                 if column.member == "conflicts":
@@ -139,7 +140,7 @@ class Comparison:
                 yield from listed(column.heading, *(list_words(one or []) for one in said))
 
     def extra(self, list_, entry, other):
-        """Yields in which comments and labels an entry differs, of the columns that both have."""
+        """Yields differences of an entry's comments and labels, in columns that both files have."""
         headings = [value.get(columns.EXTRA, {}).get(list_, []) for value in (self.old, self.new)]
         for heading in headings[0]:
             if heading in headings[1]:
@@ -148,8 +149,8 @@ class Comparison:
                     yield f"{heading} {old or 'none'}, now {new or 'none'}"
 
     def conflicts(self, route, other):
-        """Which conflicts a route has more and less. A route that went is none less, and one that came
-        none more: that is told where they are."""
+        """Yields the added and removed conflicts of a route, without added and removed routes:
+        those are reported by themselves."""
         olds = [self.now_called(name) for name in route["conflicts"]]
         came = [name for name in other["conflicts"] if self.is_new(name) and name not in olds]
         went = [name for name in route["conflicts"] if self.is_gone(name)
@@ -158,31 +159,31 @@ class Comparison:
                           [name for name in other["conflicts"] if name not in came])
 
     def now_called(self, name):
-        """What a route of the old table is called in the new one; its old name where it isn't there."""
+        """Returns the new name of an old route, or its old name if it was removed."""
         number = self.match.routes.get(self.old_numbers.get(name))
         return name if number is None else self.new["routes"][number]["name"]
 
     def is_gone(self, name):
-        """Whether a route of the old table went."""
+        """Returns whether a route of the old table was removed."""
         return name in self.old_numbers and self.old_numbers[name] not in self.match.routes
 
     def is_new(self, name):
-        """Whether a route of the new table came."""
+        """Returns whether a route of the new table was added."""
         return name in self.new_numbers and self.new_numbers[name] not in self.match.routes.values()
 
 
 def shown(column, said):
-    """What an entry says."""
+    """Returns an entry as a text."""
     return cells.bare(column.write(said)) if said else "none"
 
 
 def changed(column, old, new):
-    """That an entry says something else."""
+    """Returns that an entry has changed."""
     return f"{column.heading} {shown(column, old)}, now {shown(column, new)}"
 
 
 def listed(heading, olds, news):
-    """What a list has less and more, whatever the order."""
+    """Yields a list's removed and added names, in any order."""
     less, more = Counter(olds) - Counter(news), Counter(news) - Counter(olds)
     parts = [f"{word} {' '.join(names.elements())}" for word, names in (("without", less), ("with", more))
              if names]
@@ -191,20 +192,20 @@ def listed(heading, olds, news):
 
 
 def of_section(section):
-    """A section in words: its entries that aren't empty."""
+    """Returns a section's non-empty entries in words."""
     return ", ".join([section["kind"]] + [
         f"{one.heading} {section[one.member]}" for one in columns.of_section(section["kind"])
         if one.member not in ("name", "kind") and section[one.member] is not None])
 
 
 def of_route(route):
-    """The way of a route, in words."""
+    """Returns the way of a route in words."""
     end = f"to {route['destination']}" if route["destination"] else "out"
     return f"from {route['source']} {end} over {' '.join(route['path']) or 'nothing'}"
 
 
 def in_conflicts(name, value, other, pairs):
-    """The routes of a configuration that list a route as a conflict, but those that list it in the other
-    configuration too; `pairs` says which route is which there."""
+    """Returns the routes of a configuration that list a route as a conflict, but don't in the other
+    configuration. `pairs` matches their routes."""
     return [route["name"] for number, route in enumerate(value["routes"]) if name in route["conflicts"]
             and not (number in pairs and name in other["routes"][pairs[number]]["conflicts"])]

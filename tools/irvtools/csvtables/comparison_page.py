@@ -1,5 +1,5 @@
-"""A page of a comparison: its sentences, both plans with what differs marked, and both tables of routes as
-one sheet that prints.
+"""A comparison's page: its sentences, both plans with marked differences, and both route tables as
+one printable sheet.
 """
 
 import re
@@ -17,7 +17,7 @@ from irvtools.trackplan.signs import legend
 
 MOST_ROUTES = 24        # that have pictures
 DRAWN = ("path", "overlap", "points")   # entries of a route that a picture shows
-# what stands before a row of the sheet
+# Text in front of a row.
 WORDS = {WENT: "went", CAME: "came", "old": "was", "new": "is"}
 WORDS_OF_NETWORK = {WENT: "no route", CAME: "no way of the network", "old": "network", "new": "table"}
 OWN = """
@@ -28,7 +28,7 @@ OWN = """
 
 
 def with_own_ids(markup, side):
-    """The markup of a drawing, with ids that no drawing of the other side has."""
+    """Returns a drawing's markup, with ids that differ from the other side's."""
     return re.sub(r'\b(id="|href="#)([^"]*)', rf"\g<1>\g<2>-{side}", markup)
 
 
@@ -41,21 +41,21 @@ class Side:
         self.drawing = Drawing(self.plant)
 
     def definitions(self):
-        """What its pictures use."""
+        """Returns the definitions for its pictures."""
         return with_own_ids(self.drawing.definitions(), self.word)
 
     def plan(self, marks, title):
-        """Its plan, with marks."""
+        """Returns its plan, with marks."""
         return tag("div", tag("h3", text(title))
                    + with_own_ids(self.drawing.plan(marks, title), self.word), class_="side")
 
     def board_name(self, x, direction):
-        """The name of the board on a section, or None."""
+        """Returns the name of the board on a section, or `None`."""
         b = self.plant.board_on.get((x, direction))
         return None if b is None else self.plant.boards[b].name
 
     def route_plan(self, number, word):
-        """The plan with a route's path."""
+        """Returns the plan with a route's path."""
         route = self.plant.routes[number]
         marks = Marks(boards=[route.source, route.destination]).with_route(route)
         return self.plan(marks, f"{self.title}: route {route.name} {word}".rstrip())
@@ -72,7 +72,7 @@ class Picture:
         self.new = Side(new_title, match.new, "new")
 
     def page(self):
-        """The page as a document."""
+        """Returns the page as a document."""
         title = f"{self.old.title} and {self.new.title}"
         lines = "".join(tag("li", text(line)) for line in self.comparison.lines())
         body = "\n".join([
@@ -89,8 +89,8 @@ class Picture:
         return document(f"{title}: irv", f"{body}\n{foot}", OWN)
 
     def network_plan(self, side, number):
-        """A side's plan, with what of its network differs: `number` is what a difference calls the
-        side's own number."""
+        """Returns a side's plan with marked network differences. `number` is the attribute of a
+        difference with this side's number."""
         sections = [getattr(one, number) for one in self.comparison.differences
                     if one.thing == "section" and getattr(one, number) is not None]
         pairs = self.comparison.match.sections
@@ -102,7 +102,7 @@ class Picture:
         return side.plan(Marks(sections=dict.fromkeys(sections), boards=boards), side.title)
 
     def route_plans(self):
-        """The ways of the routes that differ: of each the one that was, and the one that is."""
+        """Returns the old and the new way of each route that differs."""
         routes = dict.fromkeys((one.old, one.new, one.what) for one in self.comparison.differences
                                if one.thing == "route" and one.what != RENAMED
                                and self.is_drawn(one.old, one.new))
@@ -117,8 +117,7 @@ class Picture:
             yield tag("p", text(f"{len(routes) - MOST_ROUTES} more have no picture."))
 
     def is_drawn(self, old, new):
-        """Returns whether pictures show how a route differs: by its path, overlap or points, or because the
-        network differs."""
+        """Returns whether pictures show how a route differs: by path, overlap, points, or network."""
         match = self.comparison.match
         is_of_network = any(one.thing != "route" for one in self.comparison.differences)
         return old is None or new is None or is_of_network or any(
@@ -127,7 +126,7 @@ class Picture:
     # -- the sheet
 
     def sheet(self):
-        """Both tables as one sheet: a route that differs has a row for each."""
+        """Returns both tables as one sheet. A route that differs has a row for each."""
         versions = {self.new.value["version"]}
         if not self.comparison.is_of_network:
             versions.add(self.old.value["version"])
@@ -135,7 +134,7 @@ class Picture:
         return control_table.sheet("", known, self.rows(known))
 
     def rows(self, known):
-        """The rows of the sheet: the routes of the new table in order, and those that went at the end."""
+        """Returns the rows: the new table's routes in order, then removed ones."""
         match = self.comparison.match
         old_of = {s: r for r, s in match.routes.items()}
         differ = {one.new for one in self.comparison.differences if one.thing == "route"}
@@ -155,7 +154,7 @@ class Picture:
                 yield row(self.words[WENT], route, known, known, "old")
 
     def differs(self, member, old, new):
-        """Whether an entry of a route differs."""
+        """Returns whether an entry of a route differs."""
         if member == "name":
             return old["name"] != new["name"] and not self.comparison.is_of_network
         return any(line.startswith(control_table.heading(member) + " ")

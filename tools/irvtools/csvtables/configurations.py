@@ -1,6 +1,5 @@
-"""A configuration as it is read and written by the CSV tools: the value of its JSON, of the form
-that F2 to F5 ask. The counts of F6 are asked only where something is
-compared; all other rules are for `irv check`.
+"""A configuration as the CSV tools read and write it: the value of its JSON, in the form of F2 to
+F5. F6's counts are checked only for a comparison; all other rules are for `irv check`.
 """
 
 from __future__ import annotations
@@ -15,7 +14,7 @@ from irvtools.csvtables import spreadsheets
 
 
 def read(given: bytes, name: str) -> dict[str, Any]:
-    """The configuration of some bytes; `name` is what they are called where they are refused."""
+    """Returns the configuration of some bytes; a rejection calls them `name`."""
     if len(given) > MOST_BYTES:
         raise Refused(f"{name}: there are more than {MOST_BYTES} bytes, which a configuration may have")
     value, unread = schema_rules.read(given)
@@ -24,7 +23,7 @@ def read(given: bytes, name: str) -> dict[str, Any]:
 
 
 def form_faults(given, value):
-    """What of the form is broken, by F3 to F5."""
+    """Returns violations of F3 to F5."""
     faults = list(schema_rules.document_faults("F3", given, value))
     if not faults and value["version"] not in (1, 2):
         faults = list(schema_rules.document_faults("F4", given, value))
@@ -39,7 +38,7 @@ def form_faults(given, value):
 
 
 def see_counts(value: dict[str, Any], name: str) -> None:
-    """Refuses a configuration that breaks F6."""
+    """Rejects a configuration that breaks F6."""
     faults = [*schema_rules.document_faults("F6", None, value)]
     for list_ in ("sections", "routes"):
         for number in range(len(value[list_])):
@@ -48,13 +47,13 @@ def see_counts(value: dict[str, Any], name: str) -> None:
 
 
 def refuse(faults, name):
-    """Refuses what has faults, each a sentence."""
+    """Raises a rejection if there are faults, each a sentence."""
     if faults:
         raise Refused(*(f"{name}: {fault[0].lower()}{fault[1:].removesuffix('.')}" for fault in faults))
 
 
 def read_bytes(path: str) -> bytes:
-    """The bytes of a file, or the first of them where there are too many."""
+    """Returns the bytes of a file, or only the first ones if it is too long."""
     try:
         with open(path, "rb") as file:
             given = file.read(MOST_BYTES + 1)
@@ -65,7 +64,7 @@ def read_bytes(path: str) -> bytes:
 
 
 def read_text(path: str, what: str) -> str:
-    """The text of a file; `what` is what it is called where it is too long."""
+    """Returns the text of a file; a rejection of a long file calls it `what`."""
     given = read_bytes(path)
     if len(given) > MOST_BYTES:
         raise Refused(f"{path}: there are more than {MOST_BYTES} bytes, which {what} may have")
@@ -77,14 +76,14 @@ def read_text(path: str, what: str) -> str:
 
 
 def members_of(entry, version):
-    """The members of a section or of a route, in their order."""
+    """Returns the members of a section or a route, in order."""
     if "kind" in entry:
         return POINT if entry["kind"] == "point" else LINEAR
     return route_members(version)
 
 
 def written(value: dict[str, Any]) -> str:
-    """The text of a configuration: a line for each section and for each route."""
+    """Returns the text of a configuration, with a line for each section and route."""
     lists = ",\n".join(list_text(list_, value) for list_ in ("sections", "routes"))
     text = f'{{"version": {value["version"]},\n{lists}}}\n'
     if len(text) > MOST_BYTES:
@@ -93,7 +92,7 @@ def written(value: dict[str, Any]) -> str:
 
 
 def list_text(list_, value):
-    """The lines of its sections or of its routes."""
+    """Returns the lines of its sections or routes."""
     lines = [json.dumps({member: entry[member] for member in members_of(entry, value["version"])})
              for entry in value[list_]]
     return f' "{list_}": [' + ",".join(f"\n  {line}" for line in lines) + "]"

@@ -1,4 +1,4 @@
-"""The control table in the usual layout: one row for each route, as CSV and as a page that prints."""
+"""The control table in the usual layout: a row for each route, as CSV and as a printable page."""
 
 from __future__ import annotations
 
@@ -35,7 +35,7 @@ LEGEND = ("Normal is plus, reverse is minus. The class says if a route begins at
 
 
 def see_names(plant: Plant) -> None:
-    """Refuses a table that names sections, boards or routes that do not exist."""
+    """Rejects a table that names missing sections, boards or routes."""
     for route in plant.routes:
         named = [route.source, *route.locked, *route.conflicts, *route.protecting_boards,
                  *(x for x, _ in route.points)]
@@ -55,14 +55,14 @@ def route_class(plant: Plant, route: Route) -> str:
 
 
 def points_at(plant: Plant, route: Route, sections: list[int], position: str) -> str:
-    """Returns the names of the points among `sections` that a route lists in a position."""
+    """Returns the points among `sections` that a route lists in a position."""
     listed = dict(route.points)
     return " ".join(plant.name(x) for x in sections if listed.get(x) == position)
 
 
 def conflict_words(plant: Plant, route: Route) -> str:
-    """Returns the conflicting routes, each with the reason. Those that a rule demands and the table
-    lacks are marked."""
+    """Returns the conflicting routes, each with the reason. Required ones that the table lacks are
+    marked."""
     parts = []
     for other in plant.routes:
         if other is route:
@@ -89,19 +89,19 @@ def row(plant: Plant, route: Route) -> list[str]:
 
 
 def rows(value: dict) -> list[list[str]]:
-    """Returns the cells of all routes of a configuration."""
+    """Returns the cells of all routes."""
     plant = Plant(value)
     see_names(plant)
     return [row(plant, route) for route in plant.routes]
 
 
 def label_of(route: dict) -> str:
-    """Returns the label of a route, or an empty text."""
+    """Returns a route's label, or an empty text."""
     return route.get(columns.EXTRA, {}).get(columns.LABEL, "").strip()
 
 
 def page(value: dict, title: str) -> str:
-    """Returns the control table as a page. Labels of routes are shown beside their names."""
+    """Returns the control table as a page. Route labels are beside the names."""
     head = tag("tr", "".join(tag("th", text(heading)) for heading in HEADINGS))
     body = []
     for route, (name, *others) in zip(value["routes"], rows(value)):
@@ -123,8 +123,8 @@ def csv(value: dict) -> str:
 
 
 def write(value: dict, out: str) -> None:
-    """Writes the control table as `out`.csv and `out`.html. No file is overwritten, and none is left if
-    one cannot be written."""
+    """Writes the control table as `out`.csv and `out`.html. No file is overwritten, and none left
+    if one cannot be written."""
     path = Path(f"{out}.csv")
     texts = csv(value), page(value, Path(out).name)
     if Path(f"{out}.html").exists():

@@ -1,11 +1,10 @@
-"""Reads and writes CSV as RFC 4180 has it, and as spreadsheets write it: also with semicolons, and with a byte order
-mark at the beginning.
+"""Reads and writes CSV by RFC 4180 and as spreadsheets write it: also with semicolons, and with a
+leading byte order mark.
 
-It is hand-written because each fault is reported with its line and column, which the module `csv` of the standard
-library does not tell.
+It is hand-written to report each fault with line and column, which the module `csv` doesn't give.
 
-A quotation mark opens a cell in quotation marks only as its first character; inside such a cell two
-of them stand for one. Lines end with CR LF, LF or CR.
+A quotation mark opens a quoted cell only as its first character; inside it, two are one. Lines end
+with CR LF, LF or CR.
 """
 
 from __future__ import annotations
@@ -17,19 +16,19 @@ from irvtools.calls.refusal import Refused
 
 COMMA, SEMICOLON = ",", ";"
 QUOTE = '"'
-MARK = "\ufeff"         # that a text is UTF-8, as spreadsheets write it
+MARK = "\ufeff"         # marks UTF-8 in spreadsheets' files
 ENDS = re.compile("\r\n|\r|\n")
 
 
 class Row:
-    """A row: the line of the file on which it begins, from 1, and its cells."""
+    """A row: its first line in the file, from 1, and its cells."""
 
     def __init__(self, line, cells):
         self.line, self.cells = line, cells
 
 
 def letters(number: int) -> str:
-    """The letters by which spreadsheets call a column, of its number from 0."""
+    """Returns a spreadsheet's letters for a column, by its number from 0."""
     word = ""
     while number >= 0:
         word = chr(ord("A") + number % 26) + word
@@ -47,12 +46,12 @@ class Reader:
         self.quoted = re.compile('[^"]*')
 
     def rows(self):
-        """The rows, in order."""
+        """Yields the rows in order."""
         while self.at < len(self.text):
             yield self.row()
 
     def row(self):
-        """The next row, with the end of its line."""
+        """Returns the next row, and takes its line end."""
         row = Row(self.line, [])
         while True:
             row.cells.append(self.cell(row))
@@ -63,7 +62,7 @@ class Reader:
         return row
 
     def cell(self, row):
-        """The next cell, up to what stands behind it."""
+        """Returns the next cell, and stops after it."""
         if self.text.startswith(QUOTE, self.at):
             return self.cell_in_quotes(row)
         cell = self.take(self.plain)
@@ -73,7 +72,7 @@ class Reader:
         return cell
 
     def cell_in_quotes(self, row):
-        """A cell in quotation marks."""
+        """Returns a quoted cell."""
         parts = []
         while True:
             self.at += 1
@@ -89,13 +88,13 @@ class Reader:
         return cell
 
     def take(self, pattern):
-        """What a pattern has here."""
+        """Returns the text that matches a pattern here."""
         found = pattern.match(self.text, self.at)
         self.at = found.end()
         return found[0]
 
     def end(self, row):
-        """The end of a line, or of the text."""
+        """Takes the end of a line or text."""
         if self.at == len(self.text):
             return
         found = ENDS.match(self.text, self.at)
@@ -106,28 +105,28 @@ class Reader:
         self.line += 1
 
     def refused(self, row, why, column=None):
-        """A fault of a cell: the one that is being read, where none is named."""
+        """Returns a fault of a cell, by default the one being read."""
         column = letters(len(row.cells) if column is None else column)
         return Refused(f"{self.file}, line {row.line}, column {column}: {why}")
 
 
 def read(file: str, text: str, separator: str) -> list[Row]:
-    """The rows of a text. The file's name is for what is told."""
+    """Returns the rows of a text. Messages use the file's name."""
     return list(Reader(file, text.removeprefix(MARK), separator).rows())
 
 
 def first_row(text: str, separator: str) -> list[str]:
-    """The cells of the first line, whatever stands in it; for the choice of the separator."""
+    """Returns the first line's cells, with any content, for choosing the separator."""
     line = ENDS.split(text.removeprefix(MARK), maxsplit=1)[0]
     return [cell.strip(' "') for cell in line.split(separator)]
 
 
 def quoted(cell):
-    """Returns a cell as it is written. Only comments and labels need quotation marks: they have any
+    """Returns a cell as written. Only comments and labels need quotation marks: they may have any
     characters."""
     return f'"{cell.replace(QUOTE, QUOTE * 2)}"' if re.search('[",;\r\n]', cell) else cell
 
 
 def written(rows: Iterable[Iterable[str]]) -> str:
-    """Returns the text of rows of cells."""
+    """Returns rows of cells as a text."""
     return "".join(",".join(map(quoted, row)) + "\r\n" for row in rows)

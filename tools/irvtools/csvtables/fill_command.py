@@ -1,4 +1,5 @@
-"""`irv --csv --fill`: fills derived columns, prints what was added, and asks `irv check` of the result."""
+"""`irv --csv --fill`: fills derived columns, prints the additions, and runs `irv check` on the
+result."""
 
 from __future__ import annotations
 
@@ -16,7 +17,7 @@ NOTHING = "nothing is filled: the rules F, N, R, C1 and C2 have to hold, and irv
 
 
 class NotFilled(Exception):
-    """A configuration of which nothing can be filled; `lines` is what `check` prints of it."""
+    """A configuration that can't be filled. `lines` is the output of `check`."""
 
     def __init__(self, lines: list[str]) -> None:
         super().__init__(NOTHING)
@@ -24,7 +25,7 @@ class NotFilled(Exception):
 
 
 def read_columns(word: str) -> list[str]:
-    """Returns the columns that the value of `--fill` names."""
+    """Returns the columns in the value of `--fill`."""
     names = word.split(",")
     if not set(names) <= set(filling.COLUMNS) or len(set(names)) < len(names):
         raise argparse.ArgumentTypeError(
@@ -33,7 +34,7 @@ def read_columns(word: str) -> list[str]:
 
 
 def checked(program: Path, value: dict) -> list[str]:
-    """Returns the lines that `irv check` prints of a configuration."""
+    """Returns the lines of `irv check` about a configuration."""
     text = configurations.written(value)
     answer = Program(program, text.encode()).ask(["check"], SECONDS)
     if answer.status not in (0, 5):
@@ -50,7 +51,7 @@ def filled(program: Path, value: dict, names: list[str], is_exact: bool) -> fill
 
 
 def report(program: Path, old: dict, found: filling.Filling) -> str:
-    """Returns what was filled and what was not, and what `irv check` says of the result."""
+    """Returns the filled and unfilled entries, and what `irv check` says of the result."""
     counts = ", ".join(f"{name} {count}" for name, count in found.counts.items())
     lines = [*comparing.Comparison(old, found.value).lines(), f"filled: {counts}",
              *(f"decide: {line}" for line in found.decisions),
@@ -61,7 +62,7 @@ def report(program: Path, old: dict, found: filling.Filling) -> str:
 
 
 def write_over(value: dict, path: str) -> None:
-    """Writes a filled configuration over the one at `path`: routes.csv of a directory, or a file."""
+    """Overwrites the configuration at `path`: routes.csv of a directory, or a file."""
     if Path(path).is_dir():
         writing.write_over(Path(path, columns.ROUTES), writing.csv_texts(value)[columns.ROUTES])
     elif os.path.isfile(path):
@@ -71,7 +72,7 @@ def write_over(value: dict, path: str) -> None:
 
 
 def fill(options: argparse.Namespace, value: dict, source: str | None) -> str:
-    """Fills `value`, which was read from `source`, and writes it; returns what goes to standard
+    """Fills `value`, which was read from `source`, and writes it. Returns the text for standard
     output."""
     found = filled(options.program, value, options.fill, options.exact)
     text = report(options.program, value, found)

@@ -1,5 +1,5 @@
-"""Derived entries of an interlocking table: the conflicts that C5, C6 and C8 demand, and the positions of
-points that C3 demands. Nothing that was typed is removed or changed."""
+"""Derived entries of an interlocking table: the conflicts that C5, C6 and C8 require, and the point
+positions for C3. Nothing typed is removed or changed."""
 
 from __future__ import annotations
 
@@ -12,14 +12,13 @@ from irvtools.rules.way_points import leading_along, way_of
 
 CONFLICTS, POINTS = "conflicts", "points"
 COLUMNS = (CONFLICTS, POINTS)
-NEEDED = ("F", "N", "R", "C1", "C2")        # rules that have to hold before anything is filled
+NEEDED = ("F", "N", "R", "C1", "C2")        # required before filling
 
 
 @dataclass
 class Filling:
-    """A filled configuration: `counts` is how many entries were added to each column, `decisions` and
-    `wrong` are sentences about points that were not filled, and `extra` about conflicts that no rule
-    demands."""
+    """A filled configuration. `counts` is the number of added entries by column. `decisions` and
+    `wrong` are sentences about unfilled points, and `extra` about conflicts that no rule requires."""
 
     value: dict
     counts: dict[str, int] = field(default_factory=dict)
@@ -29,13 +28,13 @@ class Filling:
 
 
 def hindrances(lines: list[str]) -> list[str]:
-    """Returns the lines of `check` because of which nothing can be filled."""
+    """Returns the lines of `check` that prevent filling."""
     return [line for line in lines if line.startswith(tuple(f"refused {rule}" for rule in NEEDED))]
 
 
 def filled(value: dict, columns: list[str], is_exact: bool = False) -> Filling:
-    """Returns a configuration with the entries of `columns` that follow from the others. The rules
-    F, N, R, C1 and C2 have to hold. If `is_exact`, it also names conflicts that no rule demands."""
+    """Returns a configuration with the derived entries of `columns`. The rules F, N, R, C1 and C2
+    have to hold. If `is_exact`, it also names conflicts that no rule requires."""
     plant = Plant(value)
     found = Filling(value, {column: 0 for column in columns})
     if is_exact:
@@ -52,7 +51,7 @@ def filled(value: dict, columns: list[str], is_exact: bool = False) -> Filling:
 
 
 def merged(listed: list[str], added: list[str], order: dict[str, int]) -> list[str]:
-    """Returns a list with names added: in `order` if what is listed is, otherwise at its end."""
+    """Returns a list with names added: in `order` if the list is, otherwise at its end."""
     numbers = [order[name] for name in listed]
     return sorted(listed + added, key=order.get) if numbers == sorted(numbers) else listed + added
 
@@ -60,7 +59,7 @@ def merged(listed: list[str], added: list[str], order: dict[str, int]) -> list[s
 # -- conflicts
 
 def fill_conflicts(plant: Plant, route: Route, member: dict, wanted: set[int], found: Filling) -> None:
-    """Adds those of the conflicts `wanted` that a route lacks."""
+    """Adds the conflicts `wanted` that a route lacks."""
     listed = list(member["conflicts"])
     added = [plant.routes[j].name for j in sorted(wanted - set(route.conflicts))]
     member["conflicts"] = merged(listed, added, plant.route_named)
@@ -68,7 +67,7 @@ def fill_conflicts(plant: Plant, route: Route, member: dict, wanted: set[int], f
 
 
 def wanted_conflicts(plant: Plant) -> list[set[int]]:
-    """Returns the conflicts of each route that C5, C6 and C8 demand, with those that are listed."""
+    """Returns each route's conflicts that C5, C6 and C8 require, with the listed ones."""
     wanted = [set(route.conflicts) for route in plant.routes]
     listed = [(route.number, j) for route in plant.routes for j in route.conflicts]
     for i, j in [*listed, *demanded(plant)]:
@@ -78,7 +77,7 @@ def wanted_conflicts(plant: Plant) -> list[set[int]]:
 
 
 def undemanded(plant: Plant):
-    """Yields the listed conflicts that neither C6 nor C8 demands, each with its reverse."""
+    """Yields the listed conflicts that neither C6 nor C8 requires, each with its reverse."""
     needed = demanded(plant)
     for i, route in enumerate(plant.routes):
         for j in route.conflicts:
@@ -94,7 +93,7 @@ def undemanded(plant: Plant):
 # -- points
 
 def fill_points(plant: Plant, route: Route, member: dict, found: Filling) -> None:
-    """Adds the points of path and overlap that a route lacks, each in the position that leads along."""
+    """Adds missing points of path and overlap, in the position that leads along."""
     listed = dict(route.points)
     added = {}
     way = way_of(plant, route)

@@ -1,5 +1,5 @@
-"""Labels: what sections, boards and routes are called on drawings, beside their names. They are columns of
-the CSV files, because a configuration has no member for them."""
+"""Labels of sections, boards and routes, shown beside names on drawings. Only the CSV files have
+them: a configuration has no member for them."""
 
 from __future__ import annotations
 
@@ -12,7 +12,7 @@ from irvtools.model.plant import Plant
 
 @dataclass(frozen=True)
 class Labels:
-    """The labels by names."""
+    """Labels by name."""
 
     sections: dict[str, str] = field(default_factory=dict)
     boards: dict[str, str] = field(default_factory=dict)
@@ -20,7 +20,7 @@ class Labels:
 
 
 def of_value(value: dict) -> Labels:
-    """Returns the labels of a configuration that was read from CSV files."""
+    """Returns the labels of a configuration from CSV files."""
     found = Labels()
     for section in value["sections"]:
         add(found.sections, section["name"], section, columns.LABEL)
@@ -32,20 +32,20 @@ def of_value(value: dict) -> Labels:
 
 
 def add(labels: dict[str, str], name: str | None, entry: dict, heading: str) -> None:
-    """Adds the label of a column of an entry, if both are there."""
+    """Adds the label in a column of an entry, if both exist."""
     label = " ".join(entry.get(columns.EXTRA, {}).get(heading, "").split())
     if name is not None and label:
         labels[name] = label
 
 
 def read(directory: str) -> Labels:
-    """Returns the labels in the CSV files of a directory."""
+    """Returns the labels in a directory's CSV files."""
     return of_value(reading.read_directory(directory))
 
 
 def labelled(plant: Plant, labels: Labels) -> Plant:
-    """Returns a plant for drawings, in which the names of sections and boards have their labels behind
-    them. Nothing refers to things by these names."""
+    """Returns a plant for drawings, with labels after the names of sections and boards. Nothing
+    refers to these names."""
     if not labels.sections and not labels.boards:
         return plant
     drawn = copy.copy(plant)
@@ -55,7 +55,7 @@ def labelled(plant: Plant, labels: Labels) -> Plant:
 
 
 def with_label(thing, labels: dict[str, str]):
-    """Returns a section or a board whose name has its label behind it, if it has one."""
+    """Returns a section or board with any label after its name."""
     if thing.name not in labels:
         return thing
     named = copy.copy(thing)

@@ -1,8 +1,8 @@
-"""Which sections, boards and routes of one configuration are which of another.
+"""Matches sections, boards and routes of two configurations.
 
-What has the same name is the same, of routes only where no other has the same source and the same path.
-A section under another name is one whose neighbours and boards are those of the section that went. A
-board under another name stands on the same section in the same direction.
+Equal names match. For a route this holds only if no other has the same source and path. A renamed
+section has the neighbours and boards of the one that is gone. A renamed board is on the same
+section in the same direction.
 """
 
 from __future__ import annotations
@@ -16,7 +16,7 @@ ENDS = {"linear": ("down", "up"), "point": ("stem", "plus", "minus")}
 
 
 def by_name(entries, others):
-    """Which entry is which, by number: those of one name in the order in which they stand."""
+    """Returns matching entries by number. Equal names match in order."""
     left = defaultdict(list)
     for number, entry in enumerate(others):
         left[entry["name"]].append(number)
@@ -25,7 +25,7 @@ def by_name(entries, others):
 
 
 def first_numbers(entries: list[dict[str, Any]]) -> dict[str, int]:
-    """The number of the first entry of each name."""
+    """Returns the number of the first entry of each name."""
     numbers = {}
     for number, entry in enumerate(entries):
         numbers.setdefault(entry["name"], number)
@@ -33,9 +33,9 @@ def first_numbers(entries: list[dict[str, Any]]) -> dict[str, int]:
 
 
 class Sections:
-    """Which section is which: `pairs` has the number of the new one by that of the old one. `missing`
-    has the names, by kind, that the new configuration still refers to though nothing has them: what
-    had them before isn't taken for one that has another name now."""
+    """Matched sections. `pairs` gives the new number for an old one. `missing` has, by kind, names
+    that the new configuration refers to but nothing has. Their former owners aren't considered
+    renamed."""
 
     def __init__(self, old, new, missing):
         self.old, self.new, self.missing = old, new, missing
@@ -51,7 +51,7 @@ class Sections:
             pass
 
     def more(self):
-        """Pairs more sections under other names, where each has one that it can be."""
+        """Pairs more renamed sections: those with a single candidate."""
         wanted = {x: {y for y in self.candidates(x) if y not in self.taken and self.fits(x, y)}
                   for x, section in enumerate(self.old)
                   if x not in self.pairs and section["name"] not in self.missing[SECTION]}
@@ -62,15 +62,15 @@ class Sections:
         return found
 
     def fewer(self):
-        """Takes back pairs that don't fit those that were found after them."""
+        """Removes pairs that don't fit later ones."""
         wrong = [x for x, y in self.pairs.items() if x not in self.kept and not self.fits(x, y)]
         for x in wrong:
             self.taken.remove(self.pairs.pop(x))
         return wrong
 
     def candidates(self, x):
-        """The sections that one can be: they lie at the same end of the same section, or have one of its
-        boards."""
+        """Yields the candidates for a section: those at the same end of the same section, or with
+        one of its boards."""
         section = self.old[x]
         for end in ENDS[section["kind"]]:
             beside = self.numbers[0].get(section[end])
@@ -82,8 +82,8 @@ class Sections:
                     if section.get(side) in self.board_on)
 
     def fits(self, x, y):
-        """Whether a section can be another: it is of the same kind, and nothing at its ends is known to
-        be something else."""
+        """Returns whether one section can be another: it has the same kind, and nothing known at
+        its ends differs."""
         section, other = self.old[x], self.new[y]
         if (section["kind"], section.get("faces")) != (other["kind"], other.get("faces")):
             return False
@@ -99,12 +99,12 @@ class Sections:
         return True
 
     def names(self):
-        """The new name of each section that has another one."""
+        """Returns the new name of each renamed section."""
         return {self.old[x]["name"]: self.new[y]["name"] for x, y in sorted(self.pairs.items())
                 if x not in self.kept}
 
     def boards(self):
-        """The new name of each board that has another one."""
+        """Returns the new name of each renamed board."""
         olds, news = ({section.get(side) for section in sections for side in BOARDS}
                       for sections in (self.old, self.new))
         news |= self.missing[BOARD]
@@ -118,13 +118,13 @@ class Sections:
 
 
 def way(route):
-    """The way of a route."""
+    """Returns the way of a route."""
     return route["source"], tuple(route["path"])
 
 
 def route_pairs(old, new, are_named):
-    """Which route is which, by number: those of one way, and there first those of one name; then of the
-    others those of one name, where names say something."""
+    """Returns matching routes by number: first those with the same way, preferring equal names,
+    then those with the same name if names count."""
     pairs = {}
 
     def pair(key):
@@ -144,8 +144,8 @@ def route_pairs(old, new, are_named):
 
 
 class Match:
-    """Two configurations, the first with the names that its sections and boards have in the second, and
-    what of them is which. `are_named` is whether the names of routes say which is which."""
+    """Two configurations and their matching parts. The first gets the second's section and board
+    names. `are_named` is whether route names identify routes."""
 
     def __init__(self, old, new, are_named):
         names = names_of(new)

@@ -1,4 +1,4 @@
-"""The table that a network has of itself, by the program's `table`."""
+"""A network's own table, made by the program's `table`."""
 
 from __future__ import annotations
 
@@ -12,7 +12,7 @@ SECONDS = 60
 
 
 def own_table(program: str, value: dict[str, Any]) -> dict[str, Any]:
-    """The configuration that `irv table` prints of a configuration's network."""
+    """Returns the configuration that `irv table` prints for a configuration's network."""
     given = configurations.written({**value, "routes": []}).encode()
     answer = Program(program, given).ask(["table", "--columns", "free"], SECONDS)
     if answer.status != 0:

@@ -1,5 +1,5 @@
-"""From two CSV files to a configuration. What is wrong with a cell is told with file, line and column; each
-fault of both files, in order.
+"""Reads a configuration from two CSV files. Each fault of both files is reported in order, with
+file, line and column.
 """
 
 from __future__ import annotations
@@ -16,8 +16,8 @@ from irvtools.calls.refusal import Refused, shown
 
 
 class CsvFile:
-    """The rows of a CSV file, with the place of each column. Empty rows and columns are passed over.
-    `extra` has the places of comments and of the optional columns `labels`, by their headings."""
+    """The rows of a CSV file, with each column's place. Empty rows and columns are skipped. `extra`
+    has the places of comments and of the optional columns `labels`, by heading."""
 
     def __init__(self, file, text, known, labels=()):
         self.file, self.labels = file, labels
@@ -30,7 +30,7 @@ class CsvFile:
         self.faults = list(self.read_head([one.heading for one in known]))
 
     def read_head(self, known):
-        """Reads the headings, and tells what is wrong with them."""
+        """Reads the headings, and yields their faults."""
         for place, cell in enumerate(self.head.cells):
             heading = heading_of(cell)
             if heading in self.places or heading in map(heading_of, self.extra):
@@ -48,23 +48,23 @@ class CsvFile:
                                                          "was expected")
 
     def at(self, row, place, why):
-        """A fault at a cell."""
+        """Returns a fault at a cell."""
         heading = heading_of(cell_at(self.head, place))
         named = f" ({heading})" if row is not self.head and heading else ""
         return f"{self.file}, line {row.line}, column {csv_text.letters(place)}{named}: {why}"
 
     def require(self, wanted):
-        """Tells the headings that are missing."""
+        """Reports missing headings."""
         for heading in wanted:
             if heading not in self.places:
                 self.faults.append(f"{self.file}, line {self.head.line}: the column {heading} is missing")
 
     def cell(self, row, column):
-        """The cell of a column."""
+        """Returns the cell of a column."""
         return cell_at(row, self.places[column.heading])
 
     def with_extra(self, row, entry):
-        """Returns an entry with the comments and labels of its row, if the file has such columns."""
+        """Returns an entry with its row's comments and labels, if the file has such columns."""
         if not self.extra:
             return entry
         texts = {heading: cell_at(row, place) for heading, place in self.extra.items()}
@@ -73,7 +73,7 @@ class CsvFile:
             for heading, text in texts.items()}}
 
     def read_cell(self, row, column):
-        """What a cell says; None where it is wrong, which is kept as a fault."""
+        """Returns a cell's value. Returns `None` and records a fault if it is wrong."""
         try:
             return column.read(self.cell(row, column))
         except cells.WrongCell as fault:
@@ -82,17 +82,17 @@ class CsvFile:
 
 
 def cell_at(row, place):
-    """A cell; an empty one where the row ends before it, as spreadsheets write rows."""
+    """Returns a cell, or an empty one if the row ends before it, as spreadsheets write rows."""
     return row.cells[place] if place < len(row.cells) else ""
 
 
 def heading_of(cell):
-    """A heading as it is compared: in small letters, with single blanks."""
+    """Returns a heading for comparison: lowercase, with single blanks."""
     return " ".join(cell.lower().split())
 
 
 def separator_of(text, known):
-    """The separator with which more of the headings are known."""
+    """Returns the separator that gives more known headings."""
     headings = [one.heading for one in known]
 
     def count(separator):
@@ -101,7 +101,7 @@ def separator_of(text, known):
 
 
 def read_section(table, row):
-    """A section, of its row."""
+    """Returns the section of a row."""
     by_member = {one.member: one for one in columns.OF_SECTIONS}
     kind = table.read_cell(row, by_member["kind"])
     if kind is None:
@@ -117,7 +117,7 @@ def read_section(table, row):
 
 
 def sections_of(text, file):
-    """Returns the CSV file of sections, read, and its sections."""
+    """Returns the CSV file of sections and its sections."""
     table = CsvFile(file, text, columns.OF_SECTIONS, columns.LABELS[columns.SECTIONS])
     table.require([one.heading for one in columns.OF_SECTIONS])
     if table.faults:
@@ -126,8 +126,8 @@ def sections_of(text, file):
 
 
 def routes_of(text, file):
-    """Returns the CSV file of routes, read, the version and the routes. The version is 2 if there is a
-    column of protection."""
+    """Returns the CSV file of routes, the version and the routes. The version is 2 with a
+    protection column."""
     table = CsvFile(file, text, columns.of_routes(2), columns.LABELS[columns.ROUTES])
     version = 2 if any(one.heading in table.places for one in columns.PROTECTING) else 1
     known = columns.of_routes(version)
@@ -148,18 +148,18 @@ def read_sections(text: str,
 
 def read_routes(text: str,
                 file: str = columns.ROUTES) -> tuple[int, list[dict[str, Any]], list[str]]:
-    """Returns the version, the routes of a CSV file, and its faults."""
+    """Returns the version and routes of a CSV file, and its faults."""
     table, version, routes = routes_of(text, file)
     return version, routes, table.faults
 
 
 def read_directory(directory: str | Path) -> dict[str, Any]:
-    """Returns the configuration of both CSV files of a directory."""
+    """Returns the configuration in a directory's CSV files."""
     return read_with_files(directory)[0]
 
 
 def read_with_files(directory: str | Path) -> tuple[dict[str, Any], dict[str, CsvFile]]:
-    """Returns the configuration of both CSV files of a directory, and these files, read."""
+    """Returns the configuration in a directory's CSV files, and these files."""
     spreadsheets.refuse_directory(directory)
     faults, found = [], []
     for file, read in ((columns.SECTIONS, sections_of), (columns.ROUTES, routes_of)):

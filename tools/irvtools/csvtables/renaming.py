@@ -1,4 +1,4 @@
-"""Other names, and routes that are dropped, through all lists of a configuration."""
+"""Renames things and drops routes, in all lists of a configuration."""
 
 from __future__ import annotations
 
@@ -11,7 +11,7 @@ from irvtools.calls.refusal import Refused, shown
 
 ROUTE, SECTION, BOARD = "route", "section", "board"
 BOARDS = ("board_down", "board_up")
-# what each member of an entry names
+# Kind of thing that each member names.
 KINDS = {"sections": {"name": SECTION, "down": SECTION, "up": SECTION, "stem": SECTION, "plus": SECTION,
                       "minus": SECTION, "board_down": BOARD, "board_up": BOARD},
          "routes": {"name": ROUTE, "source": BOARD, "destination": BOARD, "path": SECTION,
@@ -20,8 +20,7 @@ KINDS = {"sections": {"name": SECTION, "down": SECTION, "up": SECTION, "stem": S
 
 
 class Changes:
-    """What is asked for: new names, each as the caller wrote it with where he did, and names of routes
-    that are dropped."""
+    """The requested changes: new names and dropped routes, each with the location of its request."""
 
     def __init__(self):
         self.renamed, self.dropped = [], []
@@ -41,8 +40,8 @@ class Changes:
         self.dropped.append((name, where))
 
     def read_list(self, path):
-        """Takes a list in a file: a line `rename OLD=NEW` or `drop NAME` for each; empty lines and those
-        that begin with # are passed over."""
+        """Takes a file with lines `rename OLD=NEW` and `drop NAME`. Empty lines and those that
+        begin with # are skipped."""
         faults = []
         for number, line in enumerate(read_text(path, "a list").split("\n"), 1):
             where, words = f"{path}, line {number}", line.split()
@@ -59,7 +58,7 @@ class Changes:
             raise Refused(*faults)
 
     def applied(self, value):
-        """The configuration with these changes. All names are those before any of them."""
+        """Returns the configuration with these changes. All names are those before any change."""
         names, faults = names_of(value), []
         new = {kind: {} for kind in names}
         for old, name, where in self.renamed:
@@ -86,7 +85,7 @@ class Changes:
 
 
 def names_of(value: dict[str, Any]) -> dict[str, Counter[str]]:
-    """How often each name stands, of each kind."""
+    """Returns the count of each name, by kind."""
     return {ROUTE: Counter(route["name"] for route in value["routes"]),
             SECTION: Counter(section["name"] for section in value["sections"]),
             BOARD: Counter(section[side] for section in value["sections"] for side in BOARDS
@@ -94,8 +93,8 @@ def names_of(value: dict[str, Any]) -> dict[str, Counter[str]]:
 
 
 def found(names, word, where):
-    """The kind and the name of what a word names: a name that one thing has, with its kind before it,
-    as route:NAME, where things of several kinds have it."""
+    """Returns the kind and the name that `word` refers to. If things of several kinds have the
+    name, its kind comes first, as in route:NAME."""
     kind, colon, name = word.partition(":")
     if colon:
         kinds = [kind] if name in names.get(kind, ()) else []
@@ -112,7 +111,8 @@ def found(names, word, where):
 
 
 def taken_twice(value, new):
-    """What would have a name that another has, or that a list has of something which isn't there."""
+    """Yields faults of new names: one that another thing has, or that a list uses for a missing
+    thing."""
     for kind, names in names_of(value).items():
         after = {}
         for old in [*names, *missing(value, kind, names)]:
@@ -126,35 +126,35 @@ def taken_twice(value, new):
 
 
 def missing(value: dict[str, Any], kind: str, names: Counter[str]) -> list[str]:
-    """The names of a kind that the configuration refers to, and nothing has."""
+    """Returns the names of a kind that the configuration refers to and nothing has."""
     seen = []
     renamed(value, {one: Seen(seen if one == kind else []) for one in (ROUTE, SECTION, BOARD)})
     return [name for name in dict.fromkeys(seen) if name not in names]
 
 
 class Seen(dict):
-    """New names that are the old ones; it keeps those that are asked for."""
+    """New names equal to the old ones. It records each requested name."""
 
     def __init__(self, seen):
         super().__init__()
         self.seen = seen
 
     def get(self, name, _):
-        """The name."""
+        """Returns the name."""
         if name is not None:
             self.seen.append(name)
         return name
 
 
 def without(value, dropped):
-    """A configuration without some routes, in lists of conflicts too."""
+    """Returns a configuration without some routes, in lists of conflicts too."""
     return {**value, "routes": [
         {**route, "conflicts": [name for name in route["conflicts"] if name not in dropped]}
         for route in value["routes"] if route["name"] not in dropped]}
 
 
 def renamed(value: dict[str, Any], new: dict[str, dict[str, str]]) -> dict[str, Any]:
-    """A configuration with new names: of each kind, by old ones."""
+    """Returns a configuration with new names, given by kind and old name."""
     def of(kind, names):
         if isinstance(names, list):
             return [of(kind, name) for name in names]
@@ -168,9 +168,9 @@ def renamed(value: dict[str, Any], new: dict[str, dict[str, str]]) -> dict[str, 
 
 
 def named(value: dict[str, Any]) -> dict[str, Any]:
-    """Returns a configuration whose routes are called by their source and their destination, or by the
-    section at which they end. Alternative routes, which would have one name, also get the name of the
-    first point, or else section, over which only that one goes; several without one get a number."""
+    """Returns a configuration with routes named after source and destination, or else their last
+    section. Alternative routes also get the first point, or else section, that only one of them
+    uses, or else a number."""
     routes, faults = value["routes"], []
     olds = Counter(route["name"] for route in routes)
     faults += [f"{count} routes have the name {name}, so that lists of conflicts don't say which is meant"
@@ -193,8 +193,8 @@ def named(value: dict[str, Any]) -> dict[str, Any]:
 
 
 def by_point(value, names):
-    """Returns names of routes in which those that several routes would have say over which point, or
-    section, a route goes and the others don't. A name that another route has is left as it is."""
+    """Returns route names. Shared ones get a point or section that their other routes don't use,
+    unless another route has the result."""
     points = {section["name"] for section in value["sections"] if section["kind"] == "point"}
     found = list(names)
     for number, name in enumerate(names):
@@ -208,7 +208,7 @@ def by_point(value, names):
 
 
 def end_of(route, faults):
-    """By what the end of a route is called."""
+    """Returns the name for the end of a route."""
     if route["destination"] is not None:
         return route["destination"]
     if route["path"]:
@@ -218,7 +218,7 @@ def end_of(route, faults):
 
 
 def numbered(name, last, taken):
-    """A name with the next number that makes it one which no other route has."""
+    """Returns a name with the next number that makes it unique."""
     while True:
         last[name] += 1
         new = f"{name}-{last[name]}"

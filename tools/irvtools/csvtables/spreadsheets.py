@@ -1,4 +1,4 @@
-"""Files of spreadsheets that are given in place of CSV files: what has to be done instead."""
+"""Detects spreadsheet files given in place of CSV files, and says what to do."""
 
 from __future__ import annotations
 
@@ -7,21 +7,21 @@ from pathlib import Path
 from irvtools.calls.refusal import Refused
 
 SUFFIXES = (".ods", ".xlsx", ".xls", ".xlsm", ".numbers")
-ARCHIVE = b"PK\x03\x04"             # the first bytes of .ods and .xlsx files
-OLD_FORM = b"\xd0\xcf\x11\xe0"      # of .xls files
+ARCHIVE = b"PK\x03\x04"             # first bytes of .ods and .xlsx
+OLD_FORM = b"\xd0\xcf\x11\xe0"      # first bytes of .xls
 HOW = ("save the table of sections as sections.csv and that of routes as routes.csv (in the spreadsheet: "
        "Save As, Text CSV, UTF-8, with commas or semicolons), and name their directory")
 
 
 def refuse_file(path: str, given: bytes) -> None:
-    """Refuses the bytes of a file that a spreadsheet wrote in its own form."""
+    """Rejects the bytes of a file in a spreadsheet's own format."""
     if given.startswith((ARCHIVE, OLD_FORM)):
         raise Refused(f"{path}: this is a spreadsheet's own file, not CSV; {HOW}")
 
 
 def refuse_directory(path: str) -> None:
-    """Refuses a spreadsheet's file in place of a directory, and a directory that has such files and no
-    CSV files."""
+    """Rejects a spreadsheet file in place of a directory, and a directory that has such files and
+    no CSV files."""
     place = Path(path)
     if place.suffix.lower() in SUFFIXES and not place.is_dir():
         raise Refused(f"{path}: this is a spreadsheet's own file, not a directory with CSV files; {HOW}")

@@ -1,4 +1,4 @@
-"""From a configuration to both CSV files."""
+"""Writes a configuration as two CSV files."""
 
 from __future__ import annotations
 
@@ -14,9 +14,9 @@ from irvtools.calls.refusal import Refused, reason
 
 
 def csv_rows(known, entries, extra=(), labels=()):
-    """Returns the rows of a CSV file: its headings, and a row for each entry, with an empty cell if that
-    lacks the member. Behind them come the columns `extra`; of these, `labels` are protected from
-    spreadsheets, and comments are not."""
+    """Returns the rows of a CSV file: headings, and a row for each entry. A missing member is an
+    empty cell. The columns `extra` follow. Only `labels` among them are protected from
+    spreadsheets."""
     yield [one.heading for one in known] + list(extra)
     for entry in entries:
         texts = entry.get(columns.EXTRA, {})
@@ -26,7 +26,7 @@ def csv_rows(known, entries, extra=(), labels=()):
 
 
 def csv_texts(value: dict[str, Any]) -> dict[str, str]:
-    """Returns the text of each CSV file of a configuration, by the name of the file."""
+    """Returns the text of each CSV file of a configuration, by file name."""
     extra = value.get(columns.EXTRA, {})
     known = {columns.SECTIONS: ("sections", columns.OF_SECTIONS),
              columns.ROUTES: ("routes", columns.of_routes(value["version"]))}
@@ -36,8 +36,8 @@ def csv_texts(value: dict[str, Any]) -> dict[str, str]:
 
 
 def write_directory(value: dict[str, Any], directory: str | Path) -> None:
-    """Writes both CSV files into a directory, which is made if it does not exist. A file that exists is not
-    written over; where one can't be written none is left."""
+    """Writes both CSV files into a directory, and makes that if necessary. No file is overwritten,
+    and none left if one can't be written."""
     texts, directory, made = csv_texts(value), Path(directory), []
     there = [directory / name for name in texts if os.path.lexists(directory / name)]
     if there:
@@ -64,7 +64,7 @@ def make_directory(directory):
 
 
 def write_new(path: str | Path, text: str) -> None:
-    """Writes a file that isn't there; none is left where it can't be written whole."""
+    """Writes a new file. None is left if it can't be written completely."""
     try:
         file = open(path, "x", encoding="utf-8", newline="")
     except FileExistsError:
@@ -80,7 +80,7 @@ def write_new(path: str | Path, text: str) -> None:
 
 
 def write_over(path: Path, text: str) -> None:
-    """Writes a file over the one that is there. That one is kept if the new one can't be written whole."""
+    """Overwrites a file. The old one is kept if the new one can't be written completely."""
     new = Path(f"{path}.new")
     write_new(new, text)
     try:
@@ -92,10 +92,10 @@ def write_over(path: Path, text: str) -> None:
 
 
 def is_there(path: str | Path) -> str:
-    """That a file is there."""
+    """Returns that a file exists."""
     return f"{path}: it is there already, and isn't written over"
 
 
 def cannot(path, fault):
-    """That a file can't be written."""
+    """Returns that a file can't be written."""
     return f"{path}: it can't be written: {reason(fault)}"

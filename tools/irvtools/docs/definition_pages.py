@@ -1,8 +1,7 @@
-"""Writes the list of definitions and the reading plan for assessors.
+"""Writes the list of definitions and the assessors' reading plan.
 
-`docs/assurance/definition-list.md` is generated as a whole. In `docs/assurance/definitions.md` the
-part between two marks is generated: how much each answer needs, and the files of a strict table in
-reading order.
+`docs/assurance/definition-list.md` is generated as a whole. `docs/assurance/definitions.md` has a
+generated part between two marks: each answer's needs, and a strict table's files in reading order.
 """
 
 from __future__ import annotations
@@ -22,7 +21,7 @@ LINES_AN_HOUR = 100
 
 
 def by_place(found: dict) -> dict:
-    """Returns the definitions of `needed` by their files below crates/."""
+    """Returns the definitions of `needed` by file below crates/."""
     places = {}
     for (path, name), lines in found.items():
         places.setdefault(path.relative_to(definitions.CRATES), []).append((name, lines))
@@ -30,12 +29,12 @@ def by_place(found: dict) -> dict:
 
 
 def short_name(place: Path) -> str:
-    """Returns the name of a file; that of definitions without its ending."""
+    """Returns a file's name, without ending if it holds definitions."""
     return place.stem if place.suffix == ".antt" else place.name
 
 
 def names_by_crate(places: list[Path]) -> str:
-    """Returns the names of these files, with a link to each crate before the first of its files."""
+    """Returns these files' names, each crate's first one after a link to the crate."""
     crates: dict[str, list[str]] = {}
     for place in places:
         crates.setdefault(place.parts[0], []).append(short_name(place))
@@ -45,13 +44,13 @@ def names_by_crate(places: list[Path]) -> str:
 
 
 def hours_of(lines: int) -> str:
-    """Returns the hours that so many lines take, in halves."""
+    """Returns the hours for reading N lines, in halves."""
     halves = max(1, round(2 * lines / LINES_AN_HOUR))
     return f"{halves / 2:g}"
 
 
 def table_of_answers() -> list[str]:
-    """Returns the table of answers with their parts, lines and hours."""
+    """Returns the table of answers: parts, lines and hours."""
     rows = ["| answer | parts | lines | hours |", "|---|---|---|---|"]
     for answer, parts, roots, without in ANSWERS:
         lines = sum(needed(roots, without).values())
@@ -60,7 +59,7 @@ def table_of_answers() -> list[str]:
 
 
 def table_of_steps() -> list[str]:
-    """Returns the files of a strict table by steps; ends the program if a file has no step."""
+    """Returns a strict table's files by steps; ends the program if a file has no step."""
     places = by_place(needed(definitions.CLEAN, RULES))
     endings = {place.with_suffix("").as_posix(): place for place in places}
     rows = ["| step | files, in order | lines | hours |", "|---|---|---|---|"]
@@ -74,7 +73,7 @@ def table_of_steps() -> list[str]:
 
 
 def reading_plan() -> str:
-    """Returns the generated part of the page for assessors."""
+    """Returns the generated part of the assessors' page."""
     whole, needless = (
         sum(needed(definitions.CLEAN, RULES | without).values())
         for without in (frozenset(), frozenset({"families"}))
@@ -96,7 +95,7 @@ def reading_plan() -> str:
 
 
 def table_of_files(by_file: dict) -> list[str]:
-    """Returns a table of crates, with the names of their files and of the definitions in each."""
+    """Returns a table of crates with their files and definitions."""
     crates = {}
     for place, items in by_file.items():
         crates.setdefault(place.parts[0], []).append((place, items))
@@ -112,8 +111,7 @@ def table_of_files(by_file: dict) -> list[str]:
 
 
 def table_of_crates(found: list) -> list[str]:
-    """Returns a table of the parts whose definitions are not named: their crates, with the names of
-    the files."""
+    """Returns a table of crates and files, for parts with unnamed definitions."""
     rows = ["| part | crate | files | lines |", "|---|---|---|---|"]
     for number, (_, by_file) in enumerate(found, 1):
         crates = {}
@@ -155,7 +153,7 @@ def list_page() -> str:
 
 
 def plan_page(text: str) -> str:
-    """Returns the page for assessors with the reading plan as it is now."""
+    """Returns the assessors' page with the current reading plan."""
     first, last = MARKS
     if text.count(first) != 1 or text.count(last) != 1:
         sys.exit(f"tools/definitions: {PLAN.name} has no single part between {first} and {last}")
@@ -164,14 +162,14 @@ def plan_page(text: str) -> str:
 
 
 def pages() -> dict[Path, str]:
-    """Returns each page that is generated, or has a generated part, as it should be."""
+    """Returns the generated pages as they should be."""
     root = definitions.CRATES.parent
     plan = plan_page((root / PLAN).read_text(encoding="utf-8"))
     return {root / LIST: list_page(), root / PLAN: plan}
 
 
 def differences() -> list[str]:
-    """Returns each line of the two pages that is missing or wrong."""
+    """Returns the wrong or missing lines of both pages."""
     found = []
     for path, text in pages().items():
         now = path.read_text(encoding="utf-8").splitlines() if path.exists() else []
@@ -186,7 +184,7 @@ def differences() -> list[str]:
 
 
 def print_stages(with_files: bool) -> None:
-    """Prints the stages with their lines, and each definition if asked."""
+    """Prints the stages with their lines, and definitions if `with_files`."""
     total = 0
     for number, (title, by_file) in enumerate(definitions.stages(), 1):
         count = sum(map(lines_of, by_file.values()))
@@ -199,7 +197,7 @@ def print_stages(with_files: bool) -> None:
 
 
 def parser() -> Parser:
-    """Returns the parser of the command line."""
+    """Returns the command-line parser."""
     line = Parser(
         "tools/definitions",
         "Lists the definitions that the contract of `run` depends on: for each stage "
@@ -223,7 +221,7 @@ def parser() -> Parser:
 
 
 def main(words: list[str]) -> int:
-    """Prints what is asked, or writes the pages; returns the exit status."""
+    """Prints the definitions or writes the pages; returns the exit status."""
     kind = parser().parse_args(words).kind
     if kind == "--left":
         print(*definitions.left_over(list(definitions.stages())[-1][1]), sep="\n", end="")

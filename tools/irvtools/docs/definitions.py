@@ -1,9 +1,9 @@
-"""Lists the definitions that the contract of `run` depends on, in reading order.
+"""Lists the definitions behind the contract of `run` in reading order.
 
-It begins with the clauses of `run`. A definition is needed if these name it, or a needed definition
-does. So are the types, traits and constants of the code that they use. Names are looked up by the
-`use` lines of a file. Comments, imports and the invariants of types are not counted as lines. The
-standard library and ported crates are left out.
+A definition is needed if the clauses of `run` or a needed definition name it. So are the types,
+traits and constants of the code that they use. A file's `use` lines resolve names. Comments,
+imports and type invariants do not count as lines. The standard library and ported crates are left
+out.
 """
 
 from __future__ import annotations
@@ -25,46 +25,46 @@ def use(root):
     declared_in.cache_clear()
 
 
-# the call that does all that the program does: its file, and its name there
+# the call for all of the program's work: file and name
 TOP_CALL = "ilk_top.src.program", "run"
-# Each stage of the reading: its title, where it begins, and its crates. A definition is only in the
-# first stage that has it.
-VERDICT = [("ilk_engine.specs.Right", "IsRightFor"), ("ilk_engine.specs.Forever", "LastsFor")]
+# The reading stages: title, first definitions, and crates. The first stage with a definition lists
+# it.
+VERDICT = [("ilk_engine.specs.Right", "IsRightVerdict"), ("ilk_engine.specs.Forever", "HoldsAtAnyLength")]
 STAGES = [
     ("The answer", [TOP_CALL], ["ilk_top", "ilk_answers"]),
     ("Verdicts", VERDICT,
-     ["ilk_engine", "ilk_forever", "ilk_induct", "ilk_evidence", "ilk_queries", "ilk_unroll"]),
+     ["ilk_engine", "ilk_forever", "ilk_induct", "ilk_queries", "ilk_unroll"]),
     ("Runs, events, hazards and the invariant", VERDICT, ["ilk_model", "ilk_motion", "ilk_routes"]),
     ("The plant and its states", VERDICT, ["ilk_plant", "ilk_base"]),
     ("From the configuration to the plant", [("ilk_answers.specs.Answer", "plant_of"),
                                              ("ilk_answers.specs.Refusal", "refusal_line")], None),
     ("Runs as texts",
-     [("ilk_replay.specs.RunText", "run_text"), ("ilk_replay.specs.Told", "tale_of"),
-      ("ilk_replay.specs.Told", "told_of"), ("ilk_replay.specs.Seen", "seen_of")], None),
-    ("The command line", [("ilk_words.specs.Words", "command_of"),
+     [("ilk_replay.specs.RunText", "run_text"), ("ilk_replay.specs.Told", "run_from_text"),
+      ("ilk_replay.specs.Told", "run_from_start"), ("ilk_replay.specs.Seen", "replay_result")], None),
+    ("The command line", [("ilk_words.specs.Words", "parsed_command"),
                           ("ilk_words.specs.Limits", "has_option_limits"),
                           ("ilk_words.specs.Plan", "plan_of")], None),
     ("Reading and writing", [TOP_CALL], ["ilk_io"]),
-    ("Scenarios and drives", [("ilk_answers.specs.Drives", "TellsDrive")], ["ilk_drive"]),
+    ("Scenarios and drives", [("ilk_answers.specs.Drives", "AnswersDrive")], ["ilk_drive"]),
     ("The routes of a network", [("ilk_answers.specs.Tables", "HasTable")], ["ilk_tablegen"]),
     ("Generated stations", [TOP_CALL], ["ilk_gen"]),
     ("Configurations as texts", [TOP_CALL], ["ilk_conf_write", "ilk_tablegen"]),
     ("Formulas", [("ilk_dimacs.specs.DimacsText", "dimacs_text"),
                   ("ilk_unroll.specs.Satisfied", "IsSatisfiable")], None),
     ("Certificates", [("ilk_certificate.specs.Certificate", "IsCertificate")], None),
-    ("The first bad line of a certificate", [("ilk_answers.specs.Audits", "TellsAudit")], None),
-    ("Refutations", [("ilk_answers.specs.Refutations", "TellsRefutation")], None),
+    ("The first bad line of a certificate", [("ilk_answers.specs.Audits", "AnswersAudit")], None),
+    ("Refutations", [("ilk_answers.specs.Refutations", "AnswersRefutation")], None),
     ("Spent texts, and the certificate of a verdict",
      [("ilk_engine.specs.CertificateOf", "IsCertificateOf")], None),
     ("Construction of formulas", [TOP_CALL], None),
 ]
-# Where the construction of a formula begins: the formula of a query, the system and the goal of a
-# plant. Only the last stage goes on from these.
+# First names of a formula's construction: a query's formula, a plant's system and goal. Only the
+# last stage goes on from these.
 FORMULA = frozenset({"query_formula", "system_of", "goal_of"})
-# where some statements begin, and the rules of a configuration
-FOREVER = [("ilk_forever.specs.Forever", "IsForeverSafe")]
-EVENTS = [("ilk_queries.specs.Asked", "HasEvents")]
-EVIDENCE = [("ilk_evidence.specs.Evidence", name) for name in ("IsNever", "Endangers", "Breaks")]
+# first definitions of some statements and of a configuration's rules
+FOREVER = [("ilk_forever.specs.Forever", "IsAlwaysSafe")]
+EVENTS = [("ilk_queries.specs.Asked", "HasQueriedRun")]
+EVIDENCE = [("ilk_unroll.specs.Evidence", name) for name in ("HoldsForNoneUpTo", "ReachesHazard", "ReachesBreach")]
 PLANT = [("ilk_answers.specs.Answer", "plant_of")]
 CLEAN = [("ilk_answers.specs.Strict", "IsCleanAndSafe")]
 RULES = frozenset({"network_rules_broken", "table_rules_broken", "column_rules_broken",
@@ -74,7 +74,7 @@ RUST_USE = re.compile(r"^use (crate|ilk_\w+)::(?:\{([\w, \n]*)\}|(\w+));", re.M)
 HEAD = re.compile(r"(?:unfoldable |abbrev |infixr? \d+ )*pub "
                   r"(?:record |syntax |data )?(◌?[^\s(:{]+)")
 WORD = re.compile(r"[^\s(){}.,;:λ\[\]<>&]+")
-# what the code declares: a type, a trait, a constant, or the call that is named above
+# declarations: a type, a trait, a constant, or the call above
 RUST_HEAD = re.compile(rf"pub (?:struct|enum|trait|const|type|fn(?= {TOP_CALL[1]}\b)) (\w+)")
 VIEW = re.compile(r"impl(?:<.*?>)? Model for (\w+)")
 
@@ -92,7 +92,7 @@ def uses_of(text):
 
 
 class File:
-    """A file of definitions: each with its lines, and the names that the file imports."""
+    """A file of definitions, with their lines and the imported names."""
 
     def __init__(self, path):
         text = path.read_text(encoding="utf-8")
@@ -101,7 +101,7 @@ class File:
         name, together = None, False
         for line in text.split("\n"):
             if not line.startswith(" ") and line.strip():
-                # definitions by each other stand indented below this line
+                # mutual definitions are indented below this line
                 together = line in ("abbrev mutual", "mutual")
                 if together:
                     continue
@@ -122,7 +122,7 @@ class File:
 
 
 class Code:
-    """A file of the code: its declarations with their lines, and the names that it imports."""
+    """A code file: its declarations with lines, and the imported names."""
 
     def __init__(self, path):
         text = path.read_text(encoding="utf-8")
@@ -156,7 +156,7 @@ class Code:
 
 @functools.cache
 def declared_in(crate):
-    """Returns the names that the code of a crate declares, each with its module."""
+    """Returns the names declared in a crate's code, with modules."""
     found = {}
     for path in sorted((CRATES / crate / "src").rglob("*.rt")):
         for head in map(RUST_HEAD.match, path.read_text(encoding="utf-8").split("\n")):
@@ -167,12 +167,12 @@ def declared_in(crate):
 
 
 def place_of(module, name):
-    """Returns the file and the name there; `None` if it is not in this repository."""
+    """Returns the file and the name there; `None` outside this repository."""
     crate, *rest = module.split(".")
     if not crate.startswith("ilk_"):
         return None
     if rest[:2] == ["specs", "declared"]:
-        # a constant, or a type, of which the parts of it are named too
+        # a constant, or a type with named parts
         *modules, last = rest[2:]
         if last != "TheConstants":
             name = modules.pop() if last.startswith("The") else last
@@ -182,21 +182,20 @@ def place_of(module, name):
 
 
 def names_in(line):
-    """Returns the names in a line without its strings, with those of operators and `do` blocks."""
+    """Returns the names in a line outside strings, with those of operators and `do` blocks."""
     words = WORD.findall(re.sub(r'"[^"]*"', "", line))
     return words + [f"◌{word}◌" for word in words] + (["◌>>=◌"] if "do" in words else [])
 
 
 @functools.cache
 def file_at(path):
-    """Returns the definitions or declarations of a file."""
+    """Returns a file's definitions or declarations."""
     return File(path) if path.suffix == ".antt" else Code(path)
 
 
 def needed(roots: list[tuple[str, str]],
            without: frozenset[str] = frozenset()) -> dict[tuple[Path, str], int]:
-    """Returns the needed definitions, each file and name with its number of lines, in the order in
-    which they are named."""
+    """Returns the needed definitions in order of mention: file, name, and lines."""
     found, queue = {}, list(roots)
     while queue:
         module, name = queue.pop(0)
@@ -213,7 +212,7 @@ def needed(roots: list[tuple[str, str]],
 
 
 def stages() -> Iterator[tuple[str, dict[Path, list[tuple[str, int]]]]]:
-    """Yields each stage's title, and its definitions by file, with their lines."""
+    """Yields each stage's title and definitions by file, with lines."""
     listed = set()
     for number, (title, roots, crates) in enumerate(STAGES, 1):
         by_file = {}
@@ -227,12 +226,12 @@ def stages() -> Iterator[tuple[str, dict[Path, list[tuple[str, int]]]]]:
 
 
 def left_over(last: dict[Path, list[tuple[str, int]]]) -> list[str]:
-    """Returns the definitions of the last stage that are needed without a formula."""
+    """Returns the last stage's definitions that are needed without a formula."""
     reached = needed([TOP_CALL], FORMULA)
     return [f"{place}: {name}" for place, items in last.items() for name, _ in items
             if (CRATES / place, name) in reached]
 
 
 def lines_of(items: list) -> int:
-    """Returns the number of lines of these definitions together."""
+    """Returns these definitions' total lines."""
     return sum(lines for _, lines in items)

@@ -1,7 +1,7 @@
-"""The evidence of each line of docs/assurance/traceability.md.
+"""The evidence for each line of docs/assurance/traceability.md.
 
-Requirements, commands, exit statuses and tools have their evidence in `requirements.txt` beside
-this file. Assumptions, application conditions and failure modes have it in the qualification page.
+`requirements.txt` beside this file has that of requirements, commands, exit statuses and tools; the
+qualification page has that of assumptions, application conditions and failure modes.
 """
 
 from __future__ import annotations
@@ -23,14 +23,14 @@ TITLES = {"AS": "Assumptions", "SRAC": "Application conditions", "FM": "Failure 
 
 @dataclass(frozen=True)
 class Item:
-    """One piece of evidence: its kind, its file below the top, and its name there if it has one."""
+    """A piece of evidence: kind, file, and any name there."""
 
     kind: str
     file: str
     name: str = ""
 
     def shown(self) -> str:
-        """Returns the item as a table shows it."""
+        """Returns the item for a table."""
         if self.file.startswith("tests/run "):
             return self.file[6:]
         if self.kind == "mutants":
@@ -40,7 +40,7 @@ class Item:
 
 @dataclass
 class Line:
-    """A line that needs evidence; `by_user` if the user has to give it."""
+    """A line that needs evidence; `by_user` if the user provides it."""
 
     section: str
     name: str
@@ -53,14 +53,14 @@ class Line:
 
 
 def test_item(word: str) -> Item:
-    """Returns the item of a test in `requirements.txt`."""
+    """Returns a test's item in `requirements.txt`."""
     if word.startswith("+"):
         return Item("tests", f"tests/run {word[1:]}")
     return Item("tests", word if "/" in word else f"tests/cases/{word}")
 
 
 def items_of(kind: str, cell: str) -> list[Item]:
-    """Returns the items of a cell of `requirements.txt`."""
+    """Returns a cell's items in `requirements.txt`."""
     words = [] if cell == "-" else cell.split()
     if kind == "tests":
         return [
@@ -89,7 +89,7 @@ def data_lines(text: str) -> list[Line]:
 
 
 def linked_items(text: str) -> list[Item]:
-    """Returns the items that a paragraph of the qualification page links to or names in code font."""
+    """Returns the items that a qualification paragraph links to or names in code font."""
     items = []
     for label, target in LINK.findall(text):
         file = target.replace("../../", "", 1)
@@ -103,7 +103,7 @@ def linked_items(text: str) -> list[Item]:
 
 
 def qualification_lines(text: str) -> list[Line]:
-    """Returns the assumptions, application conditions and failure modes with their evidence."""
+    """Returns assumptions, application conditions and failure modes with evidence."""
     found = []
     for entry in entries_in(text):
         evidence = entry.fields.get("Evidence", "")

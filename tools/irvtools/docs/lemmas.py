@@ -1,7 +1,8 @@
-"""The index of lemmas that other crates use: reading the proofs, and writing crates/LEMMAS.txt.
+"""Reads the proofs and writes crates/LEMMAS.txt, the index of lemmas that other crates use.
 
-A lemma is a declaration with `pub`, but neither `record` nor `abbrev`, in a file of `crates/CRATE/proofs/`. It is in
-the index if a file of another crate imports it by `use Rattle.CRATE.proofs.MODULE.{NAME, ..}`.
+A lemma is a declaration with `pub`, but neither `record` nor `abbrev`, in a file of
+`crates/CRATE/proofs/`. The index has it if another crate's file imports it by `use
+Rattle.CRATE.proofs.MODULE.{NAME, ..}`.
 """
 
 from __future__ import annotations
@@ -28,7 +29,7 @@ SENTENCE = re.compile(r"(.+?[.:;])(?: |$)")
 
 
 class Lemma(NamedTuple):
-    """A lemma: its crate, its file below the crate, its name, and the first sentence of its comment."""
+    """A lemma: crate, file there, name, and its comment's first sentence."""
 
     crate: str
     file: str
@@ -37,14 +38,14 @@ class Lemma(NamedTuple):
 
 
 def proof_files(top: Path) -> dict[str, str]:
-    """Returns the texts of all files that may declare or import lemmas, by their paths below `crates/`."""
+    """Returns all texts that may declare or import lemmas, by path below `crates/`."""
     crates = top / "crates"
     found = [path for kind in ("src/**/*.rt", "specs/**/*.antt", "proofs/**/*.antt") for path in crates.glob(f"*/{kind}")]
     return {path.relative_to(crates).as_posix(): path.read_text(encoding="utf-8") for path in sorted(found)}
 
 
 def file_of(texts: dict[str, str], crate: str, module: str) -> str | None:
-    """Returns the file that declares a module, which may be inside the file, or None if there is none."""
+    """Returns the file that declares a module, even inside it, or `None`."""
     words = module.split(".")
     for count in range(len(words), 0, -1):
         path = f"{crate}/proofs/{'/'.join(words[:count])}.antt"
@@ -54,7 +55,7 @@ def file_of(texts: dict[str, str], crate: str, module: str) -> str | None:
 
 
 def imported(texts: dict[str, str]) -> dict[str, set[str]]:
-    """Returns the names that other crates import, by the file that declares them."""
+    """Returns the names that other crates import, by declaring file."""
     found = defaultdict(set)
     for path, text in texts.items():
         for crate, module, names in IMPORT.findall(text):
@@ -67,14 +68,14 @@ def imported(texts: dict[str, str]) -> dict[str, set[str]]:
 
 
 def first_sentence(lines: list[str]) -> str:
-    """Returns the first sentence of a comment, without the sign at its end."""
+    """Returns a comment's first sentence, without its final sign."""
     text = " ".join(" ".join(lines).split())
     found = SENTENCE.match(text)
     return (found[1] if found else text).rstrip(".:;")
 
 
 def lemmas_of(path: str, text: str, names: set[str]) -> Iterable[Lemma]:
-    """Yields the lemmas of a file that have one of these names, each once."""
+    """Yields a file's lemmas with one of these names, each once."""
     crate, _, file = path.partition("/")
     comment, seen = [], set()
     for line in text.split("\n"):
@@ -86,7 +87,7 @@ def lemmas_of(path: str, text: str, names: set[str]) -> Iterable[Lemma]:
 
 
 def all_lemmas(top: Path) -> list[Lemma]:
-    """Returns the lemmas that other crates use, by crate and file, in the order of their files."""
+    """Returns the lemmas used by other crates, by crate, file and position."""
     texts = proof_files(top)
     return [lemma for path, names in sorted(imported(texts).items()) for lemma in lemmas_of(path, texts[path], names)]
 
@@ -106,7 +107,7 @@ def page_of(lemmas: Iterable[Lemma]) -> str:
 
 
 def has_words(lemma: Lemma, words: list[str]) -> bool:
-    """Returns whether a lemma has all these words in its file, name or comment."""
+    """Returns whether a lemma's file, name or comment has all these words."""
     text = " ".join(lemma).lower()
     return all(word.lower() in text for word in words)
 

@@ -1,4 +1,4 @@
-"""Reference links of Markdown: `[words][KEY]`, with the target in a line `[KEY]: TARGET`."""
+"""Markdown reference links: `[words][KEY]`, with the target in a line `[KEY]: TARGET`."""
 
 import re
 
@@ -7,9 +7,9 @@ REFERENCE = re.compile(r"\]\[(\w+)\]")
 
 
 def with_targets(text: str) -> str:
-    """Returns a page with its reference links written as `[words](TARGET)`.
+    """Returns a page with reference links as `[words](TARGET)`.
 
-    A link whose key has no target stays as it is, so that a check can find it.
+    A link without a target stays, so that a check can find it.
     """
     targets = dict(TARGET.findall(text))
     return REFERENCE.sub(

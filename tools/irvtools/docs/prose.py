@@ -1,7 +1,8 @@
 """Measures how the repository's English reads, and lists words that the glossary replaces.
 
-Kinds of text: documents (*.md), comments of Rattle (.rt: // and ///; .antt: --), docstrings and comments of Python
-and shell. Tables, headings, code blocks and code spans of documents do not count.
+Kinds of text: documents (*.md), comments of Rattle (.rt: // and ///; .antt: --), docstrings and
+comments of Python and shell. A document's tables, headings, code blocks and code spans do not
+count.
 """
 
 from __future__ import annotations
@@ -52,21 +53,21 @@ REPLACED = [
     (r"(?<!there )\bis no (fault|file|folder|answer|certificate|run|proof|plant)\b", "is not a .."),
     (r"\bgates?\b", "CI"),
 ]
-# words that are the field's own in some files: a word of the list, and the files in which it does not count
+# a listed word in its own sense, and the files in which it does not count
 FIELD = [("gate", re.compile(r"^crates/ilk_(cnf|ints|copy|forms|step|unroll|behave|conditions|props|invs|queries)/")),
          ("premise", re.compile(r"^crates/.*\.(rt|antt)$"))]
 FRONTED = re.compile(r"(?:\*\*)?(?:And |But |So )?(?:Who|Whoever|What|Whatever|Whether|Of(?! course)|Where|Which|How"
                      r"|That(?= (?:the|a|an|it|its|they|no|each|every|these|what|nothing|CODE)\b))\b")
 WORD = re.compile(r"[A-Za-z][A-Za-z'’-]*")
 MOST_CELL = 25          # words in a cell of a table
-MOST_WORDS = 30         # words in a sentence that is not long
+MOST_WORDS = 30         # words in the longest normal sentence
 LEFT_OUT = re.compile(r"(^|/)(glossary|style-guide|traceability)\.md$", re.I)
 KINDS = "documents", "comments .rt", "comments .antt", "comments .py, shell"
 
 
 @dataclass
 class Text:
-    """A text that is measured: its file, its kind, what counts of it, and its long cells of tables."""
+    """A measured text: file, kind, prose, and long table cells."""
 
     file: str
     kind: str
@@ -76,7 +77,8 @@ class Text:
 
 @dataclass
 class Figures:
-    """How texts read; shares are fractions of the sentences, `where`, `if_` and `you` counts in 1,000 words."""
+    """Figures of texts. Shares are fractions of the sentences; `where`, `if_` and `you` count in
+    1,000 words."""
 
     words: int
     sentences: int
@@ -89,11 +91,11 @@ class Figures:
 
     @property
     def mean(self) -> float:
-        """The mean number of words a sentence."""
+        """Returns the mean words in a sentence."""
         return self.words / max(self.sentences, 1)
 
     def row(self, name: str) -> str:
-        """Returns the row that is printed."""
+        """Returns the printed row."""
         count = max(self.sentences, 1)
         return (f"{name:34} {self.words:7d} {self.mean:6.1f} {100 * self.long / count:5.1f}% "
                 f"{100 * self.fronted / count:6.1f}% {self.where:6.1f} {self.if_:6.1f} {self.you:6.1f} "
@@ -106,7 +108,7 @@ def plain(text: str) -> str:
 
 
 def prose_of_document(text: str) -> str:
-    """Returns what counts of a document."""
+    """Returns the prose of a document."""
     text = re.sub(r"```.*?```", "", text, flags=re.S)
     text = re.sub(r"</?[A-Za-z][^>\n]*>", " ", re.sub(r"<!--.*?-->", "", text, flags=re.S))
     kept, in_list = [], False
@@ -124,7 +126,7 @@ def prose_of_document(text: str) -> str:
 
 
 def long_cells(text: str) -> int:
-    """Returns how many cells of a document's tables are too long."""
+    """Returns a document's number of overlong table cells."""
     text = re.sub(r"```.*?```", "", text, flags=re.S)
     cells = [cell for line in text.split("\n") if line.lstrip().startswith("|")
              for cell in re.split(r"(?<!\\)\|", plain(line))]
@@ -160,7 +162,7 @@ def prose_of_comments(file: str, text: str) -> str:
 
 
 def text_of(file: str, text: str) -> Text | None:
-    """Returns what is measured of a file, or None if its kind is not measured."""
+    """Returns a file's measured text, or `None` if its kind is not measured."""
     if file.endswith(".md"):
         return Text(file, "documents", prose_of_document(text), long_cells(text))
     if file.endswith((".rt", ".antt")) and file.startswith("crates/"):
@@ -171,7 +173,7 @@ def text_of(file: str, text: str) -> Text | None:
 
 
 def texts_of(root: Path) -> list[Text]:
-    """Returns the texts of the files that git tracks below a directory."""
+    """Returns the texts of a directory's git-tracked files."""
     listed = subprocess.run(["git", "-C", root, "ls-files"], capture_output=True, text=True).stdout
     found = []
     for file in filter(None, listed.split("\n")):
@@ -186,7 +188,7 @@ def texts_of(root: Path) -> list[Text]:
 
 
 def sentences(text: str) -> list[tuple[str, int]]:
-    """Returns the sentences of a plain text, each with its number of words; three words at least."""
+    """Returns a plain text's sentences of three or more words, with word counts."""
     found = []
     for paragraph in re.split(r"\n\s*\n", text):
         for sentence in re.split(r"(?<=[.!?])[)\"”*]*\s+(?=[A-Z0-9\"“(*])", " ".join(paragraph.split())):
@@ -194,6 +196,11 @@ def sentences(text: str) -> list[tuple[str, int]]:
             if count >= 3:
                 found.append((sentence, count))
     return found
+
+
+def is_fronted(sentence: str) -> bool:
+    """Returns whether a sentence opens with a clause in place of its subject. Questions do not count."""
+    return bool(FRONTED.match(sentence)) and not sentence.rstrip("*").endswith("?")
 
 
 def replaced_in(file: str, sentence: str) -> int:
@@ -208,13 +215,13 @@ def figures(texts: list[Text]) -> Figures:
     words = sum(count for _, _, count in found) or 1
     whole = " ".join(sentence for _, sentence, _ in found)
     per = [1000 * len(re.findall(rf"\b{word}\b", whole, flags=re.I)) / words for word in ("where", "if", "you(?:r|rs)?")]
-    fronted = sum(bool(FRONTED.match(it)) and not it.rstrip("*").endswith("?") for _, it, _ in found)
+    fronted = sum(is_fronted(sentence) for _, sentence, _ in found)
     return Figures(words, len(found), sum(count > MOST_WORDS for _, _, count in found), fronted, *per,
                    sum(replaced_in(file, sentence) for file, sentence, _ in found))
 
 
 def print_figures(texts: list[Text]) -> None:
-    """Prints a row for each document and each kind."""
+    """Prints a row for each document and kind."""
     print(f"{'':34} {'words':>7} {'mean':>6} {'>30':>6} {'front':>7} {'where':>6} {'if':>6} {'you':>6} {'repl.':>6}")
     documents = [text for text in texts if text.kind == "documents"]
     for text in documents:
@@ -233,7 +240,7 @@ def print_longest(texts: list[Text], count: int) -> None:
 
 
 def print_replaced(texts: list[Text], count: int) -> None:
-    """Prints the places of words that the glossary replaces."""
+    """Prints the places of replaced words."""
     for pattern, term in REPLACED:
         places = [f"    {text.file}: {line.strip()[:120]}" for text in texts for line in plain(text.prose).split("\n")
                   if re.search(pattern, line, flags=re.I)]
@@ -242,7 +249,7 @@ def print_replaced(texts: list[Text], count: int) -> None:
 
 
 def main(words: list[str]) -> int:
-    """Prints how the English of a directory reads; returns the exit status."""
+    """Measures a directory's English; returns the exit status."""
     line = Parser("tools/prose", "Measures how the English of the repository reads: a row for each document and for "
                   "each kind of comment.", 2, "tools/prose [DIRECTORY] [OPTIONS]")
     line.add_argument("root", nargs="?", type=Path, default=TOP, metavar="DIRECTORY",

@@ -24,7 +24,7 @@ FIELDS = (
     "Residual risk",
 )
 FIELD = re.compile(rf"- ({'|'.join(FIELDS)}): (.*)")
-# the fields that each kind has
+# the fields of each kind
 WANTED = {
     "AS": ("Statement", "Ensured by", "Evidence"),
     "SRAC": ("Duty holder", "Discharged by", "Evidence"),
@@ -34,7 +34,7 @@ WANTED = {
 
 @dataclass
 class Entry:
-    """One of them: its kind (AS, SRAC or FM), its name, its topic, its sentence, and its fields."""
+    """An entry: kind (AS, SRAC or FM), name, topic, sentence and fields."""
 
     kind: str
     name: str
@@ -44,8 +44,8 @@ class Entry:
 
 
 def entries_in(text: str) -> list[Entry]:
-    """Returns the entries of a page. The sentence of an assumption is its statement, and that of an
-    application condition its first paragraph."""
+    """Returns a page's entries. An assumption's sentence is its statement; an application
+    condition's is its first paragraph."""
     found: list[Entry] = []
     inside = False
     for row in with_targets(text).splitlines():
@@ -64,7 +64,7 @@ def entries_in(text: str) -> list[Entry]:
 
 
 def entries(kind: str, root: Path = TOP) -> list[Entry]:
-    """Returns the entries of a kind; none if the page cannot be read."""
+    """Returns a kind's entries; none if the page is unreadable."""
     try:
         text = (root / PAGE).read_text(encoding="utf-8")
     except OSError:
@@ -73,8 +73,8 @@ def entries(kind: str, root: Path = TOP) -> list[Entry]:
 
 
 def faults_in(text: str) -> list[str]:
-    """Returns missing fields of the entries of the qualification page, wrong numbers, conditions
-    without "shall", and cited names that do not exist."""
+    """Returns the qualification page's faults: missing fields, wrong numbers, conditions without
+    "shall", and cited names that do not exist."""
     listed, found, counts = entries_in(text), [], dict.fromkeys(WANTED, 0)
     for entry in listed:
         counts[entry.kind] += 1

@@ -1,11 +1,11 @@
-"""The order of reading for assessors: stages, answers, and the files of a strict table."""
+"""The assessors' reading order: stages, answers, and a strict table's files."""
 
 from irvtools.docs import definitions
 from irvtools.docs.definitions import RULES
 
-# the stages of which each definition is named; of the others the list has the files
+# stages with named definitions; the list has the files of the others
 NAMED_STAGES = (2, 3, 4)
-# what each stage is about, in the order of the stages
+# the topics of the stages, in order
 ABOUT = (
     "Answers to arguments and bytes, with exit statuses, and the effects on sources and sinks.",
     "Right verdicts, and the meaning of `safe` for runs of any length.",
@@ -26,20 +26,20 @@ ABOUT = (
     "The text written for a verdict, and spent texts.",
     "The formula of a query, from the plant to its clauses. No answer needs it to be believed.",
 )
-# where the definitions of some answers begin, besides those of the module `definitions`
+# first definitions of some answers, besides those of the module `definitions`
 TABLE = [("ilk_answers.specs.Tables", "HasTable")]
 FORMULA = [
     ("ilk_dimacs.specs.DimacsText", "dimacs_text"),
     ("ilk_unroll.specs.Satisfied", "IsSatisfiable"),
 ]
-DRIVE = [("ilk_answers.specs.Drives", "TellsDrive")]
+DRIVE = [("ilk_answers.specs.Drives", "AnswersDrive")]
 REPLAY = [
-    ("ilk_answers.specs.Answer", "tale_reply"),
-    ("ilk_replay.specs.Told", "tale_of"),
-    ("ilk_replay.specs.Seen", "seen_of"),
+    ("ilk_answers.specs.Answer", "run_text_reply"),
+    ("ilk_replay.specs.Told", "run_from_text"),
+    ("ilk_replay.specs.Seen", "replay_result"),
 ]
-# the answers of the reading plan: which, the parts of the list that each needs besides part 1,
-# where its definitions begin, and what is left out; 5 is only how bytes become the plant
+# The reading plan's answers. Each has the needed parts of the list besides part 1, its first
+# definitions, and the omissions. Part 5 only says how bytes become the plant.
 ANSWERS = (
     ("`clean` of `check` with strict columns", "2 to 5", definitions.CLEAN, RULES),
     ("`accepted` of `audit`", "2 to 5", definitions.FOREVER + definitions.PLANT, RULES),
@@ -82,7 +82,7 @@ ANSWERS = (
     ),
     ("`hazard`, `no hazard`, `not a run` of `replay`", "3 to 6", REPLAY + definitions.PLANT, RULES),
 )
-# the files of a strict table in reading order, by step: places below crates/, without their endings
+# a strict table's files in reading order, by step: paths below crates/ without endings
 STEPS = (
     (
         "Meaning of `clean`",

@@ -1,4 +1,4 @@
-"""The requirements of the model and of the formats, beside the lines of `requirements.txt`."""
+"""The requirements of model and formats, and checks against the lines of `requirements.txt`."""
 
 from __future__ import annotations
 
@@ -11,7 +11,7 @@ from irvtools.docs.links import with_targets
 
 MODEL = Path("docs/reference/model.md")
 FORMATS = Path("docs/reference/formats.md")
-# the first header of each table of the model whose rows are requirements, with one more header
+# the model's requirement tables: the first header and one more
 TABLES = (
     ("rule", "place"),
     ("event", "change"),
@@ -38,14 +38,14 @@ LINK = re.compile(r"\[([^\]]*)\]\(([^)\s]+)\)")
 
 @dataclass(frozen=True)
 class Requirement:
-    """A row of a table of requirements: its name, and its definitions as files and names."""
+    """A requirement from a table row: name, and definitions as files and names."""
 
     name: str
     definitions: frozenset[tuple[str, str]] = frozenset()
 
 
 def tables_in(text: str) -> list[list[list[str]]]:
-    """Returns the tables of a page as lists of rows, the header first."""
+    """Returns a page's tables as lists of rows, header first."""
     tables: list[list[list[str]]] = [[]]
     for line in text.splitlines():
         if not line.startswith("|"):
@@ -56,13 +56,13 @@ def tables_in(text: str) -> list[list[list[str]]]:
 
 
 def name_of(kind: str, cell: str) -> str:
-    """Returns the name of a requirement: of an event its first word, of a verdict without "at k"."""
+    """Returns a requirement's name: an event's first word, a verdict without "at k"."""
     name = cell.partition("(")[0].strip().strip("`")
     return name.split()[0] if kind == "event" else name.partition(" at ")[0]
 
 
 def requirements_of(root: Path) -> list[Requirement]:
-    """Returns the requirements of the model and the limits of the formats, in order."""
+    """Returns the model's requirements and the formats' limits, in order."""
     found = []
     model = with_targets((root / MODEL).read_text(encoding="utf-8"))
     for header, *rows in tables_in(model):
@@ -82,14 +82,14 @@ def requirements_of(root: Path) -> list[Requirement]:
 
 
 def says(path: Path, name: str) -> bool:
-    """Returns whether a file of tests has a requirement's name as a word."""
+    """Returns whether a test file has a requirement's name as a word."""
     word = re.escape(name.removesuffix(" n"))
     text = path.read_text(encoding="utf-8")
     return re.search(rf"(?<![A-Za-z0-9]){word}(?![A-Za-z0-9])", text, re.I) is not None
 
 
 def silent_tests(root: Path, lines: list[Line]) -> list[str]:
-    """Returns the tests of requirements and commands that do not have the name of their line."""
+    """Returns the tests of requirements and commands without their line's name."""
     named = [line for line in lines if line.section in (*SECTIONS[:-1], "Commands")]
     return [
         f"{line.section}, {line.name}: {item.file} does not say {line.name}"
@@ -100,7 +100,7 @@ def silent_tests(root: Path, lines: list[Line]) -> list[str]:
 
 
 def requirement_faults(root: Path, lines: list[Line]) -> list[str]:
-    """Returns requirements without a line, lines without a requirement, and other definitions."""
+    """Returns requirements without a line, lines without a requirement, and differing definitions."""
     wanted = requirements_of(root)
     listed = {line.name: line for line in lines if line.section in SECTIONS}
     names = [requirement.name for requirement in wanted]

@@ -1,4 +1,4 @@
-"""Writes and checks docs/assurance/traceability.md, and the CSV file beside it."""
+"""Writes and checks docs/assurance/traceability.md and its CSV file."""
 
 from __future__ import annotations
 
@@ -18,11 +18,11 @@ from irvtools.paths import TOP
 
 PAGE = Path("docs/assurance/traceability.md")
 ROWS = PAGE.with_suffix(".csv")
-# sections whose definitions are in tables of the model page, beside the requirements
+# sections with definitions in the model page's tables
 DEFINED_IN_MODEL = SECTIONS[:-2]
-# sections whose evidence is in the entries of the qualification page
+# sections with evidence in the qualification page's entries
 IN_QUALIFICATION = tuple(TITLES.values())
-# what the code declares, besides definitions
+# declarations of the code, besides definitions
 DECLARED = r"(?:fn|struct|enum|trait|const|type|ensures) {}\b"
 
 
@@ -35,7 +35,7 @@ def sections_of(lines: list[Line]) -> dict[str, list[Line]]:
 
 
 def table_of(lines: list[Line]) -> list[str]:
-    """Returns a section's table. What all of its lines share is said once, above the table."""
+    """Returns a section's table, with values shared by all lines above it."""
     shared = {
         kind: [
             item
@@ -66,7 +66,7 @@ def table_of(lines: list[Line]) -> list[str]:
 
 
 def rows_of(lines: list[Line]) -> str:
-    """Returns the CSV file: a row for each piece of evidence, with its line and its file."""
+    """Returns the CSV file: a row for each piece of evidence, with line and file."""
     written = io.StringIO()
     rows = csv.writer(written, lineterminator="\n")
     rows.writerow(["section", "line", "kind", "file", "name"])
@@ -111,12 +111,12 @@ def page_of(root: Path) -> str:
 
 
 def files_of(root: Path) -> dict[Path, str]:
-    """Returns the page and the CSV file as they should be."""
+    """Returns page and CSV file as they should be."""
     return {PAGE: page_of(root), ROWS: rows_of(lines_of(root))}
 
 
 def declares(path: Path, name: str) -> bool:
-    """Returns whether a file declares a definition, call, type, constant or clause of a name."""
+    """Returns whether a file declares this definition, call, type, constant or clause."""
     text = path.read_text(encoding="utf-8")
     pattern = (
         rf"pub (?:record |syntax |data )?{re.escape(name)}[\s(:{{]"
@@ -127,7 +127,7 @@ def declares(path: Path, name: str) -> bool:
 
 
 def fault_of(root: Path, item: Item) -> str | None:
-    """Returns what is wrong with an item: its file or its name is missing."""
+    """Returns an item's fault: a missing file or name."""
     if item.file.startswith("tests/run "):
         name = item.file[10:]
         places = (f"tests/{name}", f"tests/{name}.py")
@@ -143,7 +143,7 @@ def fault_of(root: Path, item: Item) -> str | None:
 
 
 def missing_evidence(line: Line) -> list[str]:
-    """Returns the kinds of evidence that a line needs and does not have."""
+    """Returns the missing kinds of evidence for a line."""
     if line.section in ("Tools", "Assumptions") or line.name.startswith("125"):
         needed = () if line.by_user and line.section == "Assumptions" else ("tests",)
     elif line.section == "Application conditions":
@@ -156,7 +156,7 @@ def missing_evidence(line: Line) -> list[str]:
 
 
 def names_in_code(root: Path) -> dict[str, list[str]]:
-    """Returns the commands, exit statuses and tools that the repository has."""
+    """Returns the repository's commands, exit statuses and tools."""
     commands = (root / "crates/ilk_words/specs/Commands.antt").read_text(encoding="utf-8")
     statuses = (root / "crates/ilk_answers/specs/Status.antt").read_text(encoding="utf-8")
     scripts = [
@@ -176,7 +176,7 @@ def names_in_code(root: Path) -> dict[str, list[str]]:
 
 
 def faults(root: Path = TOP) -> list[str]:
-    """Returns lines without evidence, dangling items, and names that are missing or too much."""
+    """Returns lines without evidence, dangling items, and missing or superfluous names."""
     lines, found = lines_of(root), []
     for line in lines:
         found += [f"{line.section}, {line.name}: no {kind}" for kind in missing_evidence(line)]
@@ -196,7 +196,7 @@ def faults(root: Path = TOP) -> list[str]:
 
 
 def differences(root: Path = TOP) -> list[str]:
-    """Returns each line of the page and of the CSV file that is missing or wrong."""
+    """Returns wrong or missing lines of page and CSV file."""
     found = []
     for file, text in files_of(root).items():
         path = root / file

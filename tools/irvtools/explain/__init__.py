@@ -1,1 +1,1 @@
-"""Refusals of the program in sentences, and advice, on the terminal."""
+"""Explains refusals on the terminal, with advice."""

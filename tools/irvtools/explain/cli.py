@@ -1,5 +1,5 @@
-"""The command line of `irv COMMAND --explain` and `--advise`: calls the program, passes its output and
-its exit status through, and prints sentences on standard error."""
+"""The command line of `irv COMMAND --explain` and `--advise`: calls the program, passes its output
+and exit status through, and prints sentences on standard error."""
 
 from __future__ import annotations
 
@@ -20,12 +20,12 @@ FLAGS = ("--explain", "--advise", "--help", "-h")
 WITH_VALUE = ("--in", "--program")
 WITHOUT_INPUT = ("make", "demo", None)      # commands that read no configuration
 SIGNALLED = 128
-JUDGED = ("check", "verify")                # commands whose answer comes to a verdict
-MOST_ANSWER = 5                             # the greatest exit status of an answer of these
+JUDGED = ("check", "verify")                # commands with a verdict
+MOST_ANSWER = 5                             # the greatest exit status of their answers
 
 
 def parser() -> Parser:
-    """Returns the parser of the tool's own options."""
+    """Returns the parser of the tool's options."""
     line = Parser("irv --explain", "Calls a command of irv, and says on standard error what is wrong if the "
                   "answer is a refusal, a rejection or `not a run`.\nStandard output and the exit status are "
                   "the program's own.\n\nThe exit status is 125 if the program cannot be called.", NO_ANSWER,
@@ -39,7 +39,7 @@ def parser() -> Parser:
 
 
 def divided(words: list[str]) -> tuple[list[str], list[str]]:
-    """Returns the tool's own options among some arguments, and the program's arguments."""
+    """Returns these arguments, divided into the tool's options and the program's arguments."""
     own, rest, left = [], [], list(words)
     while left:
         word = left.pop(0)
@@ -55,7 +55,7 @@ def divided(words: list[str]) -> tuple[list[str], list[str]]:
 
 
 def read_source(directory: str | None) -> JsonSource | CsvSource:
-    """Returns the configuration that is asked about."""
+    """Returns the configuration in question."""
     if directory is not None:
         return CsvSource(directory)
     if sys.stdin is None:
@@ -67,7 +67,7 @@ def read_source(directory: str | None) -> JsonSource | CsvSource:
 
 
 def called(program, words: list[str], given: bytes | None) -> tuple[int, bytes]:
-    """Calls the program; returns its exit status and its output."""
+    """Calls the program; returns exit status and output."""
     try:
         done = subprocess.run([program, *words], input=given, stdout=subprocess.PIPE, check=False)
     except OSError as fault:
@@ -81,7 +81,7 @@ def pass_on(output: bytes) -> None:
         sys.stdout.buffer.write(output)
         sys.stdout.buffer.flush()
     except OSError as fault:
-        sys.stdout = None       # what is left in the stream cannot be written at the end either
+        sys.stdout = None       # the unwritten rest must not be flushed at exit
         raise Refused(f"standard output: it cannot be written: {reason(fault)}") from None
 
 
@@ -92,7 +92,7 @@ def tell(lines: list[str]) -> None:
 
 
 def main(words: list[str]) -> int:
-    """Does what the arguments ask for; returns the exit status."""
+    """Runs the tool; returns the exit status."""
     own, rest = divided(words)
     line = parser()
     options = line.parse_args(own)
@@ -119,7 +119,7 @@ def main(words: list[str]) -> int:
 
 
 def columns_of(words: list[str]) -> str:
-    """Returns the value of --columns among some arguments, strict if it is not given."""
+    """Returns the value of --columns in these arguments; strict by default."""
     for word, value in zip(words, [*words[1:], ""]):
         if word == "--columns" or word.startswith("--columns="):
             return word.partition("=")[2] or value
@@ -127,7 +127,7 @@ def columns_of(words: list[str]) -> str:
 
 
 def verdict_lines(program: Path, words: list[str], status: int, output: str) -> list[str]:
-    """Returns the verdict of what check or verify answered; nothing for another command or a fault."""
+    """Returns the verdict on an answer of check or verify; nothing otherwise."""
     command = command_of(words)
     if command not in JUDGED or status > MOST_ANSWER:
         return []
@@ -136,7 +136,7 @@ def verdict_lines(program: Path, words: list[str], status: int, output: str) -> 
 
 
 def advice_lines(source: JsonSource | CsvSource, output: str) -> list[str]:
-    """Returns the advice about a configuration, by route."""
+    """Returns a configuration's advice, by route."""
     plant = plant_of_answer(source, output)
     if plant is None:
         return ["no advice: it needs a configuration in which the rules F, N and R hold"]

@@ -1,4 +1,4 @@
-"""The places of entries in the text of a configuration: line and column of each section, route and member."""
+"""Line and column of a configuration's sections, routes and members."""
 
 from __future__ import annotations
 
@@ -11,7 +11,7 @@ DEEPEST = 3                             # steps to a member of an entry
 
 
 class Places:
-    """The begin of each value of a JSON text, by the steps that lead to it. The text is one that is read."""
+    """Starts of a JSON text's values, by the steps to them. The text must be valid."""
 
     def __init__(self, text: str) -> None:
         self.text = text
@@ -19,11 +19,11 @@ class Places:
         self.value(self.skip(0), ())
 
     def skip(self, at: int) -> int:
-        """Returns where the white space at `at` ends."""
+        """Returns the end of the white space at `at`."""
         return SPACE.match(self.text, at).end()
 
     def value(self, at: int, steps: tuple) -> int:
-        """Reads the value at `at`; returns where it ends."""
+        """Reads the value at `at`; returns its end."""
         if len(steps) <= DEEPEST:
             self.begins[steps] = at
         if self.text[at] == "{":
@@ -33,7 +33,7 @@ class Places:
         return scanstring(self.text, at + 1)[1] if self.text[at] == '"' else OTHER.match(self.text, at).end()
 
     def members(self, at: int, steps: tuple) -> int:
-        """Reads an object; returns where it ends."""
+        """Reads an object; returns its end."""
         at = self.skip(at + 1)
         while self.text[at] != "}":
             name, at = scanstring(self.text, at + 1)
@@ -42,7 +42,7 @@ class Places:
         return at + 1
 
     def entries(self, at: int, steps: tuple) -> int:
-        """Reads an array; returns where it ends."""
+        """Reads an array; returns its end."""
         number, at = 0, self.skip(at + 1)
         while self.text[at] != "]":
             at = self.skip(self.value(at, (*steps, number)))
@@ -51,8 +51,8 @@ class Places:
         return at + 1
 
     def line_and_column(self, *steps) -> tuple[int, int] | None:
-        """Returns line and column, from 1, of the value that these steps lead to, or of the entry that
-        lacks it; `None` if neither exists."""
+        """Returns line and column, from 1, of the value at these steps, or of the entry that lacks
+        it; `None` if neither exists."""
         while steps and tuple(steps) not in self.begins:
             steps = steps[:-1]
         if not steps:

@@ -1,4 +1,4 @@
-"""Why `audit` rejects a certificate, and `rup` a refutation, in sentences."""
+"""Explains why `audit` rejects a certificate, or `rup` a refutation."""
 
 from __future__ import annotations
 
@@ -37,7 +37,7 @@ def rejected_certificate(data: bytes, number: int) -> str:
 
 
 def cited(line: bytes) -> str:
-    """Returns a line as it is cited."""
+    """Returns a line for citation."""
     return quoted(line.decode(errors="replace"))
 
 
@@ -47,18 +47,18 @@ def is_step(line: bytes) -> bool:
 
 
 def is_in_query(before: bytes) -> bool:
-    """Returns whether a step may follow a line: the query's own, or a step whose clause is not empty."""
+    """Returns whether a step may follow a line: the query's own, or a non-empty step."""
     return before.startswith(b"query ") or before.startswith(b"step ") and not before.startswith(EMPTY_STEP)
 
 
 def query_of(lines: list[bytes], number: int) -> str:
-    """Returns the query to which a line belongs."""
+    """Returns the query of a line."""
     queries = [line.decode() for line in lines[:number - 1] if line.startswith(b"query ")]
     return queries[-1]
 
 
 def wanted_after(lines: list[bytes]) -> str:
-    """Returns what the next line of a certificate has to be after these lines, which are right."""
+    """Returns the required next line of a certificate after these valid lines."""
     if not lines:
         return f"it has to be “{HEAD.decode()}”"
     if len(lines) == 1:
@@ -70,14 +70,14 @@ def wanted_after(lines: list[bytes]) -> str:
 
 
 def next_query(lines: list[bytes]) -> str:
-    """Returns the line of the query that comes next in a certificate, or `end`."""
+    """Returns a certificate's next query line, or `end`."""
     asked = [f"query {kind} {n}" for kind, n in queries_of(int(SAFE.fullmatch(lines[1])[1]))]
     count = sum(QUERY.fullmatch(line.decode(errors="replace")) is not None for line in lines[2:])
     return asked[count] if count < len(asked) else "end"
 
 
 def rejected_item(data: bytes, number: int, variables: int | None) -> str:
-    """Returns why item `number` of a refutation is the first bad one, over a formula with `variables`."""
+    """Returns why item `number` of a refutation over `variables` is the first bad one."""
     items = items_with_lines(data)
     if number > len(items):
         return (f"The text has {len(items)} items, and all are right, but the empty clause does not follow "
@@ -95,7 +95,7 @@ def rejected_item(data: bytes, number: int, variables: int | None) -> str:
 
 
 def items_with_lines(data: bytes) -> list[tuple[int, list[bytes]]]:
-    """Returns the items of a refutation, each with the line on which it begins."""
+    """Returns a refutation's items, each with its first line."""
     items, is_open = [], False
     for number, line in enumerate(data.split(b"\n"), 1):
         for word in [] if line.startswith(b"c") else re.split(rb"[ \t\r]", line):

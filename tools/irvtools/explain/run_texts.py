@@ -1,4 +1,4 @@
-"""Why `replay` or `drive` rejects a text, and why events are not a run, in sentences."""
+"""Explains why `replay` or `drive` rejects a text, and why events are not a run."""
 
 from __future__ import annotations
 
@@ -10,13 +10,13 @@ from irvtools.model.plant import Plant
 from irvtools.model.state import State, event_line
 
 HEAD_OF = {kind: head for head, kind in HEADS.items()}
-KIND_OF = {"replay": "run", "drive": "drive"}       # what a command reads
+KIND_OF = {"replay": "run", "drive": "drive"}       # the text that a command reads
 USED_BY = {"run": "replay", "drive": "drive"}
 NAME_OF = {"run": "run", "drive": "scenario"}
 
 
 class Text(Given):
-    """The text of a run or of a scenario, as a command reads it whatever its header says."""
+    """The text of a run or scenario as the command reads it, whatever its header."""
 
     def __init__(self, data: bytes, kind: str) -> None:     # pylint: disable=super-init-not-called
         self.data = data
@@ -26,7 +26,7 @@ class Text(Given):
 
 
 def rejected(command: str, data: bytes, plant: Plant, number: int) -> str:
-    """Returns why line `number` of the text that `command` read is the first bad one."""
+    """Returns why line `number` of the text for `command` is the first bad one."""
     text = Text(data, KIND_OF[command])
     if number == 1:
         return bad_header(command, text)
@@ -34,7 +34,7 @@ def rejected(command: str, data: bytes, plant: Plant, number: int) -> str:
 
 
 def bad_header(command: str, text: Text) -> str:
-    """Returns why the first line of a text is bad."""
+    """Returns why a text's first line is bad."""
     wanted, first = HEAD_OF[text.kind], text.lines[0]
     if first in HEADS and HEADS[first] != text.kind:
         other = HEADS[first]
@@ -47,8 +47,8 @@ def bad_header(command: str, text: Text) -> str:
 
 
 def not_a_run(data: bytes, plant: Plant, number: int) -> tuple[int, str] | None:
-    """Returns the line of event `number` in the text of a run, and why the event does not come; `None`
-    if the text is not the one that `irv` read."""
+    """Returns the line of a run's event `number`, and why it is not enabled; `None` if `irv` read
+    another text."""
     text = Text(data, "run")
     read = text.read(plant)
     if read is None or not 0 < number <= len(read[1]):

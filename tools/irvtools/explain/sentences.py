@@ -1,4 +1,4 @@
-"""The answer of a command in sentences: what it refuses or rejects, and where."""
+"""Explains what a command refuses or rejects, with the place."""
 
 from __future__ import annotations
 
@@ -14,7 +14,7 @@ from irvtools.rules import explain
 
 FILE_OPTIONS = {"replay": "--run", "drive": "--run", "audit": "--cert", "rup": "--cert"}
 REJECTED = re.compile(r"(?:rejected (?:line|item)|not a run at) ([1-9][0-9]*)")
-MOST_BYTES = 1 << 28            # of a file that is looked at
+MOST_BYTES = 1 << 28            # the longest file that is read
 HEADER_SECONDS = 60
 FILLED = ("refused C5", "refused C6", "refused C8")
 FILL = "to add the conflicts that C5, C6 and C8 demand, run irv --csv --fill conflicts"
@@ -22,7 +22,7 @@ VARIABLES = re.compile(rb"p cnf ([0-9]+) ")
 
 
 def option(words: list[str], name: str) -> str | None:
-    """Returns the value of an option among a command's arguments, or `None`."""
+    """Returns an option's value among these arguments, or `None`."""
     for place, word in enumerate(words):
         if word == name and place + 1 < len(words):
             return words[place + 1]
@@ -32,7 +32,7 @@ def option(words: list[str], name: str) -> str | None:
 
 
 def command_of(words: list[str]) -> str | None:
-    """Returns the command among some arguments: the first that is neither an option nor its value."""
+    """Returns the command among these arguments: the first that is neither an option nor its value."""
     is_value = False
     for word in words:
         if not is_value and not word.startswith("-"):
@@ -42,20 +42,20 @@ def command_of(words: list[str]) -> str | None:
 
 
 def file_of(words: list[str]) -> str | None:
-    """Returns the file that a command reads besides the configuration, or `None`."""
+    """Returns a command's second input file, besides the configuration, or `None`."""
     name = FILE_OPTIONS.get(command_of(words))
     return None if name is None else option(words, name)
 
 
 def length_of(file: str | None) -> int | None:
-    """Returns how long a regular file is, or `None`."""
+    """Returns a regular file's length, or `None`."""
     return Path(file).stat().st_size if file is not None and Path(file).is_file() else None
 
 
 def sentences(program: Path, words: list[str], source: JsonSource | CsvSource,
               output: str) -> list[str]:
-    """Returns what is wrong, a line for each sentence, each with its place, if the program's `output` to
-    these arguments refuses or rejects something."""
+    """Returns a line for each fault, with its place, if the program's `output` refuses or rejects
+    something."""
     lines = output.splitlines()
     if not lines:
         return []
@@ -66,7 +66,7 @@ def sentences(program: Path, words: list[str], source: JsonSource | CsvSource,
 
 
 def refusals(words: list[str], source, lines: list[str]) -> list[str]:
-    """Returns the refused rules of a configuration in sentences."""
+    """Returns a configuration's broken rules in sentences."""
     plant = explain.plant_of(source.given)
     file = file_of(words)
     told = []
@@ -81,7 +81,7 @@ def refusals(words: list[str], source, lines: list[str]) -> list[str]:
 
 
 def rejection(program: Path, words: list[str], source, line: str, number: int) -> str:
-    """Returns why a file is rejected, or is not a run."""
+    """Returns why a file is rejected, or not a run."""
     file, command = file_of(words), command_of(words)
     length = length_of(file)
     if length is None or length > MOST_BYTES:
@@ -98,7 +98,7 @@ def rejection(program: Path, words: list[str], source, line: str, number: int) -
 
 
 def variables_of(program: Path, words: list[str], source) -> int | None:
-    """Returns how many variables the formula has that `rup` was asked about, or `None`."""
+    """Returns the number of variables in the formula of `rup`, or `None`."""
     asked = [f"{name}={option(words, name)}" for name in ("--query", "--number", "--columns")
              if option(words, name) is not None]
     try:
@@ -111,8 +111,8 @@ def variables_of(program: Path, words: list[str], source) -> int | None:
 
 
 def plant_of_answer(source: JsonSource | CsvSource, output: str) -> Plant | None:
-    """Returns the plant of a configuration, or `None` if the program's answer refuses its form, its
-    network or its table."""
+    """Returns a configuration's plant, or `None` if the program refuses its schema, network or
+    table."""
     if output.startswith(("refused F", "refused N", "refused R")):
         return None
     return explain.plant_of(source.given)

@@ -1,4 +1,4 @@
-"""The configuration that a command reads, and where its entries are: in JSON or in CSV files."""
+"""A command's configuration, in JSON or CSV, and the places of its entries."""
 
 from __future__ import annotations
 
@@ -18,7 +18,7 @@ class JsonSource:
         self.places = None
 
     def place(self, entries: list[Entry]) -> str:
-        """Returns where the entries are, in words."""
+        """Returns the entries' place, in words."""
         if self.places is None and schema_rules.read(self.given)[1] is None:
             self.places = Places(self.given.decode())
         found = [self.places.line_and_column(one.list, one.number, one.member) for one in entries] \
@@ -28,7 +28,7 @@ class JsonSource:
 
 
 class CsvSource:
-    """A configuration in both CSV files of a directory."""
+    """A configuration as a directory's two CSV files."""
 
     def __init__(self, directory: str) -> None:
         self.name = directory
@@ -36,7 +36,7 @@ class CsvSource:
         self.given = configurations.written(value).encode()
 
     def place(self, entries: list[Entry]) -> str:
-        """Returns where the entries are, in words: of several entries of one list and member the lines."""
+        """Returns the entries' place, in words; for several of one list and member, the lines."""
         if not entries:
             return self.name
         table, member = self.files[entries[0].list], entries[0].member

@@ -1,7 +1,7 @@
-"""Configurations for cases: from a short plant text, or made to a size.
+"""Test configurations, from a short plant text or of a given size.
 
-They are hand-written because each has to be the same at each call, on each machine, and to meet the rules of a
-configuration; libraries of random data promise neither.
+They are hand-written: each must be the same on every machine and meet the rules. Random-data
+libraries promise neither.
 """
 
 from __future__ import annotations
@@ -11,24 +11,24 @@ from typing import Any, Iterable
 
 
 def or_null(word):
-    """A name, or null for a lone dot."""
+    """Returns a name, or null for a lone dot."""
     return None if word == "." else word
 
 
 def linear(name: str, down: str, up: str, board_down: str, board_up: str) -> dict[str, str | None]:
-    """A linear section's object."""
+    """Returns a linear section's object."""
     return {"name": name, "kind": "linear", "down": or_null(down), "up": or_null(up),
             "board_down": or_null(board_down), "board_up": or_null(board_up)}
 
 
 def point(name: str, faces: str, stem: str, plus: str, minus: str) -> dict[str, str]:
-    """A point's object."""
+    """Returns the object of points."""
     return {"name": name, "kind": "point", "faces": faces, "stem": stem,
             "plus": plus, "minus": minus}
 
 
 def listed(word):
-    """A listed point's object, from NAME=POSITION."""
+    """Returns a listed point's object, from NAME=POSITION."""
     name, _, position = word.partition("=")
     return {"point": name, "position": position}
 
@@ -37,7 +37,7 @@ SINCE_SECOND = ("protecting_points", "protecting_boards")
 
 
 def route(words: list[str]) -> dict[str, Any]:
-    """A route's object, from NAME from BOARD to BOARD and its lists, each after its name."""
+    """Returns a route's object, from NAME from BOARD to BOARD and its named lists."""
     name, heading, source, heading_two, destination, *rest = words
     if (heading, heading_two) != ("from", "to"):
         raise ValueError(f"a route wants from and to: {name}")
@@ -59,7 +59,7 @@ def route(words: list[str]) -> dict[str, Any]:
 
 def document(sections: list[dict[str, Any]], routes: list[dict[str, Any]],
              version: int = 1) -> bytes:
-    """A configuration's bytes. The routes of version 1 have no protecting lists."""
+    """Returns a configuration's bytes. Version 1 routes have no protecting lists."""
     if version == 1:
         routes = [{key: value for key, value in route.items() if key not in SINCE_SECOND}
                   for route in routes]
@@ -68,8 +68,8 @@ def document(sections: list[dict[str, Any]], routes: list[dict[str, Any]],
 
 
 def plant_text(lines: Iterable[str]) -> bytes:
-    """The configuration that a short plant text stands for: of version 2 where it has a protecting
-    list, or says so, else of version 1."""
+    """Returns a short plant text's configuration: version 2 if it has a protecting list or says so,
+    otherwise version 1."""
     sections, routes, version = [], [], 1
     for line in lines:
         kind, *words = line.split()
@@ -89,7 +89,7 @@ def plant_text(lines: Iterable[str]) -> bytes:
 
 
 def line_sections(count):
-    """A line of linear sections s0, s1 and so on from down to up, without boards."""
+    """Returns a line of linear sections s0, s1 and so on upwards, without boards."""
     names = [f"s{i}" for i in range(count)]
     return [linear(name,
                    names[i - 1] if i > 0 else ".",
@@ -98,12 +98,12 @@ def line_sections(count):
 
 
 def made_line(count: int) -> bytes:
-    """A line of that many sections, without boards and routes."""
+    """Returns `count` sections in a line, without boards and routes."""
     return document(line_sections(count), [])
 
 
 def made_path(count):
-    """A line with a board at its down end and one route over the other sections."""
+    """Returns a line with a board at its down end and one route over the other sections."""
     sections = line_sections(count + 1)
     sections[0]["board_up"] = "m1"
     path = [section["name"] for section in sections[1:]]
@@ -112,7 +112,7 @@ def made_path(count):
 
 
 def made_overlap(count):
-    """A line with a route over its second section and an overlap of that many more."""
+    """Returns a line with a route over its second section and an overlap of `count` more."""
     sections = line_sections(count + 2)
     sections[0]["board_up"] = "m1"
     sections[1]["board_up"] = "m2"
@@ -122,7 +122,7 @@ def made_overlap(count):
 
 
 def made_routes(count, conflicts):
-    """Two sections and that many routes over b; each lists all others, or none."""
+    """Returns two sections and `count` routes over b; each lists all others, or none."""
     sections = [linear("a", ".", "b", ".", "m1"), linear("b", "a", ".", "m2", ".")]
     names = [f"r{i}" for i in range(count)]
     routes = [{"name": name, "source": "m1", "destination": None, "path": ["b"], "overlap": [],
@@ -134,8 +134,8 @@ def made_routes(count, conflicts):
 
 
 def made_largest():
-    """256 sections in a line and 256 routes over the same 32 of them, each with an overlap of 8
-    more and 8 protecting boards, and listing all others."""
+    """Returns 256 sections in a line and 256 routes over the same 32. Each route has an overlap of
+    8 more and 8 protecting boards, and lists all others."""
     sections = line_sections(256)
     sections[0]["board_up"] = "m1"
     sections[32]["board_up"] = "m2"
@@ -154,7 +154,7 @@ def made_largest():
 
 
 def station_sections(number, count):
-    """The sections of a station: a point, two tracks, a point, and the line behind it."""
+    """Returns a station's sections: points, two tracks, points, and the line behind."""
     up_end, down_end = f"l{number - 1}", f"l{number}"
     names = {letter: f"{letter}{number}" for letter in "ptuq"}
     tracks = [linear(names[track], names["p"], names["q"], f"{names[track]}D", f"{names[track]}U")
@@ -167,8 +167,7 @@ def station_sections(number, count):
 
 
 def station_routes(number, count):
-    """The eight routes of a station, without their conflicts: two into it and two out of it for each
-    direction."""
+    """Returns a station's eight routes without conflicts: two in and two out for each direction."""
     before, behind = f"l{number - 1}", f"l{number}"
     p, q, t, u = (f"{letter}{number}" for letter in "pqtu")
     up_exit = f"{behind}U" if number < count else "."
@@ -184,8 +183,8 @@ def station_routes(number, count):
 
 
 def made_stations(count: int) -> tuple[list[dict[str, Any]], list[dict[str, Any]]]:
-    """Stations in a row, each a loop of two tracks between two points, joined by single lines. The
-    conflicts of a route are the others that share a section of its path."""
+    """Returns a row of stations, joined by single lines. Each is a loop of two tracks between two
+    points. Routes conflict if their paths share a section."""
     sections = [linear("l0", ".", "p1", ".", "l0U")]
     routes = []
     for number in range(1, count + 1):
@@ -198,15 +197,15 @@ def made_stations(count: int) -> tuple[list[dict[str, Any]], list[dict[str, Any]
 
 
 def loop_sections(number, before, behind):
-    """A loop of two tracks without boards between two points, joined at both ends to these."""
+    """Returns a loop of two tracks without boards between two points, with these neighbours."""
     u, p, q, w = (f"{letter}{number}" for letter in "upqw")
     return [point(u, "up", before, p, q), linear(p, u, w, ".", "."), linear(q, u, w, ".", "."),
             point(w, "down", behind, p, q)]
 
 
 def made_loops(count, groups):
-    """That many loops without boards in a row, between lines with boards, and that so many times: the
-    number of ways from line to line doubles at each loop."""
+    """Returns `groups` rows of `count` loops without boards, between lines with boards. Each loop
+    doubles the ways between lines."""
     every = count * groups
     sections = [linear("l0", ".", "u0", ".", "l0U")]
     for number in range(every):
@@ -222,20 +221,20 @@ def made_loops(count, groups):
 
 
 def printed(document: dict[str, Any]) -> bytes:
-    """A configuration's bytes as the program prints them: the members in the order of their names, and a
-    line feed."""
+    """Returns a configuration's bytes as the program prints them: members by name, and a line feed."""
     return json.dumps(document, sort_keys=True, separators=(",", ":")).encode() + b"\n"
 
 
 def stations_text(count: int, form: str | None = None) -> bytes:
-    """The configuration of that many stations; `bare` has no routes, and `printed` is as `make` prints it."""
+    """Returns the configuration of `count` stations; `bare` has no routes, and `printed` is as
+    `make` prints it."""
     sections, routes = made_stations(count)
     text = document(sections, [] if form == "bare" else routes)
     return printed(json.loads(text)) if form == "printed" else text
 
 
 def made(kind: str, *words: str) -> bytes:
-    """A configuration of a kind that is too large to write out."""
+    """Returns a configuration too large to write out."""
     if kind == "line":
         return made_line(int(words[0]))
     if kind == "path":

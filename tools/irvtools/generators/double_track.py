@@ -1,14 +1,17 @@
-"""Double-track lines: stations with crossovers, and loops, one behind the other, on two tracks x and y.
+"""Double-track lines: stations with crossovers, and loops, in a row on two tracks x and y.
 
-A line is written by a letter for each of its parts, up from the left, and a number before a letter stands
-for so many of it, as `b2Ls`:
+A line is written as letters for its parts, upwards from the left. A number repeats the next letter,
+as in `b2Ls`:
 
-- `s`, a station of two tracks, with two crossovers at each end: 8 points, 10 sections in all;
-- `b`, one of four tracks, of which two branch off behind the crossovers: 12 points, 16 sections in all;
-- `L`, a loop beside each track: 4 points, 8 sections in all.
+- `s`: a station of two tracks, with two crossovers at each end; 8 points, 10 sections in all.
 
-Before the first part, behind the last and between two parts stand the sections of the two open lines. Its
-routes are those of the network (lib/tablegen.py).
+- `b`: one of four tracks, two of which branch off behind the crossovers; 12 points, 16 sections in
+  all.
+
+- `L`: a loop beside each track; 4 points, 8 sections in all.
+
+Sections of both open lines are before, between and behind the parts. The routes are those of the
+network (lib/tablegen.py).
 """
 
 from __future__ import annotations
@@ -23,13 +26,13 @@ LINE = re.compile(r"(?:[0-9]*[sbL])+")
 
 
 def letters_of(word: str) -> str:
-    """The letters of a line, one for each part."""
+    """Returns a line's letters, one for each part."""
     return "".join(letter * int(count or 1) for count, letter in re.findall(r"([0-9]*)([sbL])", word))
 
 
 def crossovers(side, number, facing, line, tracks, has_branches):
-    """The points at one end of a station: side w or e, the way that those face whose stem is on the open
-    line, the number of that line, and of the tracks."""
+    """Returns the points at a station's end: side w or e, `facing` of the points with their stem on
+    the open line, that line's number, and the tracks."""
     a, b, c, d, e, h = (f"{side}{letter}{number}" for letter in "abcdeh")
     other = "down" if facing == "up" else "up"
     first, second, third, fourth = tracks
@@ -42,7 +45,7 @@ def crossovers(side, number, facing, line, tracks, has_branches):
 
 
 def station(number, has_branches):
-    """A station with its tracks, between the open lines of its number and of the next."""
+    """Returns a station between the open lines `number` and `number` + 1."""
     tracks = [f"k{number}_{i}" for i in range(1, 5)]
     ends = "eheh" if has_branches else "dc"
     return [*crossovers("w", number, "up", number, tracks, has_branches),
@@ -52,7 +55,7 @@ def station(number, has_branches):
 
 
 def loops(number):
-    """A loop of two tracks on each of the two lines."""
+    """Returns a loop of two tracks on each line."""
     sections = []
     for line in "xy":
         p, q, t, u = (f"{letter}{line}{number}" for letter in "pqtu")
@@ -62,14 +65,14 @@ def loops(number):
 
 
 def ends_of(letter, number, line, side):
-    """The section of a part to which an open line leads: at its left end, w, or its right one, e."""
+    """Returns the section that joins a part to an open line at its left (w) or right (e) end."""
     if letter == "L":
         return f"{'p' if side == 'w' else 'q'}{line}{number}"
     return f"{side}{'a' if line == 'x' else 'b'}{number}"
 
 
 def open_lines(letters):
-    """The sections of the open lines, with a board for each train that runs towards a part."""
+    """Returns the open lines' sections, with a board for each train towards a part."""
     for number in range(len(letters) + 1):
         for line in "xy":
             name = f"{line}{number}"
@@ -79,7 +82,7 @@ def open_lines(letters):
 
 
 def configuration(word: str) -> bytes:
-    """The bytes of a line's configuration."""
+    """Returns the bytes of a line's configuration."""
     letters = letters_of(word)
     sections = []
     for number, letter in enumerate(letters):

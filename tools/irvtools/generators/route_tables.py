@@ -1,8 +1,8 @@
 """The routes of a network, found from its configuration alone.
 
-`routes(conf)` takes a configuration as `json` reads it, of whose network no rule N is broken, and
-gives the list of its routes as objects of version 2, or the refusal as a text, `G1 boards[i]` or
-`G2 document`. It shares nothing with the program.
+`routes(conf)` takes a configuration as `json` reads it, whose network breaks no rule N. It returns
+its routes as objects of version 2, or the refusal as a text, `G1 boards[i]` or `G2 document`. It
+shares nothing with the program.
 """
 
 from __future__ import annotations
@@ -16,7 +16,7 @@ MAX_ROUTES = 256
 
 
 def boards_of(sections: list[dict[str, Any]]) -> list[tuple[str, str, str]]:
-    """The boards in the order of their numbers: name, section and direction."""
+    """Returns the boards by number: name, section and direction."""
     found = []
     for section in sections:
         if section["kind"] == "linear":
@@ -28,13 +28,13 @@ def boards_of(sections: list[dict[str, Any]]) -> list[tuple[str, str, str]]:
 
 
 class Network:
-    """What lies where, by names."""
+    """A network by names."""
 
     def __init__(self, sections):
         self.sections = {section["name"]: section for section in sections}
 
     def beside(self, name, direction):
-        """The names next to a section on a side, plus before minus."""
+        """Returns the names next to a section on a side, plus before minus."""
         section = self.sections[name]
         if section["kind"] == "linear":
             return [section[direction]] if section[direction] is not None else []
@@ -43,15 +43,15 @@ class Network:
         return [section["stem"]]
 
     def board(self, name, direction):
-        """The board on a section for a direction, or None."""
+        """Returns the board on a section for a direction, or `None`."""
         return self.sections[name].get("board_" + direction)
 
     def ends(self, name, direction):
-        """Whether a way ends at a section."""
+        """Returns whether a way ends at a section."""
         return self.board(name, direction) is not None or not self.beside(name, direction)
 
     def on_and_on(self, direction):
-        """Whether from a section so many lead on at none of which a way ends."""
+        """Returns a predicate: `count` sections lead on from a section, and no way ends at any."""
         @functools.lru_cache(maxsize=None)
         def leads(name, count):
             return count == 0 or any(not self.ends(other, direction) and leads(other, count - 1)
@@ -59,7 +59,7 @@ class Network:
         return leads
 
     def ways(self, name, direction):
-        """The ways from a section, one after another."""
+        """Yields the ways from a section."""
         for other in self.beside(name, direction):
             if self.ends(other, direction):
                 yield [other]
@@ -68,7 +68,7 @@ class Network:
                     yield [other] + rest
 
     def points(self, before, path):
-        """The points of a path in their positions."""
+        """Returns the points of a path with their positions."""
         found = []
         for i, name in enumerate(path):
             section = self.sections[name]
@@ -80,7 +80,7 @@ class Network:
 
 
 def routes(conf: dict[str, Any]) -> list[dict[str, Any]] | str:
-    """The list of routes, or the refusal."""
+    """Returns the list of routes, or the refusal."""
     network = Network(conf["sections"])
     boards = boards_of(conf["sections"])
     leads = {direction: network.on_and_on(direction) for direction in ("up", "down")}
@@ -102,7 +102,8 @@ def routes(conf: dict[str, Any]) -> list[dict[str, Any]] | str:
 
 
 def with_routes(conf: dict[str, Any]) -> dict[str, Any]:
-    """The configuration of version 2 with the same network and its routes, of which no rule G is broken."""
+    """Returns the configuration of version 2 with the same network and its routes. No rule G may be
+    broken."""
     found = routes(conf)
     if isinstance(found, str):
         raise ValueError(f"the routes are refused: {found}")

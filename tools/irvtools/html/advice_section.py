@@ -1,4 +1,4 @@
-"""Advice on the page: what an engineer also looks for, marked as no answer."""
+"""The page's advice: what an engineer also looks for, marked as no answer."""
 
 from __future__ import annotations
 
@@ -14,13 +14,13 @@ if TYPE_CHECKING:
     from irvtools.html.report import Report
 
 ASK_SECONDS = 30        # for table
-MOST_NAMES = 40         # that a sentence lists
+MOST_NAMES = 40         # in one sentence
 MOST_ROWS = 400         # of the table of ways
 KIND_WORDS = {"a board that it would pass closed": "a closed board", "nothing": "nothing"}
 
 
 def advice_part(page: Report, unused: list[int]) -> None:
-    """All advice. `unused` are the routes that no run was found to use."""
+    """Adds all advice. `unused` are the routes without a found run."""
     page.head("Advice", "advice")
     page.add(tag("p", text("This is advice, not an answer of irv. An engineer looks for it in such "
                            "a table, "
@@ -37,21 +37,21 @@ def advice_part(page: Report, unused: list[int]) -> None:
 
 
 def say(page, sentence, *more):
-    """A piece of advice."""
+    """Adds a piece of advice."""
     page.add(tag("div", tag("p", text(sentence)) + "".join(more), class_="advice"))
 
 
 def names(things):
-    """The names of some things, as many as a sentence lists."""
+    """Returns the names of things, as many as fit in a sentence."""
     found = [thing.name for thing in things]
     left = len(found) - MOST_NAMES
     return join(found[:MOST_NAMES]) + (f", and {left} more" if left > 0 else "")
 
 
-# -- mistakes and notes
+# -- mistakes, notes
 
 def route_advice(page):
-    """Mistakes that no rule checks, and notes, grouped by route."""
+    """Adds mistakes that no rule checks, and notes, by route."""
     for _, group in table_advice.by_route(page.plant):
         say(page, group[0].words() if group[0].kind == table_advice.NOTE else f"Mistake: "
                                                                               f"{group[0].words()}",
@@ -61,7 +61,7 @@ def route_advice(page):
 # -- flank protection
 
 def flank_advice(page):
-    """What keeps vehicles out of each route's path."""
+    """Adds the flank protection of each route's path."""
     found = [(route, flank) for route in page.plant.routes for flank in flanks(page.plant, route)]
     if not found:
         say(page, "No route leads over points, so no vehicle could run into a path from the side.")
@@ -76,12 +76,12 @@ def flank_advice(page):
 
 
 def kind_words(kind):
-    """A kind of flank protection, in words."""
+    """Returns a kind of flank protection in words."""
     return KIND_WORDS.get(kind, kind)
 
 
 def point_words(plant, flank):
-    """Points of a path, and their leg from which a vehicle would come."""
+    """Returns a path's points, with the leg from which a vehicle would come."""
     if flank.leg is None:
         return f"the end of the path in {plant.name(flank.point)}"
     other = crossing(plant, flank.point)
@@ -91,7 +91,7 @@ def point_words(plant, flank):
 
 
 def guard_words(plant, guard):
-    """What keeps a vehicle out, with its name."""
+    """Returns the name of what keeps a vehicle out."""
     if guard.kind == NOTHING:
         return f"nothing, from border {plant.name(guard.number)}"
     if guard.kind == POINT:
@@ -100,7 +100,7 @@ def guard_words(plant, guard):
 
 
 def flank_table(plant, found):
-    """The places in a table, which opens by a click."""
+    """Returns a folded table of the places."""
     rows = [[route.name, point_words(plant, flank), plant.name(flank.begin),
              guard_words(plant, flank.guard)] for route, flank in found[:MOST_ROWS]]
     left = len(found) - len(rows)
@@ -112,7 +112,7 @@ def flank_table(plant, found):
 # -- overlaps
 
 def overlap_advice(page):
-    """Missing overlaps, and where overlaps end."""
+    """Adds missing overlaps, and the ends of overlaps."""
     plant = page.plant
     bare = advice.without_overlap(plant)
     if bare:
@@ -125,10 +125,10 @@ def overlap_advice(page):
                   "say what comes after.")
 
 
-# -- ways of the network
+# -- network ways
 
 def way_advice(page):
-    """The ways of the network beside the routes of the table."""
+    """Adds the network's ways beside the table's routes."""
     answer = page.ask(["table", "--columns", "free"], ASK_SECONDS)
     page.show_shortly(answer)
     if answer.status != 0:
@@ -159,7 +159,7 @@ def way_advice(page):
 
 
 def way_names(plant, ways):
-    """Candidate routes in words."""
+    """Returns candidate routes in words."""
     found = []
     for way in ways[:MOST_NAMES]:
         path = " ".join(plant.name(x) for x in way[1])
@@ -172,7 +172,7 @@ def way_names(plant, ways):
 # -- use
 
 def use_advice(page, unused):
-    """Routes, boards and points that seem to be of no use."""
+    """Adds routes, boards and points that seem to be unused."""
     plant = page.plant
     if unused:
         say(page, f"No run was found in which a train uses the whole route: "
@@ -190,10 +190,10 @@ def use_advice(page, unused):
         say(page, f"Points that no route locks: {names([plant.sections[x] for x in never])}.")
 
 
-# -- faults with one cause
+# -- common causes
 
 def cause_advice(page):
-    """Faults that may be one."""
+    """Adds faults that may have one cause."""
     for x, routes in advice.exchanged_legs(page.plant):
         name = page.plant.name(x)
         say(page, f"All {len(routes)} routes that lead over points {name} and list them, list them "

@@ -1,4 +1,4 @@
-"""What a safety case quotes, on the page."""
+"""The page's material for a safety case."""
 
 from __future__ import annotations
 
@@ -14,7 +14,7 @@ LONGEST_LINE = 160      # of an answer
 
 
 def safety_part(page: Report) -> None:
-    """What a safety case quotes."""
+    """Adds the material for a safety case."""
     page.head("For the safety case", "safety-case")
     options = page.options
     cert = f"{options.cert}: sha256 {provenance.sum_of_file(options.cert)}" if page.has_cert \
@@ -46,7 +46,7 @@ def safety_part(page: Report) -> None:
 
 
 def premises_part(page):
-    """The assumptions on which an answer depends."""
+    """Adds the assumptions behind an answer."""
     premises = provenance.premises()
     if not premises:
         page.add(tag("p", text("docs/assurance/qualification.md does not exist here, so the "
@@ -60,5 +60,5 @@ def premises_part(page):
 
 
 def cut(line):
-    """A line, cut if it is long, as the configuration is that table prints."""
+    """Returns a line, cut if long, such as the configuration that table prints."""
     return line if len(line) <= LONGEST_LINE else f"{line[:LONGEST_LINE]} … ({len(line)} characters)"

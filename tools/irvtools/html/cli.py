@@ -11,12 +11,12 @@ from irvtools.html.options import Options, Refused, guard_files, guard_words, pa
 from irvtools.html.report import Report
 from irvtools.html.run_file import Given
 
-NOT_WRITTEN = 125       # an exit status that no answer of the program has
+NOT_WRITTEN = 125       # the program has no answer with this exit status
 NAME = "irv --html"
 
 
 def read_options(words):
-    """Returns what the arguments ask for, and the run or scenario that they name or None."""
+    """Returns the options in the arguments, and the run or scenario that they name, or `None`."""
     options = Options(parser(NOT_WRITTEN).parse_args(words), words)
     guard_files(options)
     if not options.program_file.is_file():
@@ -27,7 +27,7 @@ def read_options(words):
 
 
 def written(options, given):
-    """Writes the report; returns it."""
+    """Writes the report and returns it."""
     by_rule = boards_by_rule(options.import_notes) if options.import_notes is not None else set()
     report = Report(options, standard_input(NAME, NOT_WRITTEN), given, options.has_times)
     report.by_rule = by_rule
@@ -38,7 +38,7 @@ def written(options, given):
 
 
 def print_result(options, report):
-    """Prints the verdict first, then the answers below it, and the certificate with its size."""
+    """Prints the verdict, then the answers, and the certificate with its size."""
     print(f"{options.out}: {report.verdict.line}")
     for line in report.said:
         print(f"  {line}")
@@ -48,8 +48,8 @@ def print_result(options, report):
 
 
 def main(words):
-    """Writes the report that the arguments ask for; returns the exit status."""
-    sys.stdout.reconfigure(errors="surrogateescape")        # names of files may be any bytes
+    """Writes the requested report. Returns the exit status."""
+    sys.stdout.reconfigure(errors="surrogateescape")        # file names may be any bytes
     try:
         with interruptible():
             options, given = read_options(words)

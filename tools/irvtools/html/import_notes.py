@@ -1,4 +1,4 @@
-"""The notes of an import, from which the report takes the boards that were placed by a rule."""
+"""Reads the notes of an import: boards that a rule placed."""
 
 from __future__ import annotations
 
@@ -9,8 +9,7 @@ from irvtools.importing import notes
 
 
 def boards_by_rule(name: str) -> set[str]:
-    """Returns the names of the boards that no imported data had, by a file of notes; refuses
-    another file."""
+    """Returns the boards without imported data, from a notes file. Rejects other files."""
     try:
         return notes.boards_by_rule(notes.read_notes(Path(name)))
     except OSError as fault:

@@ -1,4 +1,4 @@
-"""Text as markup: what isn't markup of the page's own is escaped here."""
+"""Turns text into markup, and escapes the rest."""
 
 from __future__ import annotations
 
@@ -7,27 +7,27 @@ from typing import Iterable
 
 
 def text(word: object) -> str:
-    """A text that may have any characters, as markup that shows it."""
+    """Returns any text as markup that shows it."""
     return escape(str(word), quote=True)
 
 
 def tag(name: str, content: str = "", **attributes: object) -> str:
-    """An element; `content` is markup. A `_` at the end of an attribute's name is dropped, and one
-    inside is a hyphen."""
+    """Returns an element; `content` is markup. In attribute names a final `_` is dropped, and an
+    inner one becomes a hyphen."""
     words = "".join(f' {key.rstrip("_").replace("_", "-")}="{text(value)}"'
                     for key, value in attributes.items() if value is not None)
     return f"<{name}{words}>{content}</{name}>"
 
 
 def code(word: object) -> str:
-    """A text in the letters of a machine."""
+    """Returns a text in monospace."""
     return tag("code", text(word))
 
 
 def table(head: list[str], rows: Iterable[Iterable[str | tuple[str, str]]],
           class_: str | None = None) -> str:
-    """A table of texts; a cell that is a pair of a class and markup is taken as it is. On a narrow
-    screen it can be scrolled by itself."""
+    """Returns a table of texts. A pair of a class and markup is used unchanged. The table scrolls
+    by itself on a narrow screen."""
     def cell(name, what):
         if isinstance(what, tuple):
             return tag(name, what[1], class_=what[0] or None)

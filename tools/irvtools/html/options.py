@@ -1,4 +1,4 @@
-"""What the caller of the HTML report asks for: its arguments, and the files that they name."""
+"""The arguments of the HTML report, and the files that they name."""
 
 from __future__ import annotations
 
@@ -17,16 +17,16 @@ USAGE = 7               # the program's exit status for wrong arguments
 SUBJECT = {"title": "the report's title (the configuration's file name)",
            "project": "the project, on the report", "issue": "the issue or revision, on the report",
            "author": "the author, on the report"}
-MOST_CHARACTERS = 200   # of a text of the report's subject
+MOST_CHARACTERS = 200   # in a text of the subject
 WORDS_SECONDS = 20      # for its answer about them
 
 
 class Refused(Exception):
-    """Arguments that the report does not take, with the reason."""
+    """Arguments that the report rejects, with the reason."""
 
 
 def parser(status: int) -> Parser:
-    """Returns the parser of the command line."""
+    """Returns the command-line parser."""
     line = Parser("irv --html", "Writes an HTML report of a configuration: the track plan, broken "
                   "rules, the verdict, runs step by step,\nwhat each route is good for, and what "
                   "an assessor quotes.\n\nThe exit status is 0 if the report was written, "
@@ -57,12 +57,12 @@ def parser(status: int) -> Parser:
 
 
 class Options:
-    """What the caller asked for."""
+    """The caller's options."""
 
     def __init__(self, given, words):
         if not given.out:
             raise Refused("the report's name is empty")
-        self.given_words = without(words, "--program")          # as they were given
+        self.given_words = without(words, "--program")          # as given
         self.out = Path(given.out)
         self.of_verify = {name: getattr(given, name) for name in OF_VERIFY
                           if getattr(given, name) is not None}
@@ -83,12 +83,12 @@ class Options:
 
     @property
     def words(self):
-        """The options that verify gets, without its columns and its certificate."""
+        """Returns the options for verify, without columns and certificate."""
         return [word for name in ("depth", "conflicts") if name in self.of_verify
                 for word in (f"--{name}", self.of_verify[name])]
 
     def files(self):
-        """The files that are read or written, each with what it is; written ones come first."""
+        """Returns the files to read or write, with their purposes; written ones come first."""
         certs = [(self.cert, "the certificate")] if self.is_cert_kept else []
         named = [(str(self.out), "the report"), *certs, (STANDARD_INPUT, "standard input"),
                  (STANDARD_OUTPUT, "standard output"), (self.program, "the program")]
@@ -97,7 +97,7 @@ class Options:
 
 
 def read_labels(directory: str | None) -> labels.Labels | None:
-    """Returns the labels in the CSV files of a directory, or `None` if none is named."""
+    """Returns the labels in a directory's CSV files, or `None` if none is named."""
     try:
         return None if directory is None else labels.read(directory)
     except calls_refusal.Refused as refused:
@@ -105,15 +105,14 @@ def read_labels(directory: str | None) -> labels.Labels | None:
 
 
 def subject_text(name: str, said: str) -> str:
-    """Returns a text of the report's subject; refuses one that is empty, too long or not
-    printable."""
+    """Returns a text of the report's subject. Rejects an empty, too long or unprintable one."""
     if not said.strip() or len(said) > MOST_CHARACTERS or not said.isprintable():
         raise Refused(f"--{name} needs 1 to {MOST_CHARACTERS} printable characters")
     return said
 
 
 def name_of_input() -> str:
-    """Returns the name of the file that is standard input, or "standard input" if it is none."""
+    """Returns the file name of standard input, or "standard input" if it is not a file."""
     try:
         name = Path(STANDARD_INPUT).resolve()
         return name.name if name.is_file() else "standard input"
@@ -122,8 +121,8 @@ def name_of_input() -> str:
 
 
 def is_same(one: str, other: str) -> bool:
-    """Returns whether two names are of one file, which may not exist yet. Devices and pipes are
-    none."""
+    """Returns whether two names are of one file, which may not exist yet. Devices and pipes never
+    are."""
     try:
         if not (os.path.exists(one) and os.path.exists(other)):
             return Path(one).resolve() == Path(other).resolve()
@@ -133,8 +132,8 @@ def is_same(one: str, other: str) -> bool:
 
 
 def guard_files(options: Options) -> None:
-    """Refuses if one file would be written over another that is read or written, or if the report's
-    directory does not exist."""
+    """Rejects options by which one file would overwrite another, and a missing directory for the
+    report."""
     if not options.out.parent.is_dir():
         raise Refused(f"the directory {options.out.parent} does not exist")
     files = options.files()
@@ -145,7 +144,7 @@ def guard_files(options: Options) -> None:
 
 
 def guard_words(options: Options, program: Program) -> None:
-    """Refuses options that verify refuses: asks `program` over an empty input, which has no
+    """Rejects options that verify rejects. It asks `program` with an empty input, so without a
     verdict."""
     for name, value in options.of_verify.items():
         words = ["verify", f"--{name}={value}"]

@@ -1,5 +1,5 @@
-"""The report: the verdict first, then its parts in order. Each answer is the program's; the rest is
-marked as the report's own."""
+"""The report: the verdict first, then its parts. Each answer is the program's; the rest is marked
+as the report's own."""
 
 from __future__ import annotations
 
@@ -32,53 +32,53 @@ VERDICT_ID = "verdict"
 
 
 class Report:
-    """A report that is being made."""
+    """A report in the making."""
 
     def __init__(self, options, given, given_run=None, has_times=True):
         self.options, self.given, self.given_run = options, given, given_run
-        self.has_times = has_times      # whether it tells how long things took
+        self.has_times = has_times
         self.program = Program(options.program, given)
         self.progress = Progress("irv")
-        self.calls = []         # of the program, for the safety case
-        self.answered = []      # what the verdict is taken from
+        self.calls = []         # calls for the safety case
+        self.answered = []      # answers behind the verdict
         self.parts, self.heads, self.ids = [], [], set()
         self.plant = self.drawing = self.verdict = None
         self.labels = getattr(options, "labels", None) or Labels()
-        self.suspects = []      # routes at which the search begins
-        self.is_refused = self.is_endangered = False    # a rule is broken; one that safety rests on
-        self.has_cert = False   # whether a certificate is left
-        self.by_rule = set()    # names of boards that an import placed by a rule
-        self.said = []          # the answers in lines, below the verdict
+        self.suspects = []      # routes to search first
+        self.is_refused = self.is_endangered = False    # a rule is broken; one that safety depends on
+        self.has_cert = False
+        self.by_rule = set()    # boards that an import placed by rule
+        self.said = []          # answer lines below the verdict
         self.summary = []       # the same with markup
 
     def add(self, *markup):
-        """Writes on."""
+        """Adds markup."""
         self.parts.extend(markup)
 
     def titled(self, title, id_):
-        """A part's title as markup, to which the table of contents leads."""
+        """Returns a part's title as markup, and adds it to the table of contents."""
         self.heads.append((title, id_))
         return tag("h2", text(title), id=id_)
 
     def head(self, title, id_):
-        """Writes a part's title."""
+        """Adds a part's title."""
         self.add(self.titled(title, id_))
 
     def own(self, words):
-        """A comment on what is the report's own."""
+        """Adds a comment that is the report's own."""
         self.add(tag("p", text(words), class_="own"))
 
     def sum_up(self, head, line, *markup):
-        """A line below the verdict, on the page and as it is printed; markup may come after it."""
+        """Adds a line below the verdict, on the page and in print. Markup may follow."""
         self.said.append(f"{head}: {line}")
         self.summary.append(tag("b", text(f"{head}: ")) + text(line) + "".join(markup))
 
     def time(self, words):
-        """Words that tell how long something took, if the report tells that."""
+        """Returns words about a duration, if the report shows durations."""
         return words if self.has_times else ""
 
     def ask(self, words, seconds):
-        """Asks the program, and notes the call."""
+        """Asks the program and records the call."""
         self.progress.say(f"irv {' '.join(words)}")
         answer = self.program.ask(words, seconds)
         self.calls.append(answer)
@@ -90,7 +90,7 @@ class Report:
                                       run))
 
     def show(self, answer):
-        """A call with its answer."""
+        """Adds a call with its answer."""
         status = "no status" if answer.status is None else f"status {answer.status}"
         self.add(tag("p", f"{code('irv ' + ' '.join(answer.words))} "
                      f"<b>{code(answer.said)}</b> "
@@ -98,7 +98,7 @@ class Report:
                      class_="answer"))
 
     def show_shortly(self, answer):
-        """A call whose answer is long: that it was asked, and its status."""
+        """Adds a call with only its status, as its answer is long."""
         status = "no status" if answer.status is None else f"status {answer.status}"
         said = "" if answer.status == 0 else f" {code(answer.said)}"
         self.add(tag("p", f"{code('irv ' + ' '.join(answer.words))}{said} "
@@ -107,7 +107,7 @@ class Report:
     # -- the parts
 
     def make(self):
-        """The whole report."""
+        """Returns the whole report."""
         answer = self.ask(["check", "--columns", "strict"], ASK_SECONDS)
         self.count(answer, "strict")
         lines = [line for line in answer.output.splitlines() if line.startswith("refused ")]
@@ -130,7 +130,7 @@ class Report:
         return self.whole()
 
     def of_plant(self, columns):
-        """The parts that ask about a plant."""
+        """Adds the parts about a plant."""
         if not self.plant.routes:
             self.sum_up("Movements", no_train_moves(self.plant))
         verdict_part(self, columns, self.is_refused)
@@ -142,12 +142,12 @@ class Report:
         sheet_part(self)
 
     def is_cert_left(self):
-        """Whether verify wrote a certificate that stays."""
+        """Returns whether verify left a certificate that stays."""
         wrote = any(call.words[0] == "verify" and call.status in (0, 4) for call in self.calls)
         return wrote and self.options.is_cert_kept and Path(self.options.cert).is_file()
 
     def is_read(self, answer, lines):
-        """Whether the configuration has the form of one."""
+        """Returns whether the configuration has the required form."""
         return answer.status == 0 or bool(lines) and not lines[0].startswith("refused F")
 
     def read_plant(self):
@@ -159,7 +159,7 @@ class Report:
             self.drawing = Drawing(labelled(self.plant, self.labels), hollow)
 
     def plan_part(self):
-        """The track plan with its legend."""
+        """Adds the track plan with its legend."""
         plant = self.plant
         if plant is None:
             return
@@ -187,8 +187,7 @@ class Report:
     # -- the whole
 
     def heading(self):
-        """The title, the subject, the verdict with the answers below it, and the table of
-        contents."""
+        """Returns title, subject, verdict with answers, and table of contents."""
         subject = self.options.subject
         facts = [f"{name.capitalize()}: {subject[name]}" for name in ("project", "issue", "author")
                  if name in subject]
@@ -203,7 +202,7 @@ class Report:
                                    for title, id_ in self.heads), class_="toc", aria_label="Contents")]
 
     def verdict_line(self):
-        """The verdict in one coloured line, with a link to the hazard."""
+        """Returns the verdict as a coloured line with a link to the hazard."""
         _, _, rest = self.verdict.line.partition(". ")
         link = tag("a", text("Show the "
                              "hazard"), href=f"#{HAZARD_ID}") if HAZARD_ID in self.ids else ""
@@ -213,11 +212,11 @@ class Report:
 
     @property
     def title(self):
-        """The report's title."""
+        """Returns the report's title."""
         return self.options.subject.get("title", self.options.name)
 
     def whole(self):
-        """The report as a document."""
+        """Returns the report as a document."""
         foot = ("The answers of <code>irv</code> are proved if the program is the proved build: "
                 "the lines of "
                 "check, verify, replay and drive, in blue or in a machine's letters beside its "
@@ -234,13 +233,13 @@ class Report:
 
 
 def counts_words(plant: Plant) -> str:
-    """What a plant has, in numbers."""
+    """Returns a plant's numbers in words."""
     return (f"{len(plant.sections)} sections, {len(plant.points)} of them with points; "
             f"{len(plant.boards)} boards; {len(plant.routes)} routes.")
 
 
 def no_train_moves(plant):
-    """What holds of a table without routes."""
+    """Returns a sentence about a table without routes."""
     bare = [plant.name(x) for x, inward in plant.inward.items()
             if (x, inward) not in plant.board_on]
     if not bare:

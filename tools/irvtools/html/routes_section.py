@@ -1,4 +1,4 @@
-"""Which routes a train can use, on the page."""
+"""The routes that a train can use, on the page."""
 
 from __future__ import annotations
 
@@ -18,12 +18,11 @@ if TYPE_CHECKING:
 
 USE_SECONDS = 5         # to find the runs that use routes
 SEARCH_SECONDS = 2      # for random runs through others
-ANSWER_SECONDS = 5      # for the answers about them
+ANSWER_SECONDS = 5      # for their answers
 
 
 def routes_part(page: Report, columns: str) -> list[int]:
-    """Which routes a train can use. Returns the routes for which no such run was found, if there
-    was time to look for all."""
+    """Adds the routes that a train can use. Returns the others, if there was time to look for all."""
     page.head("Routes that a train can use", "routes")
     if not page.plant.routes:
         page.add(tag("p", text("The table has no routes.")))
@@ -48,7 +47,7 @@ def routes_part(page: Report, columns: str) -> list[int]:
 
 
 def answered(view, found):
-    """Replay's answers to runs, as many as there is time for."""
+    """Returns replay's answers to runs, as many as time allows."""
     answers, left, end = {}, sorted(found), time.monotonic() + ANSWER_SECONDS
     with ThreadPoolExecutor(AT_ONCE) as pool:
         while left and time.monotonic() < end:
@@ -58,7 +57,7 @@ def answered(view, found):
 
 
 def introduce(page, good, count, is_whole):
-    """What the table of routes shows, in words."""
+    """Explains the table of routes."""
     more = "" if is_whole else "; for others there was no time"
     page.sum_up("Routes that a train can use", f"{good} of {count}{more}")
     page.add(tag("p", text(
@@ -72,14 +71,14 @@ def introduce(page, good, count, is_whole):
 
 
 def route_cell(route):
-    """A route's number, its name and its ends."""
+    """Returns a route's number, name and ends."""
     ends = f"from {route.member['source']} to {route.member['destination'] or 'out of the area'}"
     return "", (tag("div", text(f"{route.number}: ") + tag("b", text(route.name)))
                 + tag("div", text(ends)))
 
 
 def use_cell(plant, run, said):
-    """The run that uses a route."""
+    """Returns the run that uses a route."""
     if run is None:
         return "bad", text("not found")
     if not said:

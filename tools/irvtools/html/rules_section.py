@@ -17,11 +17,11 @@ if TYPE_CHECKING:
     from irvtools.html.report import Report
 
 PICTURED = 24           # broken rules with a picture
-WORDED = 600            # broken rules with a sentence
+WORDED = 600            # with a sentence
 
 
 def rules_part(page: Report, answer: Answer, lines: list[str]) -> None:
-    """The broken rules."""
+    """Adds the broken rules."""
     page.head("Rules", "rules")
     page.show(answer)
     names = list(dict.fromkeys(line.split(" ")[1] for line in lines))
@@ -42,7 +42,7 @@ def rules_part(page: Report, answer: Answer, lines: list[str]) -> None:
 
 
 def form_part(page, line):
-    """What is wrong with the schema of the JSON."""
+    """Adds the violation of the JSON schema."""
     _, rule, place = line.split(" ")
     sentences = schema_rules.faults(rule, place, page.given)
     if not sentences:
@@ -55,7 +55,7 @@ def form_part(page, line):
 
 
 def broken_part(page, lines):
-    """The broken rules of the network, of the table or of its columns."""
+    """Adds the broken rules of network, table and columns."""
     page.add(tag("p", text(f"{len(lines)} rules are broken. irv answered which and where. The "
                            f"sentences and "
                            "pictures are the page's own."

@@ -1,5 +1,4 @@
-"""A run or a scenario that the caller gives, as a file. Its first line says which of the two it
-is."""
+"""A run or scenario file from the caller. Its first line says which it is."""
 
 from __future__ import annotations
 
@@ -10,16 +9,16 @@ from irvtools.model.plant import Plant
 from irvtools.model.state import ROUTE_WORDS, State, read_event, read_state_line, state_lines
 from irvtools.html.options import Refused
 
-MOST_BYTES = 1048576    # of a run that is read; of a scenario the program reads less
+MOST_BYTES = 1048576    # of a run; the program reads shorter scenarios only
 HEADS = {"run 1": "run", "drive 1": "drive"}
 POINT_WORDS = ("throw", "settle")
-COMMANDS = ("mark", "enter", "cancel")      # what a scenario has
-LONGEST_WORD = 60       # of a line that is quoted
+COMMANDS = ("mark", "enter", "cancel")      # in a scenario
+LONGEST_WORD = 60       # of a quoted line
 MORE = "the line has more than an event and a name"
 
 
 class Given:
-    """The file: its name as it was given, its bytes, and whether it is a run or a drive."""
+    """The file: its name as given, its bytes, and whether it is a run or a drive."""
 
     def __init__(self, name):
         self.name = name
@@ -39,8 +38,8 @@ class Given:
         self.what = "run" if self.kind == "run" else "scenario"
 
     def ask(self, program, columns, seconds):
-        """What `irv replay` or `irv drive` answers. The call is shown with the file's name, but
-        made with a copy, because the name may be that of a pipe."""
+        """Returns the answer of `irv replay` or `irv drive`. The call shows the file's name but
+        uses a copy, because the name may be a pipe's."""
         copy = Path(program.room.name, "given")
         copy.write_bytes(self.data)
         command = "replay" if self.kind == "run" else "drive"
@@ -49,8 +48,8 @@ class Given:
         return answer
 
     def first_event(self):
-        """The number of the line, from 0, at which a run's events begin; None if its first
-        lines are wrong."""
+        """Returns the line number, from 0, of a run's first event, or `None` if its first lines are
+        wrong."""
         if self.lines[1:2] == ["start"]:
             return 2
         if self.lines[1:2] == ["state"] and "events" in self.lines:
@@ -58,9 +57,9 @@ class Given:
         return None
 
     def read(self, plant, end=None):
-        """The state in which a run begins, None for the start, and its events, up to its last line
-        or to a line by its number from 1; None if its first lines aren't whole. The lines before
-        are right."""
+        """Returns a run's first state, `None` for the initial one, and its events, up to its last
+        line or to line `end`, from 1. Returns `None` if the first lines are incomplete. The lines
+        before the end must be right."""
         begin = self.first_event()
         if begin is None or end is not None and end <= begin:
             return None
@@ -74,12 +73,12 @@ class Given:
 
 
 def quoted(line: str) -> str:
-    """A line as it is quoted, cut if it is long."""
+    """Returns a line in quotes, cut if long."""
     return f"“{line[:LONGEST_WORD]}{'…' if len(line) > LONGEST_WORD else ''}”"
 
 
 def bad_line(given: Given, plant: Plant, number: int) -> str:
-    """Why a line, by its number from 1, is wrong: the page's own words."""
+    """Returns the page's own reason why line `number`, from 1, is wrong."""
     lines = given.lines
     if number > len(lines) or number == len(lines) and not lines[-1]:
         return f"Line {number} is missing: the last line must be “end”."
@@ -98,7 +97,7 @@ def bad_line(given: Given, plant: Plant, number: int) -> str:
 
 
 def state_line_expected(given, plant, number):
-    """What a line of a state must be."""
+    """Returns what a state's line must be."""
     wanted = state_lines(plant, State(plant))
     place = number - 3
     if place < len(wanted):
@@ -109,7 +108,7 @@ def state_line_expected(given, plant, number):
 
 
 def bad_event(plant, line, words):
-    """What is wrong with the line of an event or of a command."""
+    """Returns what is wrong with an event's or command's line."""
     word, _, name = line.partition(" ")
     if word not in words:
         return f"{quoted(word)} is not one of {', '.join(words)} and “end”"
@@ -124,6 +123,6 @@ def bad_event(plant, line, words):
 
 
 def driven(plant: Plant, output: str) -> list[tuple[str, int]]:
-    """The events of the run that drive printed after its first line."""
+    """Returns the events of the run that drive printed after its first line."""
     lines = output.split("\n")
     return [read_event(plant, line) for line in lines[3:lines.index("end")]]

@@ -1,9 +1,8 @@
-"""A run, step by step in the plan: a frame for each event.
+"""A run in the plan, with a frame for each event.
 
-Each prefix that is drawn is answered by `irv replay`, and so is the rest of the run from each state
-that is drawn. If the page's own states don't agree with these answers, the run ends there, and the
-page says so. The last frame comes first. An event that moves no train and opens no board has a
-frame that is folded. """
+`irv replay` answers each drawn prefix, and the rest of the run from each drawn state. If the page's
+own states disagree, the run ends there, and the page says so. The last frame comes first. An event
+that moves no train and opens no board has a folded frame."""
 
 from __future__ import annotations
 
@@ -22,9 +21,9 @@ from irvtools.model.train_numbers import numbered
 MOST_SECONDS = 12       # for the answers about one run
 AT_ONCE = 4             # calls
 MOVING = ("enter", "head", "tail", "leave", "lock")     # events whose frames are not folded
-ON_PAPER = ("enter", "head", "lock")    # events with a picture on paper too, like the last of a run
+ON_PAPER = ("enter", "head", "lock")    # events with a picture on paper, like the last of a run
 MOST_PICTURED = 10
-HAZARD_ID = "hazard"    # of the page's first hazard
+HAZARD_ID = "hazard"    # the page's first hazard
 NOTE = ("The signs are explained below the track plan. Marked in yellow is what an event is about. "
         "Events "
         "that move no train and open no board are folded: a click opens their plan. On paper only "
@@ -35,23 +34,23 @@ NOTE = ("The signs are explained below the track plan. Marked in yellow is what 
 
 
 class RunView:
-    """Draws runs over a plant, with the answers of a program under some columns. The ids of the
-    frames begin with `name`; `page_ids` has the ids that the page has already."""
+    """Draws runs over a plant, with a program's answers under some columns. Frame ids begin with
+    `name`; `page_ids` has earlier ids of the page."""
 
     def __init__(self, page, columns, name):
         self.program, self.columns, self.name = page.program, columns, name
         self.plant, self.drawing, self.page_ids = page.plant, page.drawing, page.ids
 
     def answer(self, events, state=None):
-        """What replay says of a run."""
+        """Returns replay's answer to a run."""
         return self.program.replay(self.columns, run_text(self.plant, events, state)).said
 
     def own(self, state):
-        """What the page's own model says of a run that ends in a state."""
+        """Returns the page's own answer to a run that ends in `state`."""
         return replay_line(self.plant, hazard(self.plant, state))
 
     def asked(self, place, events, states, first):
-        """Replay's answer on a prefix of a run, and what doesn't agree with it, if anything."""
+        """Returns replay's answer to a prefix of a run, and any disagreement with it."""
         said, own = self.answer(events[:place], first), self.own(states[place])
         if said != own:
             return said, (f"irv replay answers “{said}” for the run up to here, but the page's own "
@@ -65,7 +64,7 @@ class RunView:
         return said, None
 
     def all_asked(self, events, states, first):
-        """Replay's answers by place, the last place first, as many as there is time for."""
+        """Returns replay's answers by place, last place first, as many as time allows."""
         places = [len(events), *range(len(events))]
         answers, end = {}, time.monotonic() + MOST_SECONDS
         with ThreadPoolExecutor(AT_ONCE) as pool:
@@ -76,8 +75,8 @@ class RunView:
         return answers
 
     def frames(self, events, first=None, marks_at_end=None, after_end=""):
-        """The frames of a run, from a state or from the initial one: the last frame, then the steps
-        that lead to it. The last frame may have marks of its own and markup after it."""
+        """Returns the frames of a run, from a state or the initial one: the last frame, then the
+        steps to it. The last frame may have its own marks and markup after it."""
         states = states_of(self.plant, events, first)
         if states is None:
             return trouble("The page's own model does not accept these events as a run, so they "
@@ -100,8 +99,8 @@ class RunView:
         return self.arranged(shown, events, tail)
 
     def arranged(self, shown, events, tail):
-        """The frames in their order on the page: the last one first, then the others. Folded frames
-        stand with the picture that follows them."""
+        """Returns the frames in page order, the last first. Folded frames are with the next
+        picture."""
         last = shown.pop(len(events), None)
         parts = [tag("div", last, class_="last")] if last else []
         if shown:
@@ -119,7 +118,7 @@ class RunView:
         return "".join(parts)
 
     def marks(self, events, place, states):
-        """What an event is about, and the hazard after it."""
+        """Returns marks for an event, and for the hazard after it."""
         at = hazard(self.plant, states[place])
         where = at[1] if at else None
         if not place:
@@ -141,19 +140,19 @@ class RunView:
         return Marks([section, where], hazard=where)
 
     def frame_id(self, place):
-        """The id of a frame."""
+        """Returns a frame's id."""
         return f"{self.name}-{place}"
 
     def hazard_link(self):
-        """What makes the page's first hazard the aim of a link."""
+        """Returns the link target for the page's first hazard."""
         if HAZARD_ID in self.page_ids:
             return ""
         self.page_ids.add(HAZARD_ID)
         return tag("span", id=HAZARD_ID)
 
     def frame(self, events, place, states, marks, answered):
-        """A frame: the event, what it does, what is in use, replay's answer, and the plan.
-        `answered` is replay's answer with the numbers of the trains."""
+        """Returns a frame: event, effect, elements in use, replay's answer, and plan. `answered` is
+        replay's answer with the train numbers."""
         plant, state = self.plant, states[place]
         said, numbers = answered
         if place:
@@ -178,18 +177,18 @@ class RunView:
 
 
 def is_folded(events, place):
-    """Whether the frame after so many events is folded."""
+    """Returns whether the frame after `place` events is folded."""
     if place == len(events):
         return False
     return place == 0 or events[place - 1][0] not in MOVING
 
 
 def pictured(events):
-    """The places of the events of a run that have a picture on paper too, but for its last."""
+    """Returns the places of a run's events with a picture on paper, except its last."""
     found = [place for place, (word, _) in enumerate(events[:-1], 1) if word in ON_PAPER]
     return found[-MOST_PICTURED:]
 
 
 def trouble(words: str) -> str:
-    """A sentence at the place at which the page can't go on."""
+    """Returns a sentence that says why the page can't go on."""
     return tag("p", text(words), class_="own bad")

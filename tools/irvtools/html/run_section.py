@@ -1,5 +1,5 @@
-"""A run or a scenario of the caller, on the page: step by step, up to its end or to the event that
-isn't enabled, and why it isn't."""
+"""The caller's run or scenario, step by step up to its end, or to an event that isn't enabled, and
+why."""
 
 from __future__ import annotations
 
@@ -20,24 +20,24 @@ if TYPE_CHECKING:
 
 ASK_SECONDS = 60        # for replay or drive
 ANSWERED = (0, 1, 6)    # their statuses if they answer
-MOST_DRAWN = 40000      # frames times sections: of a longer run the last events are drawn
-MOST_EVENTS = 400       # that are drawn
+MOST_DRAWN = 40000      # most frames times sections: if exceeded, only last events are drawn
+MOST_EVENTS = 400       # drawn events
 
 
 class GivenView(RunView):
-    """Draws runs with a note at some of the frames: of each place in a run, the note."""
+    """Draws runs with notes at some frames: the note of each place."""
 
     notes = {}
 
     def frame(self, events, place, states, marks, answered):
-        """A frame, with its note before it."""
+        """Returns a frame with its note before it."""
         note = self.notes.get(place)
         before = tag("p", text(note), class_="note") if note else ""
         return before + super().frame(events, place, states, marks, answered)
 
 
 def given_part(page: Report, columns: str) -> None:
-    """The run or the scenario."""
+    """Adds the run or scenario."""
     given = page.given_run
     page.head(f"{given.what.capitalize()} {given.name}", "given")
     page.progress.say(f"{given.what} {given.name}")
@@ -69,7 +69,7 @@ def add_to_summary(page, words):
 
 
 def rejected_part(page, view, number):
-    """A text that is no run or scenario: up to its first bad line."""
+    """Adds a text that is neither run nor scenario, up to its first bad line."""
     given, plant = page.given_run, page.plant
     why = bad_line(given, plant, number)
     page.add(tag("p", tag("b", text(why), class_="bad")))
@@ -81,7 +81,7 @@ def rejected_part(page, view, number):
 
 
 def run_part(page, view, answer):
-    """A run, up to its hazard, to its end, or to the event that isn't enabled."""
+    """Adds a run, up to a hazard, its end, or an event that isn't enabled."""
     plant = page.plant
     first, events = page.given_run.read(plant)
     place, reached = first_refused(plant, first, events)
@@ -98,8 +98,8 @@ def run_part(page, view, answer):
 
 def first_refused(plant: Plant, first: State | None,
                   events: list[tuple[str, int]]) -> tuple[int | None, State]:
-    """The number of the first event, from 1, that isn't enabled or comes after a hazard, or None;
-    and the state before it, or the last one."""
+    """Returns the number, from 1, of the first event that isn't enabled or comes after a hazard, or
+    `None`; and the state before it, or the last one."""
     state = State(plant) if first is None else first.copy()
     for place, event in enumerate(events, 1):
         if hazard(plant, state) or not apply(plant, state, event):
@@ -108,7 +108,7 @@ def first_refused(plant: Plant, first: State | None,
 
 
 def refused_event(page, state, events, place):
-    """Why an event of a run isn't enabled."""
+    """Adds why an event of a run isn't enabled."""
     line = event_line(page.plant, events[place - 1])
     at = hazard(page.plant, state)
     if at:
@@ -121,11 +121,11 @@ def refused_event(page, state, events, place):
 
 
 def drive_part(page, view, answer):
-    """A scenario: each command when it acts, and what follows it."""
+    """Adds a scenario: each command when it acts, and its effects."""
     plant = page.plant
     events = driven(plant, answer.output)
     commands = [place for place, (word, _) in enumerate(events, 1) if word in COMMANDS]
-    count = len(page.given_run.lines) - 3       # without the first line, the end and what follows
+    count = len(page.given_run.lines) - 3       # without first line, end and rest
     view.notes = {place: f"Command {number} of {count}: {event_line(plant, events[place - 1])}"
                   for number, place in enumerate(commands, 1)}
     page.add(tag("p", text(f"{len(commands)} of {counted(count, 'command')} acted; "
@@ -139,7 +139,7 @@ def drive_part(page, view, answer):
 
 
 def stuck_part(page, state, number, count):
-    """Where a simulation run is in a deadlock, and what waits for what."""
+    """Adds the simulation's deadlock, and what waits for what."""
     plant = page.plant
     if number <= count:
         line = page.given_run.lines[number]
@@ -160,7 +160,7 @@ def stuck_part(page, state, number, count):
 
 
 def draw(page, view, first, events):
-    """The frames of a run; of one that is too long those of its last events."""
+    """Adds the frames of a run, or of a long run's last events."""
     plant = page.plant
     most = max(20, min(MOST_EVENTS, MOST_DRAWN // max(1, len(plant.sections))))
     left_out = max(0, len(events) - most)

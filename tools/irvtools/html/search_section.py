@@ -1,4 +1,4 @@
-"""What the search found, on the page."""
+"""The search's result on the page."""
 
 from __future__ import annotations
 
@@ -18,8 +18,8 @@ if TYPE_CHECKING:
 
 
 def add_finding(page: Report, view: RunView, found: Found) -> bool:
-    """Counts the run that the search found for the verdict, if replay answers the same hazard;
-    returns whether there is such a run."""
+    """Counts the run that the search found for the verdict, if replay answers the same hazard.
+    Returns whether there is such a run."""
     if found.run is None:
         return False
     states = states_of(page.plant, found.run)
@@ -40,7 +40,7 @@ def add_finding(page: Report, view: RunView, found: Found) -> bool:
 
 
 def search_part(page: Report, view: RunView, found: Found) -> None:
-    """The search, and the run that it found."""
+    """Adds the search and its run."""
     searchers = found.searchers
     if not page.options.search_seconds or not searchers.seconds and found.run is None:
         why = why_none(page, found) if page.options.search_seconds else "No search was asked for."
@@ -74,12 +74,12 @@ def search_part(page: Report, view: RunView, found: Found) -> None:
 
 
 def title():
-    """The part's title."""
+    """Returns the part's title."""
     return tag("h3", text("Search for a run to a hazard"), id="search")
 
 
 def why_none(page, found):
-    """Why no search began if verify left the question open."""
+    """Returns why no search began if verify left the question open."""
     if found.answer.status == 1:
         return ""
     if page.is_refused:

@@ -1,5 +1,4 @@
-"""How pages look: on a wide screen, on a phone, in the dark and on paper. Nothing is fetched from
-elsewhere."""
+"""The style of pages: wide screen, phone, dark mode and paper. Nothing is fetched from elsewhere."""
 
 from __future__ import annotations
 
@@ -69,7 +68,7 @@ td,th,.small,code,pre,.line{font-size:7.5pt;line-height:1.25}td,th{padding:1px 4
 
 
 def document(title: str, body: str, more_style: str = "") -> str:
-    """A page as a document, in the style that all pages share."""
+    """Returns a page as a document in this style."""
     return (f"<!doctype html>\n<html lang=\"en\"><head><meta charset=\"utf-8\">{VIEWPORT}"
             f"<title>{text(title)}</title><style>{CSS}{more_style}</style></head><body>\n{body}\n"
             "</body></html>\n")

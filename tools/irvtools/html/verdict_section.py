@@ -1,4 +1,4 @@
-"""What verify answers, the run that shows it, and a search beside it."""
+"""Verify's answer, the run that shows it, and a search beside it."""
 
 from __future__ import annotations
 
@@ -21,11 +21,11 @@ from irvtools.model.descriptions import FAMILIES, counted, verdict_words
 if TYPE_CHECKING:
     from irvtools.html.report import Report
 
-NOT_KEPT = "FILE"       # what a certificate that isn't kept is called in a call
+NOT_KEPT = "FILE"       # name of an unkept certificate in a call
 
 
 def verdict_part(page: Report, columns: str, is_forced: bool) -> None:
-    """What verify answers, and the run that shows it or one that was found by the search."""
+    """Adds verify's answer and the run that shows it, or the search's run."""
     page.head("Verification", "verify")
     if is_forced and page.options.columns == "strict":
         page.add(tag("p", text("With strict columns verify refuses this table, because of the "
@@ -57,14 +57,15 @@ def verdict_part(page: Report, columns: str, is_forced: bool) -> None:
 
 
 def sum_up_verify(page, columns, answer):
-    """The line about verify below the verdict. Without an answer it says that the verdict stays."""
+    """Adds the line about verify below the verdict. Without an answer it says that the verdict
+    stays."""
     under = f"{columns} columns: "
     stays = " This does not change the verdict." if answer.status is None else ""
     page.sum_up("verify", f"{under}{answer.said}{'.' if stays else ''}{stays}")
 
 
 def cert_words(page):
-    """Where the certificate is, as markup."""
+    """Returns the certificate's file as markup."""
     if not page.options.is_cert_kept:
         return text("The certificate was not kept (--no-cert).")
     size = Path(page.options.cert).stat().st_size if Path(page.options.cert).is_file() else 0
@@ -72,8 +73,8 @@ def cert_words(page):
 
 
 def ask_verify(page, columns):
-    """Asks verify, with the options that were given and a file for its certificate. A search goes
-    on beside it if the table isn't known to be safe."""
+    """Asks verify with the given options and a certificate file. A search runs beside it if a rule
+    on which safety depends is broken."""
     with tempfile.TemporaryDirectory(prefix="irv-cert-") as directory:
         is_kept = page.options.is_cert_kept
         cert = Path(page.options.cert) if is_kept else Path(directory, "cert")
@@ -87,14 +88,14 @@ def ask_verify(page, columns):
                 cert.unlink(missing_ok=True)
             raise
         if found.answer.status is None and not was_there:
-            cert.unlink(missing_ok=True)        # what was written of it, if anything
+            cert.unlink(missing_ok=True)        # any partial certificate
     found.answer.words = [*words[:-1], str(cert) if is_kept else NOT_KEPT]
     page.calls.append(found.answer)
     return found
 
 
 def run_part(page, view, events, answer):
-    """The run that verify found."""
+    """Adds the run that verify found."""
     page.add(tag("h3", text("The run that verify found"), id="verify-run"),
              tag("p", text(NOTE), class_="small lead"))
     states = states_of(page.plant, events)
@@ -105,8 +106,8 @@ def run_part(page, view, events, answer):
 
 
 def broken_marks(page, state, family=None):
-    """What of the invariant a state violates: marks, and words. If `irv` named the least family,
-    the page's own reading has to give the same."""
+    """Returns marks and words for violated parts of the invariant. If `irv` named the least family,
+    the page's own reading has to agree."""
     what = broken(page.plant, state)
     least = what[0][0] if what else "none"
     if not what or family not in (None, least):
@@ -121,8 +122,7 @@ def broken_marks(page, state, family=None):
 
 
 def not_inductive_part(page, view, first, events):
-    """The event that leads out of the invariant, from a state that has only what the event
-    needs."""
+    """Adds the event that leads out of the invariant, from a state with only what the event needs."""
     page.add(tag("h3", text("The event that leads out of the invariant"), id="verify-run"))
     states = states_of(page.plant, events, first)
     state = shrunk(page.plant, states[-2], events[-1]) if states else None

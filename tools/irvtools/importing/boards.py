@@ -1,4 +1,4 @@
-"""Boards: those of the data, and those that a rule places."""
+"""Boards from the data, and boards that a rule places."""
 
 from typing import List
 
@@ -10,15 +10,15 @@ OTHER = {"up": "down", "down": "up"}
 
 
 class Placed:
-    """A board on a section, for trains of one direction, with its rule if no data has it."""
+    """A board on a section for one direction, with its rule if the data has none."""
 
     def __init__(self, key: Key, direction: str, board: Board, rule: str = ""):
         self.key, self.direction, self.board, self.rule = key, direction, board, rule
 
 
 def of_data(one: Linear, direction: str, notes: Notes) -> List[Placed]:
-    """Returns the data's board of a section and direction. One at the end of the track is left
-    out, and noted: no train can pass it."""
+    """Returns the data's board of a section and direction. A board at the end of the track is left
+    out and noted: no train can pass it."""
     board = one.boards[direction]
     if board is None:
         return []
@@ -42,7 +42,7 @@ def rule_for(sections: Sections, one: Linear, direction: str, signals: str,
 
 
 def placed(sections: Sections, signals: str, metres: float, notes: Notes) -> List[Placed]:
-    """Returns all boards, in the order of the sections, the one for direction down first."""
+    """Returns all boards in section order, direction down first."""
     found: List[Placed] = []
     for one in sections.linear():
         for direction in ("down", "up"):

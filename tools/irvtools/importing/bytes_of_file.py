@@ -13,7 +13,7 @@ LIMIT_BYTES = 96 << 20
 
 
 def base_name(name: str) -> str:
-    """Returns a file name without the suffix of a compression."""
+    """Returns a file name without its compression suffix."""
     for suffix in (".gz", ".bz2"):
         if name.endswith(suffix):
             return name[:-len(suffix)]
@@ -21,7 +21,7 @@ def base_name(name: str) -> str:
 
 
 def opened(path: Path):
-    """Opens a file for reading bytes, by the suffix of its compression."""
+    """Opens a file for reading bytes, by its compression suffix."""
     if not path.exists():
         raise ImportFault(f"cannot read {path}: no such file")
     if not path.is_file():
@@ -34,7 +34,7 @@ def opened(path: Path):
 
 
 def chunks(path: Path) -> Iterator[bytes]:
-    """Yields the bytes of a file, decompressed. Fails if there are more than `LIMIT_BYTES`."""
+    """Yields a file's decompressed bytes. Fails above `LIMIT_BYTES`."""
     read = 0
     try:
         with opened(path) as stream:

@@ -45,7 +45,7 @@ def near_of(text: str):
 
 
 def metres_of(text: str) -> float:
-    """Returns a length of the command line."""
+    """Returns a length from the arguments."""
     try:
         metres = float(text)
     except ValueError:
@@ -56,7 +56,7 @@ def metres_of(text: str) -> float:
 
 
 def parser() -> Parser:
-    """Returns the parser of the command line."""
+    """Returns the command-line parser."""
     line = Parser("irv --import", ABOUT, REFUSED, "irv --import FILE [OPTIONS]")
     line.add_argument("file", metavar="FILE", type=Path, help="the map or layout")
     line.once("--out", "the configuration; the notes are written beside it, as NAME.notes.json "
@@ -79,7 +79,7 @@ def parser() -> Parser:
 
 
 def form_of(path: Path) -> str:
-    """Returns the suffix of a form that is known."""
+    """Returns the suffix of a known format."""
     base = base_name(path.name)
     for suffix in FORMS:
         if base.endswith(suffix):
@@ -107,7 +107,7 @@ def imported(options, suffix: str):
 
 
 def check(file: Path, text: str) -> str:
-    """Returns what the program says of the draft, and fails if the draft breaks a rule."""
+    """Returns the program's answer about the draft. Fails if the draft breaks a rule."""
     program = Program(file.absolute(), text.encode())
     answer = program.ask(["check"], PROGRAM_SECONDS)
     if answer.status != 0:
@@ -119,7 +119,7 @@ def check(file: Path, text: str) -> str:
 
 
 def write(path: Path, text: str) -> None:
-    """Writes a new file. If that fails, the file does not remain."""
+    """Writes a new file. If that fails, no file remains."""
     try:
         with open(path, "x", encoding="utf-8") as stream:
             try:
@@ -143,7 +143,7 @@ def summary(configuration: dict, notes: Notes) -> str:
 
 
 def noted(notes: Notes) -> str:
-    """Returns a line of what was changed."""
+    """Returns a line of changes."""
     kinds = ("cut", "absorbed", "guessed", "crossing", "left out")
     return ", ".join(f"{notes.count(kind)} {kind}" for kind in kinds)
 
@@ -173,7 +173,7 @@ def run(options) -> None:
 
 
 def main(words: List[str]) -> int:
-    """Imports as the arguments say. Returns the exit status."""
+    """Runs the import. Returns the exit status."""
     options = parser().parse_args(words)
     if not options.program.is_file():
         print(f"irv --import: the program {options.program} does not exist; build it with "

@@ -1,4 +1,4 @@
-"""The direction of every segment: which of its ends is the up end."""
+"""The direction of every segment: which end is the up end."""
 
 import math
 from typing import Dict, List, Optional, Tuple
@@ -16,14 +16,14 @@ Sides = Tuple[List[Arm], List[Arm]]
 
 
 def is_acute(tracks: Tracks, node: Node, arms: List[Arm]) -> bool:
-    """Returns whether two tracks meet at an angle that no train can pass: both end there."""
+    """Returns whether two tracks meet at an angle that no train can pass. Both end there."""
     return len(arms) == 2 and node.ways is None and \
         turn(tracks.away(arms[0]), tracks.away(arms[1])) < ACUTE
 
 
 def sides_of(tracks: Tracks, key: str, arms: List[Arm]) -> Sides:
-    """Returns the two sides of a node: every way through leads from one to the other. Of several
-    splits the one that bends least is taken."""
+    """Returns the two sides of a node. Every way through leads from one to the other. The split
+    that bends least is chosen."""
     node, best, least = tracks.nodes[key], None, -1.0
     if len(arms) <= 2:
         return (arms, []) if is_acute(tracks, node, arms) else (arms[:1], arms[1:])
@@ -45,7 +45,7 @@ def sides_of(tracks: Tracks, key: str, arms: List[Arm]) -> Sides:
 
 
 class Directions:
-    """The sides of the nodes and the up end of each segment."""
+    """The sides of nodes and the up ends of segments."""
 
     def __init__(self, tracks: Tracks):
         self.tracks = tracks
@@ -54,7 +54,7 @@ class Directions:
         self.up: Dict[str, int] = {}
 
     def next_arms(self, key: str):
-        """Yields the arms that meet a segment, each with its node and the end that would be up."""
+        """Yields the arms that meet a segment, each with its node and its up end."""
         for end, node in enumerate(self.tracks.segments[key].ends):
             mine = 0 if (key, end) in self.sides[node][0] else 1
             for side in (0, 1):
@@ -64,8 +64,8 @@ class Directions:
                         yield node, other, other_end if same else 1 - other_end
 
     def spread(self, first: str) -> Optional[Tuple[str, str]]:
-        """Gives directions to all that is connected with a segment. Returns the node and the
-        segment at which two directions meet, if there are such."""
+        """Gives directions to everything connected with a segment. Returns node and segment of a
+        direction conflict, if any."""
         self.up[first], group = 1, [first]
         for key in group:
             for node, other, wanted in self.next_arms(key):
@@ -89,7 +89,7 @@ class Directions:
                 self.up[key] = 1 - self.up[key]
 
     def clash(self) -> Optional[Tuple[str, str]]:
-        """Gives a direction to every segment. Returns the first clash, as `spread` does."""
+        """Gives a direction to every segment. Returns the first clash, like `spread`."""
         for key in self.tracks.segments:
             if key not in self.up:
                 found = self.spread(key)
@@ -98,7 +98,7 @@ class Directions:
         return None
 
     def followers(self, key: str) -> List[str]:
-        """Returns the segments that follow a segment in direction up."""
+        """Returns the segments that follow in direction up."""
         node = self.tracks.segments[key].ends[self.up[key]]
         return [other for other, end in self.at[node] if self.up[other] != end]
 
@@ -125,8 +125,8 @@ class Directions:
 
 
 def directed(tracks: Tracks, cut_loops: bool, notes: Notes) -> Directions:
-    """Returns the directions of all segments. Loops in one direction are cut; so are reversing
-    loops if `cut_loops` says so, and otherwise they are a fault."""
+    """Returns the directions of all segments. Loops in one direction are cut. Reversing loops are
+    cut if `cut_loops`; otherwise they are a fault."""
     for _ in range(LIMIT_CUTS):
         found = Directions(tracks)
         clash = found.clash()

@@ -1,4 +1,4 @@
-"""The draft of a configuration, made of tracks, with its notes."""
+"""The draft configuration of tracks, with its notes."""
 
 import json
 from typing import Dict, List, Optional, Tuple
@@ -17,7 +17,7 @@ LIMIT_SEGMENTS = 20_000
 
 
 class Wishes:
-    """What the caller asks of an import. A length of None is the default of the form."""
+    """The caller's wishes for an import. A length of `None` is the format's default."""
 
     def __init__(self, signals="both", part=1, cuts=(), cut_loops=False,
                  board_metres: Optional[float] = None, absorb_metres: Optional[float] = None):
@@ -27,7 +27,7 @@ class Wishes:
 
 
 def note_sections(sections: Sections, names: Dict[Key, str], notes: Notes) -> None:
-    """Notes what each section and point comes from, and where tracks end."""
+    """Notes the origin of each section and point, and the track ends."""
     guessed = 0
     for one in sections.linear():
         notes.add("section", things(sections, one), f"{one.metres:.0f} m", names[one.key])
@@ -45,7 +45,7 @@ def note_sections(sections: Sections, names: Dict[Key, str], notes: Notes) -> No
 
 
 def note_crossings(sections: Sections, names: Dict[Key, str], notes: Notes) -> None:
-    """Notes what each crossing became, and the ways that it has too many."""
+    """Notes what each crossing became, and its surplus ways."""
     for one in sections.crossings:
         first, second = (names[key] for key in one.points)
         text = f"{one.kind}, as the two points {first} and {second}, stem to stem"
@@ -58,7 +58,7 @@ def note_crossings(sections: Sections, names: Dict[Key, str], notes: Notes) -> N
 
 def note_changes(sections: Sections, absorbed: List[Linear], alone: List[Linear],
                  names: Dict[Key, str], notes: Notes) -> None:
-    """Notes the sections that are absorbed, or joined with nothing."""
+    """Notes the sections that are absorbed or isolated."""
     for one in absorbed:
         notes.add("absorbed", things(sections, one), f"{one.metres:.0f} m, part of the points "
                   f"{names[one.down]} and {names[one.up]}")
@@ -67,9 +67,9 @@ def note_changes(sections: Sections, absorbed: List[Linear], alone: List[Linear]
 
 
 def member(one, names: Dict[Key, str], boards: Dict[Tuple[Key, str], str]) -> dict:
-    """Returns a section as the configuration has it."""
+    """Returns a section in the form of the configuration."""
     def named(key):
-        """Returns the name of a section, or None."""
+        """Returns a section's name, or `None`."""
         return None if key is None else names[key]
     if isinstance(one, Linear):
         return {"name": names[one.key], "kind": "linear", "down": named(one.down),
@@ -80,7 +80,7 @@ def member(one, names: Dict[Key, str], boards: Dict[Tuple[Key, str], str]) -> di
 
 
 def draft(tracks: Tracks, wishes: Wishes, notes: Notes) -> dict:
-    """Returns the configuration, without routes, of one part of the tracks."""
+    """Returns the configuration, without routes, of one part."""
     part = chosen(tracks, wishes.part, notes)
     if wishes.signals == "rule":
         for board in part.boards.values():
@@ -112,7 +112,7 @@ def draft(tracks: Tracks, wishes: Wishes, notes: Notes) -> dict:
 
 
 def text_of(configuration: dict) -> str:
-    """Returns a configuration as a text, one section or route on each line."""
+    """Returns a configuration as a text, one section or route per line."""
     rows = {key: ",\n  ".join(json.dumps(one) for one in configuration[key])
             for key in ("sections", "routes")}
     return (f'{{"version": {configuration["version"]},\n "sections": [\n  {rows["sections"]}],\n'

@@ -1,11 +1,11 @@
-"""The one exception of the import, and how a text of the data is shown."""
+"""The import's only exception, and the display of data texts."""
 
 
 class ImportFault(Exception):
-    """Says what cannot be imported, and where. Nothing is written after it."""
+    """A fault that ends the import: nothing is written after it. The message names its location."""
 
 
 def shown(text: str) -> str:
-    """Returns a text of the data for a note or a message: without control characters, not long."""
+    """Returns a data text for messages: without control characters, and short."""
     plain = "".join(one if one.isprintable() else "?" for one in text)
     return plain if len(plain) <= 60 else plain[:57] + "..."

@@ -1,4 +1,4 @@
-"""Names of sections, points and boards: those of the data if the form allows them."""
+"""Names of sections, points and boards: those of the data if the format allows them."""
 
 import re
 from typing import Dict, List, Optional, Set, Tuple
@@ -12,19 +12,19 @@ LONGEST = 32
 
 
 def is_name(text: Optional[str]) -> bool:
-    """Returns whether a text is a name of the form: 1 to 32 of `A-Z a-z 0-9 _ -`."""
+    """Returns whether a text is a valid name: 1 to 32 of `A-Z a-z 0-9 _ -`."""
     return bool(text) and re.fullmatch(r"[A-Za-z0-9_-]{1,32}", text) is not None
 
 
 class Names:
-    """Names that are given once."""
+    """Unique names."""
 
     def __init__(self, notes: Notes):
         self.notes = notes
         self.used: Set[str] = set()
 
     def free(self, wanted: str) -> str:
-        """Returns an unused name like this one."""
+        """Returns an unused name similar to `wanted`."""
         base = re.sub(r"[^A-Za-z0-9_-]", "_", wanted)[:LONGEST]
         name, number = base, 2
         while name in self.used:
@@ -34,8 +34,7 @@ class Names:
         return name
 
     def give(self, own: Optional[str], otherwise: str, thing: str) -> str:
-        """Returns the data's own name if the form allows it and it is unused; otherwise a name
-        made of an id."""
+        """Returns the data's own name if it is valid and unused, otherwise a name made from an id."""
         if own and is_name(own) and own not in self.used:
             self.used.add(own)
             return own
@@ -47,19 +46,19 @@ class Names:
 
 
 def own_name(sections: Sections, one: Linear) -> Optional[str]:
-    """Returns the name that the data gives to all tracks of a section, or None."""
+    """Returns the name that all tracks of a section have in the data, or `None`."""
     found = {sections.tracks.segments[key].name for key in one.chain}
     return found.pop() if len(found) == 1 else None
 
 
 def things(sections: Sections, one: Linear) -> str:
-    """Returns the objects of a section, from down to up, each once."""
+    """Returns the objects of a section without duplicates, from down to up."""
     found = dict.fromkeys(sections.tracks.segments[key].thing for key in one.chain)
     return ", ".join(found)
 
 
 def section_names(sections: Sections, notes: Notes) -> Dict[Key, str]:
-    """Returns the name of each section."""
+    """Returns each section's name."""
     names, found = Names(notes), {}
     for point in sections.points():
         last = point.node.thing.split()[-1]
@@ -72,7 +71,7 @@ def section_names(sections: Sections, notes: Notes) -> Dict[Key, str]:
 
 def board_names(boards: List[Placed], of_section: Dict[Key, str],
                 notes: Notes) -> Dict[Tuple[Key, str], str]:
-    """Returns the name of each board, and notes where it comes from."""
+    """Returns each board's name, and notes its origin."""
     names, found = Names(notes), {}
     for one in sorted(boards, key=lambda board: bool(board.rule)):
         section = of_section[one.key]

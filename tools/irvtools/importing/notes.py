@@ -1,8 +1,8 @@
-"""The notes of an import: one record for each thing that was read, cut, absorbed or guessed.
+"""The notes of an import: one record for each thing read, cut, absorbed or guessed.
 
 The file is a JSON object with `notes` (the version, 1), `source`, `form`, `attribution`, `draft`
-and `entries`, one on each line. Every entry has `kind`, `name` (of the configuration, or null),
-`object` (of the data, or null) and `text`; an entry of kind `board` also has `by`: `data` or
+and `entries`, one per line. Every entry has `kind`, `name` (of the configuration, or null),
+`object` (of the data, or null) and `text`. An entry of kind `board` also has `by`: `data` or
 `rule`.
 """
 
@@ -30,13 +30,13 @@ class Notes:
         self.entries.append({"kind": kind, "name": name, "object": thing, "text": text, **more})
 
     def count(self, kind: str, **more: str) -> int:
-        """Returns how many entries are of a kind and have these members."""
+        """Returns the number of entries of a kind with these members."""
         return sum(entry["kind"] == kind and all(entry.get(key) == value
                                                  for key, value in more.items())
                    for entry in self.entries)
 
     def text(self) -> str:
-        """Returns the text of the file of notes, the entries in the order of their kinds."""
+        """Returns the text of the notes file. Entries are ordered by kind."""
         head = {"notes": 1, "source": self.source, "form": self.form,
                 "attribution": self.attribution, "draft": DRAFT}
         lines = ",\n".join(f" {json.dumps(key)}: {json.dumps(value, ensure_ascii=False)}"
@@ -47,7 +47,7 @@ class Notes:
 
 
 def read_notes(path: Path) -> dict:
-    """Returns the contents of a file of notes. Fails with `ValueError` if it is none."""
+    """Returns the contents of a notes file. Raises `ValueError` for other files."""
     found = json.loads(path.read_text(encoding="utf-8"))
     if not isinstance(found, dict) or found.get("notes") != 1 or \
             not isinstance(found.get("entries"), list):
@@ -56,6 +56,6 @@ def read_notes(path: Path) -> dict:
 
 
 def boards_by_rule(found: dict) -> Set[str]:
-    """Returns the names of the boards that no data had: a report draws them hollow."""
+    """Returns the names of boards without data. A report draws them hollow."""
     return {entry["name"] for entry in found["entries"]
             if entry.get("kind") == "board" and entry.get("by") == "rule"}

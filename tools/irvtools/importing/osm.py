@@ -1,4 +1,4 @@
-"""Makes tracks of an OpenStreetMap file with OpenRailwayMap tags."""
+"""Makes tracks from an OpenStreetMap file with OpenRailwayMap tags."""
 
 import math
 from pathlib import Path
@@ -17,7 +17,7 @@ Near = Tuple[float, float, float]
 
 
 class Map:
-    """The tracks of a map, as far as they are near enough."""
+    """The tracks of a map in the requested area."""
 
     def __init__(self, path: Path, near: Optional[Near], notes: Notes):
         self.path, self.near, self.notes = path, near, notes
@@ -31,11 +31,11 @@ class Map:
         self.note_beside(places.beside)
 
     def xy(self, place: Place) -> Tuple[float, float]:
-        """Returns where a place is, in metres."""
+        """Returns a place's coordinates in metres."""
         return place.lon * self.east, place.lat * METRES_NORTH
 
     def is_near(self, place: Place) -> bool:
-        """Returns whether a place is in the area that was asked for."""
+        """Returns whether a place is in the requested area."""
         if self.near is None:
             return True
         lat, lon, metres = self.near
@@ -48,8 +48,8 @@ class Map:
                 self.notes.add("left out", f"node {key}", "a signal that is on no track")
 
     def lines_of(self, way: Way) -> List[List[str]]:
-        """Returns the pieces of a way whose nodes are in the file and near enough: each step has
-        an end in the area."""
+        """Returns the pieces of a way whose nodes are in the file and near enough. Each step has an
+        end in the area."""
         lines: List[List[str]] = []
         line: List[str] = []
         lost = 0
@@ -72,7 +72,7 @@ class Map:
 
 
 def stops(lines) -> Dict[str, int]:
-    """Returns at how many arms each node is met: 1 at the end of a line, 2 inside of one."""
+    """Returns each node's number of arms: 1 at a line's end, 2 inside."""
     uses: Dict[str, int] = {}
     for _, line in lines:
         for place, node in enumerate(line):
@@ -93,8 +93,8 @@ def pieces(line: List[str], uses: Dict[str, int], found: Map) -> List[List[str]]
 
 
 def node_key(tracks: Tracks, node: str, segment: str, found: Map) -> str:
-    """Returns the key of the node where a segment ends. Each track that leaves the area has an end
-    of its own, since the tracks that go on from there are not known."""
+    """Returns the key of the node at a segment's end. Each track that leaves the area has its own
+    end, since its continuation is unknown."""
     place = found.places[node]
     if found.is_near(place):
         describe(tracks, node, place)
@@ -105,7 +105,7 @@ def node_key(tracks: Tracks, node: str, segment: str, found: Map) -> str:
 
 
 def add_lines(tracks: Tracks, found: Map) -> None:
-    """Adds the segments of all lines."""
+    """Adds all lines' segments."""
     uses, counts = stops(found.lines), {}
     for way, line in found.lines:
         for nodes in pieces(line, uses, found):
@@ -119,7 +119,7 @@ def add_lines(tracks: Tracks, found: Map) -> None:
 
 
 def describe(tracks: Tracks, key: str, place: Place) -> None:
-    """Adds what a node's tags say of it."""
+    """Adds the information in a node's tags."""
     node, tags = tracks.node(key, f"node {key}"), place.tags
     kind = tags.get("railway")
     if kind == "buffer_stop":
@@ -135,11 +135,11 @@ def describe(tracks: Tracks, key: str, place: Place) -> None:
 
 
 def straight_ways(tracks: Tracks, arms):
-    """Returns the two ways of a crossing of four arms: the pairing that bends least."""
+    """Returns the two ways of a four-arm crossing: the pairing that bends least."""
     first, rest = arms[0], arms[1:]
 
     def bend(other):
-        """Returns the lesser angle of the pairing of the first arm with another."""
+        """Returns the lesser angle if the first arm is paired with `other`."""
         left = [arm for arm in rest if arm != other]
         return min(turn(tracks.away(first), tracks.away(other)),
                    turn(tracks.away(left[0]), tracks.away(left[1])))
@@ -175,21 +175,21 @@ def add_boards(tracks: Tracks, found: Map) -> None:
 
 
 def choose_arm(arms, end, notes: Notes, thing: str):
-    """Returns the arm of a signal where two ways meet that are drawn against each other: the
-    direction is that of the first way."""
+    """Returns the arm of a signal between two ways drawn in opposite directions. It takes the
+    direction of the first way."""
     notes.add("guessed", thing, "the signal is between two ways drawn against each other: its "
                                 "direction is taken along the first of them")
     return [arms[0]] if arms[0][1] == end else [arms[1]]
 
 
 def board_name(tags: Dict[str, str]) -> Optional[str]:
-    """Returns the name of a signal in the data, or None."""
+    """Returns a signal's name in the data, or `None`."""
     return tags.get("ref") or tags.get("railway:signal:main:ref") or \
         tags.get("railway:signal:train_protection:ref")
 
 
 def read_osm(path: Path, near: Optional[Near], notes: Notes) -> Tracks:
-    """Returns the tracks of an OpenStreetMap file, near a place if one is given."""
+    """Returns the tracks of an OpenStreetMap file, near a place if given."""
     found, tracks = Map(path, near, notes), Tracks()
     if not found.lines:
         where = f" within {near[2]:g} m of {near[0]:g},{near[1]:g}" if near else ""

@@ -1,7 +1,7 @@
 """Reads ways and nodes of an OpenStreetMap file.
 
-The file is read twice: first its ways, then the nodes of those ways. So the memory depends on the
-railway and not on the rest of the map.
+It reads the file twice: first the ways, then their nodes. So the memory depends only on the
+railway.
 """
 
 import math
@@ -14,7 +14,7 @@ from irvtools.importing.safe_xml import Reader
 
 TRACKS = ("rail", "light_rail", "subway", "tram", "narrow_gauge", "preserved")
 LIMIT_WAY_NODES = 400_000
-LIMIT_NODES = 10_000        # of one way; OpenStreetMap's own limit is 2000
+LIMIT_NODES = 10_000        # of one way; OpenStreetMap's limit is 2000
 LIMIT_BESIDE = 200
 
 
@@ -26,7 +26,7 @@ class Way:
 
 
 class Place:
-    """A node of a track: where it is, and its tags."""
+    """A node of a track: its coordinates and its tags."""
 
     def __init__(self, lat: float, lon: float):
         self.lat, self.lon = lat, lon
@@ -42,7 +42,7 @@ class Place:
 
 
 def checked_id(reader: Reader, attributes: Dict[str, str], key: str) -> str:
-    """Returns an id of an object, which has to be a whole number."""
+    """Returns an object's id, which has to be an integer."""
     found = attributes.get(key, "")
     if not re.fullmatch(r"-?[0-9]{1,19}", found, re.ASCII):
         raise reader.fault(f"{key}=\"{shown(found)}\" is not an id")
@@ -50,12 +50,12 @@ def checked_id(reader: Reader, attributes: Dict[str, str], key: str) -> str:
 
 
 def is_gone(attributes: Dict[str, str]) -> bool:
-    """Returns whether an editor has deleted an object."""
+    """Returns whether an editor deleted an object."""
     return attributes.get("action") == "delete" or attributes.get("visible") == "false"
 
 
 class Ways:
-    """Reads the ways that are tracks."""
+    """Reads the track ways."""
 
     def __init__(self, path: Path):
         self.found: Dict[str, Way] = {}
@@ -67,7 +67,7 @@ class Ways:
             raise ImportFault(f"{path}: line 1: the element <osm> is expected")
 
     def start(self, name, attributes):
-        """Takes the start of an element."""
+        """Takes an element's start."""
         if name == "nd":
             if self.current:
                 self.current.nodes.append(attributes.get("ref", ""))
@@ -82,7 +82,7 @@ class Ways:
         self.root = self.root or name
 
     def end(self, name):
-        """Takes the end of an element: a way that is a track is kept."""
+        """Takes an element's end. A track way is kept."""
         if name != "way" or self.current is None:
             return
         way, self.current = self.current, None
@@ -102,7 +102,7 @@ class Ways:
 
 
 class Places:
-    """Reads the nodes of some ways, and the signals that are on none of them."""
+    """Reads the nodes of some ways, and the signals outside them."""
 
     def __init__(self, path: Path, ways: Dict[str, Way]):
         self.needed = {node for way in ways.values() for node in way.nodes}
@@ -113,7 +113,7 @@ class Places:
         self.reader.read()
 
     def start(self, name, attributes):
-        """Takes the start of an element."""
+        """Takes an element's start."""
         if name == "node":
             self.current = None
             if "lat" in attributes and not is_gone(attributes):
@@ -127,7 +127,7 @@ class Places:
                 self.current.tags[attributes.get("k", "")] = attributes.get("v", "")
 
     def take_beside(self, attributes):
-        """Keeps a node that is on no track if it is a signal."""
+        """Keeps a signal that is on no track."""
         if attributes.get("k") == "railway" and attributes.get("v") == "signal" and \
                 len(self.beside) < LIMIT_BESIDE:
             key = checked_id(self.reader, self.current, "id")
@@ -135,7 +135,7 @@ class Places:
             self.current.tags["railway"] = "signal"
 
     def located(self, attributes) -> Place:
-        """Returns the place of a node."""
+        """Returns a node's place."""
         try:
             lat, lon = (float(attributes.get(key, "")) for key in ("lat", "lon"))
         except ValueError:
@@ -145,13 +145,13 @@ class Places:
         return Place(lat, lon)
 
     def place(self, attributes) -> Place:
-        """Returns a new place for a node of a track."""
+        """Returns a new place for a track's node."""
         if self.key in self.found:
             raise self.reader.fault(f"node {self.key} is in the file twice")
         self.found[self.key] = self.located(attributes)
         return self.found[self.key]
 
     def end(self, name):
-        """Takes the end of an element."""
+        """Takes an element's end."""
         if name == "node":
             self.current = None

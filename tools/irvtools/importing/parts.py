@@ -1,4 +1,4 @@
-"""The connected parts of tracks, and segments that are cut."""
+"""Connected parts of tracks, and cut segments."""
 
 import math
 from typing import List, Set
@@ -9,8 +9,8 @@ from irvtools.importing.tracks import Node, Segment, Tracks
 
 
 def parts(tracks: Tracks) -> List[Set[str]]:
-    """Returns the segments of each connected part: first the one with the most branches, of those
-    the longest."""
+    """Returns the segments of each connected part: the most branches first, then the greatest
+    length."""
     at, left, found = tracks.arms(), dict.fromkeys(tracks.segments), []
     while left:
         first = next(iter(left))
@@ -26,7 +26,7 @@ def parts(tracks: Tracks) -> List[Set[str]]:
         found.append(part)
 
     def size(part):
-        """Returns what orders the parts."""
+        """Returns the sort key of a part."""
         nodes = {node for key in part for node in tracks.segments[key].ends}
         branches = sum(len(at[node]) > 2 for node in nodes)
         return (-branches, -sum(tracks.segments[key].metres for key in part), min(part))
@@ -51,7 +51,7 @@ def chosen(tracks: Tracks, number: int, notes: Notes) -> Tracks:
 
 
 def cut(tracks: Tracks, key: str, why: str, notes: Notes) -> None:
-    """Cuts a segment in its middle: its halves end there."""
+    """Cuts a segment in its middle. Its halves end there."""
     whole = tracks.segments.pop(key)
     for end, letter in ((0, "a"), (1, "b")):
         half, middle = f"{key}~{letter}", f"cut {key} {end}"
@@ -72,7 +72,7 @@ def cut(tracks: Tracks, key: str, why: str, notes: Notes) -> None:
 
 
 def cut_named(tracks: Tracks, things: List[str], notes: Notes) -> None:
-    """Cuts the longest segment of each object that the caller named."""
+    """Cuts the longest segment of each named object."""
     for thing in things:
         keys = [key for key, segment in tracks.segments.items()
                 if thing in (segment.thing, segment.thing.split()[-1])]

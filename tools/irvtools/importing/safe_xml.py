@@ -16,7 +16,7 @@ OnEnd = Callable[[str], None]
 
 
 class Reader:
-    """One pass over one file. `line` is the line of the element that is being read."""
+    """A single pass over a file. `line` is the current element's line."""
 
     def __init__(self, path: Path, on_start: OnStart, on_end: OnEnd):
         self.path, self.on_start, self.on_end = path, on_start, on_end
@@ -31,7 +31,7 @@ class Reader:
 
     @property
     def line(self) -> int:
-        """Returns the number of the current line."""
+        """Returns the current line number."""
         return self.parser.CurrentLineNumber
 
     def fault(self, text: str) -> ImportFault:
@@ -39,15 +39,15 @@ class Reader:
         return ImportFault(f"{self.path}: line {self.line}: {text}")
 
     def refuse_doctype(self, name, *_):
-        """Fails: no form that is imported has a document type."""
+        """Fails: no imported format has a document type."""
         raise self.fault(f"a document type ({shown(name)}) is not allowed")
 
     def refuse_entity(self, *_):
-        """Fails: no form that is imported has entities."""
+        """Fails: no imported format has entities."""
         raise self.fault("an entity is not allowed")
 
     def start(self, name, attributes):
-        """Takes the start of an element, within the limits."""
+        """Takes an element's start, within the limits."""
         self.count += 1
         self.depth += 1
         if self.count > LIMIT_ELEMENTS:
@@ -57,13 +57,13 @@ class Reader:
         self.on_start(name, attributes)
 
     def end(self, name):
-        """Takes the end of an element."""
+        """Takes an element's end."""
         self.depth -= 1
         self.seen += 1
         self.on_end(name)
 
     def read(self) -> None:
-        """Reads the file to its end."""
+        """Reads the whole file."""
         waited, before = 0, (0, 0)
         try:
             for chunk in chunks(self.path):

@@ -1,7 +1,7 @@
-"""Sections and points made of directed tracks.
+"""Makes sections and points of directed tracks.
 
-Tracks through plain joints become one linear section; a node of three arms becomes a point, one
-of four arms two points. A reference to a section is its key; `naming` gives the names.
+Tracks through plain joints become one linear section. A node of three arms becomes a point, one of
+four arms two points. Keys refer to sections; `naming` gives the names.
 """
 
 import math
@@ -24,18 +24,18 @@ class Linear:
         self.boards: Dict[str, Optional[Board]] = {"down": None, "up": None}
 
     def neighbours(self) -> List[Key]:
-        """Returns the keys of the neighbours that exist."""
+        """Returns the keys of existing neighbours."""
         return [key for key in (self.down, self.up) if key]
 
     def replace(self, old: Key, new: Key) -> None:
-        """Puts one neighbour in the place of another."""
+        """Replaces one neighbour."""
         self.down = new if self.down == old else self.down
         self.up = new if self.up == old else self.up
 
 
 class Point:
-    """A point: its node, the direction that it faces and its three neighbours. `why` says what
-    chose the plus leg."""
+    """A point: its node, its facing direction and its three neighbours. `why` says what chose the
+    plus leg."""
 
     def __init__(self, key: Key, node: Node, faces: str, why: str):
         self.key, self.node, self.faces, self.why = key, node, faces, why
@@ -44,26 +44,26 @@ class Point:
         self.minus: Optional[Key] = None
 
     def neighbours(self) -> List[Key]:
-        """Returns the keys of the neighbours."""
+        """Returns the neighbours' keys."""
         return [key for key in (self.stem, self.plus, self.minus) if key]
 
     def replace(self, old: Key, new: Key) -> None:
-        """Puts one neighbour in the place of another."""
+        """Replaces one neighbour."""
         for leg in ("stem", "plus", "minus"):
             if getattr(self, leg) == old:
                 setattr(self, leg, new)
 
 
 class Crossing:
-    """What a node of four arms became: the two points, and the pairs of their legs between which
-    the data has no track."""
+    """The result of a four-arm node: the two points, and the pairs of legs without a track in the
+    data."""
 
     def __init__(self, node: Node, points: List[Key], kind: str, missing: List[Tuple[str, str]]):
         self.node, self.points, self.kind, self.missing = node, points, kind, missing
 
 
 class Sections:
-    """All sections of one part, by their keys."""
+    """All sections of one part, by key."""
 
     def __init__(self, tracks: Tracks, directions: Directions):
         self.tracks, self.up, self.at = tracks, directions.up, directions.at
@@ -88,7 +88,7 @@ class Sections:
     # chains
 
     def next_of(self, arm: Arm) -> Optional[Arm]:
-        """Returns the arm behind a plain joint without a board, or None."""
+        """Returns the arm behind a plain joint without a board, or `None`."""
         arms = self.at[self.tracks.segments[arm[0]].ends[arm[1]]]
         if len(arms) != 2 or any(one in self.tracks.boards for one in arms):
             return None
@@ -97,7 +97,7 @@ class Sections:
         return other if is_through else None
 
     def add_chain(self, key: str) -> None:
-        """Makes the linear section that has a segment."""
+        """Makes the linear section of a segment."""
         chain = [key]
         for upward in (True, False):
             while True:
@@ -117,7 +117,7 @@ class Sections:
     # nodes
 
     def section_of(self, arm: Arm) -> Key:
-        """Returns the linear section of an arm."""
+        """Returns an arm's linear section."""
         return self.of_segment[arm[0]]
 
     def link(self, arm: Arm, to: Key) -> None:
@@ -125,11 +125,11 @@ class Sections:
         setattr(self.all[self.section_of(arm)], "up" if self.up[arm[0]] == arm[1] else "down", to)
 
     def leg(self, point: Key, arm: Arm) -> str:
-        """Returns the leg of a point over which an arm's section lies."""
+        """Returns a point's leg at an arm's section."""
         return "plus" if self.all[point].plus == self.section_of(arm) else "minus"
 
     def join(self, key: str, arms: List[Arm]) -> None:
-        """Joins the sections that meet at a node."""
+        """Joins the sections at a node."""
         node = self.tracks.nodes[key]
         below = [arm for arm in arms if self.up[arm[0]] == arm[1]]
         above = [arm for arm in arms if self.up[arm[0]] != arm[1]]
@@ -199,10 +199,10 @@ class Sections:
                              else "crossing or slip (guessed)")
         self.crossings.append(Crossing(node, [first, second], kind, missing))
 
-    # what is too short, or alone
+    # Sections that are too short, or alone.
 
     def absorb(self, metres: float) -> List[Linear]:
-        """Takes sections below a length, without boards and between two points, into the points.
+        """Merges sections below a length, without boards and between two points, into the points.
         Returns these sections."""
         gone = []
         for one in self.linear():
@@ -219,7 +219,7 @@ class Sections:
         return gone
 
     def drop_alone(self) -> List[Linear]:
-        """Drops sections that are joined with nothing. Returns them."""
+        """Drops isolated sections, and returns them."""
         alone = [one for one in self.linear() if not one.neighbours()]
         for one in alone:
             del self.all[one.key]

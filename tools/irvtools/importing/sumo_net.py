@@ -1,7 +1,7 @@
-"""Reads tracks from a network of SUMO (`.net.xml`).
+"""Reads tracks from a SUMO network (`.net.xml`).
 
-Edges over the same ground in both directions are one segment. The ways through a node are its
-connections. A board is at the end of each edge that a rail signal controls.
+Edges over the same ground in both directions are one segment. A node's ways are its connections. A
+board is at the end of each edge that a rail signal controls.
 """
 
 import math
@@ -28,7 +28,7 @@ class Edge:
 
 
 class Net:
-    """Reads the edges that trains may use, their connections and the kinds of the junctions."""
+    """Reads the edges for trains, their connections and the junction kinds."""
 
     def __init__(self, path: Path):
         self.edges: Dict[str, Edge] = {}
@@ -43,7 +43,7 @@ class Net:
             raise ImportFault(f"{path}: line 1: the element <net> is expected")
 
     def start(self, name, attributes):
-        """Takes the start of an element."""
+        """Takes an element's start."""
         self.root = self.root or name
         if name == "edge":
             self.current = None if attributes.get("function") else self.edge(attributes)
@@ -69,7 +69,7 @@ class Net:
         return made
 
     def lane(self, attributes) -> None:
-        """Keeps the current edge if trains may use this lane of it."""
+        """Keeps the current edge if trains may use this lane."""
         edge = self.current
         if edge.key in self.edges or not CLASSES & set(attributes.get("allow", "").split()):
             return
@@ -98,7 +98,7 @@ class Net:
         return places
 
     def end(self, name):
-        """Takes the end of an element."""
+        """Takes an element's end."""
         if name == "edge":
             self.current = None
 
@@ -144,7 +144,7 @@ def add_connections(tracks: Tracks, net: Net, leaves: Dict[str, Arm], notes: Not
             continue
         arm, (segment, far) = leaves[start], leaves[end]
         if arm[0] == segment:
-            continue                    # a train that turns round
+            continue                    # train reverses
         key = net.edges[start].end
         if net.edges[end].start != key:
             raise ImportFault(f"{notes.source}: the connection from edge {shown(start)} to edge "
@@ -157,7 +157,7 @@ def add_connections(tracks: Tracks, net: Net, leaves: Dict[str, Arm], notes: Not
 
 
 def read_sumo(path: Path, notes: Notes) -> Tracks:
-    """Returns the tracks of a network of SUMO."""
+    """Returns the tracks of a SUMO network."""
     net, tracks = Net(path), Tracks()
     if not net.edges:
         raise ImportFault(f"{path}: no track: no edge with a lane that allows "

@@ -1,7 +1,7 @@
 """Tracks as a graph: segments with two ends, each end at a node.
 
-An arm is a pair of a segment and the number of its end, 0 or 1. A board is at an arm: it is for
-trains that leave the segment over that end.
+An arm is a pair of a segment and its end, 0 or 1. A board at an arm is for trains that leave the
+segment over that end.
 """
 
 import math
@@ -11,8 +11,8 @@ Arm = Tuple[str, int]
 
 
 class Segment:
-    """A piece of track between two nodes. `away` are the bearings, in radians, in which the track
-    leaves each of its two nodes; `name` is a track's own name in the data, if it has one."""
+    """A track between two nodes. `away` are the bearings, in radians, in which it leaves each node;
+    `name` is its own name in the data, if any."""
 
     def __init__(self, ends, metres: float, away, thing: str, name: Optional[str] = None):
         self.ends: List[str] = list(ends)
@@ -22,20 +22,20 @@ class Segment:
 
 
 class Node:
-    """A place where segments end. `ways` are the pairs of arms between which a train can run, or
-    None if the data does not say; `end` says why the track ends there."""
+    """A node at the ends of segments. `ways` are the pairs of arms between which a train can run,
+    or `None` if the data does not say. `end` says why the track ends there."""
 
     def __init__(self, thing: str, name: Optional[str] = None):
         self.thing, self.name = thing, name
         self.ways: Optional[Set[FrozenSet[Arm]]] = None
         self.kind: Optional[str] = None         # "crossing", "double_slip", "single_slip"
-        self.side: Optional[str] = None         # the side to which a switch diverges
-        self.normal: Optional[Arm] = None       # the arm of the plus leg
+        self.side: Optional[str] = None         # side to which a switch diverges
+        self.normal: Optional[Arm] = None       # arm of the plus leg
         self.end: Optional[str] = None
 
 
 class Board:
-    """A board of the data, with the object it comes from and its own name there."""
+    """A board of the data, with its source object and its name there."""
 
     def __init__(self, thing: str, name: Optional[str]):
         self.thing, self.name = thing, name
@@ -50,13 +50,13 @@ class Tracks:
         self.boards: Dict[Arm, Board] = {}
 
     def node(self, key: str, thing: str) -> Node:
-        """Returns the node with this key, which is made if there is none."""
+        """Returns the node with this key, created if necessary."""
         if key not in self.nodes:
             self.nodes[key] = Node(thing)
         return self.nodes[key]
 
     def arms(self) -> Dict[str, List[Arm]]:
-        """Returns the arms at each node, in the order of the segments."""
+        """Returns the arms at each node, in segment order."""
         found: Dict[str, List[Arm]] = {}
         for key, segment in self.segments.items():
             for end, node in enumerate(segment.ends):
@@ -68,7 +68,7 @@ class Tracks:
         return self.segments[arm[0]].away[arm[1]]
 
     def kept(self, segments: Set[str]) -> "Tracks":
-        """Returns these segments, with their nodes and boards."""
+        """Returns these segments with their nodes and boards."""
         part = Tracks()
         part.segments = {key: one for key, one in self.segments.items() if key in segments}
         used = {node for one in part.segments.values() for node in one.ends}
@@ -83,7 +83,7 @@ def turn(first: float, second: float) -> float:
 
 
 def bearing(places: List[Tuple[float, float]], metres: float = 15.0) -> float:
-    """Returns the bearing from the first place to the one about `metres` further on."""
+    """Returns the bearing from the first place to one about `metres` further on."""
     (x, y), last = places[0], places[-1]
     for place in places[1:]:
         last = place
@@ -93,5 +93,5 @@ def bearing(places: List[Tuple[float, float]], metres: float = 15.0) -> float:
 
 
 def length(places: List[Tuple[float, float]]) -> float:
-    """Returns the length of a line in metres."""
+    """Returns a line's length in metres."""
     return sum(map(math.dist, places, places[1:]))

@@ -1,7 +1,7 @@
-"""Reads tracks from a layout of XTrackCAD (`.xtc`).
+"""Reads tracks from an XTrackCAD layout (`.xtc`).
 
-Lengths are in inches of the model; they are scaled to metres. A turnout's paths say which of its
-ends a train can run between.
+Lengths in inches of the model are scaled to metres. A turnout's paths say between which of its ends
+a train can run.
 """
 
 import math
@@ -19,7 +19,7 @@ RATIOS = {"HO": 87.1, "OO": 76.2, "N": 160.0, "Z": 220.0, "O": 48.0, "S": 64.0, 
 KINDS = ("STRAIGHT", "CURVE", "JOINT", "TURNOUT", "TURNTABLE", "BEZIER", "CORNU", "HELIX",
          "BZRTRK", "CSNP")
 INCH = 0.0254
-CLOSE = 0.1                 # inches between the end of a path and the end of its turnout
+CLOSE = 0.1                 # inches from a path's end to its turnout's end
 LIMIT_LINE = 1 << 16
 MOST_ENDS = 4
 
@@ -27,14 +27,14 @@ Place = Tuple[float, float]
 
 
 class End:
-    """An end of a track: the track that is joined there, its place and its angle in degrees."""
+    """An end of a track: the joined track, its place and its angle in degrees."""
 
     def __init__(self, other: Optional[str], place: Place, angle: float):
         self.other, self.place, self.angle = other, place, angle
 
 
 class Track:
-    """A track or turnout of the layout. `paths` are lists of segment numbers, by their names."""
+    """A track or turnout of the layout. `paths` are lists of segment numbers, by name."""
 
     def __init__(self, kind: str, key: str, line: int):
         self.kind, self.key, self.line = kind, key, line
@@ -45,7 +45,7 @@ class Track:
 
 
 class Layout:
-    """Reads the tracks of a file, line by line."""
+    """Reads a file's tracks line by line."""
 
     def __init__(self, path: Path):
         self.path, self.line, self.ratio = path, 0, RATIOS["HO"]
@@ -59,7 +59,7 @@ class Layout:
             raise ImportFault(f"{path}: no track: no line begins with {', '.join(KINDS[:4])}")
 
     def lines(self):
-        """Yields the lines of the file as texts."""
+        """Yields the lines as texts."""
         rest = b""
         for chunk in chunks(self.path):
             whole, rest = (rest + chunk).rpartition(b"\n")[::2] if b"\n" in chunk else \
@@ -136,7 +136,7 @@ class Layout:
                                                          if re.fullmatch(r"-?[\d.]+", word)]))
 
     def piece(self, kind: str, values: List[float]) -> Tuple[Place, Place]:
-        """Returns the two ends of a straight or curved piece of a turnout."""
+        """Returns the two ends of a turnout's straight or curved piece."""
         if len(values) < (6 if kind == "S" else 7):
             raise self.fault(f"track {self.current.key}: a piece without its ends")
         if kind == "S":
@@ -148,7 +148,7 @@ class Layout:
 
 
 def end_near(track: Track, place: Place) -> Optional[int]:
-    """Returns the number of the turnout's end at a place of its own coordinates, or None."""
+    """Returns the number of the turnout's end at a place in its coordinates, or `None`."""
     x, y, angle = track.origin
     sin, cos = math.sin(math.radians(angle)), math.cos(math.radians(angle))
     there = (x + place[0] * cos + place[1] * sin, y - place[0] * sin + place[1] * cos)
@@ -158,7 +158,7 @@ def end_near(track: Track, place: Place) -> Optional[int]:
 
 
 def way_of(track: Track, numbers: List[int]) -> Optional[Tuple[int, int]]:
-    """Returns the two ends that a list of pieces joins, or None if they are not found."""
+    """Returns the two ends that a list of pieces joins, or `None` if not found."""
     if not numbers or any(not 1 <= abs(one) <= len(track.pieces) for one in numbers):
         return None
     pieces = [track.pieces[abs(one) - 1] for one in (numbers[0], numbers[-1])]
@@ -171,8 +171,8 @@ def way_of(track: Track, numbers: List[int]) -> Optional[Tuple[int, int]]:
 
 
 def ways_of(track: Track) -> Tuple[Optional[Set[FrozenSet[int]]], Optional[int]]:
-    """Returns the pairs of ends between which a train can run, and the end of the plus leg of a
-    turnout of three ends. Either is None if the paths do not say it."""
+    """Returns the pairs of ends between which a train can run, and the plus leg's end of a
+    three-end turnout. Either is `None` if the paths do not say it."""
     ways, normal = set(), None
     for name, path in track.paths:
         parts = " ".join(map(str, path)).split(" 0 ")
@@ -193,7 +193,7 @@ def ways_of(track: Track) -> Tuple[Optional[Set[FrozenSet[int]]], Optional[int]]
 
 
 class Builder:
-    """Makes segments and nodes of the tracks of a layout."""
+    """Makes segments and nodes from a layout's tracks."""
 
     def __init__(self, layout: Layout, notes: Notes):
         self.layout, self.notes, self.tracks = layout, notes, Tracks()
@@ -202,7 +202,7 @@ class Builder:
             self.add(track)
 
     def joint(self, track: Track, number: int) -> str:
-        """Returns the key of the node at an end of a track."""
+        """Returns the key of the node at a track's end."""
         end, key = track.ends[number], f"e{track.key}_{number}"
         thing = f"track {track.key}"
         other = self.layout.tracks.get(end.other or "")
@@ -216,7 +216,7 @@ class Builder:
         return key
 
     def add(self, track: Track) -> None:
-        """Adds the segments of a track."""
+        """Adds a track's segments."""
         count = len(track.ends)
         if track.kind == "TURNTABLE" or count == 1:
             self.add_ended(track)
@@ -237,7 +237,7 @@ class Builder:
         self.tracks.segments[key] = Segment(ends, metres, away, f"track {track.key}")
 
     def add_ended(self, track: Track) -> None:
-        """Adds a short segment at each end of a turntable or a bumper: the track ends there."""
+        """Adds a short segment at each end of a turntable or a bumper. The track ends there."""
         why = "turntable" if track.kind == "TURNTABLE" else "bumper"
         for number, end in enumerate(track.ends):
             key = f"x{track.key}_{number}"
@@ -249,7 +249,7 @@ class Builder:
                                                         f"tracks that meet it end there")
 
     def add_turnout(self, track: Track) -> None:
-        """Adds a node for a turnout, and a short segment to each of its ends."""
+        """Adds a node for a turnout, and a short segment to each end."""
         middle = f"n{track.key}"
         node = self.tracks.node(middle, f"track {track.key}")
         for number, end in enumerate(track.ends):
@@ -266,12 +266,12 @@ class Builder:
 
 
 def heading(end: End) -> float:
-    """Returns the bearing in which the track leaves an end, away from the middle."""
+    """Returns the bearing in which the track leaves an end outwards."""
     return math.radians(90 - end.angle)
 
 
 def read_xtrackcad(path: Path, notes: Notes) -> Tracks:
-    """Returns the tracks of a layout of XTrackCAD."""
+    """Returns the tracks of an XTrackCAD layout."""
     layout = Layout(path)
     if layout.scale not in RATIOS:
         notes.add("guessed", None, f"the scale \"{shown(str(layout.scale))}\" is not known: "

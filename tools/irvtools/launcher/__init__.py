@@ -1,1 +1,1 @@
-"""What the launcher calls: the proof with its progress, the unproved build, and the manual."""
+"""The launcher's modules: the proof with its progress, the unproved build, and the manual."""

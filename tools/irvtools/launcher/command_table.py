@@ -1,7 +1,7 @@
 """Reads tools/launcher/commands.txt, the one table of commands, options and exit statuses.
 
-`table()` makes the table of options in docs/reference/commands.md from it, and `page_faults()` says
-in what such a page differs from it.
+`table()` makes the option table of docs/reference/commands.md from it; `page_faults()` lists that
+page's differences.
 """
 
 import re
@@ -13,23 +13,23 @@ SEPARATOR = " | "
 
 
 class Entry(NamedTuple):
-    """An entry: its kind, its name, and its fields, each of which has one value or several."""
+    """An entry: kind, name, and fields with one or more values."""
 
     kind: str
     name: str
     fields: Dict[str, List[str]]
 
     def value(self, key: str) -> Optional[str]:
-        """Returns the first value of a field, or `None` if the entry has no such field."""
+        """Returns a field's first value, or `None` without such a field."""
         return self.fields.get(key, [None])[0]
 
     def parts(self, key: str) -> List[List[str]]:
-        """Returns the values of a field, each as its parts."""
+        """Returns a field's values, each as its parts."""
         return [value.split(SEPARATOR) for value in self.fields.get(key, [])]
 
 
 def read(file: Path = TABLE) -> List[Entry]:
-    """Returns the entries of the table, in its order."""
+    """Returns the table's entries, in order."""
     entries: List[Entry] = []
     for line in file.read_text(encoding="utf-8").splitlines():
         if not line.strip() or line.startswith("#"):
@@ -49,13 +49,13 @@ def of_kind(kind: str) -> List[Entry]:
 
 
 def options_of(command: str) -> List[Entry]:
-    """Returns the options of a command of the program."""
+    """Returns the options of a program's command."""
     return [option for option in of_kind("option")
             if command in option.value("commands").split()]
 
 
 def usage(command: Entry) -> str:
-    """Returns the line that shows how a command of the program is called."""
+    """Returns the usage line of a program's command."""
     words = ["irv", command.name]
     for option in options_of(command.name):
         text = f"{option.name} {option.value('value')}"
@@ -64,7 +64,7 @@ def usage(command: Entry) -> str:
 
 
 def values(option: Entry) -> str:
-    """Returns the values of an option in words, as Markdown."""
+    """Returns an option's values in words, as Markdown."""
     value, numbers = option.value("value"), option.value("range")
     if value == "FILE":
         return "a file's name"
@@ -75,7 +75,7 @@ def values(option: Entry) -> str:
 
 
 def option_rows() -> List[List[str]]:
-    """Returns the cells of the table of options: option, values, default, commands."""
+    """Returns the cells of the option table: option, values, default, commands."""
     return [[f"`{option.name}`", values(option),
              f"`{option.value('default')}`" if option.value("default") else "none, needed",
              option.value("commands").replace(" ", ", ")] for option in of_kind("option")]
@@ -88,21 +88,21 @@ def table() -> str:
 
 
 def cells_of(line: str) -> List[str]:
-    """Returns the cells of a row of a table in Markdown, without backquotes."""
+    """Returns the cells of a Markdown table row, without backquotes."""
     return [cell.strip().replace("`", "") for cell in re.split(r"(?<!\\)\|", line)[1:-1]]
 
 
 def is_row(cells: List[str], wanted: List[str]) -> bool:
-    """Returns whether a row has these cells first. A cell may go on after a colon or a
+    """Returns whether a row begins with these cells. A cell may continue after a colon or a
     semicolon."""
     return len(cells) >= len(wanted) and all(
         re.fullmatch(re.escape(text) + r"([:;] .*)?", cell) for cell, text in zip(cells, wanted))
 
 
 def page_faults(text: str) -> List[str]:
-    """Returns in what a commands page differs from this table. It has the call of each command on a
-    line of its own, a row for each option and each exit status, which begins with the cells of this
-    table, and a row for each option of the launcher."""
+    """Returns a commands page's differences from this table. The page must have each command's call
+    on its own line, and a row for each launcher option. Each option and exit status needs a row
+    that begins with this table's cells."""
     lines = text.splitlines()
     rows = [cells_of(line) for line in lines if line.startswith("|")]
     wanted = [[cell.replace("`", "") for cell in row] for row in option_rows()]

@@ -1,7 +1,7 @@
 """Prints the manual page `irv.1`, or completions for bash, of an installed program.
 
-Both are made from tools/launcher/commands.txt. The options of the launcher are left out, since it
-is not installed.
+Both come from tools/launcher/commands.txt, without the options of the launcher, which is not
+installed.
 
     python3 -m irvtools.launcher.manual page
     python3 -m irvtools.launcher.manual completions
@@ -50,13 +50,13 @@ complete -F _irv irv
 
 
 def escaped(text: str) -> str:
-    """Returns a line as troff reads it."""
+    """Returns a line escaped for troff."""
     text = text.replace("\\", "\\e").replace("-", "\\-")
     return "\\&" + text if text[:1] in (".", "'") else text
 
 
 def bold(text: str) -> str:
-    """Returns a sentence as troff reads it; what is in backquotes is bold."""
+    """Returns a troff sentence, with bold text for backquotes."""
     return re.sub(r"`(.+?)`", r"\\fB\1\\fR", escaped(text.replace("\n", " ")))
 
 
@@ -77,14 +77,14 @@ def option_lines(option: Entry) -> Iterator[str]:
 
 
 def command_lines(command: Entry) -> Iterator[str]:
-    """Yields the section of a command: what it does, and what it prints with which status."""
+    """Yields a command's section: its purpose, output and statuses."""
     yield f".SS {command.name}\n{escaped(command.value('summary'))}"
     for status, text, meaning in command.parts("report"):
         yield paragraph(f"\\fB{escaped(text)}\\fR", f"status {status}: {meaning}")
 
 
 def page() -> Iterator[str]:
-    """Yields the manual page, in parts."""
+    """Yields the parts of the manual page."""
     commands = of_kind("command")
     yield HEAD + "\n".join(escaped(usage(command)) for command in commands) + "\n.fi"
     yield f".SH DESCRIPTION\n{bold(DESCRIPTION)}\n.SH COMMANDS"
@@ -120,7 +120,7 @@ def completions() -> str:
 
 
 def main() -> int:
-    """Prints what the command line asks for, and returns the exit status."""
+    """Prints the page or the completions; returns the exit status."""
     parser = argparse.ArgumentParser(
         prog="manual", description=__doc__, formatter_class=argparse.RawDescriptionHelpFormatter)
     parser.add_argument("part", choices=("page", "completions"), help="what is printed")

@@ -1,16 +1,16 @@
-"""Prints how far the proof of the crates is: how many are proved, and about how much longer it
-takes.
+"""Prints the progress of the proof: how many crates are proved, and about how much longer it takes.
 
     rt ci | tools/progress.py     passes its input on, and prints a line after each proved crate
+
     tools/progress.py --renew     writes tools/crate_seconds.txt by what the last proofs here took
 
-tools/crate_seconds.txt lists how many seconds the proof of each crate takes. For a crate that is
-not listed they are estimated by the bytes of its code. What proofs take is noted in `out/seconds`.
+tools/crate_seconds.txt lists each crate's proof seconds. The code's bytes give an estimate for
+other crates. `out/seconds` notes the last proofs.
 
-`rt ci` prints when a crate is proved; that its proof began is seen by its process. The remaining
-time is estimated by the listed seconds. They are shared among as many proofs as run at once, but it
-takes no less than the longest chain of crates that depend on each other; the pace is that of the
-finished proofs. A crate that was proved by an earlier run counts as finished, but not for the pace.
+`rt ci` prints when a crate is proved; the prover's process shows the start. The remaining time is
+the listed seconds, shared among the proofs that run at once, but at least those of the longest
+chain of dependent crates. The pace is that of the finished proofs. A crate proved by an earlier run
+counts as finished, but not for the pace.
 """
 
 import argparse
@@ -31,35 +31,35 @@ COMMENT = """# How many seconds the proof of each crate takes beside others, on 
 # progress of a build is estimated by it. `tools/progress.py --renew` writes it by what the last
 # proofs here took.
 """
-# an estimate for a crate that is not listed: these seconds, and one more for so many bytes of code
+# the estimate for an unlisted crate: these seconds, plus one for each N bytes of code
 LEAST_SECONDS, BYTES_PER_SECOND = 20.0, 250
 PROVED = re.compile(rb"^rt: (\w+) (proved|is kept: .*)$")
-# seconds between two looks at the processes
+# seconds between two looks
 INTERVAL = 1.0
 
 
 def listed_seconds(file: Path = LISTED) -> Dict[str, float]:
-    """Returns the seconds of each crate that a file lists."""
+    """Returns each crate's seconds in a file."""
     text = file.read_text() if file.is_file() else ""
     words = (line.split() for line in text.splitlines() if line and line[0] != "#")
     return {name: float(seconds) for name, seconds in words}
 
 
 def seconds_of(names: Iterable[str]) -> Dict[str, float]:
-    """Returns the listed or estimated seconds of these crates."""
+    """Returns these crates' listed or estimated seconds."""
     listed, crates = listed_seconds(), Crates()
     return {name: listed.get(name)
             or LEAST_SECONDS + size(crates.folder(name)) / BYTES_PER_SECOND for name in names}
 
 
 def size(directory: Path) -> int:
-    """Returns the bytes of the code of the crate in a directory."""
+    """Returns the bytes of a crate's code."""
     return sum(file.stat().st_size for file in (directory / "src").rglob("*.rt"))
 
 
 def chains(crates: Dict[str, Set[str]], seconds: Dict[str, float]) -> Dict[str, float]:
-    """Returns for each crate the seconds of the longest chain that begins with it, in which each
-    crate depends on the one before."""
+    """Returns for each crate the seconds of the longest chain from it, in which each crate depends
+    on the one before."""
     found: Dict[str, float] = {}
     for name in sorted(crates, key=lambda name: -len(crates[name])):
         above = [found[other] for other in found if name in crates[other]]
@@ -68,7 +68,7 @@ def chains(crates: Dict[str, Set[str]], seconds: Dict[str, float]) -> Dict[str, 
 
 
 def spoken(seconds: float) -> str:
-    """Returns a time in words, in seconds up to 90 of them, otherwise in minutes."""
+    """Returns a time in words: in seconds up to 90, otherwise in minutes."""
     minutes = round(seconds / 60)
     if seconds < 90:
         return f"{max(1, round(seconds))} second{'' if round(seconds) <= 1 else 's'}"
@@ -76,7 +76,7 @@ def spoken(seconds: float) -> str:
 
 
 class Progress:
-    """How far the proof of crates is. `crates` has the dependencies of each."""
+    """A proof's progress. `crates` has each crate's dependencies."""
 
     def __init__(self, crates: Dict[str, Set[str]], at_once: int,
                  seconds: Optional[Dict[str, float]] = None,
@@ -89,23 +89,22 @@ class Progress:
         self.whole = self.left()
 
     def begin(self, name: str) -> None:
-        """Notes that the proof of a crate runs."""
+        """Notes that a crate's proof runs."""
         self.begun.setdefault(name, self.clock())
 
     def end(self, name: str) -> Optional[float]:
-        """Notes that a crate is proved. Returns its seconds, or `None` if its begin was not
-        seen."""
+        """Notes that a crate is proved. Returns its seconds, or `None` if its start was not seen."""
         self.taken[name] = self.clock() - self.begun[name] if name in self.begun else None
         return self.taken[name]
 
     def keep(self, name: str) -> None:
-        """Notes that a crate was proved by an earlier run, which takes no time."""
+        """Notes that an earlier run proved a crate, which takes no time."""
         left = self.left()
         self.taken[name] = None
         self.whole -= left - self.left()
 
     def left(self) -> float:
-        """Returns how many seconds are left by the list."""
+        """Returns the remaining seconds by the list."""
         left = {name: self.seconds[name] for name in self.crates if name not in self.taken}
         for name in self.begun.keys() & left:
             left[name] = max(1.0, left[name] - (self.clock() - self.begun[name]))
@@ -113,8 +112,7 @@ class Progress:
         return max([*chains(over, left).values(), sum(left.values()) / self.at_once])
 
     def remaining(self) -> float:
-        """Returns about how many seconds are left at the pace so far, which is at first the
-        list's."""
+        """Returns the estimated remaining seconds at the pace so far, at first the list's."""
         left, trust = self.left(), self.whole / 10
         return left * (self.clock() - self.beginning + trust) / (self.whole - left + trust)
 
@@ -126,8 +124,7 @@ class Progress:
 
 
 class Printer:
-    """Prints the progress: on a terminal in one line that is renewed, otherwise in a line a
-    crate."""
+    """Prints the progress: one renewed terminal line, otherwise a line for each crate."""
 
     def __init__(self, progress: Progress, sink: TextIO = sys.stderr):
         self.progress, self.sink = progress, sink
@@ -135,7 +132,7 @@ class Printer:
         self.is_shown = False
 
     def print(self, line: str = "") -> None:
-        """Removes the line that is shown, and prints another one."""
+        """Replaces the shown line."""
         self.sink.write(("\r\033[K" if self.is_shown else "") + (f"irv: {line}\n" if line else ""))
         self.sink.flush()
         self.is_shown = False
@@ -148,7 +145,7 @@ class Printer:
             self.is_shown = True
 
     def end(self, name: str, is_kept: bool) -> None:
-        """Notes that a crate is proved, now or by an earlier run, and prints the progress."""
+        """Notes that a crate is proved, now or earlier, and prints the progress."""
         if is_kept:
             self.progress.keep(name)
             how = " was proved before"
@@ -162,7 +159,7 @@ class Printer:
 
 
 def running(directory: Path, processes: Path = Path("/proc")) -> Iterator[str]:
-    """Yields the crates in a directory whose proofs run, by the processes of the prover."""
+    """Yields the crates in a directory whose proofs run, by the prover's processes."""
     for process in processes.glob("[0-9]*"):
         try:
             if (process / "comm").read_text() != "rattle\n":
@@ -177,7 +174,7 @@ def running(directory: Path, processes: Path = Path("/proc")) -> Iterator[str]:
 
 def follow(source: Iterable[bytes], crates: Dict[str, Set[str]], directory: Path,
            hand_on: Callable[[bytes], None], sink: TextIO = sys.stderr) -> None:
-    """Reads what `rt ci` prints over the crates in a directory, passes each line to `hand_on`, and
+    """Reads the output of `rt ci` over a directory's crates, passes each line to `hand_on`, and
     prints the progress."""
     printer = Printer(Progress(crates, len(os.sched_getaffinity(0))), sink)
     lock, ended = threading.Lock(), threading.Event()
@@ -204,7 +201,7 @@ def follow(source: Iterable[bytes], crates: Dict[str, Set[str]], directory: Path
 
 
 def note(taken: Dict[str, Optional[float]]) -> None:
-    """Notes the seconds of the proofs whose begin was seen."""
+    """Notes the seconds of proofs with a seen start."""
     new = {name: seconds for name, seconds in taken.items() if seconds is not None}
     known = {**listed_seconds(NOTED), **new}
     if not new:
@@ -217,7 +214,7 @@ def note(taken: Dict[str, Optional[float]]) -> None:
 
 
 def renew() -> None:
-    """Writes the list by what was noted. A crate of which nothing was noted keeps its seconds."""
+    """Writes the list from the notes. A crate without one keeps its seconds."""
     known = {**listed_seconds(), **listed_seconds(NOTED)}
     LISTED.write_text(COMMENT + "".join(f"{name} {round(known[name])}\n" for name in Crates().rows
                                         if name in known))
@@ -230,7 +227,7 @@ def hand_on(line: bytes) -> None:
 
 
 def main() -> int:
-    """Does what the command line asks for, and returns the exit status."""
+    """Runs the command line; returns the exit status."""
     parser = argparse.ArgumentParser(prog="progress", description=__doc__,
                                      formatter_class=argparse.RawDescriptionHelpFormatter)
     parser.add_argument("--renew", action="store_true", help="writes tools/crate_seconds.txt; "

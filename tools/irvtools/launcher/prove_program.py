@@ -1,11 +1,11 @@
 """Proves the program as CI does, and builds it.
 
-`rt ci` does it in a temporary directory, over a copy of the crates that `irv` is made of, without
-their mutants and without the crates of tests. What it proves is cached on this machine by the
-checksums of all that it read: CI takes it from there, and the other way round.
+`rt ci` does it in a temporary directory, over a copy of the crates of `irv` without mutants and
+crates of tests. It caches proofs on this machine by the checksums of all that it read; CI shares
+the cache.
 
-Standard error shows the progress. What `rt ci` prints of a crate is printed as soon as that crate
-is not proved; the proofs that run beside it go on to their ends.
+Standard error shows the progress. If a crate is not proved, the output of `rt ci` about it is
+printed at once; proofs that run beside it go on to their ends.
 
 The exit status is 0 if all is proved and the program is in crates/irv/out, 1 if not, 2 if the
 arguments are wrong, 130 after a signal.
@@ -33,7 +33,7 @@ NOT_PROVED = re.compile(rb"^rt: \w+ NOT PROVED")
 
 
 class UnprovedCrates:
-    """Prints what `rt ci` printed of the crates that are not proved."""
+    """Prints the output of `rt ci` about unproved crates."""
 
     def __init__(self, sink: BinaryIO):
         self.sink, self.part = sink, []
@@ -54,7 +54,7 @@ class UnprovedCrates:
 
 
 def prove(room: Path, crates: Dict[str, Set[str]], options: List[str]) -> bool:
-    """Proves the crates in a directory. Returns whether all are proved."""
+    """Proves a directory's crates; returns whether all are proved."""
     tie, printed = TIE if shutil.which(TIE[0]) else (), UnprovedCrates(sys.stdout.buffer)
     with subprocess.Popen([*tie, "rt", "ci", *options], cwd=room, stdin=subprocess.DEVNULL,
                           stdout=subprocess.PIPE, stderr=subprocess.STDOUT) as running:
@@ -69,8 +69,7 @@ def prove(room: Path, crates: Dict[str, Set[str]], options: List[str]) -> bool:
 
 
 def put(made: Path, place: Path) -> None:
-    """Copies the program to its place in one step, since another build may do so at the same
-    time."""
+    """Copies the program in one step, since another build may do so at the same time."""
     place.parent.mkdir(exist_ok=True)
     new = place.with_name(f"{place.name}.{os.getpid()}")
     shutil.copy(made, new)
@@ -78,7 +77,7 @@ def put(made: Path, place: Path) -> None:
 
 
 def build(options: List[str]) -> int:
-    """Proves and builds the program. Returns the exit status."""
+    """Proves and builds the program; returns the exit status."""
     crates = Crates()
     names = [*crates.below(PROGRAM), PROGRAM]
     absent = sorted(name for name in names if not crates.folder(name).is_dir())
@@ -96,12 +95,12 @@ def build(options: List[str]) -> int:
 
 
 def end(*_: object) -> None:
-    """Ends as after Ctrl-C, so that the temporary directory is removed."""
+    """Ends as after Ctrl-C, to remove the temporary directory."""
     raise KeyboardInterrupt
 
 
 def main() -> int:
-    """Reads the command line, proves and builds. Returns the exit status."""
+    """Runs the command line; returns the exit status."""
     parser = argparse.ArgumentParser(prog="prove_program", description=__doc__,
                                      formatter_class=argparse.RawDescriptionHelpFormatter)
     parser.add_argument("--anew", action="store_true",

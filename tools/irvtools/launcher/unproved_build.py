@@ -5,16 +5,16 @@
 
 `rt try` has clang compile the whole program without proof, as one module with checks of each
 operation, and keeps nothing. `watch` makes DIRECTORY/kit, a toolchain of links to the one on the
-path with a script in place of clang, and prints the `rt` to call. The script keeps the module and
-the arguments of clang, and then calls clang. `build` removes the checks from the module, has it
-optimised as the module of a proved program is, and links it to DIRECTORY/irv.
+path with a script in place of clang, and prints the `rt` to call. The script keeps clang's module
+and arguments, and then calls clang. `build` removes the checks from the module, optimises it like a
+proved program, and links it to DIRECTORY/irv.
 
-What is removed are the sanitizer and the calls of `rattle-llvm-checks`, which end the program
-before an operation that is not defined. A proved program needs neither. Here a fault may stay
-unseen, so no answer of the build is evidence of anything.
+It removes the sanitizer and the calls of `rattle-llvm-checks`, which end the program before an
+undefined operation. A proved program needs neither. Here a fault may stay unseen, so the build's
+answers are no evidence.
 
-The exit status is 0 if it is made, 1 if the toolchain does not have the expected parts, 2 if the
-arguments are wrong.
+The exit status is 0 if it is made, 1 if the toolchain lacks an expected part, 2 if the arguments
+are wrong.
 """
 
 import argparse
@@ -60,8 +60,7 @@ def kit_on_path() -> Path:
 
 
 def link_all(source: Path, target: Path, but: Collection[str]) -> None:
-    """Makes a directory with links to all entries of another one, but for those with these
-    names."""
+    """Makes a directory of links to another one's entries, except those in `but`."""
     target.mkdir()
     for entry in source.iterdir():
         if entry.name not in but:
@@ -69,9 +68,9 @@ def link_all(source: Path, target: Path, but: Collection[str]) -> None:
 
 
 def watch(directory: Path) -> Path:
-    """Makes the toolchain that keeps the module. Returns its `rt`."""
+    """Makes the toolchain that keeps the module; returns its `rt`."""
     kit, ours = kit_on_path(), directory / "kit"
-    # rt takes the directory above its own for the toolchain, so its scripts are copied
+    # rt takes the parent of its directory for the toolchain, so its scripts are copied
     scripts = [entry.name for entry in (kit / "bin").iterdir() if entry.name.startswith("rt")]
     link_all(kit, ours, ("bin", "toolchain"))
     link_all(kit / "bin", ours / "bin", scripts)
@@ -87,7 +86,7 @@ def watch(directory: Path) -> Path:
 
 
 def unchecked(lines: Iterable[bytes]) -> Iterator[bytes]:
-    """Yields the lines of a module without sanitizer, and with checks that all pass."""
+    """Yields a module's lines without sanitizer, and with checks that all pass."""
     is_check = False
     for line in lines:
         if CHECK.match(line):
@@ -102,13 +101,13 @@ def unchecked(lines: Iterable[bytes]) -> Iterator[bytes]:
 
 
 def compile_words(words: List[str], source: Path, made: Path) -> List[str]:
-    """Returns the arguments of clang for the optimised program, by those for the checked one."""
+    """Returns clang's arguments for the optimised program, from those for the checked one."""
     changed = {"module.bc": str(source), "module.o": str(made), "-O0": "-O3"}
     return [changed.get(word, word) for word in words if word not in (SANITIZER, "-Werror")]
 
 
 def build(directory: Path) -> None:
-    """Makes the program of the module that was kept."""
+    """Makes the program from the kept module."""
     kit = kit_on_path()
     clang, words = kit / "toolchain/bin/clang", (directory / "words").read_text().splitlines()
     text, less = directory / "module.ll", directory / "unchecked.ll"
@@ -126,7 +125,7 @@ def build(directory: Path) -> None:
 
 
 def main() -> int:
-    """Does what the command line asks for, and returns the exit status."""
+    """Runs the command line; returns the exit status."""
     parser = argparse.ArgumentParser(prog="unproved_build", description=__doc__,
                                      formatter_class=argparse.RawDescriptionHelpFormatter)
     parser.add_argument("step", choices=("watch", "build"), help="which of the two is done")

@@ -1,1 +1,1 @@
-"""Plants, states, events and runs: the tools' own reading of the model."""
+"""Plants, states, events and runs: the tools' own implementation of the model."""

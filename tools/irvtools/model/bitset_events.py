@@ -1,20 +1,19 @@
-"""The thirteen events over sets of bits: each costs what it touches, and not what the plant has.
+"""The thirteen events over bit sets: an event's cost depends on what it touches, not on the plant.
 
-The search makes its runs with it. It has the same events as `events.py`, which the page draws by;
-the tests compare the two event by event, and what is found is replayed by the other one and by
-`irv`. """
+The search makes its runs with it. It has the same events as `events.py`, which draws the page. The
+tests compare the two event by event; `events.py` and `irv` replay each found run."""
 
 from __future__ import annotations
 
 FREE, MARKED, ALLOCATING, LOCKED, OCCUPIED = range(5)
-REFUSED, DONE, HAZARD = range(3)        # what comes of an event
+REFUSED, DONE, HAZARD = range(3)        # results of an event
 
 SIDES = ("down", "up")
-NOTHING, AT_A_POINT = -1, -2            # ahead of a section: no section; it depends on how a point lies
+NOTHING, AT_A_POINT = -1, -2            # ahead of a section: no section; depends on the position of points
 
 
 def bits(numbers):
-    """A set of numbers, as a number with these bits."""
+    """Returns a set of numbers as the bits of a number."""
     result = 0
     for number in numbers:
         result |= 1 << number
@@ -22,8 +21,8 @@ def bits(numbers):
 
 
 class Facts:
-    """What the events ask of a plant: of each route, board and section. Directions are numbers, 1
-    for up; sets of sections, routes and boards are bits."""
+    """A plant's facts for events: routes, boards and sections. A direction is a number, 1 for up;
+    sets are bits."""
 
     def __init__(self, plant):
         routes, boards = plant.routes, plant.boards
@@ -38,7 +37,7 @@ class Facts:
                       for route in routes]
         self.conflicts = [bits(route.conflicts) for route in routes]
         self.protecting = [bits(route.protecting_boards) for route in routes]
-        # of each board the routes that have it among their protecting boards
+        # for each board: the routes that it protects
         self.protected = [bits(r for r, route in enumerate(routes) if b in route.protecting_boards)
                           for b in range(len(boards))]
         self.all_points = bits(plant.points)
@@ -48,12 +47,12 @@ class Facts:
         self.ahead = [[self.ahead_of(section, side) for section in plant.sections] for side in SIDES]
         self.legs = [(section.neighbours.get("plus"), section.neighbours.get("minus"))
                      for section in plant.sections]
-        # for a way onto a point from a leg: 1 where the leg is minus
+        # for a way onto points from a leg: 1 if the leg is minus
         self.from_leg = {(leg, x): number for x in plant.points
                          for number, leg in enumerate(self.legs[x])}
 
     def ahead_of(self, section, side):
-        """The section ahead of one in a direction, where that is always the same."""
+        """Returns the section ahead in a direction, if it never changes."""
         if section.is_point and section.faces == side:
             return AT_A_POINT
         to = section.neighbours.get("stem" if section.is_point else side)
@@ -61,28 +60,28 @@ class Facts:
 
 
 class Simulation:
-    """A state that changes by events. Each event answers REFUSED, and then nothing changed, or
-    DONE, or HAZARD, after which nothing more may be asked of it."""
+    """A state that events change. An event answers REFUSED and changes nothing, or DONE, or HAZARD,
+    which is final."""
 
     __slots__ = ("facts", "mode", "seen", "rel", "claimed", "locked_routes", "held", "used",
                  "occupied", "minus", "moving", "to_minus", "open", "trains", "train_on", "hazard_at")
 
     def __init__(self, facts):
-        """The start."""
+        """Begins in the initial state."""
         count = len(facts.path)
         self.facts = facts
         self.mode, self.seen, self.rel = [FREE] * count, [0] * count, [0] * count
         self.claimed = self.locked_routes = 0       # routes Allocating or Locked; Locked
-        self.held = self.used = 0                   # sections whose lock isn't free; is used
+        self.held = self.used = 0                   # sections with a lock that is not free; used
         self.occupied = 0                           # sections
-        self.minus = self.moving = self.to_minus = 0        # points that lie so; are commanded so
+        self.minus = self.moving = self.to_minus = 0        # points in this position; commanded so
         self.open = 0                               # boards
-        self.trains = []                            # of each its direction and its body
+        self.trains = []                            # each with direction and body
         self.train_on = [None] * len(facts.legs)
-        self.hazard_at = None                       # the hazard: its word and its section
+        self.hazard_at = None                       # word and section
 
     def copy(self):
-        """The same, apart from this one."""
+        """Returns an independent copy."""
         other = Simulation.__new__(Simulation)
         for part in Simulation.__slots__:
             value = getattr(self, part)
@@ -95,26 +94,26 @@ class Simulation:
         return other
 
     def is_end(self, way, body):
-        """Whether the network ends where a train's head is."""
+        """Returns whether the network ends at a train's front."""
         return self.facts.ahead[way][body[-1]] == NOTHING
 
     # -- routes
 
     def mark(self, r):
-        """A route is asked for."""
+        """Requests a route."""
         if self.mode[r] != FREE:
             return REFUSED
         self.mode[r] = MARKED
         return DONE
 
     def can_allocate(self, r):
-        """Whether nothing but its mode keeps a route from being allocated."""
+        """Returns whether only its mode can keep a route from being allocated."""
         facts = self.facts
         return not (self.claimed & facts.conflicts[r]
                     or (self.held | self.occupied) & facts.sections[r])
 
     def allocate(self, r):
-        """A route takes the locks of its sections and commands its points."""
+        """Locks the sections of a route and commands its points."""
         facts = self.facts
         if self.mode[r] != MARKED or self.claimed & facts.conflicts[r] \
                 or (self.held | self.occupied) & facts.sections[r]:
@@ -126,7 +125,7 @@ class Simulation:
         return DONE
 
     def lock(self, r):
-        """A route whose points lie right opens its source."""
+        """Opens the entry board of a route with points in position."""
         facts = self.facts
         points, source = facts.points[r], facts.source[r]
         if self.mode[r] != ALLOCATING or self.moving & points \
@@ -139,7 +138,7 @@ class Simulation:
         return DONE
 
     def sense(self, r):
-        """The next section of a route's path is seen to be occupied."""
+        """Detects the next section of a route's path as occupied."""
         mode, seen, path = self.mode[r], self.seen[r], self.facts.path[r]
         if mode < LOCKED or seen >= len(path):
             return REFUSED
@@ -157,7 +156,7 @@ class Simulation:
         return DONE
 
     def release(self, r):
-        """The first section of a route's path that is kept is given back behind the train."""
+        """Releases the first locked section of a path behind the train."""
         rel = self.rel[r]
         if self.mode[r] != OCCUPIED or rel + 2 > self.seen[r]:
             return REFUSED
@@ -170,7 +169,7 @@ class Simulation:
         return DONE
 
     def finish(self, r):
-        """A route whose path is used gives back all that it still has."""
+        """Releases all that a used route still holds."""
         length = len(self.facts.path[r])
         if self.mode[r] != OCCUPIED or self.seen[r] != length or self.rel[r] + 1 != length:
             return REFUSED
@@ -180,7 +179,7 @@ class Simulation:
         return DONE
 
     def cancel(self, r):
-        """A route that isn't locked yet is given up."""
+        """Cancels a route that is not locked yet."""
         if self.mode[r] == ALLOCATING:
             sections = self.facts.sections[r]
             self.held &= ~sections
@@ -194,7 +193,7 @@ class Simulation:
     # -- points
 
     def throw(self, x):
-        """A point begins to move to where it is commanded."""
+        """Starts points moving to their commanded position."""
         bit = 1 << x
         if self.moving & bit or not (self.minus ^ self.to_minus) & bit:
             return REFUSED
@@ -205,7 +204,7 @@ class Simulation:
         return DONE
 
     def settle(self, x):
-        """A point that moves comes to lie."""
+        """Ends the movement of points."""
         bit = 1 << x
         if not self.moving & bit:
             return REFUSED
@@ -216,7 +215,7 @@ class Simulation:
     # -- trains
 
     def enter(self, x):
-        """A train comes in at a border."""
+        """Lets a train enter at a border."""
         bit = 1 << x
         if x not in self.facts.inward or (self.occupied | self.held) & bit:
             return REFUSED
@@ -227,7 +226,7 @@ class Simulation:
         return DONE
 
     def head(self, x):
-        """A train's head moves to the section ahead."""
+        """Moves a train's front to the section ahead."""
         train = self.train_on[x]
         if train is None or train[1][-1] != x:
             return REFUSED
@@ -257,7 +256,7 @@ class Simulation:
         return DONE
 
     def tail(self, x):
-        """A train's tail leaves its section."""
+        """Moves a train's rear out of its section."""
         train = self.train_on[x]
         if train is None or train[1][0] != x or len(train[1]) < 2:
             return REFUSED
@@ -267,7 +266,7 @@ class Simulation:
         return DONE
 
     def leave(self, x):
-        """A train leaves the network."""
+        """Lets a train leave the network."""
         train = self.train_on[x]
         if train is None or len(train[1]) > 1 or self.facts.ahead[train[0]][x] != NOTHING:
             return REFUSED
@@ -277,7 +276,7 @@ class Simulation:
         return DONE
 
     def by_word(self):
-        """The events by their words."""
+        """Returns the events by their words."""
         return {word: getattr(self, word) for word in (
             "mark", "allocate", "lock", "sense", "release", "finish", "cancel", "throw", "settle",
             "enter", "head", "tail", "leave")}
@@ -285,8 +284,8 @@ class Simulation:
 
 def to_hazard(simulation: Simulation,
               events: list[tuple[str, int]]) -> list[tuple[str, int]] | None:
-    """Those of some events that are enabled in turn, up to a hazard; None where they come to
-    none."""
+    """Returns those of some events that are enabled in turn, up to a hazard; `None` without a
+    hazard."""
     run, do = [], simulation.by_word()
     for event in events:
         done = do[event[0]](event[1])

@@ -27,12 +27,12 @@ FAMILIES = {
 
 
 def counted(number: int, word: str) -> str:
-    """A number of things."""
+    """Returns a number of things."""
     return f"{number} {word}{'' if number == 1 else 's'}"
 
 
 def hazard_words(plant: Plant, hazard: tuple[str, int]) -> str:
-    """A hazard as a sentence."""
+    """Returns a hazard as a sentence."""
     return HAZARDS[hazard[0]].format(plant.name(hazard[1]))
 
 
@@ -45,63 +45,63 @@ def event_words(plant: Plant, before: State, event: tuple[str, int], after: Stat
 
 
 def mark_words(_, __, route):
-    """A route is requested."""
+    """Describes a route's request."""
     return f"Route {route.name} is requested."
 
 
 def allocate_words(plant, _, route):
-    """What a route locks."""
+    """Describes a route's locks."""
     words = f"Route {route.name} locks {join(plant.name(x) for x in route.locked)}"
     called = [f"{plant.name(x)} to {position}" for x, position in route.wanted]
     return f"{words} and commands points {join(called)}." if called else f"{words}."
 
 
 def lock_words(plant, _, route):
-    """A route's entry board opens."""
+    """Describes the opening of a route's entry board."""
     return f"Route {route.name} is locked: board {plant.boards[route.source].name} opens."
 
 
 def sense_words(plant, before, route):
-    """What is detected."""
+    """Describes the detection."""
     x = route.path[before.seen[route.number]]
     return f"A train is detected in {plant.name(x)}, on the path of route {route.name}."
 
 
 def release_words(plant, before, route):
-    """What is released behind a train."""
+    """Describes the release behind a train."""
     x = route.path[before.rel[route.number]]
     return f"Route {route.name} releases {plant.name(x)}, which the train has left."
 
 
 def finish_words(plant, _, route):
-    """What is released at the end."""
+    """Describes the release at the end."""
     rest = join(plant.name(x) for x in (route.path[-1], *route.beside))
     return f"Route {route.name} is finished and releases {rest}."
 
 
 def cancel_words(_, before, route):
-    """A route is cancelled."""
+    """Describes a route's cancellation."""
     more = " and releases its sections" if before.mode[route.number] == "allocating" else ""
     return f"Route {route.name} is cancelled{more}."
 
 
 def throw_words(plant, before, _, x):
-    """Points start to move."""
+    """Describes the start of points' movement."""
     return f"Points {plant.name(x)} start to move to {before.to[x]}."
 
 
 def settle_words(plant, _, after, x):
-    """Points reach their position."""
+    """Describes the end of points' movement."""
     return f"Points {plant.name(x)} are detected in position {after.at[x]}."
 
 
 def enter_words(plant, _, __, x):
-    """A train enters."""
+    """Describes a train's entry."""
     return f"A train that runs {plant.inward[x]} enters at {plant.name(x)}."
 
 
 def head_words(plant, before, after, x):
-    """A train's front moves on."""
+    """Describes a move of a train's front."""
     place = next(i for i, (_, body) in enumerate(before.trains) if body[-1] == x)
     direction, body = after.trains[place]
     board = plant.board_on.get((x, direction))
@@ -110,12 +110,12 @@ def head_words(plant, before, after, x):
 
 
 def tail_words(plant, _, __, x):
-    """A train's rear follows."""
+    """Describes a move of a train's rear."""
     return f"The rear of a train leaves {plant.name(x)}."
 
 
 def leave_words(plant, _, __, x):
-    """A train leaves."""
+    """Describes a train's exit."""
     return f"The train in {plant.name(x)} leaves the area."
 
 
@@ -127,7 +127,7 @@ SECTION_WORDS = {"throw": throw_words, "settle": settle_words, "enter": enter_wo
 
 
 def state_words(plant: Plant, state: State) -> str:
-    """The routes that are in use, and the points that are not in their commanded position."""
+    """Returns the routes in use, and the points out of their commanded position."""
     words = []
     for r, route in enumerate(plant.routes):
         if state.mode[r] != "free":
@@ -143,8 +143,8 @@ def state_words(plant: Plant, state: State) -> str:
 
 
 def verdict_words(answer: Answer, is_found: bool = False) -> str:
-    """What an answer of verify means, in a sentence or two. `is_found` tells that the search found
-    a run to a hazard beside it."""
+    """Returns the meaning of verify's answer, in a sentence or two. `is_found`: the search also
+    found a run to a hazard."""
     kind = answer.line.partition(" ")[0]
     if is_found and kind in ("breach", "not", "spent"):
         return ("This answer alone leaves open whether a run from the initial state ends in a "
@@ -177,13 +177,13 @@ def verdict_words(answer: Answer, is_found: bool = False) -> str:
 
 
 def has_trains(plant: Plant, state: State, x: int) -> str:
-    """Which trains are in a section."""
+    """Returns the trains in a section, in words."""
     return join(f"a train that runs {direction} is in {join(plant.name(y) for y in body)}"
                 for direction, body in state.trains if x in body)
 
 
 def kept_by(holders: list[str]) -> str:
-    """Which routes have a section locked."""
+    """Returns the routes that have a section locked, in words."""
     if not holders:
         return "no route has it locked"
     return f"route {holders[0]} has it locked" if len(holders) == 1 \

@@ -1,9 +1,10 @@
-"""The demands of an event that a state doesn't meet, by names: why the event isn't enabled. It is
-the page's own, by the table of docs/reference/model.md, and the counterpart of `events.py`: an
-event is enabled exactly if it has no unmet demand.
+"""The unmet demands of an event: why it is not enabled.
 
-Each function of DEMANDS takes a plant, a state and a number, and yields the unmet demands: each as
-what the state has, and as what is waited for, or None if waiting is of no use. """
+This is the page's own reading of the table of docs/reference/model.md, and the counterpart of
+`events.py`: an event is enabled exactly if all its demands are met.
+
+Each function of DEMANDS takes a plant, a state and a number, and yields unmet demands. A demand
+names what the state has, and what is waited for (`None` if waiting does not help)."""
 
 from __future__ import annotations
 
@@ -20,31 +21,31 @@ Demand = namedtuple("Demand", "unmet awaited")
 
 
 def unmet(plant: Plant, state: State, event: tuple[str, int]) -> list[Demand]:
-    """The demands of an event that a state doesn't meet."""
+    """Returns an event's unmet demands."""
     return list(DEMANDS[event[0]](plant, state, event[1]))
 
 
 def unmet_words(plant: Plant, state: State, event: tuple[str, int]) -> str:
-    """These demands as a sentence lists them."""
+    """Returns these demands as a list in words."""
     return "; ".join(demand.unmet for demand in unmet(plant, state, event))
 
 
 def in_mode(plant, state, r, *modes):
-    """A route is to be in one of some modes."""
+    """Demands that a route is in one of `modes`."""
     if state.mode[r] not in modes:
         yield Demand(f"route {plant.routes[r].name} is {state.mode[r]}, not {join(modes, 'or')}",
                      None)
 
 
 def vacant(plant, state, x, what="section"):
-    """A section is to have no train."""
+    """Demands that a section has no train."""
     if state.on[x]:
         yield Demand(f"{what} {plant.name(x)} is occupied: {has_trains(plant, state, x)}",
                      f"{plant.name(x)}, which a train occupies")
 
 
 def unlocked(plant, state, x):
-    """A section's lock is to be free."""
+    """Demands that a section's lock is free."""
     if state.lock[x] != "free":
         holders = [plant.routes[r].name for r, _ in held_places(plant, state).get(x, [])]
         yield Demand(f"the lock of section {plant.name(x)} is {state.lock[x]}, not free: "
@@ -53,7 +54,7 @@ def unlocked(plant, state, x):
 
 
 def locked_as(plant, state, x, lock):
-    """A section's lock is to be this one."""
+    """Demands that a section's lock is `lock`."""
     if state.lock[x] != lock:
         yield Demand(f"the lock of section {plant.name(x)} is {state.lock[x]}, not {lock}", None)
 

@@ -1,9 +1,9 @@
 """The page's own model of the thirteen events and of hazards, by the table of
 docs/reference/model.md.
 
-No answer depends on it: it draws what happens and searches for runs, and `irv replay` answers each
-run that is shown. Each function of EVENTS changes a state in place and returns True, or returns
-False and changes nothing: the event isn't enabled. """
+No answer depends on it. It draws events and searches for runs; `irv replay` answers each shown run.
+Each function of EVENTS changes a state and returns True, or returns False and changes nothing if
+the event is not enabled."""
 
 from __future__ import annotations
 
@@ -14,7 +14,7 @@ from irvtools.model.state import State
 
 
 def mark(_, state, r):
-    """A route is requested."""
+    """Requests a route."""
     if state.mode[r] != "free":
         return False
     state.mode[r] = "marked"
@@ -22,7 +22,7 @@ def mark(_, state, r):
 
 
 def allocate(plant, state, r):
-    """A route locks its sections and commands its points."""
+    """Locks a route's sections and commands its points."""
     route = plant.routes[r]
     mode, lock, on = state.mode, state.lock, state.on
     if mode[r] != "marked":
@@ -40,7 +40,7 @@ def allocate(plant, state, r):
 
 
 def lock_route(plant, state, r):
-    """A route whose points are in position opens its entry board."""
+    """Opens the entry board of a route with points in position."""
     route = plant.routes[r]
     if state.mode[r] != "allocating":
         return False
@@ -57,7 +57,7 @@ def lock_route(plant, state, r):
 
 
 def sense(plant, state, r):
-    """The next section of a route's path is detected as occupied."""
+    """Detects the next section of a route's path as occupied."""
     route, seen = plant.routes[r], state.seen[r]
     if state.mode[r] not in ("locked", "occupied") or seen >= len(route.path):
         return False
@@ -73,7 +73,7 @@ def sense(plant, state, r):
 
 
 def release(plant, state, r):
-    """The first locked section of a route's path is released behind the train."""
+    """Releases the first locked section of a path behind the train."""
     rel = state.rel[r]
     if state.mode[r] != "occupied" or rel + 2 > state.seen[r]:
         return False
@@ -86,7 +86,7 @@ def release(plant, state, r):
 
 
 def finish(plant, state, r):
-    """A route whose path was used releases all that it still has."""
+    """Releases all that a used route still holds."""
     route = plant.routes[r]
     length = len(route.path)
     if state.mode[r] != "occupied" or state.seen[r] != length or state.rel[r] + 1 != length:
@@ -98,7 +98,7 @@ def finish(plant, state, r):
 
 
 def cancel(plant, state, r):
-    """A route that isn't locked yet is cancelled."""
+    """Cancels a route that is not locked yet."""
     if state.mode[r] not in ("marked", "allocating"):
         return False
     if state.mode[r] == "allocating":
@@ -109,7 +109,7 @@ def cancel(plant, state, r):
 
 
 def throw(plant, state, x):
-    """Points start to move to their commanded position."""
+    """Starts points moving to their commanded position."""
     if not plant.sections[x].is_point or state.at[x] in ("moving", state.to[x]):
         return False
     state.at[x] = "moving"
@@ -117,7 +117,7 @@ def throw(plant, state, x):
 
 
 def settle(plant, state, x):
-    """Moving points reach their position."""
+    """Ends the movement of points."""
     if not plant.sections[x].is_point or state.at[x] != "moving":
         return False
     state.at[x] = state.to[x]
@@ -125,7 +125,7 @@ def settle(plant, state, x):
 
 
 def enter(plant, state, x):
-    """A train comes in at a border."""
+    """Lets a train enter at a border."""
     inward = plant.inward.get(x)
     if inward is None or state.on[x] or state.lock[x] != "free":
         return False
@@ -134,7 +134,7 @@ def enter(plant, state, x):
 
 
 def ahead(plant: Plant, state: State, x: int, direction: str) -> int | None:
-    """The section ahead, or None."""
+    """Returns the section ahead, or `None`."""
     section = plant.sections[x]
     if not section.is_point:
         return section.neighbours.get(direction)
@@ -144,7 +144,7 @@ def ahead(plant: Plant, state: State, x: int, direction: str) -> int | None:
 
 
 def head(plant, state, x):
-    """A train's head moves to the section ahead."""
+    """Moves a train's front to the section ahead."""
     train = next((train for train in state.trains if train[1][-1] == x), None)
     if train is None:
         return False
@@ -161,7 +161,7 @@ def head(plant, state, x):
 
 
 def tail(_, state, x):
-    """A train's tail leaves its section."""
+    """Moves a train's rear out of its section."""
     for _, body in state.trains:
         if len(body) > 1 and body[0] == x:
             body.pop(0)
@@ -171,7 +171,7 @@ def tail(_, state, x):
 
 
 def leave(plant, state, x):
-    """A train leaves the network."""
+    """Lets a train leave the network."""
     for number, (direction, body) in enumerate(state.trains):
         if body == [x]:
             if plant.nexts[x, direction]:
@@ -187,12 +187,12 @@ EVENTS = {"mark": mark, "allocate": allocate, "lock": lock_route, "sense": sense
 
 
 def apply(plant: Plant, state: State, event: tuple[str, int]) -> bool:
-    """Does an event in place, where it is enabled; answers whether it was."""
+    """Applies an event to a state; returns whether it is enabled."""
     return EVENTS[event[0]](plant, state, event[1])
 
 
 def strays(plant, state, x, body):
-    """Whether a body's section next to a point on it is the leg at which the point doesn't lie."""
+    """Returns whether a body leads over the leg of points `x` that does not match their position."""
     legs = plant.sections[x].neighbours
     wrong = legs["minus" if state.at[x] == "plus" else "plus"]
     place = body.index(x)
@@ -200,7 +200,7 @@ def strays(plant, state, x, body):
 
 
 def hazard(plant: Plant, state: State) -> tuple[str, int] | None:
-    """The hazard of the least section, Two before Wrong, as its word and the section; or None."""
+    """Returns the hazard of the lowest section, Two before Wrong, as word and section; or `None`."""
     for x, trains in enumerate(state.on):
         if trains > 1:
             return "two", x
@@ -212,8 +212,8 @@ def hazard(plant: Plant, state: State) -> tuple[str, int] | None:
 
 def replayed(plant: Plant, events: Iterable[tuple[str, int]],
              state: State | None = None) -> list[State] | None:
-    """The states of a run from a state, or from the start, one after each event; None where it is
-    no run."""
+    """Returns a run's states from a state or the start, one after each event; `None` if it is not a
+    run."""
     states = [State(plant) if state is None else state.copy()]
     for event in events:
         after = states[-1].copy()

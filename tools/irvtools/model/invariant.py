@@ -1,9 +1,7 @@
-"""The page's own reading of the nine families of the invariant, by docs/reference/model.md, in
-words.
+"""The page's own reading of the invariant's nine families, by docs/reference/model.md.
 
-Each function of FAMILIES yields how a state violates its family: a sentence, with the sections and
-the boards that it is about. No command of `irv` names the families of a state, so the page marks as
-its own what it says by them. """
+Each function of FAMILIES yields a state's violations of its family: a sentence, with sections and
+boards. No command of `irv` names a state's families, so the page marks these as its own."""
 
 from __future__ import annotations
 
@@ -15,8 +13,8 @@ HOLDING = ("allocating", "locked", "occupied")
 
 
 def held_places(plant: Plant, state: State) -> dict[int, list[tuple[int, int | None]]]:
-    """For each section the routes that hold it, each with the place on its path, or None beside
-    it."""
+    """Returns for each section the routes that hold it, each with the index in its path, or `None`
+    beside it."""
     places = {}
     for r, route in enumerate(plant.routes):
         if state.mode[r] in HOLDING:
@@ -84,8 +82,7 @@ def position_words(state, x):
 
 
 def broken_v6(plant, state):
-    """Points of a path are commanded as they are listed, and in that position once the route is
-    locked."""
+    """Points of a path are commanded as listed, and in that position once the route is locked."""
     for r, route in enumerate(plant.routes):
         for x, position in route.points:
             if x not in route.path or state.mode[r] not in HOLDING:
@@ -99,12 +96,12 @@ def broken_v6(plant, state):
 
 
 def is_plain(plant, x, direction):
-    """Whether nothing stops a train at the end of a section: no board, and a way on."""
+    """Returns whether nothing stops a train at a section's end: no board, and the line goes on."""
     return (x, direction) not in plant.board_on and bool(plant.nexts[x, direction])
 
 
 def is_led(plant, state, x, direction):
-    """Whether a route leads a train's head on from a section."""
+    """Returns whether a route leads a train's front on from a section."""
     for r, route in enumerate(plant.routes):
         passed = state.mode[r] == "occupied" or (
             state.mode[r] == "locked" and state.aspect[route.source] == "closed")
@@ -126,13 +123,13 @@ def broken_v7(plant, state):
 
 
 def is_kept_for(plant, state, x, direction):
-    """Whether a route in a train's direction keeps a section of its body for it."""
+    """Returns whether a route in a train's direction holds a section of its body."""
     return any(route.direction == direction and state.mode[r] in ("locked", "occupied")
                and x in route.path[state.rel[r]:] for r, route in enumerate(plant.routes))
 
 
 def broken_v8(plant, state):
-    """What a train occupies where no board stops it is locked by a route."""
+    """A route locks each section that a train occupies, unless a board stops the train there."""
     for direction, body in state.trains:
         for x in body:
             if is_plain(plant, x, direction) and not is_kept_for(plant, state, x, direction):
@@ -156,11 +153,11 @@ FAMILIES = {"V1": broken_v1, "V2": broken_v2, "V3": broken_v3, "V4": broken_v4, 
 
 
 def broken(plant: Plant, state: State) -> list[tuple[str, str, list[int], list[int]]]:
-    """How a state violates the families, the least first: family, sentence, sections, boards."""
+    """Returns the violations of the families, lowest first: family, sentence, sections, boards."""
     return [(family, *what) for family, find in FAMILIES.items() for what in find(plant, state)]
 
 
 def meets(plant: Plant, state: State) -> bool:
-    """Whether a state meets the invariant. It has the shape, since it is one of this model."""
+    """Returns whether a state meets the invariant. States of this model are always well-formed."""
     return hazard(plant, state) is None and not any(
         next(find(plant, state), None) for find in FAMILIES.values())

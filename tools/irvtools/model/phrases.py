@@ -18,16 +18,16 @@ def join(words: Iterable[str], last: str = "and") -> str:
 
 
 def point_word(listed: dict[str, str]) -> str:
-    """A listed point with the sign of its position."""
+    """Returns a listed point with the sign of its position."""
     return listed["point"] + SIGNS[listed["position"]]
 
 
 def list_words(listed: list[str] | list[dict[str, str]]) -> list[str]:
-    """The words of a list: names, or points with the signs of their positions."""
+    """Returns the words of a list: names, or points with the signs of their positions."""
     return [one if isinstance(one, str) else point_word(one) for one in listed]
 
 
 def way_words(plant: Plant, x: int, side: str) -> str:
-    """What is next to a section, in words."""
+    """Returns the neighbours of a section on a side, in words."""
     names = [plant.name(y) for y in plant.next_to(x, side)]
     return join(names, "or") if names else "nothing"

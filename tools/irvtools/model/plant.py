@@ -1,9 +1,9 @@
-"""A configuration as a plant: its sections, boards and routes by their numbers, as
-docs/reference/model.md counts them.
+"""A configuration as a plant: sections, boards and routes by number, as docs/reference/model.md
+counts them.
 
-It is read leniently, so that a plan can be drawn of a network that breaks rules too: a name that
-nothing has is None, and a name that several have stands for the first. The events of `events.py`
-are asked only of plants that `irv check --columns free` answers with `clean`.
+A network that breaks rules is read too, to draw its plan. An unknown name is `None`; a duplicate
+name means the first. The events of `events.py` need a plant that `irv check --columns free` answers
+with `clean`.
 """
 
 OPPOSITE = {"down": "up", "up": "down"}
@@ -11,7 +11,7 @@ OTHER_LEG = {"plus": "minus", "minus": "plus"}
 
 
 class Section:
-    """A linear section or a point. `ends` are its neighbours, each with side, leg and name."""
+    """A linear section or points. `ends` are its neighbours, each with side, leg and name."""
 
     def __init__(self, number, member):
         self.number = number
@@ -28,19 +28,19 @@ class Section:
         self.neighbours = {}    # by leg, or by side for a linear section: the number, or None
 
     def key_of(self, side, leg):
-        """What an end is called in `neighbours`."""
+        """Returns the key of an end in `neighbours`."""
         return leg if self.is_point else side
 
 
 class Board:
-    """A marker board: its section and the direction of the trains that it stands for."""
+    """A marker board: its section and the direction of its trains."""
 
     def __init__(self, number, name, section, direction):
         self.number, self.name, self.section, self.direction = number, name, section, direction
 
 
 class Route:
-    """A row of the table, by numbers; what nothing is called so is None."""
+    """A row of the table, by numbers; an unknown name is `None`."""
 
     def __init__(self, number, member, plant):
         self.number, self.member, self.name = number, member, member["name"]
@@ -61,12 +61,12 @@ class Route:
 
 
 def listed(members, sections):
-    """The points of a list, each with its position."""
+    """Returns the points of a list with their positions."""
     return [(sections.get(member["point"]), member["position"]) for member in members]
 
 
 def first_named(things):
-    """The number of the first of each name."""
+    """Returns the number of the first of each name."""
     numbers = {}
     for number, thing in enumerate(things):
         numbers.setdefault(thing if isinstance(thing, str) else thing.name, number)
@@ -85,7 +85,7 @@ class Plant:
             for side, leg, name in section.ends:
                 section.neighbours[section.key_of(side, leg)] = self.section_named.get(name)
         self.boards = []
-        self.board_on = {}      # section and direction: the board's number
+        self.board_on = {}      # the board's number, by section and direction
         for section, member in zip(self.sections, document["sections"]):
             for direction in ("down", "up"):
                 self.add_board(section, direction, member.get("board_" + direction))
@@ -94,32 +94,32 @@ class Plant:
         self.routes = [Route(number, member, self)
                        for number, member in enumerate(document["routes"])]
         self.points = [section.number for section in self.sections if section.is_point]
-        # for each section and direction: the sections next to it, and the board
+        # the sections next to each section in each direction, and the board
         self.nexts = {(x, side): self.next_to(x, side)
                       for x in range(len(self.sections)) for side in OPPOSITE}
-        # each border, with the direction in which a train comes in there
+        # each border, with the inward direction
         self.inward = {x: side for x, section in enumerate(self.sections) for side in OPPOSITE
                        if not section.is_point and self.nexts[x, side]
                        and not self.nexts[x, OPPOSITE[side]]}
 
     def add_board(self, section, direction, name):
-        """Counts a board, where there is one."""
+        """Adds a board, if there is one."""
         if name is not None:
             self.board_on[section.number, direction] = len(self.boards)
             self.boards.append(Board(len(self.boards), name, section.number, direction))
 
     def next_to(self, x, side):
-        """The sections next to a section on a side that names it: of a point that faces there plus,
+        """Returns the sections next to a section on a side that names it; for facing points plus,
         then minus."""
         return [self.section_named[name] for at, _, name in self.sections[x].ends
                 if at == side and name in self.section_named]
 
     def name(self, x):
-        """A section's name."""
+        """Returns a section's name."""
         return self.sections[x].name
 
     def leg_to(self, x, other):
-        """The leg of a point at which another section lies, if any."""
+        """Returns the leg of points at which another section is, if any."""
         for leg, neighbour in self.sections[x].neighbours.items():
             if neighbour == other:
                 return leg

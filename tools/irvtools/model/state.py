@@ -1,6 +1,6 @@
-"""The state of a plant, and its text: what docs/reference/formats.md says of the lines of a run.
+"""A plant's state, and its text by docs/reference/formats.md.
 
-An event is a pair of its word and a number: of a route, or of a section.
+An event is a pair: its word and the number of a route or section.
 """
 
 from __future__ import annotations
@@ -13,13 +13,12 @@ ROUTE_WORDS = ("mark", "allocate", "lock", "sense", "release", "finish", "cancel
 
 
 class State:
-    """All that changes, in lists by number. `on` counts for each section the trains that have
-    it."""
+    """All that changes, in lists by number. `on` counts the trains in each section."""
 
     __slots__ = ("mode", "seen", "rel", "at", "to", "aspect", "lock", "trains", "on")
 
     def __init__(self, plant):
-        """The start."""
+        """Begins in the initial state."""
         routes, sections = len(plant.routes), len(plant.sections)
         self.mode = ["free"] * routes
         self.seen = [0] * routes
@@ -28,11 +27,11 @@ class State:
         self.to = ["plus"] * sections
         self.aspect = ["closed"] * len(plant.boards)
         self.lock = ["free"] * sections
-        self.trains = []        # of each its direction and its body, from tail to head
+        self.trains = []        # each with direction and body, from tail to head
         self.on = [0] * sections
 
     def copy(self):
-        """The same, apart from this one."""
+        """Returns an independent copy."""
         other = State.__new__(State)
         for part in State.__slots__:
             setattr(other, part, getattr(self, part)[:])
@@ -40,32 +39,32 @@ class State:
         return other
 
     def add_train(self, direction, body):
-        """A train more, at the end of the list."""
+        """Adds a train at the end of the list."""
         self.trains.append((direction, body))
         for x in body:
             self.on[x] += 1
 
     def drop_train(self, number):
-        """A train less."""
+        """Removes a train."""
         for x in self.trains.pop(number)[1]:
             self.on[x] -= 1
 
 
 def event_line(plant: Plant, event: tuple[str, int]) -> str:
-    """An event as a line of a run."""
+    """Returns an event as a line of a run."""
     word, number = event
     things = plant.routes if word in ROUTE_WORDS else plant.sections
     return f"{word} {things[number].name}"
 
 
 def read_event(plant: Plant, line: str) -> tuple[str, int]:
-    """The event of a line."""
+    """Returns the event of a line."""
     word, name = line.split(" ")
     return word, (plant.route_named if word in ROUTE_WORDS else plant.section_named)[name]
 
 
 def state_lines(plant: Plant, state: State) -> list[str]:
-    """A state's lines."""
+    """Returns a state's lines."""
     lines = [f"route {route.name} {state.mode[r]} {state.seen[r]} {state.rel[r]}"
              for r, route in enumerate(plant.routes)]
     lines += [f"point {plant.name(x)} {state.at[x]} {state.to[x]}" for x in plant.points]
@@ -77,14 +76,14 @@ def state_lines(plant: Plant, state: State) -> list[str]:
 
 
 def run_text(plant: Plant, events: Iterable[tuple[str, int]], state: State | None = None) -> str:
-    """The text of a run: from the start, or from a state."""
+    """Returns the text of a run from the start, or from a state."""
     first = ["start"] if state is None else ["state", *state_lines(plant, state), "events"]
     lines = ["run 1", *first, *(event_line(plant, event) for event in events), "end"]
     return "".join(f"{line}\n" for line in lines)
 
 
 def read_state_line(plant: Plant, state: State, words: list[str]) -> None:
-    """Takes a line of a state into it."""
+    """Reads a line of a state into it."""
     kind, name, *rest = words
     if kind == "route":
         r = plant.route_named[name]
@@ -101,8 +100,8 @@ def read_state_line(plant: Plant, state: State, words: list[str]) -> None:
 
 
 def read_run(plant: Plant, text: str) -> tuple[State | None, list[tuple[str, int]]]:
-    """The state in which a run begins, None for the start, and its events. The text is one that
-    `irv` printed or read."""
+    """Returns a run's first state (`None` for the start) and events. `irv` must have printed or
+    read the text."""
     lines = text.split("\n")
     state, place = None, 2
     if lines[1] == "state":

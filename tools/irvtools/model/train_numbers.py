@@ -1,11 +1,10 @@
-"""The numbers of trains along a run: each train is counted when it enters."""
+"""Train numbers along a run, in order of entry."""
 
 from __future__ import annotations
 
 
 def numbered(states: list, events: list) -> list:
-    """Returns for each state of a run the numbers of its trains, in the order of its list of
-    trains."""
+    """Returns each state's train numbers, in list order."""
     numbers = list(range(1, len(states[0].trains) + 1))
     count, found = len(numbers), [numbers]
     for before, (word, x) in zip(states, events):

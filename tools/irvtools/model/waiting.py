@@ -1,5 +1,5 @@
-"""What each train and each route in use waits for, in a state without an automatic event: the
-page's own reading, by the demands of the event that would be next."""
+"""Why trains and routes in use wait, in a state without an automatic event. This is the page's own
+reading, by the next event's demands."""
 
 from __future__ import annotations
 
@@ -12,7 +12,7 @@ AWAITED = {"marked": "allocate", "allocating": "lock"}      # a route's next eve
 
 
 def next_event(plant, state, r):
-    """The event that a route in use waits for."""
+    """Returns the awaited event of a route in use."""
     if state.mode[r] in AWAITED:
         return AWAITED[state.mode[r]], r
     path = plant.routes[r].path
@@ -22,7 +22,7 @@ def next_event(plant, state, r):
 
 
 def route_wait(plant, state, r):
-    """What a route in use waits for, as a sentence."""
+    """Returns a sentence on what a route in use waits for."""
     name = plant.routes[r].name
     board = plant.boards[plant.routes[r].source].name
     if state.mode[r] == "locked":
@@ -39,7 +39,7 @@ def route_wait(plant, state, r):
 
 
 def train_wait(plant, state, train):
-    """What a train waits for, as a sentence."""
+    """Returns a sentence on what a train waits for."""
     direction, body = train
     head = body[-1]
     where = f"The train in {join(plant.name(x) for x in body)}, which runs {direction},"
@@ -59,6 +59,6 @@ def train_wait(plant, state, train):
 
 
 def waiting(plant: Plant, state: State) -> list[str]:
-    """What each train and each route in use waits for: sentences."""
+    """Returns such sentences for all trains and routes in use."""
     return ([train_wait(plant, state, train) for train in state.trains]
             + [route_wait(plant, state, r) for r in range(len(plant.routes)) if state.mode[r] != "free"])

@@ -1,1 +1,1 @@
-"""Mutants of functions, each of which the prover has to refuse."""
+"""Mutants of functions, which the prover must refuse."""

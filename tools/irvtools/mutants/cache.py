@@ -1,4 +1,4 @@
-"""Which edits were refused on this machine already, over the same sources."""
+"""A cache of refused mutants, for the same sources on this machine."""
 
 import hashlib
 import json
@@ -7,12 +7,12 @@ import tempfile
 from pathlib import Path
 
 OWN = Path(__file__).resolve().parent
-JUDGES = ("edits", "functions", "prover_output", "rounds")     # the modules by which a mutant is judged
+JUDGES = ("edits", "functions", "prover_output", "rounds")     # the modules that judge a mutant
 
 
 class Tried:
-    """What is kept of earlier runs: a file for each edit that was refused, named by the sum of all that
-    its trial read. What can't be kept is tried again."""
+    """The cache: a file for each refused mutant, named by the checksum of all that its test read.
+    Uncached mutants are tested again."""
 
     def __init__(self, toolchain):
         home = os.environ.get("XDG_CACHE_HOME") or os.path.expanduser("~/.cache")
@@ -24,12 +24,12 @@ class Tried:
         self.own = own.hexdigest()
 
     def key(self, edit, crate_sum):
-        """The name of what is kept of an edit."""
+        """Returns the name of a mutant's cache file."""
         text = repr((self.own, crate_sum, edit.name, edit.changes))
         return hashlib.sha256(text.encode()).hexdigest()
 
     def has(self, key):
-        """Whether this was refused before."""
+        """Returns whether this was refused before."""
         try:
             told = json.loads((self.folder / key).read_text())
             return told["key"] == key and self.folder.stat().st_uid == os.geteuid()
@@ -37,7 +37,7 @@ class Tried:
             return False
 
     def keep(self, key, edit, reason):
-        """Keeps that an edit was refused."""
+        """Caches that a mutant was refused."""
         try:
             self.folder.mkdir(mode=0o700, parents=True, exist_ok=True)
             with tempfile.NamedTemporaryFile("w", dir=self.folder, delete=False) as file:

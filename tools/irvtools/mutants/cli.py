@@ -1,10 +1,10 @@
-"""The command line of `tools/mutants`: tries mutants of functions, each of which the prover has to refuse.
+"""The command line of `tools/mutants`: tests mutants of functions, which the prover must refuse.
 
-A function's proof depends on the contracts of what it calls and never on their bodies, so mutants of
-different functions are tried in one check that goes past what is not proved. A mutant counts as refused only
-if its own function is not proved, because of a goal of its own. A mutant whose goals are all proved is tried
-by itself. One that cannot be read, or that only takes away a name that a proof file has, is a bad edit. What
-was refused over the same sources is not tried again on this machine.
+A function's proof depends on its callees' contracts, never on their bodies. So one check that
+continues past failed proofs tests mutants of different functions together. A mutant counts as
+refused only if its own function is not proved because of its own goal. If its own goals are proved,
+it is tested alone. A mutant is a bad edit if it is unreadable, or only removes a name that a proof
+file uses. Mutants refused over the same sources are not tested again on this machine.
 """
 
 import tempfile
@@ -22,8 +22,7 @@ FOLDERS = ("mutants", "must-fail")
 
 
 def files_of(crates, words):
-    """The files of the edits that the words name, by crate; all that `rt ci` doesn't try where they name
-    none."""
+    """Returns the named mutants' files by crate, or otherwise all that `rt ci` does not test."""
     found = {}
     for word in words or [it for it in crates.rows if (crates.folder(it) / FOLDERS[0]).is_dir()]:
         crate, _, edit = word.partition("/")
@@ -39,7 +38,7 @@ def files_of(crates, words):
 
 
 def read_all(crates, files):
-    """The edits of each crate, and what is wrong with those that can't be read."""
+    """Returns each crate's mutants, and the faults of unreadable ones."""
     edits, bad = {}, []
     for crate, listed in files.items():
         sources = crates.sources(crate)
@@ -54,7 +53,7 @@ def read_all(crates, files):
 
 
 def report(trial, done, says):
-    """Prints what came of a crate's edits; those that weren't refused."""
+    """Prints the results for a crate's mutants; returns those not refused."""
     failed = []
     for edit, told in done.items():
         if told[0] == REFUSED:
@@ -69,8 +68,8 @@ def report(trial, done, says):
 
 
 def try_left(crates, left, toolchain, is_alone, says, keep):
-    """Tries the edits of each crate, some crates at once; what came of them. What was refused is kept as
-    soon as its crate is done."""
+    """Tests each crate's mutants, some crates at once; returns the results. Refusals are cached
+    when their crate is done."""
     done = {}
     with tempfile.TemporaryDirectory(prefix="irv-mutants-") as folder:
         room = Path(folder)
@@ -93,7 +92,7 @@ def try_left(crates, left, toolchain, is_alone, says, keep):
 
 
 def parser():
-    """Returns the parser of the command line."""
+    """Returns the command-line parser."""
     line = Parser("tools/mutants", "Tries mutants, many in one check, and sees that the prover refuses each. The "
                   "libraries below are those that\n`rt ci` keeps: run it before. The last line is `N passed, M "
                   "failed`; the exit status is 0 only if every mutant was\nrefused.", 2,
@@ -106,7 +105,7 @@ def parser():
 
 
 def main(words):
-    """Tries the mutants that the arguments name; returns the exit status."""
+    """Tests the named mutants; returns the exit status."""
     given = parser().parse_args(words)
     crates, toolchain = Crates(), Toolchain()
     edits, bad = read_all(crates, files_of(crates, given.names))

@@ -1,4 +1,4 @@
-"""The toolchain, the crates, and the libraries that a crate's check stands on."""
+"""The toolchain, the crates, and the libraries for a crate's check."""
 
 import hashlib
 import os
@@ -13,11 +13,11 @@ FLAGS = ("--only", "--allow-holes", "--incremental", "--logic-built")
 
 
 class Unproved(Exception):
-    """Why the libraries that edits are tried over aren't there."""
+    """Libraries for mutants are missing; the message says why."""
 
 
 def said_by(*words, **how):
-    """What a command prints, or nothing where it isn't there."""
+    """Returns a command's output; nothing if it does not exist."""
     try:
         done = subprocess.run(words, stdin=subprocess.DEVNULL, stdout=subprocess.PIPE,
                               stderr=subprocess.STDOUT, errors="replace", **how)
@@ -27,7 +27,7 @@ def said_by(*words, **how):
 
 
 class Toolchain:
-    """The toolchain that `rt` is of."""
+    """The toolchain of `rt`."""
 
     def __init__(self):
         page = said_by("rt", "doc").strip()
@@ -36,8 +36,8 @@ class Toolchain:
         self.version = said_by("rt", "version").strip()
 
     def lacks(self):
-        """What edits need and this toolchain doesn't have, if anything: a check of single functions past
-        what isn't proved, and an `rt ci` that keeps what it proved."""
+        """Returns the feature that mutants need and this toolchain lacks, if any: a check of single
+        functions past failed proofs, or an `rt ci` that caches proofs."""
         told = said_by(str(self.prover), "check", "--help")
         missing = [flag for flag in FLAGS if flag not in told]
         if missing:
@@ -46,7 +46,7 @@ class Toolchain:
 
 
 class Crates:
-    """The crates of the repository, as crates.txt has them."""
+    """The crates of crates.txt."""
 
     def __init__(self, top=TOP):
         text = (top / "crates.txt").read_text()
@@ -56,11 +56,11 @@ class Crates:
                      if not name.startswith("#")}
 
     def folder(self, name):
-        """A crate's folder."""
+        """Returns a crate's directory."""
         return self.top / "crates" / name
 
     def below(self, name):
-        """The crates of the repository below a crate, each after those that it stands on."""
+        """Returns a crate's dependencies, each after its own."""
         if name not in self.lower:
             found = {}
             for low in self.rows[name]:
@@ -70,13 +70,13 @@ class Crates:
         return self.lower[name]
 
     def sources(self, name):
-        """The texts of a crate's files of code, by path."""
+        """Returns a crate's code texts, by path."""
         folder = self.folder(name)
         return {str(file.relative_to(folder)): file.read_text()
                 for file in sorted((folder / "src").rglob("*.rt"))}
 
     def sum(self, name):
-        """A sum of all that a check of the crate reads of the repository."""
+        """Returns a checksum of the repository files that a crate's check reads."""
         found = hashlib.sha256(repr((name, self.rows[name])).encode())
         for crate in [*self.below(name), name]:
             for part in PARTS:
@@ -87,8 +87,8 @@ class Crates:
         return found.hexdigest()
 
     def lay_out(self, names, room):
-        """Copies crates to a room, in which `rt ci` proves these alone: without their mutants, and
-        without what was made of them."""
+        """Copies crates to a directory in which `rt ci` proves only these, without mutants and
+        built files."""
         for crate in names:
             shutil.copytree(self.folder(crate), room / "crates" / crate,
                             ignore=shutil.ignore_patterns("out", "must-fail", "mutants"))
@@ -97,8 +97,8 @@ class Crates:
             "".join(f"{it}: {' '.join(self.rows[it])}\n" for it in names))
 
     def build_below(self, names, room):
-        """Has `rt ci` make the libraries that these crates stand on in a room: what it proved of the
-        same files on this machine it takes as it is."""
+        """Has `rt ci` build these crates' dependencies in a directory, with cached proofs of the
+        same files."""
         lower = [it for it in self.rows if any(it in self.below(name) for name in names)]
         self.lay_out(lower, room)
         if lower:
@@ -108,7 +108,7 @@ class Crates:
                 raise Unproved(done.stdout[-3000:])
 
     def words(self, name, toolchain, room):
-        """The words of a check of a crate over the libraries in the room."""
+        """Returns the arguments of a crate's check over the directory's libraries."""
         kit, library = toolchain.folder, lambda it: room / "crates" / it / "out/rlib"
         found = [str(toolchain.prover), "check", "--crate-name", name]
         found += ["src/main.rt" if (self.folder(name) / "src/main.rt").exists() else "src/lib.rt"]
@@ -123,7 +123,7 @@ class Crates:
 
 
 def processors():
-    """How many checks this machine bears at once: 3 GiB each."""
+    """Returns this machine's number of parallel checks: 3 GiB each."""
     told = re.search(r"MemAvailable:\s+(\d+)", Path("/proc/meminfo").read_text())
     memory = int(told[1]) // (3 << 20) if told else 1
     return max(1, min(len(os.sched_getaffinity(0)), memory))

@@ -1,7 +1,7 @@
-"""Wrong bodies: what an edit changes in its crate, and in which functions.
+"""Mutants: an edit of a crate, and the functions that it changes.
 
-An edit is a file of lines `file: PATH`, `old: TEXT` and `new: TEXT`, each text one line that stands in
-the file once; further pairs apply to what the earlier ones made.
+An edit is a file of lines `file: PATH`, `old: TEXT` and `new: TEXT`. Each text is one line that the
+file has once; further pairs apply after earlier ones.
 """
 
 import re
@@ -12,13 +12,13 @@ from irvtools.mutants.functions import functions_of
 
 
 class BadEdit(Exception):
-    """Why an edit shows nothing of a contract."""
+    """The reason why an edit tests no contract."""
 
 
 @dataclass(frozen=True)
 class Edit:
-    """An edit: its file, its changes (path, old text, new text), the functions that it changes or adds,
-    and whether all else is as it was for the proofs of other functions."""
+    """An edit: file, changes (path, old text, new text), and the changed or added functions.
+    `is_confined`: other functions' proofs see no change."""
 
     file: Path
     changes: tuple
@@ -27,16 +27,16 @@ class Edit:
 
     @property
     def name(self):
-        """The crate and the edit."""
+        """Returns the crate and the edit."""
         return f"{self.file.parent.parent.name}/{self.file.stem}"
 
     def keys(self):
-        """What no two edits of a round may both change: functions, and cycles of calls."""
+        """Returns the functions and call cycles that no other edit of the round may change."""
         return {f"cycle {it.cycle}" if it.cycle else it.path for it in self.functions}
 
 
 def changes_of(text):
-    """The changes that an edit's text lists."""
+    """Returns the changes in an edit's text."""
     path, old, found = "", None, []
     for line in text.split("\n"):
         word, _, rest = line.partition(":")
@@ -60,7 +60,7 @@ def changes_of(text):
 
 
 def edited(sources, changes):
-    """The texts of the files that the changes touch, as they make them of the sources by path."""
+    """Returns the changed files' texts, from the sources by path."""
     texts = {}
     for path, old, new in changes:
         if path not in sources:
@@ -75,7 +75,7 @@ def edited(sources, changes):
 
 
 def place_of(path, text, old):
-    """The function in which a text stands, if any, and whether it stands in its body."""
+    """Returns the function around a text, if any, and whether the text is in its body."""
     line = text[: text.index(old)].count("\n")
     for function in functions_of(path, text):
         if function.first <= line <= function.last:
@@ -84,7 +84,7 @@ def place_of(path, text, old):
 
 
 def is_named_elsewhere(function, sources):
-    """Whether the code names a function anywhere but where it is declared or handed on."""
+    """Returns whether the code names a function outside declarations and re-exports."""
     uses = (line for text in sources.values() for line in text.split("\n")
             if re.search(rf"\b{function.name}\b", line))
     return any(f"fn {function.name}" not in line and not re.match(r"\s*(?:pub )?use |\s*//", line)
@@ -92,13 +92,13 @@ def is_named_elsewhere(function, sources):
 
 
 def added(path, before, after):
-    """The functions that a file has after a change and hadn't before."""
+    """Returns the functions that a change adds to a file."""
     there = {it.path for it in functions_of(path, before)}
     return [it for it in functions_of(path, after) if it.path not in there]
 
 
 def read_edit(file, sources):
-    """The edit of this file over its crate's sources, by path."""
+    """Returns a file's edit of its crate's sources, by path."""
     changes = changes_of(file.read_text())
     edited(sources, changes)
     texts, functions, is_confined = dict(sources), [], True
@@ -114,8 +114,8 @@ def read_edit(file, sources):
 
 
 def can_share(edits, edit, sources):
-    """Whether an edit can be tried beside others: none of them changes what it changes, or is seen by
-    other functions, and each still finds its text once."""
+    """Returns whether an edit can be tested beside others: no other function sees any of them, no
+    two change the same, and each still finds its text once."""
     if not all(it.is_confined for it in (edit, *edits)) or any(edit.keys() & it.keys() for it in edits):
         return False
     try:
@@ -126,7 +126,7 @@ def can_share(edits, edit, sources):
 
 
 def rounds_of(edits, sources):
-    """Sorts edits into rounds, in each of which they are tried together."""
+    """Sorts edits into rounds that are tested together."""
     rounds = []
     for edit in edits:
         room = next((it for it in rounds if can_share(it, edit, sources)), None)

@@ -1,7 +1,7 @@
-"""The functions of a source file, by the layout that `rt fmt` gives it.
+"""The functions of a source file, by the layout of `rt fmt`.
 
-A function begins at its line with `fn`. Its body begins after the line that is an opening brace as
-far in, or that ends in one, and ends at the first later line that is a closing brace as far in.
+A function begins at its line with `fn`. Its body begins after the line that is, or ends in, an
+opening brace. It ends at the next line that is a closing brace. Both have the indentation of `fn`.
 """
 
 import re
@@ -16,8 +16,8 @@ WORD = re.compile(r"'\w+|\w+")
 
 @dataclass(frozen=True)
 class Function:
-    """A function: its module, the type whose method it is, if any, its name, the numbers of the lines
-    in which it begins, in which its body begins, and in which it ends, and its cycle of calls."""
+    """A function: module, type if a method, name, and cycle of calls. Line numbers: `first`, `body`
+    (the begin of the body) and `last`."""
 
     module: str
     owner: str
@@ -29,23 +29,24 @@ class Function:
 
     @property
     def path(self):
-        """The end of its name as the prover has it: a method stands where its type is declared."""
+        """Returns the end of its prover name: a method belongs to its type's module."""
         return "::".join(filter(None, (self.owner or self.module, self.name)))
 
 
 def module_of(path):
-    """The module of a source file: `src/read/step.rt` is `read::step`, and `src/lib.rt` the root."""
+    """WalkReturns a source file's module: `src/read/step.rt` is `read::step`, and `src/lib.rt` the
+    root."""
     parts = path.removeprefix("src/").removesuffix(".rt").split("/")
     return "" if parts in (["lib"], ["main"]) else "::".join(parts)
 
 
 def before_brackets(text):
-    """What stands before the first angle bracket."""
+    """Returns the text before the first angle bracket."""
     return text.split("<")[0].strip()
 
 
 def after_parameters(head):
-    """A block's header after `impl` and its parameters in angle brackets, if any."""
+    """Returns a block's header after `impl` and any parameters in angle brackets."""
     depth = 0
     for at, sign in enumerate(head):
         depth += (sign == "<") - (sign == ">" and head[at - 1] not in "-=")
@@ -55,8 +56,8 @@ def after_parameters(head):
 
 
 def owner_of(header):
-    """What the prover calls the block of methods that this header opens: of `impl<T> Row<T> {` it is
-    `Row`, and of `impl From<AllocError> for Fault {` it is `FaultFromAllocError`."""
+    """Returns the prover's name for a method block with this header: `Row` for `impl<T> Row<T> {`,
+    `FaultFromAllocError` for `impl From<AllocError> for Fault {`."""
     head = header.split("{")[0].split(" where ")[0].strip()
     if "trait " in head and not head.startswith("impl"):
         return WORD.findall(head.split("trait ", 1)[1])[0]
@@ -68,14 +69,14 @@ def owner_of(header):
 
 
 def depth_of(line):
-    """Returns how many brackets a line opens and does not close; comments do not count."""
+    """Returns how many brackets a line leaves open, outside comments."""
     code = line.split("//")[0]
     return sum(code.count(sign) for sign in "([{") - sum(code.count(sign) for sign in ")]}")
 
 
 def end_of_head(lines, first, margin):
-    """Returns the number of the line that ends a function's head: the one that opens its body, or the last
-    of a declaration. A `;` inside the brackets of a clause ends nothing."""
+    """Returns the last line number of a function's head: the line that opens its body, or a
+    declaration's last one. A `;` inside brackets ends nothing."""
     depth = 0
     for number in range(first, len(lines)):
         line = lines[number]
@@ -89,7 +90,7 @@ def end_of_head(lines, first, margin):
 
 
 def functions_of(path, text):
-    """The functions of a file, in order."""
+    """Returns the functions of a file, in order."""
     lines, found, owner, end, cycle = text.split("\n"), [], "", "", ""
     for number, line in enumerate(lines):
         block, head, is_in_cycle = BLOCK.match(line), HEAD.match(line), CYCLE.match(line)

@@ -1,15 +1,15 @@
-"""What the prover said of the functions that edits changed."""
+"""The prover's output about changed functions."""
 
 import re
 from enum import Enum
 
 LINE = re.compile(r"^fn (\S+): (.*)$", re.M)
-# the reasons in a function's line, each of which begins so
+# beginnings of reasons in a function's line
 CALLS = re.compile(r"it calls .*which (?:is|are) not proved")
 OPEN_GOAL = re.compile(r"`search` did not prove|`grind` did not prove|`\w[\w-]*` is not answered")
 STANDS_ON = re.compile(r"it stands on `[\w.+-]*?\.(\w+)\.([\w+'-]+)`")
 ERROR = re.compile(r"^(?:\./)?(\S+?):\d+:\d+: error: (?:`([^`]*)`: )?(.*)", re.M)
-# an error that says that a name is gone, and nothing of what is stated
+# errors that only say that a name is gone
 GONE = re.compile(r"has no field|is not in scope|has no `|was not admitted|is no name")
 UNREAD = re.compile(r"is not in scope|has no field|is no name|operand is missing|expected the end|"
                     r"cannot continue")
@@ -17,7 +17,7 @@ LAST = re.compile(r"^(?:only=\d+ )?holes=\d+\n\Z", re.M)
 
 
 class Verdict(Enum):
-    """What a check says of an edit's function."""
+    """The verdict of a check on a changed function."""
 
     REFUSED = "refused"
     PROVED = "still proved"
@@ -27,7 +27,7 @@ class Verdict(Enum):
 
 
 class Said:
-    """What one check said."""
+    """The output of one check."""
 
     def __init__(self, text, status):
         self.text, self.status = text, status
@@ -35,7 +35,7 @@ class Said:
         self.errors = [(path, name, what) for path, name, what in ERROR.findall(text)]
 
     def why_unread(self):
-        """Why the prover couldn't read the sources, if it couldn't."""
+        """Returns why the prover could not read the sources, if so."""
         if self.status == 1 and LAST.search(self.text):
             unread = (f"{path}: {re.sub('`[^`]*`', '..', what)}" for path, name, what in self.errors
                       if path.startswith(("src/", "specs/"))
@@ -47,7 +47,7 @@ class Said:
         return told[0][:160] or f"status {self.status}"
 
     def names_of(self, function):
-        """The lines that are a function's: its own, and those of its closures."""
+        """Returns the names of a function's lines: its own, and its closures'."""
         end, inside = f"::{function.path}", f"::fn::{function.path}::"
         if not function.owner:
             inside = f"::{function.module}::fn::{function.name}::".replace("::::", "::")
@@ -55,14 +55,14 @@ class Said:
                 if name.endswith(end) or inside in name and "+Fn" not in name]
 
     def verdict(self, function):
-        """The verdict on a function, and the reason."""
+        """Returns the verdict on a function, and the reason."""
         found = [self.of_line(name) for name in self.names_of(function)]
         order = (Verdict.REFUSED, Verdict.UNKNOWN, Verdict.GONE, Verdict.CALLS, Verdict.PROVED)
         return min(found, key=lambda it: order.index(it[0]),
                    default=(Verdict.UNKNOWN, "no line of the check speaks of it"))
 
     def of_line(self, name):
-        """The verdict of one line of the check."""
+        """Returns the verdict of one line of the check."""
         said = self.lines[name]
         if said == "no holes":
             return Verdict.PROVED, said
@@ -75,10 +75,10 @@ class Said:
         return Verdict.CALLS, said
 
     def of_answers(self, name, said):
-        """The verdict where answers of a proof file are refused: by what is said of those that the line
-        names, or of all of the file where it names none."""
+        """Returns the verdict if a proof file's answers are refused: by the answers that the line
+        names, or the whole file's if it names none."""
         *modules, function = name.split("::")[1:]
-        # the folder of a function that calls itself has a + before its name
+        # a recursive function's directory has a + before its name
         folders = tuple("/".join(["proofs", *modules, sign + function, ""]) for sign in ("", "+"))
         named = [answer for _, answer in STANDS_ON.findall(said)]
         own = [what for path, answer, what in self.errors if path.startswith(folders)

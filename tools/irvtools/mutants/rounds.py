@@ -1,4 +1,4 @@
-"""The trial of a crate's edits, in rounds."""
+"""Tests a crate's mutants in rounds."""
 
 import shutil
 import subprocess
@@ -12,7 +12,7 @@ REFUSED = "refused"
 
 
 class Trial:
-    """A room in which the edits of one crate are tried."""
+    """A directory for tests of one crate's mutants."""
 
     def __init__(self, crates, name, toolchain, room):
         self.crates, self.name, self.sources = crates, name, crates.sources(name)
@@ -26,8 +26,7 @@ class Trial:
         (self.folder / "kept").mkdir()
 
     def check(self, edits):
-        """Checks the crate with these edits: of the functions that they change, and of all where one
-        changes none."""
+        """Checks the functions that these edits change, or the whole crate if an edit changes none."""
         changes = [it for edit in edits for it in edit.changes]
         for path, text in {**self.sources, **edited(self.sources, changes)}.items():
             (self.folder / path).write_text(text)
@@ -46,7 +45,7 @@ class Trial:
         return said
 
     def run(self, flags):
-        """What the prover says of the crate as it stands in the room; once more where it was killed."""
+        """Returns the prover's output on the directory's crate; runs it once more if killed."""
         for _ in range(2):
             done = subprocess.run([*self.words, *flags], cwd=self.folder, stdin=subprocess.DEVNULL,
                                   stdout=subprocess.PIPE, stderr=subprocess.STDOUT,
@@ -56,7 +55,7 @@ class Trial:
         return Said(done.stdout, done.returncode)
 
     def try_alone(self, edit):
-        """What comes of an edit by itself."""
+        """Returns an edit's result by itself."""
         said = self.check([edit])
         unread = said.why_unread()
         if unread:
@@ -72,7 +71,7 @@ class Trial:
         return f"NOT SHOWN: {worst[0].value}: {worst[1][:160]}"
 
     def try_round(self, edits):
-        """What comes of each edit of a round, and those that want a trial by themselves."""
+        """Returns a round's results, and the edits that need their own test."""
         if len(edits) == 1:
             return {edits[0]: self.try_alone(edits[0])}, []
         said = self.check(edits)
@@ -89,7 +88,7 @@ class Trial:
         return done, left
 
     def try_all(self, edits, is_alone):
-        """What comes of each edit: refused, with the reason, or what is wrong with it."""
+        """Returns each edit's result: refused, with the reason, or a fault."""
         done = {}
         for edits_together in [[it] for it in edits] if is_alone else rounds_of(edits, self.sources):
             found, left = self.try_round(edits_together)

@@ -1,4 +1,4 @@
-"""The command line of `irv --package`: makes an evidence package of a configuration."""
+"""The command line of `irv --package`: makes an evidence package."""
 
 from __future__ import annotations
 
@@ -13,24 +13,24 @@ from irvtools.arguments import standard_input
 from irvtools.package.contents import Package
 from irvtools.package.options import Options, Refused, parser
 
-NOT_MADE = 125          # an exit status that no answer of the program has
+NOT_MADE = 125          # the program has no answer with this exit status
 SIGNALS = (signal.SIGINT, signal.SIGTERM, signal.SIGHUP)
 
 
 class Interrupted(BaseException):
-    """A signal that ends the package; it has the signal's number."""
+    """A signal that ends the package, with its number."""
 
 
 def interrupt(number: int, _) -> None:
-    """Ends what is done now, so that what was written is removed."""
+    """Ends the current work, so that written files are removed."""
     for each in SIGNALS:
         signal.signal(each, signal.SIG_IGN)
     raise Interrupted(number)
 
 
 def make(options: Options, given: bytes) -> Package:
-    """Makes the package beside its place, moves it there once it is whole, and returns it.
-    Temporary files, also those of the tools that are called, are removed in each case."""
+    """Makes the package beside its place, moves it there when complete, and returns it. Temporary
+    files are always removed, also those of called tools."""
     options.guard_directory()
     room = Path(tempfile.mkdtemp(prefix=".irv-package-", dir=options.directory.parent))
     temporary = tempfile.mkdtemp(prefix="irv-package-")
@@ -50,8 +50,8 @@ def make(options: Options, given: bytes) -> Package:
 
 
 def main(words: list[str]) -> int:
-    """Makes the package that the arguments ask for; returns the exit status."""
-    sys.stdout.reconfigure(errors="surrogateescape")        # names of files may be any bytes
+    """Makes the requested package. Returns the exit status."""
+    sys.stdout.reconfigure(errors="surrogateescape")        # file names may be any bytes
     given = parser(NOT_MADE).parse_args(words)
     try:
         options = Options(given)

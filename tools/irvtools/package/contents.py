@@ -1,5 +1,5 @@
-"""What a package collects: the configuration as it was read, the answers to it, each after those on
-which it depends, and what they depend on."""
+"""The contents of a package: the configuration as read, the answers to it in dependency order, and
+what they depend on."""
 
 from __future__ import annotations
 
@@ -21,24 +21,24 @@ from irvtools.paths import TOP
 
 CERTIFICATE, FOUND_RUN, SEARCH_RUN = "verify.cert", "verify.run", "search.run"
 VERSION = "version.txt"
-# solvers that write refutations, with the arguments that tools/verify_with needs for them
+# Solvers that write refutations, with their arguments for tools/verify_with.
 SOLVERS = {"cadical": [], "picosat.trace": ["--solver", "picosat.trace -n -R {proof} {cnf}"]}
-# how long the report may wait for verify, which has answered the same before
+# Time limit of the report for verify, which has answered the same before.
 REPORT_SECONDS = "86400"
 
 
 class Package:
-    """A package that is being made in a directory of its own."""
+    """A package in the making, in its own directory."""
 
     def __init__(self, options: Options, given: bytes, room: Path):
         self.options, self.given, self.room = options, given, room
-        self.runs = []              # the file of each given run, its name, and its kind
-        self.solvers = []           # each solver's version, and the name of its call
+        self.runs = []              # file, name and kind of each given run
+        self.solvers = []           # version and call name of each solver
         self.calls = self.findings = None
-        self.said = self.sum_of_sums = ""       # the result in one line, and the checksum to sign
+        self.said = self.sum_of_sums = ""       # result in one line, and checksum to sign
 
     def make(self) -> None:
-        """Makes all of it."""
+        """Makes the whole package."""
         self.take()
         self.calls = Calls(self.room)
         self.findings = Findings(self.room, self.calls.all)
@@ -50,7 +50,7 @@ class Package:
         self.said = self.findings.said
         self.sum_up()
 
-    # -- what is read
+    # -- reading
 
     def take(self) -> None:
         """Copies the configuration, the runs, the program, and what its answers depend on."""
@@ -69,7 +69,7 @@ class Package:
             self.runs.append((name, shown(run.name), run.kind))
 
     def take_sources(self) -> None:
-        """Writes the archive of the sources, and copies the checkers and documents among them."""
+        """Writes the source archive, and copies its checkers and documents."""
         tell("sources and documents")
         files = files_here()
         archive = self.room / ARCHIVE
@@ -84,10 +84,10 @@ class Package:
         lines = version_lines(self.options.program, self.room / PROGRAM, files, archive)
         (self.room / VERSION).write_text("\n".join(lines) + "\n", encoding="utf-8")
 
-    # -- what is asked
+    # -- questions
 
     def ask_rules(self) -> None:
-        """Asks for the rules that are broken."""
+        """Asks for the broken rules."""
         check = self.calls.program("check-strict", "check", "strict")
         if check.fault:
             raise Refused(f"nothing is known of the configuration: {check.fault}")
@@ -95,17 +95,17 @@ class Package:
             self.calls.program("check-free", "check", "free")
 
     def ask_runs(self) -> None:
-        """Asks about the runs and scenarios that were given."""
+        """Asks about the given runs and scenarios."""
         for number, (file, _, kind) in enumerate(self.runs, 1):
             command = "replay" if kind == "run" else "drive"
             self.ask_run(file, f"{command}-{number}", command)
 
     def ask_run(self, file: str, name: str, command: str) -> Call:
-        """Asks about a run or a scenario that is in the package."""
+        """Asks about a run or scenario in the package."""
         return self.calls.program(name, command, self.findings.columns, "--run", file)
 
     def ask_verdict(self) -> None:
-        """Asks for the verdict, and all by which it can be checked."""
+        """Asks for the verdict, and everything that checks it."""
         verdict = self.calls.program("verify", "verify", self.findings.columns,
                                      *self.options.of_verify, "--cert", CERTIFICATE,
                                      made=[CERTIFICATE])
@@ -118,7 +118,7 @@ class Package:
             self.search()
 
     def judge(self, k: str) -> None:
-        """Has the certificate checked, and the queries refuted by others."""
+        """Checks the certificate, and refutes the queries with other tools."""
         columns = self.findings.columns
         self.calls.program("audit", "audit", columns, "--cert", CERTIFICATE)
         of_tool = ["--columns", columns, "--program", PROGRAM, CONFIGURATION, CERTIFICATE]
@@ -130,7 +130,7 @@ class Package:
                 self.ask_solver(name, words, k)
 
     def ask_solver(self, name: str, words: list[str], k: str) -> None:
-        """Has a solver refute every query. The refutations are kept, and `irv rup` checks each
+        """Refutes every query with a solver. The refutations are kept, and `irv rup` checks each
         again."""
         directory, columns = Path("solvers", name), self.findings.columns
         (self.room / directory).mkdir(parents=True)
@@ -152,12 +152,12 @@ class Package:
                                "--number", number, "--cert", file)
 
     def replay(self, file: str, name: str, run: str) -> None:
-        """Keeps the text of a run, and has it replayed."""
+        """Keeps and replays the text of a run."""
         (self.room / file).write_text(run, encoding="ascii")
         self.ask_run(file, name, "replay")
 
     def search(self) -> None:
-        """Searches for a run to a hazard, which counts only by the answer of replay."""
+        """Searches for a run to a hazard. It counts only by replay's answer."""
         seconds = str(self.options.search_seconds)
         searched = self.calls.ask("search", ["python3", str(TOP / "tools/search"), "--seconds",
                                              seconds, "--program", PROGRAM], is_repeated=False)
@@ -165,13 +165,13 @@ class Package:
         if not searched.status:
             self.replay(SEARCH_RUN, "replay-search", searched.output)
 
-    # -- what leads through it
+    # -- pages
 
     def draw(self) -> None:
-        """Makes the report, the page and the script, which `redraw` can make again. The report
-        shows a run to a hazard if one was searched, otherwise the first given one. It asks verify
-        again, which writes the same certificate, and has no times, so that a package that is made
-        again is the same."""
+        """Makes the report, the page and the script; `redraw` can make them again. The report shows
+        a run to a hazard that the search found, otherwise the first given run. It asks verify
+        again, which writes the same certificate. It has no times, so a repeated package is the
+        same."""
         given = [file for file, _, _ in self.runs[:1]]
         shown = [SEARCH_RUN] if self.findings.call("replay-search") else given
         words = ["python3", redraw.HTML, redraw.REPORT, "--program", PROGRAM,
@@ -192,7 +192,7 @@ class Package:
         redraw.draw_pages(self.room, self.room)
 
     def sum_up(self) -> None:
-        """Writes the checksums of all files."""
+        """Writes all files' checksums."""
         names = sorted(path.relative_to(self.room).as_posix() for path in self.room.rglob("*")
                        if path.is_file())
         lines = "".join(f"{hashlib.sha256((self.room / name).read_bytes()).hexdigest()}  {name}\n"

@@ -1,6 +1,5 @@
-"""The deviations of a table: each broken rule in sentences, and whether safety depends on it. `irv
-check` answers which rules are broken, and at which place; the sentences are those of the HTML
-report."""
+"""A table's deviations: each broken rule in sentences, and whether safety depends on it. `irv
+check` answers the broken rules and places; the sentences are the HTML report's."""
 
 from __future__ import annotations
 
@@ -20,7 +19,7 @@ class Deviation:
 
 
 def deviations_of(given: bytes, lines: list[str]) -> list[Deviation]:
-    """Returns what the lines of check say of a configuration."""
+    """Returns the meaning of check's lines for a configuration."""
     if not lines:
         return []
     if lines[0].startswith("refused F"):
@@ -34,7 +33,7 @@ def deviations_of(given: bytes, lines: list[str]) -> list[Deviation]:
 
 
 def of_line(plant: Plant | None, line: str) -> Deviation:
-    """Returns what one line says."""
+    """Returns the meaning of one line."""
     rule, places = broken_rules.read_line(line)
     if plant is None:
         return Deviation(line, [], True, "The tools in Python cannot read what irv reads. The rule "

@@ -1,5 +1,5 @@
-"""The sources that a package has as files: the pages of this version, the definitions on which its
-answers depend, each file to which these link, and the checkers."""
+"""The sources that a package has as files: this version's pages, the definitions behind its
+answers, all files linked there, and the checkers."""
 
 from __future__ import annotations
 
@@ -11,15 +11,15 @@ from irvtools.docs import definitions
 from irvtools.package.page_links import links_of
 from irvtools.package.source_archive import Files
 
-# what checks an answer besides the program
+# They check answers besides the program.
 CHECKERS = ("tools/audit", "tools/lrat")
 IMPORT = re.compile(r"^\s*from (irvtools(?:\.\w+)*) import (.+)$", re.M)
 PAGES = ("README.md", "CHANGELOG.md", "VERSION", "CONTRIBUTING.md")
 
 
 def document_names(files: Files) -> list[str]:
-    """Returns the names of a package's documents among the sources. A directory to which a page
-    links is there with those of its files that are documents, or with all if none is."""
+    """Returns the names of a package's documents among the sources. A linked directory is included
+    with its documents, or if it has none with all files except Markdown."""
     defined = {f"crates/{place}" for _, by_file in definitions.stages() for place in by_file}
     found = {name for name in files if name in PAGES or name.startswith("docs/") or name in defined}
     left, directories = sorted(found), set()
@@ -41,7 +41,7 @@ def document_names(files: Files) -> list[str]:
 
 
 def checker_names(files: Files) -> list[str]:
-    """Returns the names of the checkers among the sources, with all modules that they import."""
+    """Returns the checkers among the sources, with all modules that they import."""
     found, left = set(), list(CHECKERS)
     while left:
         name = left.pop()
@@ -58,7 +58,7 @@ def checker_names(files: Files) -> list[str]:
 
 
 def targets_of(name: str, text: str) -> list[str]:
-    """Returns the names to which a document links, seen from the top."""
+    """Returns the link targets of a document, as paths from the top."""
     links = [link.partition("#")[0] for link in links_of(name, text)[0]
              if not re.match(r"[a-z][a-z0-9+.-]*:", link)]
     return [os.path.normpath(os.path.join(os.path.dirname(name), unquote(link)))

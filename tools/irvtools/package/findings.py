@@ -1,4 +1,4 @@
-"""What the answers of a package say of the table."""
+"""The meaning of a package's answers for the table."""
 
 from __future__ import annotations
 
@@ -13,7 +13,7 @@ RUN_FROM_START = "run 1\nstart\n"
 
 
 class Findings:
-    """What is known by the calls that were made, and the files of the package."""
+    """Findings from the calls and package files."""
 
     def __init__(self, room: Path, calls: list[Call]):
         self.room, self.calls = room, calls
@@ -26,58 +26,58 @@ class Findings:
 
     @property
     def refusals(self) -> list[str]:
-        """The lines of the broken rules."""
+        """Returns the lines of the broken rules."""
         return [line for line in self.call("check-strict").output.splitlines()
                 if line.startswith("refused ")]
 
     @property
     def is_clean(self) -> bool:
-        """Whether no rule is broken with strict columns."""
+        """Returns whether no rule is broken with strict columns."""
         return self.call("check-strict").status == GOOD
 
     @property
     def is_plant(self) -> bool:
-        """Whether the configuration has a plant: no rule is broken but column rules."""
+        """Returns whether the configuration has a plant: only column rules are broken, or none."""
         lines = self.refusals
         return self.is_clean or bool(lines) and all(line.split()[1][0] == "C" for line in lines)
 
     @property
     def columns(self) -> str:
-        """The columns with which all calls are made but the first."""
+        """Returns the columns of all calls but the first."""
         return "strict" if self.is_clean else "free"
 
     @property
     def deviations(self) -> list[Deviation]:
-        """The broken rules, with their meaning."""
+        """Returns the broken rules with their meaning."""
         return deviations_of((self.room / CONFIGURATION).read_bytes(), self.refusals)
 
     # -- verdict
 
     @property
     def verdict(self) -> Call | None:
-        """The answer of verify."""
+        """Returns verify's answer."""
         return self.call("verify")
 
     @property
     def is_safe(self) -> bool:
-        """Whether verify answered that the table is safe."""
+        """Returns whether verify answered that the table is safe."""
         return self.verdict is not None and self.verdict.status == GOOD and not self.verdict.fault
 
     @property
     def is_safe_with_deviations(self) -> bool:
-        """Whether only rules are broken without which a table is safe: a clause of the program's
+        """Returns whether the table is safe despite broken rules: a clause of the program's
         contract."""
         return deviations_sentence(self.answered(self.call("check-strict"))) is not None
 
     @property
     def has_run(self) -> bool:
-        """Whether verify answered with a run."""
+        """Returns whether verify answered with a run."""
         return self.verdict.status in (UNSAFE, NOT_INDUCTIVE, BREACH) and not self.verdict.fault
 
     @property
     def hazard(self) -> str | None:
-        """The first answer that a run from the initial state ends in a hazard, with the run's
-        file."""
+        """Returns the first answer that a run from the initial state ends in a hazard, with the
+        run's file."""
         for call in self.calls:
             is_of_run = call.is_of_program and call.words[1] in ("replay", "drive")
             if is_of_run and call.line.startswith("hazard "):
@@ -87,12 +87,12 @@ class Findings:
         return None
 
     def text(self, file: str) -> str:
-        """Returns the text of a file of the package."""
+        """Returns the text of a package file."""
         return (self.room / file).read_bytes().decode(errors="replace")
 
     @property
     def contradictions(self) -> list[str]:
-        """The answers that cannot both be right: then the program, a tool or the machine is
+        """Returns answers that cannot both be right. Then the program, a tool or the machine is
         wrong."""
         if not self.is_plant:
             return []
@@ -111,14 +111,13 @@ class Findings:
         return found
 
     def verdict_of_all(self, is_proved: bool) -> Verdict:
-        """Returns the verdict's word and sentence; `is_proved` says whether the program is known to
-        be the proved one."""
+        """Returns the verdict's word and sentence; `is_proved` is whether the program is known to
+        be proved."""
         answers = [self.answered(call) for call in self.calls if call.is_of_program]
         return verdict(answers, is_proved)
 
     def answered(self, call: Call) -> Answered:
-        """Returns a call as the verdict takes it: one that gave no answer counts as one that did
-        not end."""
+        """Returns a call in the form for a verdict. A call without an answer counts as unfinished."""
         columns = call.words[call.words.index("--columns") + 1]
         has_run = call.words[1] == "replay"
         run = self.text(call.words[call.words.index("--run") + 1]) if has_run else ""
@@ -127,7 +126,7 @@ class Findings:
 
     @property
     def said(self) -> str:
-        """The result in one line."""
+        """Returns the result in one line."""
         if not self.is_plant:
             return f"not a plant: {self.call('check-strict').line}"
         under = "" if self.is_clean else "with deviations, under free columns: "

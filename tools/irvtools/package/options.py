@@ -1,4 +1,4 @@
-"""What the caller of an evidence package asks for: its arguments, and the files that they name."""
+"""The arguments for an evidence package, and the files that they name."""
 
 from __future__ import annotations
 
@@ -13,7 +13,7 @@ from irvtools.html.run_file import Given
 
 DEPTHS, CONFLICTS = (1, 16), (0, 200000)
 MOST_SECONDS = 86400
-# texts that the caller may give, with what each is
+# The caller's optional texts, with their meaning.
 ABOUT = {"title": "the title", "project": "the project", "issue": "the issue of this package",
          "author": "who makes it"}
 
@@ -23,7 +23,7 @@ class Refused(Exception):
 
 
 def parser(status: int) -> Parser:
-    """Returns the parser of the command line."""
+    """Returns the command-line parser."""
     line = Parser(
         "irv --package", "Makes an evidence package: a directory with the configuration, every "
         "answer to it, the HTML report, a page\nthat leads through them, a script that makes them "
@@ -51,7 +51,7 @@ def parser(status: int) -> Parser:
 
 
 class Options:
-    """What the caller asked for."""
+    """The caller's options."""
 
     def __init__(self, given: Namespace):
         if not given.directory:
@@ -75,11 +75,11 @@ class Options:
 
     @property
     def of_report(self) -> list[str]:
-        """The options that the report gets too."""
+        """Returns the options that the report gets too."""
         return [word for name, value in self.about.items() for word in (f"--{name}", value)]
 
     def guard_directory(self) -> None:
-        """Refuses a directory that is not empty, and one that cannot be made."""
+        """Rejects a directory that is not empty or cannot be made."""
         if self.directory.is_symlink() or self.directory.exists() and not self.directory.is_dir():
             raise Refused(f"{self.directory} is not a directory; nothing is overwritten")
         if self.directory.exists() and any(self.directory.iterdir()):

@@ -1,5 +1,5 @@
-"""The page that leads through a package: what was asked, what was answered, by which program, on
-which assumptions and application conditions, and who has to sign what."""
+"""The page that leads through a package: questions, answers, program, assumptions, application
+conditions, and signatures."""
 
 from __future__ import annotations
 
@@ -14,7 +14,7 @@ from irvtools.package.findings import Findings
 from irvtools.package.package_parts import ARCHIVE, CONFIGURATION
 from irvtools.package.program_version import PROVED
 
-# who signs, and for what
+# The signers, each with a purpose.
 SIGNATURES = (
     ("author of the configuration",
      "The configuration is the railway outside and the table of the interlocking (AS-01)."),
@@ -30,7 +30,7 @@ SIGNATURES = (
     ("assessor", "All of the above is true, independently of those who sign it."),
 )
 QUALIFICATION = "documents/docs/assurance/qualification.md"
-# the documents that the page names, with what each is
+# The page's documents, each with its meaning.
 DOCUMENTS = (
     (QUALIFICATION, "qualification: assumptions, application conditions, failure modes"),
     ("documents/docs/assurance/definitions.md", "definitions: which to read for which answer"),
@@ -46,13 +46,13 @@ ROOM, MORE_CSS = ("", "&#160;<br>&#160;"), "td:has(br){min-width:9em}"      # fo
 
 
 def link(file: str, words: str | None = None) -> str:
-    """Returns a link to a file of the package."""
+    """Returns a link to a package file."""
     return tag("a", text(words or file), href=file)
 
 
 class PackagePage:
-    """The page of one package: `facts` is what its record says besides the calls, `version` the
-    lines of its version file."""
+    """The page of one package. `facts` is the record besides the calls, `version` the lines of the
+    version file."""
 
     def __init__(self, room: Path, facts: dict, findings: Findings, version: list[str]):
         self.room, self.facts, self.findings, self.version = room, facts, findings, version
@@ -90,7 +90,7 @@ class PackagePage:
     # -- the result
 
     def result(self) -> None:
-        """The result for the table."""
+        """Adds the table's result."""
         found = self.findings
         self.head("Result")
         if not found.contradictions:
@@ -120,7 +120,7 @@ class PackagePage:
                                    "a program in a safety case."), class_="own bad"))
 
     def safe_ways(self) -> None:
-        """How it is shown that the table is safe."""
+        """Adds how the table is shown to be safe."""
         is_clean = self.findings.is_clean
         if is_clean:
             self.say("No rule is broken with strict columns. That alone is a proof that no run "
@@ -138,7 +138,7 @@ class PackagePage:
                      f"irv verify: {self.findings.verdict.told}.")
 
     def deviations(self) -> None:
-        """Each broken rule, and what it means."""
+        """Adds each broken rule and its meaning."""
         self.head("Deviations")
         deviations = self.findings.deviations
         if not deviations:
@@ -171,10 +171,10 @@ class PackagePage:
                     "safety depends, would be safe.")
         return f"Not shown: {found.verdict.told}."
 
-    # -- what was asked
+    # -- questions
 
     def given(self) -> None:
-        """The configuration and the program."""
+        """Adds the configuration and the program."""
         self.head("Configuration and program")
         data = (self.room / CONFIGURATION).read_bytes()
         filed = f"sha256 {provenance.sum_of(data)}, {len(data)} bytes, filed as {CONFIGURATION}"
@@ -185,14 +185,14 @@ class PackagePage:
         self.add(table([], [[name, ("", code(value))] for name, value in rows]))
 
     def answers(self) -> None:
-        """Each answer of the program."""
+        """Adds the program's answers."""
         self.head("Answers of the program")
         self.say("If the program is the proved one (AS-09), its answers are proved, on the "
                  "assumptions below. Each call was made in this directory.")
         self.table_of(call for call in self.findings.calls if call.is_of_program)
 
     def others(self) -> None:
-        """Each answer of other tools."""
+        """Adds other tools' answers."""
         self.head("Answers of other tools")
         self.say("These tools are tested and not proved. An answer of a checker is a second check "
                  "of the program's answer. The report and the random search only show what the "
@@ -209,14 +209,14 @@ class PackagePage:
         self.table_of(call for call in self.findings.calls if not call.is_of_program)
 
     def table_of(self, calls) -> None:
-        """Some calls, with their answers."""
+        """Adds some calls and answers."""
         rows = [[("", code(call.shown)), str(call.status),
                  ("", code(call.told if call.is_of_program else call.last)),
                  ("", link(f"answers/{call.name}.txt"))] for call in calls]
         self.add(table(["call", "status", "line", "whole answer"], rows, "calls"))
 
     def runs(self) -> None:
-        """The runs and scenarios that were given, and the report."""
+        """Adds the given runs and scenarios, and the report."""
         self.head("Runs, scenarios and report")
         if not self.facts["runs"]:
             self.say("No run and no scenario was given.")
@@ -228,10 +228,10 @@ class PackagePage:
             self.say("The HTML report shows the track plan, the rules in sentences and the runs:",
                      (link("report.html"),))
 
-    # -- what it depends on, and who signs
+    # -- dependencies, signatures
 
     def assumptions(self) -> None:
-        """The assumptions, by their identifiers."""
+        """Adds the assumptions, by identifier."""
         self.head("Assumptions")
         items = provenance.items("AS")
         if not items:
@@ -243,7 +243,7 @@ class PackagePage:
                        [[it.name, it.title, it.statement] for it in items]))
 
     def conditions(self) -> None:
-        """The application conditions, with room for what is done about each."""
+        """Adds the application conditions, with room for the measures."""
         self.head("Application conditions")
         items = provenance.items("SRAC")
         if not items:
@@ -258,7 +258,7 @@ class PackagePage:
                          it.lines.get("Discharged by", ""), ROOM, ROOM] for it in items]))
 
     def signatures(self) -> None:
-        """Who signs what."""
+        """Adds the signatures."""
         self.head("Signatures")
         self.say("Write here the checksum of SHA256SUMS, which has the checksums of all other "
                  "files. irv --package, irv --verify-package and sha256sum SHA256SUMS print it. So "
@@ -268,7 +268,7 @@ class PackagePage:
                        [[who, what, ROOM, ROOM, ROOM] for who, what in SIGNATURES]))
 
     def documents(self) -> None:
-        """The documents and the sources."""
+        """Adds the documents and sources."""
         self.head("Documents and sources")
         items = [tag("li", f"{link(file)}: {text(what)}") for file, what in DOCUMENTS
                  if (self.room / file).is_file()]
@@ -277,7 +277,7 @@ class PackagePage:
         self.add(tag("ul", "\n".join(items)))
 
     def check(self) -> None:
-        """How the package is checked."""
+        """Adds how to check the package."""
         self.head("Check this package")
         self.say((code("irv --verify-package DIRECTORY"),), "or",
                  (code("python3 verify_package.py DIRECTORY"),), "of a release judges "
@@ -293,7 +293,7 @@ class PackagePage:
                  "refutation.")
 
     def foot(self) -> None:
-        """What this page is."""
+        """Adds what this page is."""
         self.add(tag("p", text("irv --package, which wrote this page, is tested and not proved. It "
                                "quotes answers; the files in answers/ are the output, byte for "
                                "byte. No program says whether the assumptions and the application "

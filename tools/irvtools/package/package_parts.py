@@ -1,5 +1,4 @@
-"""The parts of an evidence package: its files, and the form of its calls and of its version
-file."""
+"""The parts of an evidence package: its files, and the form of its calls and version file."""
 
 import re
 
@@ -11,13 +10,13 @@ REQUIRED = (CONFIGURATION, "index.html", "report.html", "repeat.sh", RECORD, VER
 OPTIONAL = ("program/irv.licences", "verify.cert", "verify.run", "search.run", "SHA256SUMS")
 DIRECTORIES = ("documents/", "checkers/", "lrat/", "solvers/", "runs/")
 CHECKERS = ("checkers/audit", "checkers/lrat")
-# the calls that a safe table has besides
+# Additional calls for a safe table.
 CALLS_IF_SAFE = ("audit", "audit-outside", "lrat")
 
 
 def unknown_names(names, record):
-    """Returns the names of files that are not parts of a package with this record of calls, and the
-    names of parts that are missing."""
+    """Returns the file names that don't belong to a package with this record of calls, and the
+    names of missing parts."""
     answers = [name.decode() for name in re.findall(rb'"name": "([\w.-]+)"', record)]
     known = {f"answers/{answer}.{end}" for answer in answers for end in ("txt", "err")}
     unknown = set(names) - known - set(REQUIRED) - set(OPTIONAL)
@@ -27,8 +26,8 @@ def unknown_names(names, record):
 
 
 def is_call(call):
-    """Returns whether a call of the record is one of the program or of a checker in the package,
-    with files in the package."""
+    """Returns whether a recorded call is of the program or a checker in the package, with files in
+    the package."""
     words, named = call["words"], [*call["made"], f"{call['name']}.txt"]
     is_known = words[0] == PROGRAM or words[0] == "python3" and words[1] in CHECKERS
     is_inside = not any(name.startswith("/") or ".." in name.split("/") for name in named)
@@ -36,13 +35,13 @@ def is_call(call):
 
 
 def lines_of(version):
-    """Returns the lines of a version file by their first word."""
+    """Returns the version file's lines by first word."""
     lines = version.decode(errors="replace").splitlines()
     return dict(line.split(" ", 1) for line in lines if " " in line)
 
 
 def contents(place):
-    """Returns the files of a directory, or one file, by what follows the name."""
+    """Returns the files of a directory, or a single file, by the rest of the name."""
     if place.is_dir():
         return {f"/{path.relative_to(place).as_posix()}": path.read_bytes()
                 for path in place.rglob("*") if path.is_file()}

@@ -1,4 +1,4 @@
-"""The links of pages and documents, and whether they lead anywhere."""
+"""The links of pages and documents, and whether they are dead."""
 
 import os
 import re
@@ -9,14 +9,14 @@ LINK = re.compile(r"\]\(<?([^)\s>]+)>?(?:\s+\"[^\"]*\")?\)")
 
 
 class Links(HTMLParser):
-    """The links of an HTML page, and the identifiers of its elements."""
+    """An HTML page's links, and its elements' identifiers."""
 
     def __init__(self):
         super().__init__()
         self.links, self.ids = [], set()
 
     def handle_starttag(self, tag, attrs):
-        """Takes the links of an element."""
+        """Takes an element's links."""
         for name, value in attrs:
             if name in ("href", "src", "xlink:href") and value:
                 self.links.append(value)
@@ -25,7 +25,7 @@ class Links(HTMLParser):
 
 
 def links_of(name, text):
-    """Returns the links of a page or document, and of a page the identifiers of its elements."""
+    """Returns the links of a page or document, and a page's identifiers."""
     if name.endswith(".html"):
         parser = Links()
         parser.feed(text)

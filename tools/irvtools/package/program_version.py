@@ -1,4 +1,4 @@
-"""Which program it was: lines as `./irv --version` prints them, and whether the program is known to
+"""The program's version: lines like those of `./irv --version`, and whether the program is known to
 be proved."""
 
 from __future__ import annotations
@@ -11,7 +11,7 @@ from pathlib import Path
 from irvtools.calls import provenance
 from irvtools.package.source_checksums import sum_of_sources, tree_of
 
-UNPROVED = "irv-unproved"       # the name of the unproved build, which has a note beside it too
+UNPROVED = "irv-unproved"       # name of the unproved build, which also has a note
 PROVED = "proved: the launcher built and proved it, as the note beside it says"
 UNKNOWN = "not known to be proved: no note of the launcher beside it says so"
 
@@ -22,9 +22,9 @@ def sum_of(file) -> str:
 
 
 def note_beside(program: Path) -> dict[str, str]:
-    """Returns what the launcher noted beside a program that it had proved and built: of which
-    sources, its checksum, and by which toolchain; nothing if it is not known to be proved. For the
-    program in a package the version file says so."""
+    """Returns the launcher's note of a program that it proved and built: sources, checksum and
+    toolchain. Returns nothing if the program is not known to be proved. For a package's program it
+    uses the version file."""
     if provenance.VERSION_FILE in os.environ:
         version = Path(os.environ[provenance.VERSION_FILE]).read_text(encoding="utf-8")
         is_proved = PROVED in version.splitlines()
@@ -40,7 +40,7 @@ def note_beside(program: Path) -> dict[str, str]:
 
 
 def version_of(command: str) -> str:
-    """Returns the version of a solver, as it prints it."""
+    """Returns a solver's printed version."""
     try:
         said = subprocess.run([command, "--version"], stdin=subprocess.DEVNULL,
                               stdout=subprocess.PIPE, stderr=subprocess.DEVNULL, timeout=10,
@@ -52,10 +52,9 @@ def version_of(command: str) -> str:
 
 
 def version_lines(program: Path, copy: Path, files: dict, archive: Path) -> list[str]:
-    """Returns the version, the commit, git's tree of the sources, the toolchain, the checksums of
-    sources, program and archive, and whether the program is known to be proved. The version and the
-    commit are those of this checkout, whose `files` are, so they hold only for a program that is
-    known to be built of them."""
+    """Returns version, commit, git's tree, toolchain, checksums of sources, program and archive,
+    and whether the program is known to be proved. Version and commit are those of this checkout
+    with its `files`. So they hold only for a program known to be built from them."""
     note, total = note_beside(program), sum_of(copy)
     is_noted = note.get("program") == total
     is_of_here = is_noted and note["sources"] == sum_of_sources(files)

@@ -1,5 +1,5 @@
-"""The calls of a package: what was asked, of which tool, and what it answered. Each is made in the
-package's directory, with names below it, so that it can be made again there."""
+"""The calls of a package: question, tool and answer. Each runs in the package's directory, with
+names below it, so that it can be repeated there."""
 
 from __future__ import annotations
 
@@ -16,15 +16,15 @@ from irvtools.batch.program_answers import why_no_answer
 PROGRAM = "program/irv"
 CONFIGURATION = "configuration.json"
 RECORD = "calls.json"
-# what replaces the program and the place of written files if a call is repeated
+# Replace the program and the place of written files in a repeated call.
 PROGRAM_AGAIN, ROOM_AGAIN = '"$program"', '"$room"'
-SECONDS_TO_END = 5      # for a call that is interrupted, before it is killed
+SECONDS_TO_END = 5      # for an interrupted call, before it is killed
 
 
 @dataclass
 class Call:
-    """One call: the name of its answer, its arguments, its status, its output, and which of the
-    package's files it wrote."""
+    """A call: its answer's name, its arguments, status and output, and the package files that it
+    wrote."""
     name: str
     words: list[str]
     status: int
@@ -35,19 +35,19 @@ class Call:
 
     @property
     def line(self) -> str:
-        """Its first line, or what came in its place."""
+        """Returns its first line, or what came instead."""
         return self.output.partition("\n")[0] or self.errors.strip() or "nothing"
 
     @property
     def last(self) -> str:
-        """Its last line; if it printed a run, that of its messages."""
+        """Returns its last line, or its last message if it printed a run."""
         said = self.errors if self.output.startswith("run 1\n") else self.output or self.errors
         return (said.strip() or "nothing").splitlines()[-1]
 
     @property
     def fault(self) -> str | None:
-        """Why this is no answer of the program; `None` if it is one, or if another tool was
-        called."""
+        """Returns why this is not a valid answer of the program, or `None` if it is one or from
+        another tool."""
         if not self.is_of_program:
             return None
         complaint = (self.errors.strip() or "").rpartition("\n")[2]
@@ -55,22 +55,22 @@ class Call:
 
     @property
     def told(self) -> str:
-        """Its first line if it is an answer, otherwise why it is none."""
+        """Returns its first line, or why it is not an answer."""
         return f"no answer: {self.fault}" if self.fault else self.line
 
     @property
     def is_of_program(self) -> bool:
-        """Whether the program answered it, or one of the tools in Python."""
+        """Returns whether the program answered it, and not a Python tool."""
         return self.words[0] == PROGRAM
 
     @property
     def shown(self) -> str:
-        """The call, as a reader would write it."""
+        """Returns the call as a reader would write it."""
         return f"{shlex.join(self.words)} < {CONFIGURATION}"
 
     @property
     def again(self) -> str:
-        """The call, as the script that repeats it has it."""
+        """Returns the call as in the repeating script."""
         words = [PROGRAM_AGAIN if word == PROGRAM
                  else ROOM_AGAIN * (word in self.made) + "/" * (word in self.made)
                  + shlex.quote(word) for word in self.words]
@@ -78,14 +78,14 @@ class Call:
 
 
 class Calls:
-    """The calls of a package, which keep their answers in its directory."""
+    """The calls of a package, with answers in its directory."""
 
     def __init__(self, room: Path):
         self.room, self.all = room, []
         (room / "answers").mkdir()
 
     def ask(self, name: str, words: list[str], made=(), is_repeated=True) -> Call:
-        """Makes a call, and keeps its answer."""
+        """Makes a call and keeps its answer."""
         tell(" ".join(map(os.path.basename, words[:3])))
         status, output, errors = run(words, self.room)
         call = Call(name, list(words), status, output.decode(errors="replace"),
@@ -102,14 +102,14 @@ class Calls:
 
 
 def tell(step: str) -> None:
-    """Says on a terminal what is done now."""
+    """Prints the current step on a terminal."""
     if sys.stderr.isatty():
         print(f"irv --package: {step}", file=sys.stderr, flush=True)
 
 
 def run(words: list[str], room: Path, **more: str) -> tuple[int, bytes, bytes]:
-    """Calls a command in a directory, with the configuration there; returns its status, output and
-    errors. If this is interrupted, the command is ended too."""
+    """Runs a command in a directory, with its configuration as input. Returns status, output and
+    errors. If interrupted, it also ends the command."""
     environment = {**os.environ, "PYTHONDONTWRITEBYTECODE": "1", **more}
     with open(room / CONFIGURATION, "rb") as given, subprocess.Popen(
             words, cwd=room, stdin=given, env=environment, stdout=subprocess.PIPE,
@@ -127,7 +127,7 @@ def run(words: list[str], room: Path, **more: str) -> tuple[int, bytes, bytes]:
 
 
 def write_record(room: Path, calls: list[Call], facts: dict) -> None:
-    """Writes the record of the calls, which has what the answers do not say themselves."""
+    """Writes the record of the calls: what the answers do not say themselves."""
     kept = [{key: value for key, value in asdict(call).items() if key not in ("output", "errors")}
             for call in calls]
     text = json.dumps({**facts, "calls": kept}, indent=1) + "\n"
@@ -135,7 +135,7 @@ def write_record(room: Path, calls: list[Call], facts: dict) -> None:
 
 
 def read_record(room: Path) -> tuple[dict, list[Call]]:
-    """Returns what the record of a package says, and the calls with their answers."""
+    """Returns the facts in a package's record, and the calls with answers."""
     facts = json.loads((room / RECORD).read_text(encoding="ascii"))
     calls = [Call(output=text_of(room / f"answers/{it['name']}.txt"),
                   errors=text_of(room / f"answers/{it['name']}.err"),

@@ -1,5 +1,5 @@
-"""Makes the pages and the script of a package from its answers: when the package is made, and again
-when it is judged, as `python3 -m irvtools.package.redraw PACKAGE OUT`."""
+"""Makes a package's pages and script from its answers: at first, and again for checking, as
+`python3 -m irvtools.package.redraw PACKAGE OUT`."""
 
 from __future__ import annotations
 
@@ -16,13 +16,13 @@ from irvtools.paths import TOP
 
 INDEX, SCRIPT, REPORT, REPORT_CERTIFICATE = "index.html", "repeat.sh", "report.html", "report.cert"
 CERTIFICATE, VERSION, HTML = "verify.cert", "version.txt", "tools/html"
-# what the report reads
+# The report's inputs.
 INPUTS = ("configuration.json", "program", "runs", "search.run", VERSION)
 
 
 def draw_report(room: Path, words: list[str]) -> tuple[int, bytes, bytes]:
-    """Writes the report in a directory, by these arguments; returns the status, output and errors.
-    The report quotes the version file, and has no name of a place outside of the package."""
+    """Writes the report in a directory, with these arguments. Returns status, output and errors.
+    The report quotes the version file, and names no path outside the package."""
     place = f"{room.resolve()}/"
     own = [sys.executable, str(TOP / HTML), *words[2:]]
     status, *said = run(own, room, **{provenance.VERSION_FILE: str(room.resolve() / VERSION)})
@@ -37,7 +37,7 @@ def draw_report(room: Path, words: list[str]) -> tuple[int, bytes, bytes]:
 
 
 def draw_pages(room: Path, out: Path) -> list[Call]:
-    """Writes the page and the script of a package into `out`; returns its calls."""
+    """Writes a package's page and script into `out`. Returns its calls."""
     facts, calls = read_record(room)
     version = (room / VERSION).read_text(encoding="utf-8").splitlines()
     page = PackagePage(room, facts, Findings(room, calls), version)
@@ -48,7 +48,7 @@ def draw_pages(room: Path, out: Path) -> list[Call]:
 
 
 def main(words: list[str]) -> int:
-    """Makes the pages and the script of a package again, in another directory."""
+    """Repeats a package's pages and script in another directory."""
     room, out = map(Path, words)
     calls = draw_pages(room, out)
     for name in INPUTS:

@@ -1,5 +1,5 @@
-"""The script that makes each answer of a package again, and reports what differs. It needs the
-package, a program, bash and the standard tools of Linux, and Python 3 for the checkers."""
+"""The script that repeats a package's answers and reports differences. It needs the package, a
+program, bash, the standard Linux tools, and Python 3 for the checkers."""
 
 from __future__ import annotations
 
@@ -105,7 +105,7 @@ echo "$same the same, $differ differ, $left left out"
 
 
 def repeat_script(room: Path, calls: list[Call], version: list[str]) -> str:
-    """Returns the script of a package."""
+    """Returns a package's script."""
     lines = []
     for call in calls:
         if call.is_repeated:

@@ -1,5 +1,4 @@
-"""The judge of packages as one file, for a release: verify_package.py with the modules that it
-imports."""
+"""Packs verify_package.py and the modules that it imports into one file for a release."""
 
 from __future__ import annotations
 
@@ -13,7 +12,7 @@ DOCSTRING = re.compile(r'\A"""(.*?)"""\n', re.S)
 
 
 def script() -> str:
-    """Returns the text of the file."""
+    """Returns the file's text."""
     texts = [(HERE / name).read_text(encoding="utf-8") for name in MODULES]
     imports = {line for text in texts for line in IMPORT.findall(text) if "irvtools" not in line}
     bodies = [IMPORT.sub("", DOCSTRING.sub("", text)).strip() for text in texts]

@@ -1,4 +1,4 @@
-"""The files of this checkout, and an archive of them that has the same bytes on each machine."""
+"""This checkout's files, and an archive of them with the same bytes on each machine."""
 
 from __future__ import annotations
 
@@ -12,13 +12,13 @@ from pathlib import Path
 from irvtools.package.source_checksums import tree_of
 from irvtools.paths import TOP
 
-LEFT_OUT = {"out", "__pycache__", ".git"}       # directories that are not sources
+LEFT_OUT = {"out", "__pycache__", ".git"}       # not sources
 Files = dict[str, "tuple[int, bytes]"]
 
 
 def names_of(top: Path = TOP) -> list[str]:
-    """Returns the names of the sources below `top`: those that git knows, or if it is not a clone
-    all files but built ones."""
+    """Returns the names of the sources below `top`: those that git knows, or outside a clone all
+    except built ones."""
     listed = subprocess.run(["git", "ls-files", "-z", "--", "."], cwd=top, capture_output=True,
                             check=False)
     if listed.returncode == 0 and (top / ".git").exists():
@@ -32,14 +32,14 @@ def names_of(top: Path = TOP) -> list[str]:
 
 
 def files_here(top: Path = TOP) -> Files:
-    """Returns the sources below `top`: of each name its rights and its bytes."""
+    """Returns the mode and bytes of each source below `top`, by name."""
     files = {name: top / name for name in names_of(top)}
     return {name: (0o755 if file.stat().st_mode & 0o100 else 0o644, file.read_bytes())
             for name, file in files.items()}
 
 
 def archive_of(files: Files, version: str) -> bytes:
-    """Returns an archive of files, in the directory irv-VERSION, with no times and no owners."""
+    """Returns an archive of files in the directory irv-VERSION, without times and owners."""
     data = io.BytesIO()
     with tarfile.open(fileobj=data, mode="w", format=tarfile.PAX_FORMAT) as tar:
         for name in sorted(files):
@@ -51,5 +51,5 @@ def archive_of(files: Files, version: str) -> bytes:
 
 
 def tree_here() -> str:
-    """Returns git's identifier of the tree of this checkout's sources."""
+    """Returns git's tree identifier of this checkout's sources."""
     return tree_of(files_here())

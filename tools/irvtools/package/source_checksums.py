@@ -1,4 +1,4 @@
-"""Checksums of sources: git's identifier of a tree of files, and the launcher's checksum."""
+"""Checksums of sources: git's tree identifier, and the launcher's checksum."""
 
 import hashlib
 import io
@@ -14,13 +14,12 @@ def sha256(data):
 
 
 def git_object(kind, data):
-    """Returns the hash by which git identifies an object."""
+    """Returns git's hash of an object."""
     return hashlib.sha1(f"{kind} {len(data)}\0".encode() + data)
 
 
 def tree_of(files):
-    """Returns the identifier of the tree that git makes of files: of each name its (mode,
-    bytes)."""
+    """Returns git's tree identifier of files, given as (mode, bytes) by name."""
     names, lower = {}, {}
     for name, (mode, data) in files.items():
         first, _, rest = name.partition("/")
@@ -38,8 +37,8 @@ def tree_of(files):
 
 
 def sum_of_sources(files):
-    """Returns the checksum of the program's sources, as `./irv --version` prints it; nothing if the
-    files have no crates.txt."""
+    """Returns the checksum of the program's sources, as `./irv --version` prints it, or `None`
+    without a crates.txt."""
     if "crates.txt" not in files:
         return None
     lower = dict(line.split(":", 1) for line in files["crates.txt"][1].decode().splitlines()
@@ -58,7 +57,7 @@ def sum_of_sources(files):
 
 
 def files_of(archive):
-    """Returns the files of a tar archive: of each name below its directory the (mode, bytes)."""
+    """Returns a tar archive's files as (mode, bytes), by name below its directory."""
     found = {}
     with tarfile.open(fileobj=io.BytesIO(archive)) as tar:
         for member in tar:

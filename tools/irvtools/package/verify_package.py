@@ -1,7 +1,7 @@
-"""Judges an evidence package from outside. A release has it as one file, which needs only Python
+"""Checks an evidence package from outside. A release has it as one file, which needs only Python
 3.9.
 
-It runs the package's program, checkers and page tools. It changes nothing in the package. """
+It runs the package's program, checkers and page tools. It changes nothing in the package."""
 
 import argparse
 import bz2
@@ -20,20 +20,20 @@ from irvtools.package.package_parts import (
 from irvtools.package.page_links import is_dead, links_of
 from irvtools.package.source_checksums import files_of, sha256, sum_of_sources, tree_of
 
-# the runs that are kept from an answer: its call, the file, the line with which it begins
+# Runs kept from an answer: call, file, first line.
 KEPT_RUNS = (("verify", "verify.run", 1), ("search", "search.run", 0))
-# the sources from which pages and script are made again
+# Sources for pages and script.
 PAGE_SOURCES = ("tools/", "docs/assurance/", "VERSION")
-# why a page that is made again may differ besides
+# Another reason for a difference in a repeated page.
 MAY_DIFFER = {"report.html": " (if the plant is large, also on a slower machine)"}
 PASSED, FAILED, NOTE = "passed", "failed", "note"
 CANNOT_JUDGE = 125
-RELEASED = "sources.tar.gz"             # the sources in a release
-UNBUILT = ".unbuilt"    # the launcher names such a file if it knows no program that is proved
+RELEASED = "sources.tar.gz"             # sources in a release
+UNBUILT = ".unbuilt"    # launcher's name if it knows no proved program
 
 
 class Judge:
-    """The checks of one package. Each yields (result, text)."""
+    """The checks of a package. Each yields (result, text)."""
 
     def __init__(self, directory, program=None, release=None, checkout=None):
         self.top, self.program = directory, program
@@ -43,7 +43,7 @@ class Judge:
         self.sources = self.record = None
 
     def read(self, name):
-        """Returns the bytes of a file of the package; nothing if it does not exist."""
+        """Returns the bytes of a package file; nothing if it does not exist."""
         file = self.top / name
         return file.read_bytes() if file.is_file() and not file.is_symlink() else b""
 
@@ -64,7 +64,7 @@ class Judge:
             yield from self.check_pages()
 
     def check_sums(self):
-        """Checks that SHA256SUMS has the checksum of each file, and of no other."""
+        """Checks that SHA256SUMS has exactly these files' checksums."""
         text = self.read(SUMS).decode(errors="replace")
         wanted = dict(reversed(line.split("  ", 1)) for line in text.splitlines() if "  " in line)
         here = [name for name in self.names if name != SUMS]
@@ -82,13 +82,13 @@ class Judge:
         yield (PASSED, SUMS) if lines == text else (FAILED, f"{SUMS}: a line names no checksum")
 
     def check_required(self):
-        """Checks that the package has all its parts, and no others."""
+        """Checks that the package has exactly its parts."""
         unknown, missing = unknown_names(self.names, self.read(RECORD))
         yield from ((FAILED, f"{name}: not a part of such a package") for name in unknown)
         yield from ((FAILED, f"{name}: the package is not complete without it") for name in missing)
 
     def check_links(self):
-        """Checks that each link leads to something in the package, or is a web address."""
+        """Checks that each link leads into the package or to a web address."""
         for name in self.names:
             if name.endswith((".md", ".html")):
                 links, ids = links_of(name, self.read(name).decode(errors="replace"))
@@ -98,8 +98,8 @@ class Judge:
                 yield (FAILED, f"{name}: dead links: {', '.join(dead)}") if dead else (PASSED, name)
 
     def check_record(self):
-        """Checks that calls.json has the calls of such a package, with the right columns, and
-        nothing else: they are made again."""
+        """Checks that calls.json has exactly the calls of such a package, with the right columns:
+        they are repeated."""
         try:
             record = json.loads(self.read(RECORD))
             calls = {call["name"]: call for call in record["calls"]}
@@ -118,7 +118,7 @@ class Judge:
                 FAILED, f"{RECORD}: no call {name} with {columns} columns")
 
     def wanted_calls(self):
-        """Returns the calls that the package has to have by its answers, with their columns."""
+        """Returns the calls required by the package's answers, with their columns."""
         lines = self.read("answers/check-strict.txt").decode(errors="replace").splitlines()
         is_clean, wanted = lines == ["clean"], {"check-strict": "strict"}
         columns = "strict" if is_clean else "free"
@@ -129,7 +129,7 @@ class Judge:
         return wanted
 
     def check_sources(self):
-        """Reads the sources archive."""
+        """Reads the source archive."""
         try:
             self.sources = files_of(bz2.decompress(self.read(ARCHIVE)))
             yield PASSED, ARCHIVE
@@ -137,7 +137,7 @@ class Judge:
             yield FAILED, f"{ARCHIVE}: cannot be read: {fault}"
 
     def check_version(self):
-        """Checks what version.txt says of the program and of the sources."""
+        """Checks version.txt's lines about program and sources."""
         told = lines_of(self.read(VERSION))
         made = {"program": f"sha256 {sha256(self.read(PROGRAM))}", "tree": tree_of(self.sources),
                 ARCHIVE: f"sha256 {sha256(self.read(ARCHIVE))}"}
@@ -152,14 +152,14 @@ class Judge:
             yield FAILED, f"{VERSION}: the sources have the checksum {sum_of_sources(self.sources)}"
 
     def check_copies(self):
-        """Checks that documents and checkers are those of the sources archive."""
+        """Checks documents and checkers against the source archive."""
         for place, below in (("documents/", ""), ("checkers/", "tools/")):
             for name in (name for name in self.names if name.startswith(place)):
                 good = self.sources.get(below + name[len(place):], (0, None))[1] == self.read(name)
                 yield (PASSED, name) if good else (FAILED, f"{name}: differs from {ARCHIVE}")
 
     def check_outside(self):
-        """Compares sources and version with a release, or with the checkout of this judge."""
+        """Compares sources and version with a release, or with this checkout."""
         tree = tree_of(self.sources)
         if self.release:
             ours = lines_of(self.read(VERSION))
@@ -181,12 +181,11 @@ class Judge:
             yield NOTE, (f"nothing outside says that {ARCHIVE} and {VERSION} are right: give "
                          f"--release, or compare the tree {tree}")
 
-    # -- what is made again
+    # -- repetition
 
     def check_answers(self, program, by, other_file):
-        """Makes each answer again by a program; `other_file` is the result if it writes another
-        file, which a program of another version may do: the package's own certificate is checked by
-        it too."""
+        """Repeats each answer with a program. `other_file` is the result if it writes another file:
+        a program of another version may, and also checks the package's own certificate."""
         with tempfile.TemporaryDirectory(prefix="irv-verify-package-") as room:
             for call in self.record["calls"]:
                 if call["is_repeated"]:
@@ -199,7 +198,7 @@ class Judge:
                                                            f"answers/{name}.txt")
 
     def check_answer(self, call, program, room, by, other_file):
-        """Makes one answer again, with the files that it writes."""
+        """Repeats one answer and its files."""
         again = {PROGRAM: str(program), "python3": sys.executable,
                  **{name: str(room / name) for name in call["made"]}}
         answer = self.call([again.get(word, word) for word in call["words"]], self.top)
@@ -217,7 +216,7 @@ class Judge:
                 yield other_file, f"{made}: {by} writes another one"
 
     def call(self, words, place, **more):
-        """Calls a command with the configuration; returns its status, output and errors."""
+        """Runs a command with the configuration. Returns status, output and errors."""
         environment = {**os.environ, "PYTHONDONTWRITEBYTECODE": "1", **more}
         try:
             done = subprocess.run(words, cwd=place, input=self.read(CONFIGURATION), env=environment,
@@ -227,7 +226,7 @@ class Judge:
         return done.returncode, done.stdout, done.stderr
 
     def check_pages(self):
-        """Makes the pages and the script again, by the tools in the sources archive."""
+        """Makes pages and script again, with tools from the source archive."""
         with tempfile.TemporaryDirectory(prefix="irv-verify-package-") as room:
             top, out = Path(room, "sources"), Path(room, "out")
             out.mkdir()
@@ -246,7 +245,7 @@ class Judge:
 
 
 def parser():
-    """Returns the parser of the command line."""
+    """Returns the command-line parser."""
     line = argparse.ArgumentParser(
         "irv --verify-package", allow_abbrev=False,
         formatter_class=argparse.RawDescriptionHelpFormatter,
@@ -269,7 +268,7 @@ def parser():
 
 
 def main(words, checkout=None):
-    """Judges a package; returns the exit status."""
+    """Checks a package. Returns the exit status."""
     given = parser().parse_args(words)
     for place, file in ((given.directory, SUMS), (given.release, VERSION),
                         (given.release, RELEASED)):

@@ -1,1 +1,1 @@
-"""Measurements of the program, and the page that shows them."""
+"""Measures the program, and writes the performance page."""

@@ -1,11 +1,22 @@
-"""Measures verify over generated stations and other lines, beside other solvers on the same formulas.
+"""Measures verify over generated stations and other lines, beside other solvers on the same
+formulas.
 
-First it prints the machine, the program and the solvers. For each plant it prints sections, points and
-routes; the verdict, user seconds and peak memory of verify; the size of its certificate; for each query
-variables, clauses and conflicts, and seconds and conflicts of each solver that is installed; then the same
-of audit, and of rup on what cadical writes of the last query (without items that only delete if the text is
-longer than rup reads). audit and rup run in three rounds, of which the least seconds count; in one if a
-round takes a minute or more. Peaks below some 16 MiB are this script's own.
+First it prints the machine, the program and the solvers. Then it prints for each plant:
+
+- sections, points and routes;
+
+- the verdict, user seconds and peak memory of verify;
+
+- the certificate's size;
+
+- for each query, variables, clauses and conflicts, and each installed solver's seconds and
+  conflicts;
+
+- the same of audit, and of rup on cadical's text for the last query.
+
+Items that only delete are left out if that text is longer than rup reads. The least seconds of
+three rounds of audit and rup count; a round of a minute or more is the last. Peaks below some 16
+MiB are this script's own.
 """
 
 import json
@@ -27,12 +38,12 @@ from irvtools.paths import TOP
 PLANTS = ["1", "2", "4", "8", "16", str(TOP / "examples/terminus-throat.json")]
 SOLVERS = {"cadical": ["cadical", "-n"], "minisat": ["minisat", "-verb=1"], "picosat": ["picosat", "-v", "-n"]}
 CONFLICTS = re.compile(r"conflicts\s*:\s*([0-9]+)|^c ([0-9]+) conflicts$", re.M)
-SECONDS = 600           # of a processor, after which another solver is ended
-ROUNDS, LONG = 3, 60   # how often audit and rup are run, and from how many seconds on once
+SECONDS = 600           # CPU seconds before another solver is ended
+ROUNDS, LONG = 3, 60   # rounds of audit and rup; seconds of a round that is the last
 
 
 def of_processor():
-    """What the machine says of its processors and its memory."""
+    """Returns the machine's account of processors and memory."""
     with open("/proc/cpuinfo", encoding="utf-8") as told:
         names = re.findall(r"^model name\s*: (.*)$", told.read(), re.M)
     with open("/proc/meminfo", encoding="utf-8") as told:
@@ -41,7 +52,7 @@ def of_processor():
 
 
 def version_of(name):
-    """The version of a solver's package, if that can be seen."""
+    """Returns a solver package's version, if known."""
     if shutil.which(name) is None:
         return f"{name} isn't there"
     if shutil.which("dpkg-query") is None:
@@ -52,7 +63,7 @@ def version_of(name):
 
 
 def head(program, options):
-    """What is measured where: the lines before the plants."""
+    """Yields the lines before the plants: machine, program and solvers."""
     path, sums = Path(program), subprocess.run(["sha256sum", program], stdout=subprocess.PIPE, check=True)
     name = path.relative_to(TOP) if path.is_relative_to(TOP) else path.name
     yield f"machine: {of_processor()}"
@@ -65,30 +76,30 @@ def head(program, options):
 
 
 def load():
-    """How many processes were at work in the last minute."""
+    """Returns the mean number of active processes in the last minute."""
     return f"load: {os.getloadavg()[0]:.1f}"
 
 
 def started(command, given, output):
-    """Begins a command."""
+    """Starts a command."""
     return subprocess.Popen(command, stdin=given, stdout=output, stderr=subprocess.DEVNULL)
 
 
 def ended(child):
-    """Waits for a command's end: its exit status, user seconds and peak mebibytes."""
+    """Waits for a command; returns exit status, user seconds and peak mebibytes."""
     _, state, used = os.wait4(child.pid, 0)
     child.returncode = os.waitstatus_to_exitcode(state)
     return child.returncode, used.ru_utime, used.ru_maxrss / 1024
 
 
 def measured(command, given, output):
-    """Runs a command: its exit status, user seconds, peak mebibytes and seconds on the clock."""
+    """Runs a command; returns exit status, user seconds, peak mebibytes and wall-clock seconds."""
     begin = time.monotonic()
     return *ended(started(command, given, output)), time.monotonic() - begin
 
 
 def beside(ours, yardstick, directory):
-    """What a command takes, and at the same time a yardstick, if there is one."""
+    """Returns the figures of a command, and of any yardstick at the same time."""
     commands = [ours, *([yardstick] if yardstick else [])]
     figures, answers = [[] for _ in commands], [directory / f"answer{i}" for i in range(len(commands))]
     for _ in range(ROUNDS):
@@ -106,7 +117,7 @@ def beside(ours, yardstick, directory):
 
 
 def plant_of(program, word):
-    """A plant's name and its configuration: so many stations, as the program makes them, a line, or a file."""
+    """Returns a plant's name and configuration: N generated stations, a line, or a file."""
     if double_track.LINE.fullmatch(word):
         return f"line {word}", double_track.configuration(word)
     if not word.isdigit():
@@ -118,14 +129,14 @@ def plant_of(program, word):
 
 
 def size_of(configuration):
-    """How many sections, points and routes there are."""
+    """Returns the number of sections, points and routes."""
     document = json.loads(configuration)
     points = sum(section["kind"] == "point" for section in document["sections"])
     return f"{len(document['sections'])} sections, {points} points, {len(document['routes'])} routes"
 
 
 def conflicts_of(certificate):
-    """The queries of a certificate, each with its number of steps that have a literal."""
+    """Returns a certificate's queries, each with its number of steps that have a literal."""
     queries = []
     with open(certificate, encoding="ascii") as lines:
         for line in lines:
@@ -137,8 +148,8 @@ def conflicts_of(certificate):
 
 
 def solver_figures(name, path, seconds):
-    """The answer, seconds and conflicts of another solver, or a dash where it isn't there. One that is ended
-    answers `over`."""
+    """Returns another solver's answer, seconds and conflicts, or a dash if it is missing. An ended
+    solver answers `over`."""
     if shutil.which(name) is None:
         return f"{name} -"
     output = path.with_suffix(".out")
@@ -151,7 +162,7 @@ def solver_figures(name, path, seconds):
 
 
 def measure_query(program, directory, kind, number, conflicts, seconds):
-    """Prints the figures of one query."""
+    """Prints the figures of a query."""
     path = directory / f"{kind}{number}.cnf"
     with open(directory / "plant.json", "rb") as given, open(path, "wb") as out:
         command = [program, "export", "--columns", "free", "--query", kind, "--number", number]
@@ -164,8 +175,8 @@ def measure_query(program, directory, kind, number, conflicts, seconds):
 
 
 def shortened(text):
-    """A file of a refutation without the lines that only delete, which is made line by line: the memory that
-    this script takes is in each peak that it measures later."""
+    """Writes a refutation without deletions, line by line: this script's memory adds to each later
+    peak."""
     shorter = text.with_suffix(".shorter")
     with open(text, "rb") as lines, open(shorter, "wb") as out:
         out.writelines(refutations.only_additions(lines))
@@ -194,7 +205,7 @@ def measure_checks(program, directory, queries, yardsticks):
 
 
 def measure(program, word, directory, options):
-    """Prints the figures of one plant."""
+    """Prints the figures of a plant."""
     name, configuration = plant_of(program, word)
     (directory / "plant.json").write_bytes(configuration)
     with open(directory / "plant.json", "rb") as given, open(directory / "report", "wb") as out:
@@ -214,7 +225,7 @@ def measure(program, word, directory, options):
 
 
 def parser():
-    """Returns the parser of the command line."""
+    """Returns the command-line parser."""
     line = Parser("tools/benchmark", "Measures verify and audit beside cadical, minisat and picosat on the same "
                   "formulas, all in one run.\n\nA WORD is a number of generated stations, a double-track line "
                   "such as bs or 11L, a file, or a setting:\nseconds=N ends another solver after N CPU seconds "

@@ -1,7 +1,7 @@
-"""The picture of a measurement: seconds over the number of sections, both by their logarithms.
+"""A measurement's chart: seconds over sections, on logarithmic scales.
 
-The generated stations are joined by a line, other plants stand apart, as squares; what was ended before its
-answer is hollow, at the time when it was ended.
+A line joins the generated stations; other plants are squares. A hollow mark shows when a call was
+ended.
 """
 
 import math
@@ -10,16 +10,16 @@ from irvtools.html.markup import tag, text
 from irvtools.performance.tables import MADE, SOLVERS
 
 WIDTH, HEIGHT = 760, 460
-LEFT, RIGHT, TOP, BOTTOM = 60, 620, 30, 400     # of the field in which the marks stand
+LEFT, RIGHT, TOP, BOTTOM = 60, 620, 30, 400     # the field of the marks
 COLOURS = {"irv verify": "#0b5394", "cadical": "#b45f06", "minisat": "#6aa84f", "picosat": "#a64d79"}
 GREYS = ("#e8e8e8", "#b0b0b0")
-LEAST = 0.01            # seconds: less is not distinguished
-EVEN = 1 + 1e-9         # numbers that are nearer are one
+LEAST = 0.01            # seconds: shorter times look the same
+EVEN = 1 + 1e-9         # numbers nearer than this are equal
 SIZE = 4.5              # half of a mark
 
 
 def seconds_of(plant, name):
-    """The seconds of a plant by a name, and whether it was ended before its answer; None where it wasn't there."""
+    """Returns a plant's seconds by a name, and whether the call was ended; `None` if missing."""
     if name == "irv verify":
         return plant.seconds, False
     time = plant.solvers.get(name)
@@ -27,8 +27,7 @@ def seconds_of(plant, name):
 
 
 class Scale:
-    """Where a number stands between two ends, by its logarithm. The ends are the next numbers outwards that
-    are 1, 2 or 5 times a power of ten."""
+    """A logarithmic scale. Its ends are rounded outwards to 1, 2 or 5 times a power of ten."""
 
     def __init__(self, numbers, begin, end):
         named = [digit * 10.0 ** power for power in range(-4, 8) for digit in (1, 2, 5)]
@@ -37,12 +36,12 @@ class Scale:
         self.begin, self.end = begin, end
 
     def at(self, number):
-        """The place of a number."""
+        """Returns the place of a number."""
         part = math.log(number / self.low) / math.log(self.high / self.low)
         return self.begin + part * (self.end - self.begin)
 
     def marks(self):
-        """The numbers that get a line, and their digits before the zeros."""
+        """Returns the numbers with lines, and their digits before the zeros."""
         for power in range(-4, 8):
             for digit in range(1, 10):
                 number = digit * 10.0 ** power
@@ -63,11 +62,11 @@ class Picture:
         self.y = Scale(every, BOTTOM, TOP)
 
     def place(self, plant, name):
-        """Returns the position of a plant's mark by a name."""
+        """Returns a plant's mark position by a name."""
         return self.x.at(plant.sections), self.y.at(max(seconds_of(plant, name)[0], LEAST))
 
     def grid(self):
-        """The lines of the field, with their numbers, and the text next to them."""
+        """Returns the grid with its numbers and axis labels."""
         for number, digit in self.x.marks():
             x = self.x.at(number)
             yield f'<path d="M{x:.1f} {TOP}V{BOTTOM}" stroke="{GREYS[digit == 1]}"/>'
@@ -82,14 +81,14 @@ class Picture:
         yield label(LEFT - 6, TOP - 12, "seconds of a processor", "start")
 
     def line(self, name):
-        """The line that joins the generated stations."""
+        """Returns the line that joins the generated stations."""
         places = [self.place(plant, name) for plant in self.plants
                   if MADE.fullmatch(plant.name) and seconds_of(plant, name)]
         way = "L".join(f"{x:.1f} {y:.1f}" for x, y in places)
         return f'<path d="M{way}" fill="none" stroke="{COLOURS[name]}" stroke-width="1.5"/>' if way else ""
 
     def marks(self, name):
-        """The marks of all plants."""
+        """Returns the marks of all plants."""
         for plant in self.plants:
             found = seconds_of(plant, name)
             if found:
@@ -97,7 +96,7 @@ class Picture:
                 yield mark(*self.place(plant, name), COLOURS[name], MADE.fullmatch(plant.name), found[1], title)
 
     def legend(self):
-        """Which colour and which mark is what."""
+        """Returns the legend of colours and marks."""
         x, y = RIGHT + 24, TOP + 10
         for name in self.names:
             yield mark(x, y - 4, COLOURS[name], True, False) + label(x + 12, y, name, "start")
@@ -108,7 +107,7 @@ class Picture:
             yield mark(x, y - 4, "#444", is_round, is_over) + label(x + 12, y, word, "start")
 
     def drawn(self):
-        """The whole picture."""
+        """Returns the whole picture."""
         parts = [f'<rect width="{WIDTH}" height="{HEIGHT}" fill="#fff"/>', *self.grid()]
         for name in reversed(self.names):
             parts += [self.line(name), *self.marks(name)]
@@ -118,12 +117,12 @@ class Picture:
 
 
 def label(x, y, word, anchor):
-    """A word of the picture."""
+    """Returns a word of the picture."""
     return tag("text", text(word), x=f"{x:.1f}", y=f"{y:.1f}", text_anchor=anchor, fill="#222")
 
 
 def mark(x, y, colour, is_round, is_over, title=""):
-    """A mark: round or square, and hollow where it was ended."""
+    """Returns a mark: round or square, and hollow if the call was ended."""
     look = {"fill": "#fff" if is_over else colour, "stroke": colour, "stroke_width": "1.5"}
     if is_round:
         return tag("circle", title, cx=f"{x:.1f}", cy=f"{y:.1f}", r=SIZE, **look)

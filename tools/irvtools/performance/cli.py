@@ -13,14 +13,14 @@ from irvtools.performance.tables import PICTURE, NoPlace, renewed
 PLANTS = ["1", "2", "4", "8", "16", "examples/terminus-throat.json", "s", "2s", "8L", "11L", "2s3L", "bs",
           "sLs", "2b", "b2s3L", "bsbsb"]
 LIMITS = ["seconds=200", "conflicts=200000"]
-REAL = TOP / "out/tables"       # where tests/write_tables writes tables of real stations
+REAL = TOP / "out/tables"       # tables of real stations, from tests/write_tables
 TEXT = TOP / "tools/irvtools/performance/measurements.txt"
 PAGE = TOP / "docs/dev/performance.md"
 PICTURES = TOP / "docs/pictures"
 
 
 def parser():
-    """Returns the parser of the command line."""
+    """Returns the command-line parser."""
     line = Parser("tools/update_performance", "Measures the program by tools/benchmark, keeps what it prints, "
                   "and updates the tables and the chart of\ndocs/dev/performance.md. It takes an hour "
                   "or more; run nothing else meanwhile.", 2,
@@ -34,12 +34,12 @@ def parser():
 
 
 def real_tables():
-    """Returns the files of the tables of real stations that are there."""
+    """Returns the files with tables of real stations."""
     return [str(path) for path in sorted(REAL.glob("*.json"))]
 
 
 def measure(program, words):
-    """Has all measured, shows what is printed as it comes, and keeps it."""
+    """Measures all, shows the output as it comes, and writes it to `TEXT`."""
     words = words or [*PLANTS, *real_tables(), *LIMITS]
     command = [str(TOP / "tools/benchmark"), str(program.resolve()), *words]
     with subprocess.Popen(command, cwd=TOP, stdout=subprocess.PIPE, text=True) as child:
@@ -53,7 +53,7 @@ def measure(program, words):
 
 
 def write(path):
-    """Writes the tables and the chart from what was printed."""
+    """Writes the tables and the chart from the output."""
     measured = Measured(Path(path).read_text(encoding="utf-8"))
     PAGE.write_text(renewed(PAGE.read_text(encoding="utf-8"), measured), encoding="utf-8")
     (PICTURES / Path(PICTURE).name).write_text(Picture(measured.plants).drawn(), encoding="utf-8")

@@ -1,4 +1,4 @@
-"""What tools/benchmark printed, read back."""
+"""Reads the output of tools/benchmark."""
 
 import re
 from dataclasses import dataclass, field
@@ -17,12 +17,12 @@ PROVED = "crates/irv/out/irv"
 
 
 class NotMeasured(Exception):
-    """A text that tools/benchmark doesn't print: the message says where."""
+    """A text that tools/benchmark does not print; the message says which line."""
 
 
 @dataclass
 class Time:
-    """Seconds, at least so many where it was ended before its answer."""
+    """Seconds; a lower bound if the call was ended."""
 
     seconds: float
     is_over: bool = False
@@ -33,7 +33,7 @@ class Time:
 
 @dataclass
 class Check:
-    """What audit or rup answered, its seconds and mebibytes."""
+    """The answer of audit or rup, with seconds and mebibytes."""
 
     answer: str
     seconds: float
@@ -42,7 +42,7 @@ class Check:
 
 @dataclass
 class Plant:
-    """What was measured of a plant. The times of a solver are those of all queries of the certificate."""
+    """A plant's figures. A solver's times are those of all queries of the certificate."""
 
     name: str
     sections: int
@@ -61,13 +61,13 @@ class Plant:
 
 
 class Run:
-    """What one call printed: its head, and its plants in order."""
+    """The output of one call: its head, and its plants in order."""
 
     def __init__(self):
         self.head, self.loads, self.plants = {}, [], []
 
     def takes(self, line):
-        """Takes a line; whether it may stand there."""
+        """Takes a line; returns whether it is valid there."""
         head, plant = HEAD.fullmatch(line), PLANT.fullmatch(line)
         if head:
             self.head[head[1]] = head[2]
@@ -80,7 +80,7 @@ class Run:
         return True
 
     def see_whole(self):
-        """Sees that nothing of its head is missing, and that it has a plant."""
+        """Checks that the head is complete and a plant exists."""
         for name in ("machine", "day", "program", "solvers", "load"):
             if name not in self.head:
                 raise NotMeasured(f"there is no line of the {name}")
@@ -89,7 +89,7 @@ class Run:
 
 
 class Measured:
-    """A whole text: what one call printed, or several one after another."""
+    """The output of one or more calls."""
 
     def __init__(self, text):
         self.runs = []
@@ -104,17 +104,17 @@ class Measured:
 
     @property
     def is_proved(self):
-        """Whether the program is always the one that a build makes which proves it."""
+        """Returns whether every run used the proved build."""
         return all(run.head["program"].startswith(f"{PROVED},") for run in self.runs)
 
     @property
     def machines(self):
-        """The machines, each once."""
+        """Returns the machines, each once."""
         return list(dict.fromkeys(run.head["machine"] for run in self.runs))
 
 
 def takes_part(plant, line):
-    """Takes a line of a plant; whether it is one."""
+    """Takes a line of a plant; returns whether it is one."""
     certificate, query = CERTIFICATE.fullmatch(line), QUERY.fullmatch(line)
     audit, rup = AUDIT.fullmatch(line), RUP.fullmatch(line)
     if certificate:
@@ -130,7 +130,8 @@ def takes_part(plant, line):
 
 
 def takes_solver(plant, told):
-    """Adds what a solver took for a query; whether that is well written. One that isn't there has no time."""
+    """Adds a solver's figures for a query; returns whether they are well written. A missing solver
+    has no time."""
     found = SOLVER.fullmatch(told)
     if found and found[2] in ("sat", "unsat", "over"):
         time = Time(float(found[3]), found[2] == "over")

@@ -1,4 +1,4 @@
-"""The generated part of docs/dev/performance.md: the tables and the link to the chart."""
+"""The generated part of docs/dev/performance.md: tables and chart link."""
 
 from __future__ import annotations
 
@@ -18,7 +18,7 @@ class NoPlace(Exception):
 
 
 def shown(name):
-    """Returns a plant's name: a number of generated stations, a line by its letters, or a file."""
+    """Returns a plant's name: a number of generated stations, a line's letters, or a file."""
     made = MADE.fullmatch(name)
     if made:
         return f"{made[1]} generated station{'' if made[1] == '1' else 's'}"
@@ -26,7 +26,7 @@ def shown(name):
 
 
 def seconds(time):
-    """Seconds, in three digits or so."""
+    """Returns seconds in about three digits."""
     if time is None:
         return "-"
     digits = 2 if time.seconds < 10 else 1 if time.seconds < 100 else 0
@@ -34,18 +34,18 @@ def seconds(time):
 
 
 def megabytes(count):
-    """Bytes, in millions."""
+    """Returns bytes in millions."""
     return f"{count / 1e6:.1f}" if count else "-"
 
 
 def table(head, rows):
-    """A table of Markdown."""
+    """Returns a Markdown table."""
     lines = [f"| {' | '.join(row)} |" for row in (head, *rows)]
     return "\n".join([lines[0], "|" + "---|" * len(head), *lines[1:]]) + "\n"
 
 
 def answers(plants):
-    """The table of verify and of other solvers."""
+    """Returns the table of verify and of other solvers."""
     head = ["plant", "sections, points, routes", "answer", "`verify`, s", "MiB", "conflicts",
             *(f"{name}, s" for name in SOLVERS)]
     return table(head, [[shown(plant.name), f"{plant.sections}, {plant.points}, {plant.routes}", plant.answer,
@@ -54,7 +54,7 @@ def answers(plants):
 
 
 def check(found):
-    """The cells of what audit or rup took, or of its answer where that isn't the one that is hoped for."""
+    """Returns the cells for audit or rup, or its answer if unexpected."""
     if found is None:
         return ["-", "-"]
     if not found.answer.startswith(("accepted", "refuted")):
@@ -63,14 +63,14 @@ def check(found):
 
 
 def checks(plants):
-    """The table of audit and rup."""
+    """Returns the table of audit and rup."""
     head = ["plant", "certificate, MB", "`audit`, s", "MiB", "cadical's text, MB", "`rup`, s", "MiB"]
     return table(head, [[shown(plant.name), megabytes(plant.certificate), *check(plant.audit),
                          megabytes(plant.text), *check(plant.rup)] for plant in plants])
 
 
 def conditions(run):
-    """Returns on which machine, with which program and beside which solvers a run was measured."""
+    """Returns the machine, program and solvers of a run."""
     name, _, rest = run.head["program"].partition(", ")
     program = (f"The program was the proved one, `{PROVED}` ({rest})." if name == PROVED else
                f"**The program was not proved**: it was built from the sources of that day without "
@@ -82,8 +82,8 @@ def conditions(run):
 
 
 def origin(run, whose, first=None):
-    """Returns where and how a run of tools/benchmark was measured; `whose` begins the first sentence.
-    What was so in the run `first` too is not said again."""
+    """Returns how a run of tools/benchmark was measured, less what it shares with the run `first`;
+    `whose` begins the first sentence."""
     loads = sorted(run.loads, key=float)
     same = first is not None and conditions(first) == conditions(run)
     how = " in the same way." if same else f": {conditions(run)}"
@@ -92,7 +92,7 @@ def origin(run, whose, first=None):
 
 
 def origins(measured):
-    """The same for each call, with its plants where there are several."""
+    """Returns that for each call, with its plants if there are several calls."""
     runs = measured.runs
     if len(runs) == 1:
         return origin(runs[0], "Measured")
@@ -102,7 +102,7 @@ def origins(measured):
 
 
 def part(measured: Measured) -> str:
-    """Returns the whole generated part, without its markers."""
+    """Returns the generated part without its markers."""
     return (f"\n{origins(measured)}\n{answers(measured.plants)}\n"
             f"![Seconds over the number of sections]({PICTURE})\n\n{checks(measured.plants)}\n")
 

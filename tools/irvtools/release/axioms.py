@@ -1,8 +1,7 @@
-"""The axioms: the functions of C on whose contracts the proof of the program depends, by name.
+"""The axioms: the C functions on whose contracts the program's proof depends, by name.
 
-CI prints the first three of each library, and how many there are. The prover lists all of them if
-it is asked to: it checks the program once more, over the libraries that CI has built. Its list has
-to agree with what CI printed. """
+CI prints each library's first three and their number. The prover lists all on request: it checks
+the program once more, over CI's libraries. Both lists must agree."""
 
 from __future__ import annotations
 
@@ -15,15 +14,15 @@ from irvtools.mutants.crates import Crates, Toolchain
 LISTED = re.compile(r"^ +(\S+) +reached$", re.M)
 TOTAL = re.compile(r"^logic=proved .*?\baxioms=(\d+)", re.M)
 PRINTED = re.compile(r"^axioms (\w+): (.+) \((\d+) of the \d+ declared\)$", re.M)
-FEWER = "..."           # in place of names that were not printed
+FEWER = "..."           # in place of unprinted names
 
 
 class Unlisted(Exception):
-    """The names are not known; the message says why."""
+    """The names are unknown; the message says why."""
 
 
 def ask(top: Path, program: str = "irv") -> str:
-    """Returns what the prover prints about a program of the repository, with all names."""
+    """Returns the prover's output about a program of the repository, with all names."""
     toolchain, crates = Toolchain(), Crates(top)
     lower = crates.below(program)
     absent = [name for name in lower
@@ -43,7 +42,7 @@ def ask(top: Path, program: str = "irv") -> str:
 
 
 def names_in(said: str) -> list[str]:
-    """Returns the names that the prover listed for a program that it found proved."""
+    """Returns the names that the prover listed for a proved program."""
     total, names = TOTAL.search(said), sorted(LISTED.findall(said))
     if not total:
         last = (said.strip() or "nothing").splitlines()[-1]
@@ -55,13 +54,13 @@ def names_in(said: str) -> list[str]:
 
 
 def part_of(log: str, crate: str = "irv") -> str:
-    """Returns what `rt ci` printed about the proof of a crate."""
+    """Returns the output of `rt ci` about a crate's proof."""
     part = re.search(rf"^== {crate}\n(.*?)(?=^== |\Z)", log, re.M | re.S)
     return part[1] if part else ""
 
 
 def check_same(names: list[str], printed: str) -> None:
-    """Checks that these names are those of which CI printed the number and the first."""
+    """Checks these names against CI's number and first names."""
     total = TOTAL.search(printed)
     if not total:
         raise Unlisted("the log has no number of axioms of the program: rt ci prints it only if it "
@@ -79,7 +78,7 @@ def check_same(names: list[str], printed: str) -> None:
 
 
 def axioms(top: Path, log: str) -> list[str]:
-    """Returns the names of all axioms, as the prover lists them here and as CI counted them."""
+    """Returns all axiom names, as listed here and counted by CI."""
     names = names_in(ask(top))
     check_same(names, part_of(log))
     return names

@@ -1,5 +1,5 @@
-"""What CI printed: over which tree it ran, the count of each of its commands in the order of
-`.ci/run`, and what came of each test."""
+"""The output of CI: its tree, each command's count in the order of `.ci/run`, and each test's
+result."""
 
 from __future__ import annotations
 
@@ -9,7 +9,7 @@ from dataclasses import dataclass, field
 COUNT = re.compile(r"^(\d+) passed, (\d+) failed(?:, (\d+) skipped)?$", re.M)
 CALL = re.compile(r"^(rt ci|(?:tests|tools)/\w+(?: [^|\n]*?)?)(?: \| .*?)?(?: \|\| .*)?$", re.M)
 TREE = re.compile(r"^CI (begun|passed), tree of git: (.+)$", re.M)
-# a test that tests/run ran: its result, its name, how many checks it made, and why it was skipped
+# a test of tests/run: result, name, number of checks, and the reason for a skip
 TEST = re.compile(r"^(passed|skipped) ([\w.]+) \((?:(\d+) checks, )?[0-9.]+ s\)(?:: (.*))?$", re.M)
 
 
@@ -19,7 +19,7 @@ class Unread(Exception):
 
 @dataclass
 class Check:
-    """A command of CI: what it counted."""
+    """A command of CI with its counts."""
     command: str
     passed: int
     skipped: int
@@ -27,15 +27,24 @@ class Check:
 
 @dataclass
 class Tests:
-    """The tests of one subject: how many passed, their checks, and the skipped ones with the
-    reason."""
-    passed: int = 0
-    checks: int = 0
+    """One subject's tests: those that passed with the number of their checks, and the skipped ones
+    with the reason."""
+    counts: dict[str, int] = field(default_factory=dict)
     skipped: dict[str, str] = field(default_factory=dict)
+
+    @property
+    def passed(self) -> int:
+        """The number of tests that passed."""
+        return len(self.counts)
+
+    @property
+    def checks(self) -> int:
+        """The number of their checks."""
+        return sum(self.counts.values())
 
 
 def checks_of(script: str) -> list[str]:
-    """Returns the commands of CI that count, in their order."""
+    """Returns CI's counting commands, in order."""
     return [match[1].strip() for match in CALL.finditer(script)]
 
 
@@ -51,7 +60,7 @@ def check_tree(log: str, tree: str) -> None:
 
 
 def read(script: str, log: str, tree: str) -> list[Check]:
-    """Returns each command of CI with its count. `rt ci` may print counts besides its last one."""
+    """Returns CI's commands with counts. `rt ci` may print counts besides its last one."""
     commands = checks_of(script)
     counts = [(int(good), int(bad), int(left or 0)) for good, bad, left in COUNT.findall(log)]
     if "rt ci" not in commands:
@@ -70,13 +79,12 @@ def read(script: str, log: str, tree: str) -> list[Check]:
 
 
 def tests_in(log: str) -> dict[str, Tests]:
-    """Returns what came of the tests, by their subjects, in the order of the names."""
+    """Returns the test results by subject, in name order."""
     found = {}
     for result, name, checks, why in TEST.findall(log):
         subject = found.setdefault(name.partition(".")[0], Tests())
         if result == "passed":
-            subject.passed += 1
-            subject.checks += int(checks or 1)
+            subject.counts[name] = int(checks or 1)
         else:
             subject.skipped[name] = why
     return dict(sorted(found.items()))

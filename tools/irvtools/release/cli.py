@@ -1,4 +1,4 @@
-"""The command line of `irv --release`: makes a release of this checkout."""
+"""The command line of `irv --release`."""
 
 from __future__ import annotations
 
@@ -18,7 +18,7 @@ NOT_MADE = 125
 
 
 def parser() -> Parser:
-    """Returns the parser of the command line."""
+    """Returns the command-line parser."""
     line = Parser(
         "irv --release", "Makes a release: a directory with the sources, the program, its manual "
         "page and licences, the judge of\npackages, and the validation record. It runs in the "
@@ -37,7 +37,7 @@ def parser() -> Parser:
 
 
 def make(given: Namespace, top: Path) -> None:
-    """Makes the release beside its place, and moves it there once it is whole."""
+    """Makes the release beside its place, and moves it there when complete."""
     directory = given.directory
     if directory.is_symlink() or directory.exists() and (not directory.is_dir()
                                                          or any(directory.iterdir())):
@@ -56,7 +56,7 @@ def make(given: Namespace, top: Path) -> None:
 
 
 def main(words: list[str]) -> int:
-    """Makes the release that the arguments ask for; returns the exit status."""
+    """Makes a release; returns the exit status."""
     given = parser().parse_args(words)
     try:
         make(given, TOP)

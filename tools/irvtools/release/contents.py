@@ -1,4 +1,4 @@
-"""A release that is being made: files of this checkout, and the validation record."""
+"""A release in progress: files of this checkout, and the validation record."""
 
 from __future__ import annotations
 
@@ -23,22 +23,22 @@ from irvtools.release.record import Record, Unusable
 ARCHIVE, JUDGE, LOG, RECORD = "sources.tar.gz", "verify_package.py", "ci.log", "record.md"
 PAGES = ("CHANGELOG.md", "docs/assurance/qualification.md", "docs/assurance/traceability.md",
          "docs/dev/releases.md")
-# what `./irv --install` makes besides the program: its manual page, and completions for bash
+# manual page and bash completions, from `./irv --install`
 INSTALLED = ("irv.1", "irv.bash")
 
 
 class NotReleased(Exception):
-    """Why nothing is released."""
+    """The reason why nothing is released."""
 
 
 class Release:
-    """A release in a directory of its own."""
+    """A release in its own directory."""
 
     def __init__(self, top: Path, given: Namespace, room: Path):
         self.top, self.given, self.room = top, given, room
 
     def said(self, *words: str) -> bytes:
-        """Returns what a command prints, called in the checkout."""
+        """Returns the output of a command in the checkout."""
         done = subprocess.run(words, cwd=self.top, stdin=subprocess.DEVNULL, capture_output=True,
                               check=False)
         if done.returncode:
@@ -47,11 +47,11 @@ class Release:
         return done.stdout
 
     def line(self, *words: str) -> str:
-        """Returns the line that a command prints."""
+        """Returns a command's output, stripped."""
         return self.said(*words).decode(errors="replace").strip()
 
     def make(self) -> None:
-        """Makes all of it."""
+        """Makes the whole release."""
         if self.line("git", "status", "--porcelain"):
             raise NotReleased("the checkout has changed or new files: git status lists them")
         self.check_program()
@@ -66,13 +66,13 @@ class Release:
             record = Record(self.top, version, checks, ci_log.tests_in(log), names, linked)
             for file in self.given.extra_log:
                 record.take_extra_log(file, self.room)
+            (self.room / RECORD).write_text(record.text(), encoding="utf-8")
         except (ci_log.Unread, Unlisted, Unusable) as fault:
             raise NotReleased(str(fault)) from fault
-        (self.room / RECORD).write_text(record.text(), encoding="utf-8")
         self.sum_up()
 
     def check_program(self) -> None:
-        """Checks that the program is the one that was built of these sources."""
+        """Checks that the program was built of these sources."""
         self.program = self.given.program.absolute()
         self.note, self.sources = note_beside(self.program), sum_of_sources(files_here(self.top))
         is_built = self.program.is_file() and self.note.get("program") == sum_of(self.program)
@@ -84,7 +84,7 @@ class Release:
             raise NotReleased(f"the file {self.licences} does not exist: ./irv --install makes it")
 
     def copy(self, tree: str) -> list[str]:
-        """Copies the files of the release; returns the lines of its version file."""
+        """Copies the release's files; returns its version file's lines."""
         version = (self.top / "VERSION").read_text(encoding="utf-8").strip()
         archive = self.said("git", "archive", "--format=tar", f"--prefix=irv-{version}/", "HEAD")
         (self.room / ARCHIVE).write_bytes(gzip.compress(archive, mtime=0))

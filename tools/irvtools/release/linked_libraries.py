@@ -1,9 +1,7 @@
-"""The toolchain's libraries that are linked into the program: of each its version, and its
-licences.
+"""The toolchain's libraries in the program, with version and licences.
 
-The file of licences that the launcher keeps beside the program names them and their licences. The
-README of a port of a Rust crate names that crate's version; other libraries have the toolchain's
-version. """
+The launcher's licence file beside the program names both. A port's README names the version of its
+Rust crate; other libraries have the toolchain's version."""
 
 from __future__ import annotations
 
@@ -18,16 +16,15 @@ WITHOUT = re.compile(
 
 @dataclass
 class Library:
-    """A library: its name, the crate of Rust with the version of which it is a port, if its README
-    names one, and the files of its licences."""
+    """A library: name, licence files, and the Rust crate and version that it ports, if its README
+    names one."""
     name: str
     port: str
     licences: list[str]
 
 
 def port_of(directory: Path, name: str) -> str:
-    """Returns the crate of Rust of which a library is a port, with its version; nothing if its
-    README names none."""
+    """Returns the Rust crate that a library ports, with version; nothing if its README names none."""
     try:
         said = (directory / "README.md").read_text(encoding="utf-8")
     except OSError:
@@ -38,8 +35,7 @@ def port_of(directory: Path, name: str) -> str:
 
 
 def libraries(licences: str, toolchain: Path) -> list[Library]:
-    """Returns each library, in the order of their names, by the text of the licences and the
-    toolchain's directory."""
+    """Returns the libraries by name, from the licences' text and the toolchain's directory."""
     found = {name: [] for name in sorted(WITHOUT.search(licences)[1].split())} \
         if WITHOUT.search(licences) else {}
     for name, file in LICENCE.findall(licences):

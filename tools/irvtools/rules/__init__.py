@@ -1,1 +1,1 @@
-"""The rules of a configuration in words, and advice that no rule asks for."""
+"""A configuration's rules in words, and advice beyond them."""

@@ -1,5 +1,5 @@
-"""What an engineer looks for in a table of routes and no rule asks: found by the page itself, and no
-answer. What the ways of the network are `irv table` says."""
+"""Advice about an interlocking table that no rule checks. The page finds it by itself; the program
+does not. The network's ways come from `irv table`."""
 
 from __future__ import annotations
 
@@ -10,13 +10,13 @@ from irvtools.rules.column_rules import wrong_on_path
 
 
 def without_overlap(plant: Plant) -> list[Route]:
-    """Routes that end at a board and have no overlap behind it."""
+    """Returns routes to a board without an overlap behind it."""
     return [route for route in plant.routes if route.destination is not None and not route.overlap]
 
 
 def overlap_ends(plant: Plant) -> tuple[list[Route], list[Route]]:
-    """Routes whose overlap doesn't end at a board for their direction: those where the line goes on, and
-    those where the network ends."""
+    """Returns routes whose overlap does not end at a board for their direction: those with more
+    line ahead, and those at the network's end."""
     going_on, outside = [], []
     for route in plant.routes:
         if route.overlap and (route.overlap[-1], route.direction) not in plant.board_on:
@@ -26,8 +26,8 @@ def overlap_ends(plant: Plant) -> tuple[list[Route], list[Route]]:
 
 
 class Ways:
-    """The ways of the network, as `irv table` prints them, beside the routes of the table. `lacking` are
-    the ways of which there is no route, `other` the routes that are no way."""
+    """The network's ways, as `irv table` prints them, beside the table. `lacking`: ways without a
+    route. `other`: routes that are not ways."""
 
     def __init__(self, plant, report):
         self.plant = plant
@@ -42,32 +42,32 @@ class Ways:
         self.used = used_borders(plant)
 
     def to_boards(self):
-        """Those that are lacking, from a board that isn't at a dead end to another board."""
+        """Returns lacking ways from a board not at a dead end to another board."""
         return [way for way in self.lacking if not self.from_dead_end(way) and not self.is_out(way)]
 
     def over_borders(self):
-        """Those that lead out where the table has routes."""
+        """Returns lacking ways out over borders that routes use."""
         return [way for way in self.lacking if not self.from_dead_end(way) and self.is_out(way)
                 and way[1][-1] in self.used]
 
     def at_dead_ends(self):
-        """Those that lead to a border, or from one, that no route of the table uses."""
+        """Returns lacking ways to or from a border that no route uses."""
         return [way for way in self.lacking if self.from_dead_end(way)
                 or self.is_out(way) and way[1][-1] not in self.used]
 
     def is_out(self, way):
-        """Whether a way leads out of the network."""
+        """Returns whether a way leads out of the network."""
         return not self.plant.nexts[way[1][-1], self.plant.boards[way[0]].direction]
 
     def from_dead_end(self, way):
-        """Whether a way begins at a border that no route uses."""
+        """Returns whether a way begins at a border that no route uses."""
         board = self.plant.boards[way[0]]
         return self.plant.inward.get(board.section) == board.direction \
             and board.section not in self.used
 
 
 def used_borders(plant):
-    """The borders to which a route of the table leads, or at whose board one begins."""
+    """Returns the borders that routes lead to or begin at."""
     used = {route.path[-1] for route in plant.routes}
     used |= {plant.boards[route.source].section for route in plant.routes
              if plant.inward.get(plant.boards[route.source].section) == route.direction}
@@ -75,14 +75,14 @@ def used_borders(plant):
 
 
 def unused_boards(plant: Plant) -> list[Board]:
-    """Boards at which no route begins or ends."""
+    """Returns boards at which no route begins or ends."""
     used = {b for route in plant.routes for b in (route.source, route.destination)}
     return [board for board in plant.boards if board.number not in used]
 
 
 def points_one_way(plant: Plant) -> tuple[list[tuple[int, str, int]], list[int]]:
-    """Points that every route that locks them wants in one position, with it and the number of routes;
-    and points that no route locks."""
+    """Returns points that every locking route wants in one position, with it and the number of
+    routes; and points that no route locks."""
     wanted = {x: [] for x in plant.points}
     for route in plant.routes:
         for x, position in route.wanted:
@@ -92,8 +92,8 @@ def points_one_way(plant: Plant) -> tuple[list[tuple[int, str, int]], list[int]]
 
 
 def exchanged_legs(plant: Plant) -> list[tuple[int, list[Route]]]:
-    """Points over which two or more routes lead, and which each of these lists in the other position
-    than the one that leads along its path; with these routes."""
+    """Returns points with two or more routes over them, each of which lists the wrong position for
+    its path; with the routes."""
     wrong, over = {}, {}
     for route in plant.routes:
         listed = dict(route.points)
@@ -107,7 +107,7 @@ def exchanged_legs(plant: Plant) -> list[tuple[int, list[Route]]]:
 
 
 def end_of(plant: Plant, way: tuple[int, tuple[int, ...]]) -> str | None:
-    """Where a way ends: a board's name, or None where it leads out."""
+    """Returns the name of a way's last board, or `None` if it leads out."""
     board = plant.boards[way[0]]
     last = plant.board_on.get((way[1][-1], board.direction))
     return None if last is None else plant.boards[last].name

@@ -1,9 +1,8 @@
-"""The broken rules of the network, of the table and of the columns, in words: what the
-configuration has, and what it should have. `irv check` answers which rules are broken, and where;
-the words are the page's own.
+"""The broken rules of network, table and columns in words: what the configuration has, and should
+have. `irv check` finds the rules and places; the words are the page's own.
 
-Each function of EXPLAINED takes a plant and the numbers of the places, and yields sentences.
-`where` says what to mark in the plan. """
+Each function of EXPLAINED takes a plant and the places' numbers, and yields sentences. `where` says
+what to mark in the plan."""
 
 from __future__ import annotations
 
@@ -31,7 +30,7 @@ IDLE_END = ("Safety depends on this rule only in that a board or the end of the 
             "it should.")
 WORDLESS = "This version has no sentence for the rule {}; docs/reference/model.md has the rule."
 UNKNOWN = "It is not known whether safety depends on this rule."
-RESTING = ("C1", "C2", "C3", "C7")      # rules of the columns on which safety depends, at least in part
+RESTING = ("C1", "C2", "C3", "C7")      # column rules on which safety depends, at least in part
 BY_DIRECTION = ("C2", "C4")             # rules that a route in the wrong direction often breaks too
 
 EXPLAINED = {
@@ -50,15 +49,15 @@ EXPLAINED = {
 
 
 def read_line(line: str) -> tuple[str, list[tuple[str, int]]]:
-    """The rule of a line of check, and its places: each a word and a number."""
+    """Returns the rule of a line of check, and its places as words with numbers."""
     _, rule, *places = line.split(" ")
     return rule, [(place.rstrip("]").split("[")[0], int(place.rstrip("]").split("[")[1]))
                   for place in places if "[" in place]
 
 
 def sentences(plant: Plant, rule: str, places: list[tuple[str, int]]) -> list[str]:
-    """What the configuration has and what it should have. If a route is in the wrong direction,
-    that comes first."""
+    """Returns what the configuration has and should have. A route in the wrong direction comes
+    first."""
     if rule not in EXPLAINED:
         return [WORDLESS.format(rule)]
     i = places[0][1]
@@ -72,8 +71,7 @@ def sentences(plant: Plant, rule: str, places: list[tuple[str, int]]) -> list[st
 
 
 def rests(plant: Plant, rule: str, places: list[tuple[str, int]]) -> bool:
-    """Returns whether safety depends on what is broken of a rule; on an unknown rule of the columns
-    it may."""
+    """Returns whether safety depends on a broken rule. On an unknown column rule it may."""
     if rule not in EXPLAINED:
         return rule[0] == "C" and places != [] and places[0][0] != "boards"
     i = places[0][1]
@@ -85,7 +83,7 @@ def rests(plant: Plant, rule: str, places: list[tuple[str, int]]) -> bool:
 
 
 def safety(plant: Plant, rule: str, places: list[tuple[str, int]]) -> str:
-    """Returns whether safety depends on a broken rule, in a sentence."""
+    """Returns a sentence on whether safety depends on a broken rule."""
     if rule[0] in "NR":
         return NEEDED
     if rule not in EXPLAINED:
@@ -96,7 +94,7 @@ def safety(plant: Plant, rule: str, places: list[tuple[str, int]]) -> str:
 
 
 def where(plant: Plant, rule: str, places: list[tuple[str, int]]) -> Marks:
-    """What to mark in the plan."""
+    """Returns what to mark in the plan."""
     if not places:
         return Marks([])
     kind, i = places[0]
@@ -113,7 +111,7 @@ def where(plant: Plant, rule: str, places: list[tuple[str, int]]) -> Marks:
 
 
 def of_route(plant, rule, numbers):
-    """What of a route to mark."""
+    """Returns what to mark of a route."""
     route = plant.routes[numbers[0]]
     boards = [route.source, route.destination]
     if rule in ("C1", "C4") and route.source is not None:

@@ -1,5 +1,5 @@
-"""The broken rules of the columns in words, C1 to C8: what the table has, and what it should have.
-Each function takes a plant and the numbers of the places, and yields sentences."""
+"""The broken column rules C1 to C8 in words: what the table has, and should have. Each function
+takes a plant and the places' numbers, and yields sentences."""
 
 from __future__ import annotations
 
@@ -11,7 +11,7 @@ from irvtools.model.phrases import join, way_words
 
 def gaps(plant: Plant, route: Route, sections: list[int],
          before: int) -> Iterator[tuple[int, int]]:
-    """Yields the gaps of a list of sections: the section before, and the one that is listed."""
+    """Yields a list's gaps: the section before, and the listed one."""
     for x in sections:
         if x not in plant.nexts[before, route.direction]:
             yield before, x
@@ -19,13 +19,12 @@ def gaps(plant: Plant, route: Route, sections: list[int],
 
 
 def leads(plant, sections, direction):
-    """Returns whether each of some sections is next to the one before, in a direction."""
+    """Returns whether each section is next to the one before, in a direction."""
     return all(y in plant.nexts[x, direction] for x, y in zip(sections, sections[1:]))
 
 
 def wrong_way(plant: Plant, route: Route) -> str | None:
-    """Returns what is wrong with a route whose path leads against its direction, in a sentence;
-    None if it doesn't."""
+    """Returns a sentence about a route against its direction; `None` if its path is right."""
     source, other = plant.boards[route.source], OPPOSITE[route.direction]
     way = [source.section, *route.path]
     if leads(plant, way, other):
@@ -99,8 +98,8 @@ def path_end(plant: Plant, i: int) -> Iterator[str]:
 
 
 def runs_on(plant: Plant, i: int) -> bool:
-    """C2, as far as safety depends on it: whether nothing stops a train at the end of a route's
-    path."""
+    """Returns whether nothing stops a train at the end of a route's path: C2, as far as safety
+    depends on it."""
     route = plant.routes[i]
     last = route.path[-1], route.direction
     return last not in plant.board_on and bool(plant.nexts[last])
@@ -117,8 +116,8 @@ def points_wrong(plant: Plant, i: int) -> Iterator[str]:
 
 
 def wrong_on_path(plant: Plant, route: Route) -> Iterator[tuple[int, list[str]]]:
-    """Yields the points of a route's path that it doesn't list in the position that its path needs,
-    each with the positions that would do."""
+    """Yields a path's points that the route does not list in the needed position, with the
+    positions that would do."""
     positions = dict(route.points)
     way = [plant.boards[route.source].section, *route.path]
     for place in range(1, len(way)):
@@ -167,7 +166,7 @@ def one_sided(plant: Plant, i: int, j: int) -> Iterator[str]:
 
 
 def shared(plant: Plant, i: int, j: int) -> list[int]:
-    """Returns the sections that two routes both lock."""
+    """Returns the sections that both routes lock."""
     return [x for x in plant.routes[i].locked if x in plant.routes[j].locked]
 
 

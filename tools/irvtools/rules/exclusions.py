@@ -1,4 +1,4 @@
-"""Why two routes exclude each other: what the rules C6 and C8 demand of their conflicts, in words."""
+"""Why two routes exclude each other: the conflicts of C6 and C8, in words."""
 
 from __future__ import annotations
 
@@ -9,7 +9,7 @@ OVERLAP, FLANK, LISTED = "overlap", "flank", "listed only"
 
 
 def on_paths(plant: Plant, one: Route, other: Route) -> list[str]:
-    """Returns what two routes have in common on their paths, in words."""
+    """Returns what two paths have in common, in words."""
     common = [x for x in one.path if x in other.path]
     if common and one.direction != other.direction:
         return [OPPOSING]
@@ -18,21 +18,21 @@ def on_paths(plant: Plant, one: Route, other: Route) -> list[str]:
 
 
 def needs_overlap(one: Route, other: Route) -> bool:
-    """Returns whether a section of path and overlap of two routes is common and in an overlap."""
+    """Returns whether two routes' paths and overlaps share a section that is in an overlap."""
     ways = [set(route.path + route.overlap) for route in (one, other)]
     return bool(ways[0] & ways[1] & set(one.overlap + other.overlap))
 
 
 def needs_flank(one: Route, other: Route) -> bool:
-    """Returns whether a protecting point or a protecting board of one route concerns the other one."""
+    """Returns whether a protecting point or board of one route concerns the other."""
     points = [{x for x, _ in route.protecting_points} for route in (one, other)]
     return bool(points[0] & set(other.locked) or points[1] & set(one.locked)
                 or other.source in one.protecting_boards or one.source in other.protecting_boards)
 
 
 def reasons(plant: Plant, i: int, j: int) -> list[str]:
-    """Returns why routes `i` and `j` exclude each other, most important first. The list is empty if no
-    rule demands that they do."""
+    """Returns why routes `i` and `j` exclude each other, most important first; nothing if no rule
+    demands it."""
     one, other = plant.routes[i], plant.routes[j]
     found = on_paths(plant, one, other)
     if needs_overlap(one, other):
@@ -43,8 +43,8 @@ def reasons(plant: Plant, i: int, j: int) -> list[str]:
 
 
 def demanded(plant: Plant) -> dict[tuple[int, int], list[str]]:
-    """Returns the pairs of routes that C6 or C8 demands as conflicts, the lower number first, each with
-    its reasons."""
+    """Returns the pairs of routes that C6 or C8 demands as conflicts, lower number first, with
+    reasons."""
     count = range(len(plant.routes))
     pairs = {(i, j): reasons(plant, i, j) for i in count for j in count if i < j}
     return {pair: why for pair, why in pairs.items() if why}

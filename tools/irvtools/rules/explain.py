@@ -1,5 +1,4 @@
-"""A refusal of `irv` in sentences with names, and the entries that it is about. The sentences of the rules
-are those of the HTML report."""
+"""Explains a refusal of `irv` with names and entries, in the HTML report's sentences."""
 
 from __future__ import annotations
 
@@ -11,11 +10,11 @@ from irvtools.rules import broken_rules, schema_rules
 
 REFUSED = re.compile(r"refused ([FNRCG][1-8])((?: (?:document|extra|(?:sections|boards|routes)\[[0-9]+\])){1,2})")
 PLACE = re.compile(r"(sections|boards|routes)\[([0-9]+)\]")
-# the member of an entry that a rule is about; of all other rules it is the whole entry
+# the member of an entry that a rule is about; otherwise the whole entry
 MEMBERS = {"N1": "name", "R1": "name", "R2": "source", "R3": "path", "R4": "points", "R5": "destination",
            "R6": "conflicts", "R7": "protecting_points", "R8": "protecting_boards", "C1": "path", "C2": "path",
            "C3": "points", "C4": "overlap", "C5": "conflicts", "C6": "conflicts", "C8": "conflicts"}
-# how long the file may be that a command reads besides the configuration
+# byte limits of the file that a command reads besides the configuration
 MOST_BYTES = {"replay": 1048576, "drive": 8192, "audit": 1073741824, "rup": 67108864}
 MOST_PATH, MOST_ROUTES = 32, 256
 FORM_RULES = ("F1", "F2", "F3", "F4", "F5", "F6")
@@ -25,7 +24,7 @@ RULES = (*FORM_RULES, *broken_rules.EXPLAINED, *TABLE_RULES)
 
 @dataclass(frozen=True)
 class Entry:
-    """A section or a route of a configuration, by its list and number, or a member of it."""
+    """A configuration's section or route, by list and number, or a member of it."""
 
     list: str
     number: int
@@ -34,7 +33,7 @@ class Entry:
 
 @dataclass(frozen=True)
 class Explanation:
-    """What is wrong, in sentences, by which rule, and in which entries."""
+    """Sentences about a fault, with its rule and entries."""
 
     rule: str
     sentences: list[str]
@@ -42,7 +41,7 @@ class Explanation:
 
 
 def plant_of(given: bytes) -> Plant | None:
-    """Returns the plant of a configuration's bytes, or `None` if they do not have the form."""
+    """Returns a configuration's plant, or `None` if the schema does not fit."""
     value, unread = schema_rules.read(given)
     if unread is not None:
         return None
@@ -54,8 +53,8 @@ def plant_of(given: bytes) -> Plant | None:
 
 def explained(line: str, given: bytes, plant: Plant | None, command: str = "check",
               length: int | None = None) -> Explanation | None:
-    """Returns a line `refused ..` of `command` over a configuration in sentences, or `None` if it is
-    another line. `length` is that of the file that is read besides the configuration, if it is known."""
+    """Returns sentences for a line `refused ..` of `command`, or `None` for another line. `length`
+    is that of the file read besides the configuration, if known."""
     found = REFUSED.fullmatch(line)
     if not found:
         return None
@@ -74,7 +73,7 @@ def explained(line: str, given: bytes, plant: Plant | None, command: str = "chec
 
 
 def form_sentences(rule: str, place: str, given: bytes) -> list[str]:
-    """Returns what is wrong with the form of a configuration."""
+    """Returns a configuration's schema faults."""
     return schema_rules.faults(rule, place, given) or [
         f"The form is wrong at {place}; docs/reference/formats.md says what rule {rule} asks for."]
 
@@ -97,7 +96,7 @@ def no_table(rule: str, place: str, plant: Plant) -> str:
 
 
 def entries_of(rule: str, places: list[str], plant: Plant) -> list[Entry]:
-    """Returns the entries at the places of a broken rule."""
+    """Returns the entries at a broken rule's places."""
     found = []
     for list_, number in (PLACE.fullmatch(place).groups() for place in places if place != "document"):
         if list_ == "boards":

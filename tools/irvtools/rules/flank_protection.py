@@ -1,8 +1,8 @@
-"""On which ways a vehicle could run into a route's path over a point, from the leg that the route doesn't
-use, and what keeps it out. It is what an engineer looks for; no rule of `irv` asks it.
+"""Finds the ways on which a vehicle could run into a route's path over points, from their unused
+leg, and what keeps it out. No rule of `irv` checks this; engineers look for it.
 
-A vehicle is followed back from the path, against the direction in which it would run, up to the first
-thing that keeps it out, or to a border.
+A vehicle is followed back from the path, against its direction, to the first thing that keeps it
+out, or to a border.
 """
 
 from __future__ import annotations
@@ -13,18 +13,18 @@ from typing import Iterator
 from irvtools.model.plant import OPPOSITE, OTHER_LEG, Plant, Route
 from irvtools.rules.way_points import way_of
 
-# a way: the point of the path, its leg, the section at that leg, and what keeps a vehicle out; from beyond the
-# end of the path: its last section, None, and the section after it
+# a way: points of the path, their leg, the section at that leg, and the guard. From beyond the end
+# of the path: its last section, None, and the section after it.
 Flank = namedtuple("Flank", "point leg begin guard")
-# what keeps it out: one of KINDS, and the point, the board, or for nothing the border
+# a guard: one of KINDS, and the points or the board, or for nothing the border
 Guard = namedtuple("Guard", "kind number")
 KINDS = ("a protecting point", "a protecting board", "a board that it would pass closed", "nothing")
 POINT, BOARD, CLOSED, NOTHING = KINDS
 
 
 def flanks(plant: Plant, route: Route) -> Iterator[Flank]:
-    """The ways into a route's path: over the leg of a point that it does not use, and from beyond its end if
-    a protecting point or a protecting board is there."""
+    """Yields the ways into a route's path over unused legs of points, and from beyond its end if a
+    protecting point or board is there."""
     way = [plant.boards[route.source].section, *route.path]
     for place in range(1, len(way)):
         x = way[place]
@@ -40,8 +40,8 @@ def flanks(plant: Plant, route: Route) -> Iterator[Flank]:
 
 
 def far_ends(plant, route):
-    """The ways into a route's path from beyond its end on which a protecting point or a protecting board
-    keeps a vehicle out."""
+    """Yields the ways from beyond a path's end on which a protecting point or board keeps vehicles
+    out."""
     last = route.path[-1]
     for begin in plant.nexts[last, route.direction]:
         for guard in dict.fromkeys(guards(plant, route, begin, OPPOSITE[route.direction], last)):
@@ -50,12 +50,13 @@ def far_ends(plant, route):
 
 
 def guards(plant: Plant, route: Route, begin: int, direction: str, to: int) -> Iterator[Guard]:
-    """What keeps out a vehicle that would run in a direction from a section to the one after it."""
+    """Yields what keeps out a vehicle that would run in a direction from section `begin` to the
+    next one, `to`."""
     left, known = [(begin, to)], set()
     while left:
         x, to = left.pop()
         if x in known or x in route.path:
-            continue                        # what is on the path itself came there in another way
+            continue                        # the path's own sections were reached in another way
         known.add(x)
         guard = guard_at(plant, route, x, direction, to)
         if guard:
@@ -65,7 +66,7 @@ def guards(plant: Plant, route: Route, begin: int, direction: str, to: int) -> I
 
 
 def guard_at(plant, route, x, direction, to):
-    """What at a section keeps a vehicle out, or that there is nothing, where the network ends there."""
+    """Returns what keeps a vehicle out at a section, or that nothing does at the network's end."""
     section = plant.sections[x]
     if section.is_point and section.faces == direction:
         wanted = dict(route.wanted).get(x)
@@ -78,21 +79,21 @@ def guard_at(plant, route, x, direction, to):
 
 
 def crossing(plant: Plant, x: int) -> int | None:
-    """The point whose stem a point's stem joins, so that their legs make lines that cross; or None."""
+    """Returns the points whose stem joins that of points `x`, so that their legs cross; or `None`."""
     other = plant.sections[x].neighbours.get("stem")
     is_one = other is not None and plant.sections[other].is_point \
         and plant.sections[other].neighbours.get("stem") == x
     return other if is_one else None
 
 
-# -- what a protecting point does
+# -- the effect of protecting points
 
 PROTECTS, LEADS_IN, TRAILED, IDLE = "protects", "leads in", "is trailed", "is idle"
 
 
 def entrances(plant, route):
-    """The ends at which a vehicle could come into a route's path or overlap from beside or beyond: the
-    section outside, the direction in which it would run, and the section inside."""
+    """Yields the entrances to a route's path and overlap from beside or beyond: the section
+    outside, the vehicle's direction, and the section inside."""
     way = way_of(plant, route)
     for place in range(1, len(way)):
         x = way[place]
@@ -102,9 +103,9 @@ def entrances(plant, route):
 
 
 def leading_in(plant, route, inside, stops):
-    """The points that a vehicle meets on the ways into the sections `inside` of a route, up to the first
-    board: each with the leg that leads in if the vehicle meets it facing, and with None if trailing. A way
-    also ends at a protecting point of `stops`, a position by point, that leads elsewhere."""
+    """Returns the points on a vehicle's ways into a route's sections `inside`, up to the first
+    board. Each has the leg that leads in, or `None` if the vehicle trails it. A way also ends at a
+    protecting point of `stops`, a position by point, that leads elsewhere."""
     area, found, known = {*route.path, *route.overlap}, set(), set()
     left = [one for one in entrances(plant, route) if one[2] in inside]
     while left:
@@ -123,10 +124,16 @@ def leading_in(plant, route, inside, stops):
 
 
 def effect(plant: Plant, route: Route, x: int, position: str) -> str:
-    """What a protecting point does in a position: LEADS_IN, if a vehicle that meets it facing is led into
-    the path, or into the overlap though the other position leads away; PROTECTS, if it is led away;
-    TRAILED, if a vehicle comes in over it that meets it trailing; IDLE, if none comes in over it before it
-    meets a board."""
+    """Returns a protecting point's effect in a position:
+
+    - LEADS_IN: a vehicle that meets it facing is led into the path, or into the overlap although
+      the other position leads away.
+
+    - PROTECTS: such a vehicle is led away.
+
+    - TRAILED: a vehicle comes in over it trailing.
+
+    - IDLE: no vehicle comes in over it before a board."""
     others = {y: wanted for y, wanted in route.protecting_points if y != x}
     if (x, position) in leading_in(plant, route, route.path, others):
         return LEADS_IN

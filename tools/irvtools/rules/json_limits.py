@@ -1,5 +1,6 @@
-"""Texts that Python reads as JSON and `serde_json`, by which `irv` reads, does not: deep nesting, halves of
-surrogate pairs and numbers out of range; and whole numbers that are none to it."""
+"""Texts that Python reads as JSON but `irv`, which uses `serde_json`, does not. They have deep
+nesting, halves of surrogate pairs, numbers out of range, or whole numbers that `irv` does not take
+as whole."""
 
 from __future__ import annotations
 
@@ -18,7 +19,7 @@ def place_of(text: str, at: int) -> str:
 
 
 def faults(given: bytes) -> list[str]:
-    """Returns why `irv` refuses a text by F2 that Python reads; nothing if no reason is known."""
+    """Returns why `irv` refuses by F2 a text that Python reads, if known."""
     text = given.decode()
     found = too_deep(text)
     if found is not None:
@@ -34,7 +35,7 @@ def faults(given: bytes) -> list[str]:
 
 
 def too_deep(text: str) -> int | None:
-    """Returns where a text opens more arrays and objects than are allowed, or `None`."""
+    """Returns the position at which a text exceeds the nesting limit, or `None`."""
     level = 0
     for mark in re.finditer(r'"(?:[^"\\]|\\.)*"|[\[\]{}]', text):
         level += (mark[0] in "[{") - (mark[0] in "]}")
@@ -44,7 +45,7 @@ def too_deep(text: str) -> int | None:
 
 
 def version_faults(given: bytes) -> list[str]:
-    """Returns that the version is a number that is not a whole one to `irv`, if it is."""
+    """Returns a fault if `irv` does not take the version as a whole number."""
     version = json.loads(given, parse_int=str).get("version")
     if version == "-0":
         return ["The member version is -0, which is not a whole number here, and should be 1 or 2."]

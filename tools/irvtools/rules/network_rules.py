@@ -1,5 +1,5 @@
-"""The broken rules of the network in words, N1 to N8: what it has, and what it should have. Each
-function takes a plant and the number of the place, and yields sentences."""
+"""The broken network rules N1 to N8 in words: what the network has, and should have. Each function
+takes a plant and the place's number, and yields sentences."""
 
 from __future__ import annotations
 
@@ -40,7 +40,7 @@ def wrong_neighbour(plant: Plant, i: int) -> Iterator[str]:
 
 
 def end_words(side, leg):
-    """An end of a section, in words."""
+    """Returns an end of a section, in words."""
     return f"on its {side} side" if leg == "line" else f"{leg}, on its {side} side"
 
 
@@ -89,7 +89,7 @@ def returns(plant: Plant, i: int) -> Iterator[str]:
 
 
 def walk_back(plant: Plant, i: int) -> list[int]:
-    """Returns the sections of a shortest walk up from a section to itself."""
+    """Returns a shortest walk up from a section to itself."""
     before, queue = {}, [i]
     for x in queue:
         for y in plant.next_to(x, "up"):

@@ -1,8 +1,7 @@
-"""What is wrong with the schema of a configuration that `irv` refused: the rules F1 to F6, in
-words.
+"""Schema faults of a configuration that `irv` refused, in words: the rules F1 to F6.
 
-It looks for the fault at the place that `irv` named, by the tables of docs/reference/formats.md. If
-it finds none, only the line of `irv` is shown. """
+It looks at the place that `irv` named, by docs/reference/formats.md. If it finds no fault, only the
+line of `irv` is shown."""
 
 from __future__ import annotations
 
@@ -15,7 +14,7 @@ from irvtools.rules import json_limits
 MOST_BYTES = 4194304
 MOST_VERSION = 2 ** 64 - 1
 NAME = re.compile(r"[A-Za-z0-9_-]{1,32}")
-SHOWN = 90              # characters of a line that can't be read
+SHOWN = 90              # shown characters of an unreadable line
 
 TEXT, MAYBE, NAMES, LISTED = "a text", "a text or null", "an array of texts", "an array of points"
 LINEAR = {"name": TEXT, "kind": TEXT, "down": MAYBE, "up": MAYBE, "board_down": MAYBE,
@@ -30,17 +29,17 @@ CHOICES = {"kind": ("linear", "point"), "faces": ("up", "down"), "position": ("p
 
 
 def route_members(version: int) -> dict[str, str]:
-    """Returns the members of a route of a version, in the order of a CSV file's columns."""
+    """Returns a route's members in a version, in CSV column order."""
     return ROUTE if version == 1 else {**ROUTE, **SECOND}
 
 
 def no_constant(word):
-    """JSON has no such number; Python would read one."""
+    """Refuses a number that Python reads and JSON does not have."""
     raise ValueError(f"{word} is not JSON")
 
 
 def read(given: bytes) -> tuple[Any, str | None]:
-    """The value of a configuration's bytes, and None; or None and why there is none, in words."""
+    """Returns the value of a configuration's bytes, and `None`; or `None` and the fault, in words."""
     try:
         text = given.decode()
     except UnicodeDecodeError as fault:
@@ -59,7 +58,7 @@ def read(given: bytes) -> tuple[Any, str | None]:
 
 
 def shown_line(text, fault):
-    """The line of a fault, up to where it is."""
+    """Returns the line of a fault, up to the fault."""
     line = text.split("\n")[fault.lineno - 1]
     begin = max(0, fault.colno - 1 - SHOWN // 2)
     before, after = line[begin:fault.colno - 1], line[fault.colno - 1:fault.colno - 1 + SHOWN // 2]
@@ -67,12 +66,12 @@ def shown_line(text, fault):
 
 
 def short(name):
-    """A text as it is shown, cut if it is long."""
+    """Returns a text, shortened if it is long."""
     return name if len(name) <= SHOWN else f"{name[:SHOWN // 2]}…"
 
 
 def kind_of(value):
-    """Returns what JSON calls a value."""
+    """Returns JSON's word for a value."""
     if value is None:
         return "null"
     for type_, word in ((bool, "a boolean"), (str, "a text"), (int, "a number"),
@@ -83,7 +82,7 @@ def kind_of(value):
 
 
 def is_kind(value, kind):
-    """Whether a member's value is of the kind that it should be."""
+    """Returns whether a member's value has the required kind."""
     if kind == TEXT:
         return isinstance(value, str)
     if kind == MAYBE:
@@ -94,7 +93,7 @@ def is_kind(value, kind):
 
 
 def member_faults(value, members, what):
-    """What is wrong with an object's members."""
+    """Returns faults of an object's members."""
     if not isinstance(value, dict):
         yield f"{what} is {kind_of(value)}, but must be an object."
         return
@@ -110,7 +109,7 @@ def member_faults(value, members, what):
 
 
 def value_faults(value, member, kind, what):
-    """What is wrong with a member's value."""
+    """Returns faults of a member's value."""
     if not is_kind(value, kind):
         wrong = kind_of(value)
         if isinstance(value, list) and kind in (NAMES, LISTED):
@@ -128,7 +127,7 @@ def value_faults(value, member, kind, what):
 
 
 def names_of(value):
-    """The texts of an object that are names."""
+    """Returns the texts of an object that are names."""
     for member, one in value.items():
         if member in CHOICES:
             continue
@@ -143,7 +142,7 @@ def names_of(value):
 
 
 def name_faults(value, what):
-    """Yields the names with other characters than a name may have."""
+    """Yields the names with forbidden characters."""
     for member, name in names_of(value):
         if not NAME.fullmatch(name):
             wrong = next((one for one in name if not NAME.fullmatch(one)), None)
@@ -155,14 +154,14 @@ def name_faults(value, what):
 
 
 def limit_faults(value, what):
-    """Lists that are too long or too short."""
+    """Yields lists that are too long or too short."""
     for member, (least, most) in LIMITS.items():
         if member in value and not least <= len(value[member]) <= most:
             yield f"{member} of {what} has {len(value[member])} entries, but must have {least} to {most}."
 
 
 def document_faults(rule: str, given: bytes | None, value: Any) -> Iterator[str]:
-    """What is wrong with the document."""
+    """Yields faults of the document."""
     if rule == "F1":
         yield f"The configuration has {len(given)} bytes, but at most {MOST_BYTES} are read."
     elif rule == "F3":
@@ -192,7 +191,7 @@ def document_faults(rule: str, given: bytes | None, value: Any) -> Iterator[str]
 
 
 def entry_faults(rule: str, value: Any, place: str) -> Iterator[str]:
-    """What is wrong with a section or a route."""
+    """Yields faults of a section or a route."""
     list_, number = place.rstrip("]").split("[")
     entry = value[list_][int(number)]
     what = "the section" if list_ == "sections" else "the route"
@@ -212,8 +211,7 @@ def entry_faults(rule: str, value: Any, place: str) -> Iterator[str]:
 
 
 def faults(rule: str, place: str, given: bytes) -> list[str]:
-    """Returns what is wrong, in sentences, with a schema that `irv` refused by a rule at a
-    place."""
+    """Returns sentences about a schema that `irv` refused by a rule at a place."""
     value, unread = read(given) if rule != "F1" else (None, None)
     if rule == "F2" or unread:
         return [unread] if unread else json_limits.faults(given)
@@ -224,4 +222,4 @@ def faults(rule: str, place: str, given: bytes) -> list[str]:
             return found or json_limits.version_faults(given)
         return [sentence[0].upper() + sentence[1:] for sentence in entry_faults(rule, value, place)]
     except (TypeError, KeyError, IndexError, ValueError):
-        return []       # the value isn't what `irv` reads; only its line is shown
+        return []       # `irv` read another value; only its line is shown

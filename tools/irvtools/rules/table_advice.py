@@ -1,5 +1,5 @@
-"""Advice about a table, by route: mistakes that no rule checks, and notes. Safety in the model depends on
-none of it, because trains of the model stop at closed boards."""
+"""Advice about a table, by route: mistakes that no rule checks, and notes. Safety in the model does
+not depend on it, because trains of the model stop at closed boards."""
 
 from __future__ import annotations
 
@@ -26,8 +26,7 @@ SHORT_OVERLAP = "An overlap usually ends at a board or at the end of the track."
 
 @dataclass(frozen=True)
 class Advice:
-    """A mistake or a note: the routes that it is about (none if it is about all), what is there, and why it
-    matters."""
+    """A mistake or a note: its routes (none if about all), the fact, and why it matters."""
 
     kind: str
     routes: tuple[int, ...]
@@ -47,7 +46,7 @@ def point_at(plant: Plant, x: int, position: str) -> str:
 # -- mistakes
 
 def overlap_mistakes(plant: Plant, route: Route) -> Iterator[Advice]:
-    """Yields the points of an overlap whose listed position does not lead along it."""
+    """Yields an overlap's points in a listed position that does not lead along it."""
     listed, way = dict(route.points), way_of(plant, route)
     for place in range(len(route.path) + 1, len(way)):
         x = way[place]
@@ -59,7 +58,7 @@ def overlap_mistakes(plant: Plant, route: Route) -> Iterator[Advice]:
 
 
 def protection_mistakes(plant: Plant, route: Route) -> Iterator[Advice]:
-    """Yields the protecting points of a route that lead into its path or keep nothing out."""
+    """Yields a route's protecting points that lead into its path or keep nothing out."""
     for x, position in route.protecting_points:
         here = f"Route {route.name} has the protecting points {point_at(plant, x, position)}"
         found = effect(plant, route, x, position)
@@ -81,7 +80,7 @@ def mistakes(plant: Plant) -> list[Advice]:
 # -- notes
 
 def trailed_protection(plant: Plant, route: Route) -> Iterator[Advice]:
-    """Yields the protecting points of a route that the vehicles which they are to keep out meet trailing."""
+    """Yields a route's protecting points that vehicles to keep out meet trailing."""
     for x, position in route.protecting_points:
         if effect(plant, route, x, position) == TRAILED:
             yield Advice(NOTE, (route.number,), (
@@ -92,7 +91,7 @@ def trailed_protection(plant: Plant, route: Route) -> Iterator[Advice]:
 
 
 def open_legs(plant: Plant, route: Route) -> Iterator[Advice]:
-    """Yields the legs that lead into a route's path and have neither a protecting point nor a board."""
+    """Yields the legs into a route's path without a protecting point or board."""
     for flank in flanks(plant, route):
         if flank.guard.kind == NOTHING:
             yield Advice(NOTE, (route.number,), (
@@ -102,7 +101,7 @@ def open_legs(plant: Plant, route: Route) -> Iterator[Advice]:
 
 
 def shared_protection(plant: Plant) -> Iterator[Advice]:
-    """Yields the pairs of routes that exclude each other only because both have a protecting point."""
+    """Yields the pairs of routes that exclude each other only by a shared protecting point."""
     for one, other in combinations(plant.routes, 2):
         points = [{x for x, _ in route.protecting_points} for route in (one, other)]
         shared = points[0] & points[1]
@@ -115,7 +114,7 @@ def shared_protection(plant: Plant) -> Iterator[Advice]:
 
 
 def short_overlaps(plant: Plant) -> Iterator[Advice]:
-    """Yields, as one note, the overlaps that end where there is no board and the line goes on."""
+    """Yields, as one note, the overlaps that end without a board although the line goes on."""
     routes, _ = overlap_ends(plant)
     if routes:
         words = ", ".join(f"{route.name} ({plant.name(route.overlap[-1])})" for route in routes)
@@ -131,8 +130,8 @@ def notes(plant: Plant) -> list[Advice]:
 
 
 def by_route(plant: Plant) -> list[tuple[str, list[Advice]]]:
-    """Returns all advice, grouped by its first route, with the name of that; what is about all routes has
-    an empty name. Groups with mistakes come first, and in a group mistakes do."""
+    """Returns all advice by its first route's name; the name is empty if it is about all routes.
+    Mistakes come first, in a group and among groups."""
     groups: dict[str, list[Advice]] = {}
     for one in [*mistakes(plant), *notes(plant)]:
         groups.setdefault(plant.routes[one.routes[0]].name if one.routes else "", []).append(one)

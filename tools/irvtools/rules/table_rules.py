@@ -1,5 +1,5 @@
-"""The broken rules of the interlocking table in words, R1 to R8: what it has, and what it should
-have. Each function takes a plant and a route's number, and yields sentences."""
+"""The broken table rules R1 to R8 in words: what the table has, and should have. Each function
+takes a plant and a route's number, and yields sentences."""
 
 from __future__ import annotations
 
@@ -50,7 +50,7 @@ def wrong_points(plant: Plant, i: int) -> Iterator[str]:
 
 
 def point_names(route, member):
-    """The points that a route lists, each once."""
+    """Returns the points that a route lists, each once."""
     return dict.fromkeys(entry["point"] for entry in route.member.get(member, []))
 
 
@@ -60,7 +60,7 @@ def is_point(plant, name):
 
 
 def point_faults(plant, route, member, where):
-    """What is wrong with a list of points by itself."""
+    """Yields the faults of one list of points."""
     names = [entry["point"] for entry in route.member.get(member, [])]
     for name in dict.fromkeys(names):
         if not is_point(plant, name):

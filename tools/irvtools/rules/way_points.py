@@ -6,13 +6,13 @@ from irvtools.model.plant import OTHER_LEG, Plant, Route
 
 
 def way_of(plant: Plant, route: Route) -> list[int]:
-    """Returns the section of a route's source, its path and its overlap."""
+    """Returns a route's source section, path and overlap."""
     return [plant.boards[route.source].section, *route.path, *route.overlap]
 
 
 def leading_along(plant: Plant, way: list[int], place: int) -> list[str]:
-    """Returns the positions of the point at a place of a route's way that lead along it: one; two
-    if the way ends there and trains meet the point facing; none if the way has a gap there."""
+    """Returns the positions of the point at a place of a route's way that lead along it. There is
+    one, or two if the way ends there and trains meet the point facing, or none at a gap."""
     legs = plant.sections[way[place]].neighbours
     before, after = way[place - 1], way[place + 1:place + 2]
     if before == legs["stem"]:

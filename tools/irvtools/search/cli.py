@@ -1,4 +1,4 @@
-"""The command line of `irv --search`: searches at random for a run to a hazard, and prints it."""
+"""The command line of `irv --search`: searches randomly for a run to a hazard."""
 
 import sys
 
@@ -17,7 +17,7 @@ FOUND, NONE_FOUND, NO_ANSWER = range(3)
 
 
 def parser():
-    """Returns the parser of the command line."""
+    """Returns the command-line parser."""
     line = Parser("irv --search", "Searches at random for a run from the initial state to a "
                                   "hazard, "
                   "shortens it until no event can be left out, and\nprints its text. Places near "
@@ -38,14 +38,14 @@ def parser():
 
 
 def suspects(program, plant):
-    """Returns where rules are broken on which safety rests: a search looks there first."""
+    """Returns the places of broken rules on which safety depends. A search starts there."""
     lines = program.ask(["check", "--columns", "strict"], CHECK_SECONDS).output.splitlines()
     return suspects_of(plant, [broken_rules.read_line(line) for line in lines
                                if line.startswith("refused C")])
 
 
 def search(options, given):
-    """Searches; returns the exit status."""
+    """Searches. Returns the exit status."""
     program = Program(str(options.program.absolute()), given)
     answer = program.ask(["check", "--columns", "free"], CHECK_SECONDS)
     if answer.status != 0:
@@ -67,7 +67,7 @@ def search(options, given):
 
 
 def report(program, plant, searchers, effort):
-    """Prints the run, and what replay answers to it; returns the exit status."""
+    """Prints the run and replay's answer. Returns the exit status."""
     run = searchers.run
     said = program.replay("free", run_text(plant, run)).said
     print(run_text(plant, run), end="")
@@ -79,7 +79,7 @@ def report(program, plant, searchers, effort):
 
 
 def main(words):
-    """Searches as the arguments say; returns the exit status."""
+    """Runs the search. Returns the exit status."""
     options = parser().parse_args(words)
     if not options.program.is_file():
         print(f"irv --search: the program {options.program} does not exist; build it with "

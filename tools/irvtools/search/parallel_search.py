@@ -1,13 +1,13 @@
-"""Searches in parallel, each in its own process with its own seed. The first that finds a
-run to a hazard ends the others.
+"""Runs parallel searches, each in its own process with its own seed. The first to find a run to a
+hazard ends the others.
 
     with Searchers(plant, suspects) as searchers:
         searchers.start(seconds)
         ...
         run = searchers.wait(until)       # or poll, as often as one likes
 
-All processes end with the first run that is found, when their time is over, when `stop` is called
-or the block is left, and when the process that started them ends, however that comes about. """
+All processes end when a run is found, their time is over, `stop` is called, the block is left, or
+their parent process ends in any way."""
 
 from __future__ import annotations
 
@@ -19,12 +19,12 @@ from multiprocessing import connection
 
 from irvtools.search.random_search import RandomSearch
 
-SLICE = 0.5             # seconds after which a process tells its figures, and so whether it is wanted
-TO_END = 2.0            # seconds in which a process that is told to end has to
+SLICE = 0.5             # seconds between reports, which show if a process is still wanted
+TO_END = 2.0            # seconds in which an ended process has to stop
 
 
 def processors() -> int:
-    """How many processors this process may use."""
+    """Returns how many processors this process may use."""
     try:
         return len(os.sched_getaffinity(0))
     except AttributeError:
@@ -32,10 +32,9 @@ def processors() -> int:
 
 
 def searching(plant, seed, suspects, seconds, pipe, parents):
-    """What a process does: it searches in slices of time, and sends after each its figures and its
-    run. The ends of pipes at which its parent listens are `parents`: they are closed here, so that
-    what is told to a parent that ended is refused."""
-    for number in (signal.SIGINT, signal.SIGHUP):       # the parent ends this process
+    """Searches in slices of time, and sends figures and run after each. `parents` are the parent's
+    pipe ends, closed here so that sending fails if the parent has ended."""
+    for number in (signal.SIGINT, signal.SIGHUP):       # parent ends this process
         signal.signal(number, signal.SIG_IGN)
     signal.signal(signal.SIGTERM, signal.SIG_DFL)
     for other in parents:
@@ -47,14 +46,13 @@ def searching(plant, seed, suspects, seconds, pipe, parents):
             run = search.for_hazard(min(SLICE, end - time.monotonic()))
             pipe.send((search.runs, search.events, search.longest, run))
     except (BrokenPipeError, ConnectionResetError):
-        pass                    # the parent ended
+        pass                    # parent ended
     pipe.close()
 
 
 class Searchers:
-    """Some searches in parallel. `run` is what was found, or None, by the search with the seed
-    `found_by`; `runs`, `events` and `longest` are the figures of all together, `seconds` the time
-    that it took."""
+    """Parallel searches. `run` is the found run or `None`, and `found_by` its seed. `runs`,
+    `events` and `longest` are totals of all searches, `seconds` the elapsed time."""
 
     def __init__(self, plant, suspects=(), seed=1, count=None):
         self.plant, self.suspects, self.seed = plant, list(suspects), seed
@@ -70,7 +68,7 @@ class Searchers:
         self.stop()
 
     def start(self, seconds):
-        """Starts the processes, for so many seconds."""
+        """Starts the processes, for `seconds`."""
         context, self.begin = multiprocessing.get_context("fork"), time.monotonic()
         for seed in range(self.seed, self.seed + self.count):
             listens, tells = context.Pipe(duplex=False)
@@ -83,16 +81,16 @@ class Searchers:
 
     @property
     def is_over(self):
-        """Whether nothing more is to be waited for."""
+        """Returns whether no process is left."""
         return not self.processes
 
     def poll(self):
-        """Takes what was told so far, without waiting; answers the run, if one was found."""
+        """Takes the reports so far without waiting. Returns the run, if found."""
         return self.wait(0)
 
     def wait(self, seconds):
-        """Waits so many seconds at most; answers the run as soon as one is found, or None where the
-        time is over first or the searches are."""
+        """Waits at most `seconds`. Returns the run once found, or `None` if the time or all
+        searches end first."""
         until = time.monotonic() + seconds
         while self.processes:
             ready = connection.wait(list(self.processes), max(0, until - time.monotonic()))
@@ -103,7 +101,7 @@ class Searchers:
         return self.run
 
     def listen(self, pipe):
-        """Takes what a process tells; with a run all end."""
+        """Takes a process's report. A run ends all searches."""
         if pipe not in self.processes:
             return
         try:
@@ -127,27 +125,27 @@ class Searchers:
         self.seconds = time.monotonic() - self.begin
 
     def stop(self):
-        """Ends all processes that are left."""
+        """Ends all remaining processes."""
         for process in self.processes.values():
             process.terminate()
         for pipe in list(self.processes):
             self.end(pipe)
 
     def figure(self, place):
-        """The figures of one kind of all searches."""
+        """Returns one figure of all searches."""
         return [figures[place] for figures in self.figures.values()]
 
     @property
     def runs(self):
-        """How many runs were tried."""
+        """Returns the number of runs."""
         return sum(self.figure(0))
 
     @property
     def events(self):
-        """How many events were tried in them."""
+        """Returns the number of events."""
         return sum(self.figure(1))
 
     @property
     def longest(self):
-        """How many events the longest of them had."""
+        """Returns the longest run's number of events."""
         return max(self.figure(2), default=0)

@@ -1,14 +1,14 @@
-"""A random run of a crew: how eagerly each kind of event is tried is chosen once, then event
-follows event until there is a hazard, nothing more is enabled, or the run is long enough.
+"""A random run of a crew. Its eagerness for each kind of event is chosen once. Then event follows
+event until there is a hazard, nothing more is enabled, or the run is long enough.
 
-No run to a hazard is lost by what a walk does in one turn: a route is marked just before it is
-allocated, since no other event asks whether it is marked, and a point that is thrown settles at
-once, since a train that comes upon it while it moves could have come before it was thrown. """
+No run to a hazard is lost because a turn may do several events. A route is marked just before it is
+allocated: no other event asks whether it is marked. A thrown point settles at once: a train that
+meets it moving could have come before the throw."""
 
 from irvtools.search.single_train import Drive
 from irvtools.model.bitset_events import ALLOCATING, DONE, FREE, HAZARD, LOCKED, REFUSED, Simulation
 
-MOST_REFUSED = 12       # turns in a row without an event, after which everything is tried
+MOST_REFUSED = 12       # refused turns in a row before everything is tried
 
 
 class Walk:
@@ -20,37 +20,38 @@ class Walk:
         self.simulation = Simulation(self.facts)
         self.events = self.simulation.by_word()
         self.run = []
-        self.busy = []          # routes that are allocated and not yet finished
-        self.awake = []         # trains of which something may move
-        self.asked = []         # trains that stand before a closed board, for which a route is wanted
-        self.from_board = {}    # of each board the crew's routes that begin there
+        self.busy = []          # allocated, unfinished routes
+        self.awake = []         # trains that may move
+        self.asked = []         # trains at a closed board that want a route
+        self.from_board = {}    # crew's routes by source board
         for r in crew.routes:
             self.from_board.setdefault(self.facts.source[r], []).append(r)
         self.be_eager()
 
     def be_eager(self):
-        """Chooses how eagerly each kind of event is tried."""
+        """Chooses the eagerness for each kind of event."""
         pick = self.chance.choice
         trains, busy, points, new, enter = turns = (
             pick((3, 6, 12)), pick((3, 6)), pick((0.5, 2, 5)), pick((1, 3)), pick((0.3, 1)))
         scale = 1 / sum(turns)
-        # of a number by chance: up to which it is a turn of each kind
+        # Upper bounds of a random number for the kinds of turns.
         self.trains_to = trains * scale
         self.busy_to = self.trains_to + busy * scale
         self.points_to = self.busy_to + points * scale
         self.new_to = self.points_to + new * scale
-        self.unasked = pick((0.0, 0.1, 0.3))            # to set a route for which no train stands
-        self.feinting = pick((0.0, 0.1, 0.5))           # to give up such a route at once
+        self.unasked = pick((0.0, 0.1, 0.3))            # to set a route without a waiting train
+        self.feinting = pick((0.0, 0.1, 0.5))           # to cancel such a route at once
         self.cancelling = pick((0.0, 0.0, 0.02, 0.1, 0.3))
         self.tail_first = pick((0.1, 0.5, 0.9))
-        self.tail_after = pick((0.05, 0.5, 1.0))        # where its head can't move
+        self.tail_after = pick((0.05, 0.5, 1.0))        # if its head can't move
         self.leaving = pick((0.1, 0.5, 1.0))
         self.sensing = pick((0.1, 0.5, 1.0))
-        self.brought = pick((0.0, 0.7, 1.0))            # how many trains are driven to their places
+        self.brought = pick((0.0, 0.7, 1.0))            # share of trains driven to their places
         self.most_trains = pick((1, 2, 2, 3, 4))
 
     def to_hazard(self, most):
-        """The run, where it ends in a hazard within so many events; else None."""
+        """Returns the run if it ends in a hazard within `most` events after the approaches,
+        otherwise `None`."""
         run, refused = self.run, 0
         if self.bring() == HAZARD:
             return run
@@ -70,8 +71,7 @@ class Walk:
         return None
 
     def bring(self):
-        """Drives trains to their places, one after the other; answers what came of the last
-        event."""
+        """Drives trains to their places one by one. Returns the last event's result."""
         for border, routes in self.shuffled(self.crew.approaches):
             if self.random() >= self.brought:
                 continue
@@ -87,7 +87,7 @@ class Walk:
         return DONE
 
     def turn(self):
-        """Tries something; answers what came of it."""
+        """Tries something. Returns the result."""
         what = self.random()
         if what < self.trains_to and self.awake:
             return self.move(self.one_of(self.awake))
@@ -106,7 +106,7 @@ class Walk:
         return REFUSED
 
     def any_turn(self):
-        """Tries everything, the likelier first, until something comes of it."""
+        """Tries everything, the likelier first, until something happens."""
         for train in self.shuffled(self.simulation.trains):
             for word, x in (("head", train[1][-1]), ("tail", train[1][0]), ("leave", train[1][0])):
                 done = self.did(word, x)
@@ -132,15 +132,15 @@ class Walk:
         return REFUSED
 
     def one_of(self, things):
-        """One of some things by chance."""
+        """Returns a random thing."""
         return things[int(self.random() * len(things))]
 
     def shuffled(self, things):
-        """Things in an order by chance."""
+        """Returns things in random order."""
         return self.chance.sample(things, len(things))
 
     def did(self, word, number):
-        """Does an event and notes it; answers what came of it."""
+        """Does and records an event. Returns the result."""
         done = self.events[word](number)
         if done:
             self.run.append((word, number))
@@ -149,14 +149,14 @@ class Walk:
     # -- trains
 
     def enter(self, x):
-        """A train comes in."""
+        """Lets a train enter."""
         done = self.did("enter", x)
         if done:
             self.awake.append(self.simulation.train_on[x])
         return done
 
     def move(self, train):
-        """A train moves, by its head or its tail; one that can't move waits for a route."""
+        """Moves a train's head or tail. If it can't move, it waits for a route."""
         body = train[1]
         is_long = len(body) > 1
         if is_long and self.random() < self.tail_first:
@@ -176,7 +176,7 @@ class Walk:
         return REFUSED
 
     def wake(self, train):
-        """A train may move again, where it is still there."""
+        """Notes that a train may move again, if it still exists."""
         if train in self.asked:
             self.asked.remove(train)
         if train in self.simulation.trains:
@@ -188,17 +188,16 @@ class Walk:
     # -- routes
 
     def before(self, train):
-        """The crew's routes that begin where a train's head is."""
+        """Returns the crew's routes that begin at a train's head."""
         return self.from_board.get(self.facts.board[train[0]][train[1][-1]], ())
 
     def answer(self, train):
-        """A route is set for a train that waits."""
+        """Sets a route for a waiting train."""
         routes = self.before(train)
         return self.set(self.one_of(routes)) if routes else REFUSED
 
     def set(self, r):
-        """A route is asked for and allocated; where no train stands before it, it may be given up
-        at once."""
+        """Marks and allocates a route. If no train is before it, it may be cancelled at once."""
         simulation = self.simulation
         if simulation.mode[r] != FREE or not simulation.can_allocate(r):
             return REFUSED
@@ -211,7 +210,7 @@ class Walk:
         return DONE
 
     def feint(self, r):
-        """A route that was allocated is given up at once; its points may be thrown before."""
+        """Cancels an allocated route. Points may be thrown before."""
         if self.random() < 0.5:
             while self.simulation.minus != self.simulation.to_minus:
                 if self.throw() == HAZARD:
@@ -219,7 +218,7 @@ class Walk:
         return self.did("cancel", r)
 
     def go_on(self, r, sure=False):
-        """A route goes on with what it began."""
+        """Continues with a route."""
         mode = self.simulation.mode[r]
         if mode == ALLOCATING:
             return self.end_allocating(r)
@@ -234,7 +233,7 @@ class Walk:
         return done
 
     def end_allocating(self, r):
-        """A route is locked, at times cancelled. A train before it may move then."""
+        """Locks a route, sometimes cancels it. A train before it may then move."""
         if self.cancelling and self.random() < self.cancelling:
             self.busy.remove(r)
             return self.did("cancel", r)
@@ -248,7 +247,7 @@ class Walk:
     # -- points
 
     def throw(self):
-        """A point that doesn't lie where it is commanded is thrown, and settles."""
+        """Throws and settles a point that is not in its commanded position."""
         waiting = self.simulation.minus ^ self.simulation.to_minus
         if not waiting:
             return REFUSED

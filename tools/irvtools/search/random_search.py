@@ -1,5 +1,5 @@
-"""Searches for runs from the initial state to a hazard, at random. What is found is the page's own,
-until `irv replay` has answered it. """
+"""Searches randomly for runs from the initial state to a hazard. A found run is the page's own
+until `irv replay` answers it."""
 
 from __future__ import annotations
 
@@ -16,28 +16,27 @@ from irvtools.model.plant import Plant
 from irvtools.search.route_uses import is_use
 from irvtools.search.random_run import Walk
 
-MOST_EVENTS = 320       # of a run
-SHORTENING = 8.0        # seconds, at most, for a run that was found
-LOOK_ON = 400           # divided by the events of a run that was found: runs for a shorter one
-MUCH_LONGER = 3         # times as long: such a run isn't shortened where there is one already
-MORE = 400              # runs, after which one route more that meets the suspect is picked
+MOST_EVENTS = 320
+SHORTENING = 8.0        # most seconds to shorten a run
+LOOK_ON = 400           # divided by the run's events: tries for a shorter one
+MUCH_LONGER = 3         # longer runs by this factor aren't shortened
+MORE = 400              # runs per additional route meeting the suspect
 MOST_OTHERS = 4
 
 
 def suspects_of(plant: Plant, broken: Iterable[tuple[str, list[tuple[str, int]]]]
                 ) -> list[tuple[str, int]]:
-    """Where a search looks first, by the rules of the columns that are broken, each with its places
-    (as `rules.read_line` reads them): the routes and borders that break one on which safety
-    rests."""
+    """Returns the routes and borders that break a column rule on which safety depends: a search
+    starts there. `broken` has each rule with its places, as read by `rules.read_line`."""
     kinds = {"routes": "route", "sections": "border"}
     return [(kinds[places[0][0]], places[0][1]) for rule, places in broken
             if broken_rules.rests(plant, rule, places)]
 
 
 class RandomSearch:
-    """A search over a plant. `suspects` are where it should look first: routes by number, or pairs
-    as `suspects_of` gives them. A seed gives one search. `used` has for each route that a run set,
-    used and finished this run, where uses are kept."""
+    """A search over a plant, determined by its seed. It starts at the `suspects`: route numbers, or
+    pairs from `suspects_of`. If uses are kept, `used` has a run for each route that a run set, used
+    and finished."""
 
     def __init__(self, plant, seed=1, suspects=(), keeps_uses=True):
         self.plant, self.keeps_uses = plant, keeps_uses
@@ -51,7 +50,7 @@ class RandomSearch:
         self.used = {}
 
     def for_hazard(self, seconds, most_runs=None):
-        """Searches for `seconds`; returns a run to a hazard, shortened, or None."""
+        """Searches for `seconds`. Returns a shortened run to a hazard, or `None`."""
         end = time.monotonic() + seconds
         while time.monotonic() < end and (most_runs is None or self.runs < most_runs):
             run = self.walk()
@@ -60,8 +59,7 @@ class RandomSearch:
         return None
 
     def shorter(self, best):
-        """Returns a run that is no longer than one: further runs are made, the more the shorter it
-        is."""
+        """Returns a run no longer than `best`. It makes further runs, more for a shorter `best`."""
         for _ in range(LOOK_ON // len(best)):
             run = self.walk()
             if run is not None and len(run) <= MUCH_LONGER * len(best):
@@ -69,7 +67,7 @@ class RandomSearch:
         return best
 
     def walk(self):
-        """Makes one run; returns it if it ends in a hazard."""
+        """Makes one run. Returns it if it ends in a hazard."""
         others = min(MOST_OTHERS, 2 + self.runs // MORE)
         walk = Walk(self.relations, self.random,
                     Crew(self.relations, self.random, self.suspects, others))
@@ -82,7 +80,7 @@ class RandomSearch:
         return found
 
     def keep_uses(self, run):
-        """Keeps a run for each route that is used in it for the first time."""
+        """Keeps a run for each route used for the first time."""
         for place, (word, number) in enumerate(run):
             if word == "finish" and number not in self.used \
                     and is_use(self.plant, run[:place + 1], number):

@@ -1,10 +1,10 @@
-"""What a random run uses: routes that have to do with each other, borders at which trains come in,
-and the routes by which a train comes from there to where it is wanted. """
+"""The crew of a random run: related routes, borders for entering trains, and the routes that bring
+a train from there to its place."""
 
 
 class Crew:
-    """Routes and borders, each once, and `approaches`: of each train its border and its routes. It
-    is gathered around a suspect, which is ("route", r) or ("border", x), or around any route."""
+    """Routes and borders without duplicates, and `approaches`: each train's border and routes. A
+    crew is gathered around a suspect, ("route", r) or ("border", x), or any route."""
 
     def __init__(self, relations, chance, suspects, most_others):
         self.relations, self.chance = relations, chance
@@ -24,7 +24,7 @@ class Crew:
         self.borders = list(dict.fromkeys(self.borders))
 
     def gather(self, around, others):
-        """Takes a suspect, and some routes that meet it."""
+        """Takes a suspect and some routes that meet it."""
         kind, number = around
         if kind == "route":
             self.join(number)
@@ -43,7 +43,7 @@ class Crew:
             self.follow(self.chance.choice(self.routes))
 
     def join(self, r):
-        """Takes a route, and those by which a train comes to it."""
+        """Takes a route, and those that bring a train to it."""
         before, border = self.relations.chain(self.chance, self.relations.facts.source[r])
         self.routes.append(r)
         if self.chance.random() < 0.5:
@@ -53,7 +53,7 @@ class Crew:
             self.approaches.append((border, before))
 
     def follow(self, r):
-        """Takes some routes that lead on from one."""
+        """Takes some routes that continue another."""
         for _ in range(self.chance.randint(1, 3)):
             if not self.relations.followers[r]:
                 break

@@ -1,7 +1,7 @@
-"""Which routes have to do with each other: what a search picks together.
+"""Related routes, which a search picks together.
 
-Where a train comes to from a board is told by the tracks and not by the table, since the table may
-be wrong: over every leg of a point, up to the boards at which it has to stop. """
+The tracks, not the table, say how far a train runs from a board, since the table may be wrong. It
+runs over every leg of a point, up to the next boards."""
 
 from irvtools.model.bitset_events import AT_A_POINT, NOTHING
 
@@ -9,7 +9,7 @@ FAR = 1 << 20
 
 
 class Relations:
-    """For each route the sections that its train may come to, the routes that bring a train to its
+    """For each route: the sections that its train may reach, the routes that bring a train to its
     source, and the routes that meet it."""
 
     def __init__(self, facts):
@@ -20,14 +20,14 @@ class Relations:
         self.after_border = {x: self.reached([x], way) for x, way in facts.inward.items()}
         self.from_board = [[r for r in range(count) if facts.source[r] == b]
                            for b in range(len(plant.boards))]
-        # of each board the borders, and the boards, from which a train runs on to it
+        # For each board, the borders and boards from which a train runs to it.
         self.borders = [[x for x, found in self.after_border.items()
                          if facts.inward[x] == way and found >> at & 1] for at, way in self.starts]
         self.boards = [[a for a, found in enumerate(reached)
                         if self.starts[a][1] == way and found >> at & 1 and self.from_board[a]]
                        for at, way in self.starts]
         self.distance = self.distances()
-        # of each route all that its train and its locks touch
+        # For each route, all that its train and its locks touch.
         self.touched = [reached[facts.source[r]] | facts.sections[r] for r in range(count)]
         self.met = [self.that_meet(sections, {r}) for r, sections in enumerate(self.touched)]
         self.met_at_border = {x: self.that_meet(found, set())
@@ -36,17 +36,17 @@ class Relations:
                            if reached[facts.source[r]] >> self.starts[facts.source[s]][0] & 1
                            and self.starts[facts.source[s]][1] == self.starts[facts.source[r]][1]]
                           for r in range(count)]
-        # a search looks first at borders without a board, at which trains enter freely
+        # A search starts at borders without a board: trains enter freely there.
         self.suspects = [("border", x) for x, way in facts.inward.items()
                          if facts.board[way][x] < 0]
 
     def ahead(self, x, way):
-        """The sections that may be ahead of one."""
+        """Returns the sections that may be ahead of one."""
         to = self.facts.ahead[way][x]
         return self.facts.legs[x] if to == AT_A_POINT else () if to == NOTHING else (to,)
 
     def reached(self, sections, way):
-        """These sections and all to which a train runs on from them, as bits."""
+        """Returns these sections and all that a train reaches from them, as bits."""
         found, left = 0, list(sections)
         while left:
             x = left.pop()
@@ -57,11 +57,11 @@ class Relations:
         return found
 
     def that_meet(self, sections, others):
-        """The routes that touch one of some sections, but for some."""
+        """Returns the routes that touch a section, except `others`."""
         return [r for r, touched in enumerate(self.touched) if touched & sections and r not in others]
 
     def distances(self):
-        """Of each board the least number of routes by which a train comes to it."""
+        """Returns for each board the least number of routes that bring a train to it."""
         found, last = [0 if borders else FAR for borders in self.borders], None
         while found != last:
             last = list(found)
@@ -70,8 +70,8 @@ class Relations:
         return found
 
     def chain(self, chance, b):
-        """Routes by which a train comes to a board, in their order, and the border at which it
-        comes in, if any: by a short way mostly."""
+        """Returns routes, in order, that bring a train to a board, usually a short way, and their
+        border, if any."""
         routes = []
         for _ in self.starts:
             if self.borders[b] and (not self.boards[b] or chance.random() < 0.85):
@@ -87,7 +87,7 @@ class Relations:
         return routes, None
 
     def leading(self, chance, a, b):
-        """A route that begins at a board, and that ends at another one where the table has one."""
+        """Returns a route from one board to another, or if there is none any route from the first."""
         end = self.starts[b][0]
         ending = [r for r in self.from_board[a] if self.facts.path[r][-1] == end]
         return chance.choice(ending or self.from_board[a])

@@ -1,8 +1,7 @@
-"""What each route is good for: a run from the start in which one train uses it whole.
+"""Each route's use: a run from the initial state in which one train uses the whole route.
 
-A train comes in at a border and runs to the first board. From each board at which a train may stand
-so, by the shortest run that is known, each route that begins there is set, used and finished, which
-brings a train to the next board.
+A train enters at a border and runs to the first board. From each board reached, by the shortest
+known run, each route is set, used and finished. This brings a train to the next board.
 """
 
 from __future__ import annotations
@@ -18,7 +17,7 @@ from irvtools.model.state import State
 
 
 def arrivals(facts):
-    """Drives that bring a train in at each border, to where it stops or the network ends."""
+    """Yields drives of a train from each border to its stop or the network's end."""
     for x in facts.inward:
         drive = Drive(Simulation(facts), [])
         if drive.enter(x):
@@ -26,7 +25,7 @@ def arrivals(facts):
 
 
 def uses(plant: Plant, seconds: float) -> tuple[dict[int, list[tuple[str, int]]], bool]:
-    """A run for each route that is found used; and whether there was time to look at all."""
+    """Returns a run for each route found used, and whether time allowed looking at all."""
     end, facts = time.monotonic() + seconds, Facts(plant)
     found, stood, count = {}, set(), 0
     queue = [(len(drive.run), number, drive) for number, drive in enumerate(arrivals(facts))]
@@ -48,8 +47,8 @@ def uses(plant: Plant, seconds: float) -> tuple[dict[int, list[tuple[str, int]]]
 
 
 def is_use(plant: Plant, run: list[tuple[str, int]], r: int) -> bool:
-    """Whether a run that ends with a route's finish shows one train that passed its source and was
-    in each section of its path when that was sensed."""
+    """Returns whether a run that ends with a route's finish shows its use. One train passed the
+    source, and was in each path section when that was sensed."""
     state, route, train = State(plant), plant.routes[r], None
     source = plant.boards[route.source]
     for word, number in run:

@@ -1,10 +1,8 @@
-"""Makes a run to a hazard shorter, until no single event of it can be left out, and easier to
-follow.
+"""Shortens a run to a hazard until no single event can be left out, and makes it easier to follow.
 
-If an event is left out, those that aren't enabled without it are left out too. Pieces of some
-events in a row are tried first, which removes whole uses of routes and movements of trains, and
-single events last. At the end each train gets the events by which its rear follows, so that trains
-have a credible length. """
+Events that aren't enabled without a removed one are removed too. Longer pieces are tried first,
+which removes whole route uses and train movements; single events come last. At the end each train
+gets events for its rear, so that its length is credible."""
 
 from __future__ import annotations
 
@@ -16,7 +14,7 @@ PIECES = (16, 8, 4, 2, 1)       # events in a row
 
 
 def shorter_by_pieces(facts, run, size, until):
-    """Returns a run without the pieces of `size` events in a row that can be left out."""
+    """Returns a run without its removable pieces of `size` events."""
     before, place = Simulation(facts), 0
     while place + size <= len(run) and time.monotonic() < until:
         trial = to_hazard(before.copy(), run[place + size:])
@@ -29,8 +27,7 @@ def shorter_by_pieces(facts, run, size, until):
 
 
 def shortened(facts, run, until):
-    """Returns a run to a hazard with events left out, as long as it still ends in one; until a time
-    on the clock."""
+    """Returns a run to a hazard without needless events, as far as time allows."""
     length = None
     while length != len(run) and time.monotonic() < until:
         length = len(run)
@@ -40,8 +37,8 @@ def shortened(facts, run, until):
 
 
 def in_order(facts, run):
-    """Returns the same events, easier to follow: a route is requested just before it is allocated,
-    and a train enters just before it moves, if that makes no difference."""
+    """Returns the same events in an easier order. If it makes no difference, a route is requested
+    just before it is allocated, and a train enters just before it moves."""
     for place in reversed(range(len(run))):
         word, number = run[place]
         if word not in ("mark", "enter"):
@@ -57,8 +54,8 @@ def in_order(facts, run):
 
 
 def with_rears(facts, run):
-    """Returns a run to a hazard in which the rear of each train follows its front as early as the
-    run stays a run to a hazard. Rears that the run moved already are moved anew."""
+    """Returns a run to a hazard in which each train's rear follows as early as possible. Earlier
+    rear movements are replaced."""
     fewer = [event for event in run if event[0] != "tail"]
     if to_hazard(Simulation(facts), fewer) == fewer:
         run = fewer
@@ -72,8 +69,8 @@ def with_rears(facts, run):
 
 
 def with_rear(facts, before, run, place):
-    """Returns a run with an event more at a place, by which the rear of a train leaves a section,
-    or None if no train can do that; `before` is the state there."""
+    """Returns a run with an additional event at `place`: a train's rear leaves a section. Returns
+    `None` if no train can do that. `before` is the state there."""
     for _, body in before.trains:
         trial = [*run[:place], ("tail", body[0]), *run[place:]]
         if len(body) > 1 and to_hazard(Simulation(facts), trial) == trial:
@@ -82,8 +79,8 @@ def with_rear(facts, before, run, place):
 
 
 def readable(facts: Facts, run: list[tuple[str, int]], seconds: float) -> list[tuple[str, int]]:
-    """Returns a run that is short and in order: shortened again after each change of its order,
-    until nothing changes or the seconds are over. Rears of trains are added last."""
+    """Returns a short run in order. It is shortened again after each change of order, until nothing
+    changes or time is over. Rears are added last."""
     until, last = time.monotonic() + seconds, None
     while run != last and time.monotonic() < until:
         last, run = run, in_order(facts, shortened(facts, run, until))

@@ -1,41 +1,40 @@
-"""Drives one train through route after route: each is locked for it, used by it, and released
-behind it.
+"""Drives one train through route after route: each is locked, used, and released behind it.
 
-The search brings its trains so to where they are needed, and the report finds so which routes a
-train can use. """
+The search brings its trains to their places this way, and the report finds the routes that a train
+can use."""
 
 from irvtools.model.bitset_events import DONE
 
-MOST_HEADS = 300        # sections that a train passes where no board stops it
+MOST_HEADS = 300        # sections that a train passes without a stop
 
 
 class Drive:
-    """A train that is driven in a simulation. `run` takes the events; `done` is what came of the
-    last one: after REFUSED or HAZARD nothing more is done."""
+    """A train driven in a simulation. `run` takes the events; `done` is the last result. Nothing
+    more is done after REFUSED or HAZARD."""
 
     def __init__(self, simulation, run):
         self.simulation, self.run = simulation, run
         self.train, self.done = None, DONE
 
     def copy(self):
-        """Returns a copy that continues by itself."""
+        """Returns an independent copy."""
         other = Drive(self.simulation.copy(), list(self.run))
         other.train, other.done = other.simulation.train_on[self.train[1][-1]], self.done
         return other
 
     @property
     def is_good(self):
-        """Returns whether all that was tried was done, without a hazard."""
+        """Returns whether everything was done without a hazard."""
         return self.done == DONE
 
     @property
     def board(self):
-        """The board at which the train waits, or -1."""
+        """Returns the board at which the train waits, or -1."""
         way, body = self.train
         return self.simulation.facts.board[way][body[-1]]
 
     def do(self, word, number):
-        """Does an event if all before it was done; returns whether the drive may go on."""
+        """Does an event if all before it were done. Returns whether the drive may continue."""
         if self.done == DONE:
             self.done = getattr(self.simulation, word)(number)
             if self.done:
@@ -43,14 +42,14 @@ class Drive:
         return self.done == DONE
 
     def enter(self, x):
-        """The train enters at a border, and runs on to a board."""
+        """Lets the train enter at a border and run to a board."""
         if self.do("enter", x):
             self.train = self.simulation.train_on[x]
             self.roll()
         return self.is_good
 
     def roll(self):
-        """The train runs on to the next board, or to where the network ends."""
+        """Runs the train to the next board or the network's end."""
         for _ in range(MOST_HEADS):
             x = self.train[1][-1]
             if self.board >= 0 or self.simulation.is_end(*self.train):
@@ -59,7 +58,7 @@ class Drive:
                 break
 
     def set(self, r):
-        """Marks, allocates and locks a route, and throws the points that it needs."""
+        """Marks, allocates and locks a route, and throws its points."""
         self.do("mark", r)
         self.do("allocate", r)
         waiting = self.simulation.minus ^ self.simulation.to_minus
@@ -71,7 +70,7 @@ class Drive:
         return self.do("lock", r)
 
     def use(self, r):
-        """The train uses a locked route, which is released behind it."""
+        """Uses a locked route, which is released behind the train."""
         body = self.train[1]
         path = self.simulation.facts.path[r]
         for x in path:

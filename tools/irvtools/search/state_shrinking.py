@@ -1,7 +1,7 @@
-"""Leaves out of a state what isn't needed for one event to lead out of the invariant.
+"""Reduces a state to what one event needs to lead out of the invariant.
 
-`verify` answers `not inductive` with a run from some state, often with trains and routes that have
-nothing to do with what is wrong. What is left here is the page's own, and small enough to be read.
+`verify` answers `not inductive` with a run from some state, often with unrelated trains and routes.
+The reduced state is the page's own, and easy to read.
 """
 
 from __future__ import annotations
@@ -16,7 +16,7 @@ from irvtools.model.state import State
 
 
 def leads_out(plant: Plant, state: State, event: tuple[str, int]) -> bool:
-    """Whether a state meets the invariant, and one event leads from it to a state that doesn't."""
+    """Returns whether a state meets the invariant, and an event leads from it to one that doesn't."""
     if not meets(plant, state):
         return False
     after = state.copy()
@@ -24,7 +24,7 @@ def leads_out(plant: Plant, state: State, event: tuple[str, int]) -> bool:
 
 
 def freed(plant, state, r):
-    """A state with a route free, and with what it alone held."""
+    """Returns a state in which a route, and what it alone held, is free."""
     state = state.copy()
     state.mode[r], state.seen[r], state.rel[r] = "free", 0, 0
     others = {x for o, route in enumerate(plant.routes) if state.mode[o] in HOLDING
@@ -39,28 +39,28 @@ def freed(plant, state, r):
 
 
 def without_train(state, number):
-    """A state with a train less."""
+    """Returns a state without a train."""
     state = state.copy()
     state.drop_train(number)
     return state
 
 
 def with_part(state, part, number, value):
-    """A state with another value at one place."""
+    """Returns a state with another value at one place."""
     state = state.copy()
     getattr(state, part)[number] = value
     return state
 
 
 def without_tail(state, number):
-    """A state with a shorter train."""
+    """Returns a state with a shorter train."""
     state = state.copy()
     state.on[state.trains[number][1].pop(0)] -= 1
     return state
 
 
 def smaller(plant: Plant, state: State) -> Iterator[State]:
-    """States with less in them, the boldest first."""
+    """Yields smaller states, boldest first."""
     used = [r for r in range(len(plant.routes)) if state.mode[r] != "free"]
     for number in range(len(state.trains)):
         yield without_train(state, number)
@@ -85,8 +85,8 @@ def smaller(plant: Plant, state: State) -> Iterator[State]:
 
 def shrunk(plant: Plant, state: State, event: tuple[str, int],
            seconds: float = 10) -> State | None:
-    """The state with all left out that isn't needed; None where the event doesn't lead out of the
-    invariant, by the page's own reading of it."""
+    """Returns the state reduced as far as time allows, or `None` if by the page's own reading the
+    event doesn't lead out of the invariant."""
     if not leads_out(plant, state, event):
         return None
     end = time.monotonic() + seconds

@@ -1,5 +1,5 @@
-"""Verify and the search side by side. If a rule is broken on which safety depends, both begin at
-once, and a hazard that one of them finds ends the other."""
+"""Runs verify and the search. If a rule on which safety depends is broken, both begin at once, and
+a hazard that one finds ends the other."""
 
 from __future__ import annotations
 
@@ -12,16 +12,15 @@ from irvtools.search.parallel_search import Searchers
 if TYPE_CHECKING:
     from irvtools.html.report import Report
 
-GRACE = 2.0             # seconds that verify still has once the search has found a run
-TURN = 0.05             # seconds between two looks
-NO_VERDICT = (None, 2, 3, 4)     # statuses of verify that leave open whether there is a hazard
-UNEXPECTED = (2, 3)     # of these what no table should get that breaks no rule on which safety depends
+GRACE = 2.0             # verify's seconds after a found run
+TURN = 0.05             # between two looks
+NO_VERDICT = (None, 2, 3, 4)     # statuses of verify without a decision about hazards
+UNEXPECTED = (2, 3)     # unexpected if no rule on which safety depends is broken
 
 
 class Found:
-    """What came of it: verify's answer, and a run of the search or None. `is_first` tells that the
-    run came before the answer, `said` what replay answers to it, `fault` that this isn't what it
-    should be."""
+    """The result: verify's answer, and a run of the search or `None`. `is_first` is whether the run
+    came first, `said` is replay's answer to it, and `fault` what is wrong with that."""
 
     def __init__(self):
         self.answer = self.run = self.searchers = self.said = self.fault = None
@@ -29,7 +28,7 @@ class Found:
 
 
 def search(page: Report, words: list[str]) -> Found:
-    """Asks verify with some arguments, and searches."""
+    """Asks verify with these arguments, and searches."""
     found, options = Found(), page.options
     is_beside = page.is_endangered and options.search_seconds > 0
     with Searchers(page.plant, page.suspects) as found.searchers:
@@ -47,7 +46,7 @@ def search(page: Report, words: list[str]) -> Found:
 
 
 def both(found, call, page):
-    """Waits for the call and for the search, until a hazard is found or both have ended."""
+    """Waits for the call and the search, until a hazard is found or both have ended."""
     wait = page.options.verify_seconds
     until = call.begin + wait
     while True:

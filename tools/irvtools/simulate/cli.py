@@ -1,5 +1,4 @@
-"""The command line of `irv --simulate`: writes the interactive simulator, and compares saved
-runs."""
+"""The command line of `irv --simulate`: writes the interactive simulator, and compares saved runs."""
 
 import sys
 from pathlib import Path
@@ -10,11 +9,11 @@ from irvtools.html.options import Refused, is_same, name_of_input, read_labels
 from irvtools.simulate.compare import check
 from irvtools.simulate.simulator_page import SimulatorPage
 
-NOT_WRITTEN = 125       # an exit status that no answer of the program has
+NOT_WRITTEN = 125       # no answer of the program has this status
 
 
 def parser():
-    """Returns the parser of the command line."""
+    """Returns the command-line parser."""
     line = Parser("irv --simulate", "Writes an HTML page on which the plant is operated by hand, "
                                     "or "
                   "compares a saved run with the answers of\n`irv replay` and `irv drive`.\n\n"
@@ -48,7 +47,7 @@ def write(out, program, labels):
 
 
 def main(words):
-    """Does what the arguments ask for; returns the exit status."""
+    """Runs the command line; returns the exit status."""
     line = parser()
     given = line.parse_args(words)
     if (given.out is None) == (given.compare is None):

@@ -1,8 +1,7 @@
-"""Asks `irv` about what was simulated: a file that the simulator saved, or a run text or a
-scenario.
+"""Asks `irv` about a simulated run: a file that the simulator saved, a run text or a scenario.
 
-A file that the simulator saved has what it said about the run, and which events it refused. For
-other files the simulator's model says it here, by a script engine if there is one. """
+A saved file has the simulator's statements about the run, and the refused events. For other files
+the simulator's model runs here, in a script engine if there is one."""
 
 from __future__ import annotations
 
@@ -23,11 +22,11 @@ ASK_SECONDS = 60
 
 
 class Refused(Exception):
-    """Why nothing can be asked."""
+    """The reason why nothing can be asked."""
 
 
 class Asked:
-    """The program over a configuration, with the columns with which it is a plant."""
+    """The program over a configuration, with the columns that accept it."""
 
     def __init__(self, program, given, file):
         self.irv, self.given, self.file = Program(program, given), given, file
@@ -38,16 +37,16 @@ class Asked:
         self.columns = clean[0]
 
     def replay(self, text):
-        """The line of replay."""
+        """Returns the line of replay."""
         return self.irv.replay(self.columns, text).said
 
     def drive(self, file):
-        """The line of drive, and the run that it prints."""
+        """Returns the line of drive, and the run that it prints."""
         answer = self.irv.ask(["drive", "--columns", self.columns, "--run", str(file)], ASK_SECONDS)
         return answer.said, answer.output.partition("\n")[2]
 
     def own(self, expression):
-        """What the simulator's model says, by an engine; None if there is none."""
+        """Returns the simulator model's value of `expression`; `None` without an engine."""
         file = script_engine.find()
         value, unread = schema_rules.read(self.given)
         if file is None or unread is not None:
@@ -56,7 +55,7 @@ class Asked:
 
 
 def compared(what, said, own):
-    """Prints an answer with what the simulator says; returns whether they agree."""
+    """Prints an answer beside the simulator's; returns whether they agree."""
     if own is None:
         print(f"{what}: {said}; the simulator is not compared, because no script engine is "
               f"installed ("
@@ -67,7 +66,7 @@ def compared(what, said, own):
 
 
 def check_played(asked, found):
-    """A file that the simulator saved."""
+    """Checks a file that the simulator saved."""
     sum_, _, says, refused, run = found.groups()
     if sum_ != hashlib.sha256(asked.given).hexdigest():
         raise Refused(f"{asked.file} belongs to another configuration, with another SHA-256")
@@ -85,20 +84,20 @@ def check_played(asked, found):
 
 
 def split_run(text):
-    """Returns the lines of a run before its events, and its events."""
+    """Returns a run's lines before its events, and its events."""
     lines = text.splitlines()[:-1]
     at = lines.index("events") + 1 if lines[1:2] == ["state"] and "events" in lines else 2
     return lines[:at], lines[at:]
 
 
 def check_run(asked, text):
-    """A run text."""
+    """Checks a run text."""
     own = asked.own(f"answerToRun(plant, {script_engine.as_text(text)})")
     return compared("irv replay", asked.replay(text), own)
 
 
 def check_scene(asked, text, file):
-    """A scenario."""
+    """Checks a scenario."""
     said, run = asked.drive(file)
     own = asked.own(f"answerToScene(plant, {script_engine.as_text(text)})")
     agree = compared("irv drive", said, own and own.partition("\n")[0])

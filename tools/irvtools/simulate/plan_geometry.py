@@ -1,5 +1,5 @@
-"""The plan of `trackplan` as the script of the page draws it: where lines, signs, letters and
-trains are, and the shapes of the signs."""
+"""The plan of `trackplan` for the page's script: places of lines, signs, letters and trains, and
+sign shapes."""
 
 from __future__ import annotations
 
@@ -9,17 +9,17 @@ from typing import Any
 from irvtools.trackplan import signs
 from irvtools.trackplan.drawing import Drawing
 
-EDGE_OF_ENTRY = 15      # from the end of a border to the sign at which a train comes in
+EDGE_OF_ENTRY = 15      # from the end of a border to the entry sign
 JOINT = re.compile(r'<path d="M([-0-9 L]+)" class="(j|torn)"/>')
 
 
 def points(line):
-    """A line in whole numbers."""
+    """Returns a line in whole numbers."""
     return [[round(x), round(y)] for x, y in line]
 
 
 def entry_place(drawing, x):
-    """Where the sign of a border lies."""
+    """Returns the place of a border's sign."""
     if drawing.plant.inward[x] == "up":
         at, y = drawing.end(x, "down")
         return [round(at - EDGE_OF_ENTRY), round(y)]
@@ -28,14 +28,14 @@ def entry_place(drawing, x):
 
 
 def joints(drawing):
-    """The marks of the joints, each with its class: of what the drawing has under each state."""
+    """Yields the marks of the joints, each with its class."""
     for match in filter(None, map(JOINT.fullmatch, drawing.tracks())):
         yield match[2], [[int(place) for place in point.split(" ")] for point in match[1].split("L")]
 
 
 def geometry(drawing: Drawing) -> dict[str, Any]:
-    """Returns the plan's strips, the joints, the lines of each section, the places of letters,
-    boards and entries, and the shapes of the signs, which are those of the report."""
+    """Returns the plan's strips, joints, section lines, the places of letters, boards and entries,
+    and the report's sign shapes."""
     sections = range(len(drawing.plant.sections))
     return {"strips": [[round(value) for value in strip] for strip in drawing.strips],
             "joints": list(joints(drawing)),

@@ -1,4 +1,4 @@
-"""The simulator's model by a script engine outside of a browser, if there is one."""
+"""Runs the simulator's model in a script engine outside of a browser, if one is installed."""
 
 from __future__ import annotations
 
@@ -15,17 +15,17 @@ SECONDS = 600
 
 
 def find() -> str | None:
-    """The engine, or None."""
+    """Returns the engine, or `None`."""
     return next((path for path in map(shutil.which, NAMES) if path), None)
 
 
 def as_text(text: str) -> str:
-    """A text as the script has it."""
+    """Returns a text as a script literal."""
     return json.dumps(text)
 
 
 class Engine:
-    """An engine that asks the model about one plant; `more` is script besides."""
+    """An engine for the model of one plant; `more` is further script."""
 
     def __init__(self, file, plant, more=""):
         self.file = file
@@ -33,7 +33,7 @@ class Engine:
                        f"const plant = new Plant({scripts.as_json(scripts.plant_value(plant))});\n")
 
     def ask(self, expression):
-        """The value of an expression over `plant`."""
+        """Returns the value of an expression over `plant`."""
         with tempfile.TemporaryDirectory(prefix="irv-engine-") as room:
             file = Path(room, "model.js")
             file.write_text(f"{self.source}console.log(JSON.stringify({expression}));\n",

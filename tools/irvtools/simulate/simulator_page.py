@@ -1,6 +1,6 @@
-"""The simulator's page: what is on it before its script runs.
+"""The simulator's page before its script runs.
 
-For a configuration that is not a plant the page says why, in the words of the report.
+For a configuration that is not a plant, it says why, in the report's words.
 """
 
 import base64
@@ -17,22 +17,22 @@ from irvtools.html.style import VIEWPORT
 from irvtools.simulate.plan_geometry import geometry
 from irvtools.trackplan.signs import legend
 
-WORDED = 24             # broken rules of the columns with a sentence
+WORDED = 24             # broken column rules with a sentence
 
 
 def sum_of(script):
-    """The checksum of a script, as a page names the one that it allows."""
+    """Returns the checksum of a script, by which a page allows it."""
     return base64.b64encode(hashlib.sha256(script.encode()).digest()).decode()
 
 
 class SimulatorPage(Report):
-    """A page that is being made. Of its options it takes the name of the configuration and the
-    program; `outcome` is the verdict's line, once it is made."""
+    """A page in progress. It uses two options: the configuration's name and the program. `outcome`
+    is the verdict's line, once made."""
 
     outcome = ""
 
     def make(self):
-        """The whole page."""
+        """Makes the whole page."""
         strict = self.ask(["check", "--columns", "strict"], ASK_SECONDS)
         self.count(strict, "strict")
         self.verdict = verdict(self.answered, is_proved(self.options.program_file))
@@ -47,7 +47,7 @@ class SimulatorPage(Report):
     # -- a configuration that is not a plant
 
     def refused(self, answer, lines):
-        """The page that says why there is nothing to simulate."""
+        """Makes the page that says why there is nothing to simulate."""
         self.add(tag("h1", text(f"{self.options.name}: nothing to simulate")), self.verdict_line())
         if self.plant is not None:
             self.add(self.drawing.definitions())
@@ -62,7 +62,7 @@ class SimulatorPage(Report):
     # -- a plant
 
     def columns(self, lines):
-        """The columns with which a run is replayed, and the broken rules as markup."""
+        """Returns the columns for replays, and the broken rules as markup."""
         if not lines:
             return "strict", ""
         sentences = [tag("li", code(line) + " " + text(" ".join(self.sentences(line))))
@@ -76,12 +76,12 @@ class SimulatorPage(Report):
                            + tag("ul", "".join(sentences)), class_="small own")
 
     def sentences(self, line):
-        """A broken rule in words."""
+        """Returns a broken rule in words."""
         rule, places = broken_rules.read_line(line)
         return broken_rules.sentences(self.plant, rule, places)
 
     def simulated(self, lines):
-        """The page of a plant."""
+        """Makes the page of a plant."""
         columns, words = self.columns(lines)
         value = {"name": self.options.name, "sum": hashlib.sha256(self.given).hexdigest(),
                  "columns": columns, "plant": scripts.plant_value(self.plant),
@@ -98,7 +98,7 @@ class SimulatorPage(Report):
         return self.document(page, scripts.script(scripts.MODEL + scripts.VIEW))
 
     def document(self, body, script):
-        """The document. Nothing in it opens anything, and no other script runs."""
+        """Returns the document. It opens nothing, and no other script runs."""
         allowed = f"'sha256-{sum_of(script)}'" if script else "'none'"
         policy = (f"default-src 'none'; style-src 'unsafe-inline'; script-src {allowed}; "
                   "base-uri 'none'; form-action 'none'")

@@ -1,5 +1,5 @@
-"""Export of a plant to SUMO, a railway simulator, and comparison with the driveways that it finds.
+"""Export of a plant to SUMO, a railway simulator, and comparison with SUMO's driveways.
 
 `net_files` makes nodes, edges and connections, `ways` and `trains` the trains, `simulation` calls
-netconvert and sumo, `driveways` reads what SUMO found, `comparison` compares it with the table.
+netconvert and sumo, `driveways` reads SUMO's result, `comparison` compares it with the table.
 """

@@ -26,11 +26,11 @@ otherwise 125."""
 
 
 class NotDone(Exception):
-    """Says what is wrong with the input or with SUMO."""
+    """A fault of the input or of SUMO."""
 
 
 def parser() -> Parser:
-    """Returns the parser of the command line."""
+    """Returns the command-line parser."""
     line = Parser("irv --sumo", ABOUT, NOT_DONE,
                   "irv --sumo DIRECTORY [OPTIONS] < CONFIGURATION")
     line.add_argument("directory", metavar="DIRECTORY", type=Path,
@@ -45,7 +45,7 @@ def parser() -> Parser:
 
 
 def plant_of(program: Path, given: bytes) -> dict:
-    """Returns the configuration, which has to pass `irv check --columns free`."""
+    """Returns the configuration, which must pass `irv check --columns free`."""
     answer = Program(program.absolute(), given).ask(["check", "--columns", "free"], CHECK_SECONDS)
     if answer.status != 0:
         raise NotDone("the configuration is rejected: irv check --columns free answers: "
@@ -54,7 +54,7 @@ def plant_of(program: Path, given: bytes) -> dict:
 
 
 def prepared(directory: Path) -> None:
-    """Makes the directory. Fails if it has contents."""
+    """Makes the directory; fails if it has contents."""
     try:
         directory.mkdir(parents=True, exist_ok=True)
         if any(directory.iterdir()):
@@ -64,7 +64,7 @@ def prepared(directory: Path) -> None:
 
 
 def train_list(options, configuration: dict, network: Network):
-    """Returns the trains of the export, and lines about routes that have none."""
+    """Returns the trains of the export, and lines about routes without one."""
     if options.scenario is None:
         return trains.of_routes(configuration, network, float(options.metres))
     try:
@@ -87,7 +87,7 @@ def written(directory: Path, texts: Dict[str, str]) -> None:
 
 def compared(directory: Path, configuration: dict, files: NetFiles, found,
              ways) -> Tuple[List[str], List[str]]:
-    """Runs SUMO. Returns the lines of counts, and a line for each difference."""
+    """Runs SUMO; returns the lines of counts and of differences."""
     simulation.convert(directory)
     for name, group in (("trains", found), ("ways", ways)):
         simulation.simulate(directory, f"{name}.rou.xml", name,
@@ -102,7 +102,7 @@ def compared(directory: Path, configuration: dict, files: NetFiles, found,
 
 
 def ways_for(options, network: Network) -> list:
-    """Returns the trains of the comparison; none if none is asked for. Fails without SUMO."""
+    """Returns the trains of any comparison. Fails without SUMO."""
     if not options.compare:
         return []
     absent = simulation.missing()
@@ -113,7 +113,7 @@ def ways_for(options, network: Network) -> list:
 
 
 def export(options, given: bytes) -> int:
-    """Writes the files, and compares if that is asked for. Returns the exit status."""
+    """Writes the files, and compares if asked; returns the exit status."""
     configuration = plant_of(options.program, given)
     network = Network(configuration)
     files = NetFiles(network, float(options.metres))
@@ -142,7 +142,7 @@ def export(options, given: bytes) -> int:
 
 
 def main(words: List[str]) -> int:
-    """Exports as the arguments say. Returns the exit status."""
+    """Exports as asked; returns the exit status."""
     options = parser().parse_args(words)
     if not options.program.is_file():
         print(f"irv --sumo: the program {options.program} does not exist; build it with "

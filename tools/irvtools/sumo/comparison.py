@@ -1,7 +1,7 @@
-"""Compares the routes of a table with the driveways that SUMO found, by names.
+"""Compares a table's routes with SUMO's driveways, by names.
 
-Two driveways meet if they lead over one section or point. SUMO keeps two trains apart if they
-begin at one signal, or if its list of lanes and links for one driveway has a lane or the link of
+Two driveways meet if they share a section or points. SUMO keeps two trains apart if they begin at
+one signal. It also does if its list of lanes and links for one driveway has a lane or the link of
 the other.
 """
 
@@ -27,14 +27,14 @@ def locked(route: dict) -> Set[str]:
 
 
 def is_beyond_sumo(one: dict, other: dict) -> bool:
-    """Returns whether two routes exclude each other by what SUMO lacks: overlap or protection."""
+    """Returns whether two routes exclude each other by overlap or protection, which SUMO lacks."""
     boards = set(one.get("protecting_boards", [])) | set(other.get("protecting_boards", []))
     return bool((locked(one) & locked(other)) - (set(one["path"]) & set(other["path"]))) \
         or one["source"] in boards or other["source"] in boards
 
 
 class Comparison:
-    """What two programs say of one network. Each list has a line for each difference."""
+    """Two programs' statements about one network, with a line for each difference."""
 
     def __init__(self, routes: List[dict], found: Dict[Way, List[Driveway]]):
         self.routes, self.found = routes, found
@@ -57,7 +57,7 @@ class Comparison:
         return self.found[route["source"], tuple(route["path"])][0]
 
     def judge(self, one: dict, other: dict) -> None:
-        """Compares what is said of a pair of routes."""
+        """Compares the statements about a pair of routes."""
         self.pairs += 1
         first, second = self.driveway(one), self.driveway(other)
         meets = bool(set(first.path) & set(second.path))

@@ -1,4 +1,4 @@
-"""Reads the driveways that SUMO found, and the trains that arrived."""
+"""Reads SUMO's driveways, and the trains that arrived."""
 
 from pathlib import Path
 from typing import Dict, List, Optional, Set
@@ -9,7 +9,7 @@ from irvtools.sumo.ways import Way
 
 
 class Driveway:
-    """A driveway: its link, its way from a board, and the lanes and links that have to be free."""
+    """A driveway: link, way from a board, and the lanes and links that must be free."""
 
     def __init__(self, link: str, start: str):
         self.link, self.start = link, start
@@ -18,13 +18,13 @@ class Driveway:
         self.links: Set[str] = set()
 
     def excludes(self, other: "Driveway") -> bool:
-        """Returns whether SUMO's lists of this driveway keep a train on the other one out."""
+        """Returns whether SUMO's lists of this driveway keep trains on the other out."""
         wanted = self.lanes["forward"] | self.lanes["bidi"] | self.lanes["flank"]
         return bool(wanted & other.lanes["forward"]) or other.link in self.links
 
 
 def section_of(lane: str) -> Optional[str]:
-    """Returns the section of a lane, or None for a lane between two points or at a joint."""
+    """Returns a lane's section, or `None` for a lane between two points or at a joint."""
     if lane.startswith(":"):
         node = lane[1:].rsplit("_", 2)[0]
         return node[3:] if node.startswith("pt.") else None

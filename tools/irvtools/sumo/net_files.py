@@ -1,8 +1,8 @@
 """A network as nodes, edges and connections of SUMO.
 
-A linear section becomes an edge in each direction, `NAME.U` and `NAME.D`; a point becomes a node,
-`pt.NAME`; two points side by side are joined by short edges, `NAME~NAME.U` and `.D`. A board
-becomes a rail signal at the end of its edge.
+A linear section becomes an edge in each direction, `NAME.U` and `NAME.D`. Points become a node,
+`pt.NAME`; short edges, `NAME~NAME.U` and `.D`, join two points side by side. A board becomes a rail
+signal at its edge's end.
 """
 
 from typing import Dict, List, Set, Tuple
@@ -16,7 +16,7 @@ LETTER = {"up": "U", "down": "D"}
 
 
 class NetFiles:
-    """The nodes, edges and connections of a network. `signalled` are the edges with a board."""
+    """A network's nodes, edges and connections. `signalled`: the edges with a board."""
 
     def __init__(self, network: Network, metres: float):
         self.network, self.metres = network, metres
@@ -34,7 +34,7 @@ class NetFiles:
                 self.add_linear(name)
 
     def columns(self) -> Dict[str, int]:
-        """Returns for each section the length of the longest walk up that ends in it."""
+        """Returns for each section the length of the longest walk up to it."""
         column = dict.fromkeys(self.network.by_name, 0)
         for _ in column:
             before = dict(column)
@@ -46,7 +46,7 @@ class NetFiles:
         return column
 
     def rows(self) -> Dict[str, int]:
-        """Returns for each section its number among those of its column."""
+        """Returns for each section its number in its column."""
         counts: Dict[int, int] = {}
         row = {}
         for name, column in self.column.items():
@@ -55,7 +55,7 @@ class NetFiles:
         return row
 
     def node(self, key: str, column: float, row: float) -> str:
-        """Returns a node, which is placed when it is met first."""
+        """Returns a node, and places it at its first use."""
         self.nodes.setdefault(key, (self.metres * column, ROW_METRES * row))
         return key
 
@@ -76,7 +76,7 @@ class NetFiles:
                          (self.row[below] + self.row[above]) / 2)
 
     def add_linear(self, name: str) -> None:
-        """Adds the edges of a linear section, its signals, and its joint with the next one."""
+        """Adds a linear section's edges, signals, and joint with the next one."""
         below, above = self.end_node(name, "down"), self.end_node(name, "up")
         self.edges += [(f"{name}.U", below, above, self.metres),
                        (f"{name}.D", above, below, self.metres)]
@@ -89,7 +89,7 @@ class NetFiles:
             self.connections += [(f"{name}.U", f"{other}.U"), (f"{other}.D", f"{name}.D")]
 
     def add_point(self, name: str) -> None:
-        """Adds the node of a point, its edges to points above it, and its connections."""
+        """Adds the node of points, its edges to points above, and its connections."""
         for other in self.network.beyond(name, "up"):
             if self.network.is_point(other):
                 below, above = self.point_node(name), self.point_node(other)
@@ -103,7 +103,7 @@ class NetFiles:
                 (self.between(leg, name, back), self.between(name, one["stem"], back))]
 
     def between(self, first: str, second: str, direction: str) -> str:
-        """Returns the edge from one section to the next, of which one is a point."""
+        """Returns the edge from one section to the next, one of which is points."""
         if not self.network.is_point(first):
             return f"{first}.{LETTER[direction]}"
         if not self.network.is_point(second):
@@ -112,7 +112,7 @@ class NetFiles:
         return f"{below}~{above}.{LETTER[direction]}"
 
     def edges_along(self, path: List[str], direction: str) -> List[str]:
-        """Returns the edges of a path, from its first section on."""
+        """Returns the edges of a path, in order."""
         found = []
         for name, following in zip(path, list(path[1:]) + [None]):
             if not self.network.is_point(name):

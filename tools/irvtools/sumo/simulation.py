@@ -11,11 +11,11 @@ HOME = "/usr/share/sumo"
 
 
 class SumoFault(Exception):
-    """Says what is not installed, or what SUMO answers."""
+    """A missing program, or a fault that SUMO reports."""
 
 
 def missing() -> Optional[str]:
-    """Returns which of the two programs is not installed, or None."""
+    """Returns the program that is not installed, or `None`."""
     for name in ("netconvert", "sumo"):
         if shutil.which(name) is None:
             return name
@@ -40,14 +40,13 @@ def call(words: List[str], directory: Path) -> None:
 
 
 def convert(directory: Path) -> None:
-    """Makes net.net.xml of the files of nodes, edges and connections."""
+    """Makes net.net.xml from the files of nodes, edges and connections."""
     call(["netconvert", "-n", "net.nod.xml", "-e", "net.edg.xml", "-x", "net.con.xml",
           "-o", "net.net.xml", "--no-turnarounds"], directory)
 
 
 def simulate(directory: Path, trains: str, result: str, end: int) -> None:
-    """Runs trains, up to a second of the simulation. Writes result.blocks.xml and
-    result.arrivals.xml."""
+    """Runs trains up to second `end`; writes result.blocks.xml and result.arrivals.xml."""
     call(["sumo", "-n", "net.net.xml", "-r", trains, "--no-step-log", "--time-to-teleport", "-1",
           "--end", str(end),
           "--railsignal-block-output", f"{result}.blocks.xml",

@@ -1,4 +1,4 @@
-"""Trains for SUMO: one for each route, one for each way, or those of a scenario."""
+"""Trains for SUMO: one for each route or way, or those of a scenario."""
 
 import re
 from typing import Dict, List, Tuple
@@ -8,16 +8,16 @@ from irvtools.sumo.ways import Network
 
 TRAIN = ('  <vType id="train" vClass="rail" length="60" maxSpeed="20" accel="1" decel="1" '
          'carFollowModel="Krauss"/>\n')
-APART_SECONDS = 1000    # between two trains that are to have the network to themselves
+APART_SECONDS = 1000    # between two trains that need the network to themselves
 SCENARIO_SECONDS = 60   # between two trains of a scenario
 
 
 class SceneFault(Exception):
-    """Says which line of a scenario cannot be used."""
+    """A line of a scenario that cannot be used."""
 
 
 class Train:
-    """A train: its name, when it departs, its board and the sections that it passes."""
+    """A train: its name, departure, board and sections."""
 
     def __init__(self, name: str, depart: int, board: str, path: List[str]):
         self.name, self.depart, self.board, self.path = name, depart, board, path
@@ -31,19 +31,18 @@ class Train:
 
 
 def apart(metres: float) -> int:
-    """Returns the seconds in which a train passes the longest path over sections of a length."""
+    """Returns a train's seconds on the longest path over sections of a length."""
     return max(APART_SECONDS, int(2.5 * metres))
 
 
 def end_of(trains: List[Train], metres: float) -> int:
-    """Returns a second at which every train that can arrive has arrived."""
+    """Returns a second by which every train that can arrive has arrived."""
     return max((one.depart for one in trains), default=0) + 10 * apart(metres)
 
 
 def of_routes(configuration: dict, network: Network,
               metres: float) -> Tuple[List[Train], List[str]]:
-    """Returns a train for each route, one after the other, and a line for each route that has
-    none."""
+    """Returns a train for each route, one after another, and a line for each route without one."""
     found, lines = [], []
     for route in configuration["routes"]:
         if network.is_path(route["source"], route["path"]):
@@ -55,9 +54,9 @@ def of_routes(configuration: dict, network: Network,
 
 
 def of_ways(network: Network, metres: float) -> List[Train]:
-    """Returns two trains for each way of the network, one after the other. SUMO makes driveways
-    over an edge anew when the edge is first used, and keeps only one of those that begin alike; in
-    the second pass no edge is new."""
+    """Returns two trains for each way of the network, one after the other. On an edge's first use,
+    SUMO makes its driveways anew, and keeps only one of those that begin alike; in the second pass
+    no edge is new."""
     ways = network.ways()
     return [Train(f"{letter}{number}", apart(metres) * (number + turn * len(ways)), board,
                   list(path))
@@ -82,8 +81,7 @@ def commands_of(text: str, configuration: dict) -> List[Tuple[str, str]]:
 
 
 def requests(commands: List[Tuple[str, str]]) -> Tuple[List[str], List[str]]:
-    """Returns the sections where trains enter, and the requested routes without those that are
-    cancelled."""
+    """Returns the trains' entry sections, and the requested routes without cancelled ones."""
     entries, marks = [], []
     for command, name in commands:
         if command == "enter":
@@ -98,7 +96,7 @@ def requests(commands: List[Tuple[str, str]]) -> Tuple[List[str], List[str]]:
 def of_scenario(text: str, configuration: dict,
                 network: Network) -> Tuple[List[Train], List[str]]:
     """Returns a train for each `enter` of a scenario, and a line for each without one. A train
-    takes the requested routes that lead on from where it is, in the order of the requests."""
+    takes the requested routes that lead on from its position, in request order."""
     routes: Dict[str, dict] = {one["name"]: one for one in configuration["routes"]}
     entries, marks = requests(commands_of(text, configuration))
     found, lines = [], []

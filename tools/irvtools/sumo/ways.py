@@ -1,9 +1,9 @@
-"""The ways of a network, read from a configuration: an independent implementation of the walk by
-which `irv table` finds routes."""
+"""A network's ways from its configuration: an independent implementation of the walk of `irv
+table`."""
 
 from typing import Dict, List, Optional, Tuple
 
-LONGEST = 32            # sections of a path, as the form allows
+LONGEST = 32            # longest path that the schema allows
 LIMIT_WAYS = 4096
 LIMIT_STEPS = 1 << 20
 
@@ -11,11 +11,11 @@ Way = Tuple[str, Tuple[str, ...]]
 
 
 class TooManyWays(Exception):
-    """Says that a network has too many ways."""
+    """A network with too many ways."""
 
 
 class Network:
-    """The sections of a configuration by name, and the places of their boards."""
+    """A configuration's sections by name, and its boards' places."""
 
     def __init__(self, configuration: dict):
         self.by_name: Dict[str, dict] = {one["name"]: one for one in configuration["sections"]}
@@ -27,7 +27,7 @@ class Network:
                     self.place_of[board] = (one["name"], direction)
 
     def is_point(self, name: str) -> bool:
-        """Returns whether a section is a point."""
+        """Returns whether a section is points."""
         return self.by_name[name]["kind"] == "point"
 
     def beyond(self, name: str, direction: str) -> List[str]:
@@ -38,12 +38,12 @@ class Network:
         return [one["plus"], one["minus"]] if one["faces"] == direction else [one["stem"]]
 
     def board(self, name: str, direction: str) -> Optional[str]:
-        """Returns the board of a section for a direction, or None."""
+        """Returns the board of a section for a direction, or `None`."""
         return self.by_name[name].get(f"board_{direction}")
 
     def ways(self) -> List[Way]:
-        """Returns each way from a board to the next board or the end of the track. Ways of more
-        than `LONGEST` sections are left out."""
+        """Returns each way of at most `LONGEST` sections from a board to the next board or the end
+        of the track."""
         found: List[Way] = []
         steps = 0
         for board, (start, direction) in self.place_of.items():

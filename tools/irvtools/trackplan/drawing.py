@@ -1,7 +1,7 @@
-"""The track plan as SVG: the same plan at each frame, with what a frame shows over it.
+"""The track plan as SVG: one plan for all frames, with each frame's content over it.
 
-What stays is written once and used by every frame. A long plan is shown in strips, one below the
-other: each is a window on the whole. The signs are those of `signs.py`.
+The common part is written once. A long plan is shown in strips below each other; each is a window
+on the whole. The signs are those of `signs.py`.
 """
 
 from irvtools.trackplan import signs
@@ -12,40 +12,40 @@ from irvtools.trackplan.signs import LETTERS, LOCK_CLASS
 from irvtools.trackplan.strips import EDGE, TOP, Strips
 from irvtools.trackplan.trains import path, train
 
-IN_ROW = ((3, 470), (2, 900))   # how many frames lie side by side, up to which width of the plan
+IN_ROW = ((3, 470), (2, 900))   # frames in a row, up to this width of the plan
 
 
 class Drawing:
     """The plan of a plant."""
 
     def __init__(self, plant, hollow=()):
-        """`hollow` has the numbers of boards that are drawn hollow."""
+        """`hollow`: the numbers of boards drawn hollow."""
         self.plant, self.hollow = plant, frozenset(hollow)
         self.layout = Layout(plant)
         joints = [joint for at in self.layout.at for joint in at.values()]
         self.low = min(joint.x for joint in joints)
         self.width = max(joint.x for joint in joints) - self.low
-        self.count = 0          # of the views, for their ids
+        self.count = 0          # views, for their ids
         self.signs = {b: self.sign_place(board) for b, board in enumerate(plant.boards)}
         self.names = [self.name_place(x) for x in range(len(plant.sections))]
         self.strips = Strips(self).windows()
 
-    # -- where things are
+    # -- positions
 
     def x(self, joint):
-        """A joint's place."""
+        """Returns a joint's place."""
         return joint.x - self.low + EDGE
 
     def y(self, x):
-        """The line of a section."""
+        """Returns the height of a section's line."""
         return TOP + ROW * self.layout.row(x)
 
     def frog(self, x):
-        """Where the legs of a point part."""
+        """Returns the place at which the legs of points part."""
         return self.layout.frog(x) - self.low + EDGE, self.y(x)
 
     def end(self, x, key):
-        """Where an end of a section is."""
+        """Returns the place of a section's end."""
         joint = self.layout.at[x][key]
         if key != "minus":
             return self.x(joint), self.y(x)
@@ -57,7 +57,7 @@ class Drawing:
         return self.x(joint), self.y(other)
 
     def legs(self, x):
-        """The lines of a section: of a linear section one, of a point its stem and both legs."""
+        """Returns the lines of a section: one if linear, otherwise stem and both legs."""
         if not self.plant.sections[x].is_point:
             return {"line": [self.end(x, "down"), self.end(x, "up")]}
         frog = self.frog(x)
@@ -65,14 +65,14 @@ class Drawing:
                 "minus": [frog, self.end(x, "minus")]}
 
     def middle(self, x):
-        """The middle of a section's line."""
+        """Returns the middle of a section's line."""
         if self.plant.sections[x].is_point:
             return (self.end(x, "stem")[0] + self.end(x, "plus")[0]) / 2
         return (self.end(x, "down")[0] + self.end(x, "up")[0]) / 2
 
     def name_place(self, x):
-        """The place of a section's name, by its middle: below its line, but above where a leg leads
-        down; a point's name begins near where its legs part."""
+        """Returns the middle of a section's name. It is below the line, or above if a leg leads
+        down; a point's name begins near the parting of its legs."""
         section = self.plant.sections[x]
         if not section.is_point:
             return self.middle(x), self.y(x) + 17
@@ -81,16 +81,16 @@ class Drawing:
         return self.frog(x)[0] + aside, self.y(x) + (-9 if leads_down else 17)
 
     def sign_place(self, board):
-        """The place of a board: above the line for trains that run up, below it for others."""
+        """Returns a board's place: above the line for up trains, below for others."""
         x = board.section
         if board.direction == "up":
             return self.end(x, "up")[0] - 9, self.y(x) - 15
         return self.end(x, "down")[0] + 9, self.y(x) + 28
 
-    # -- what stays
+    # -- the common part
 
     def definitions(self):
-        """What all views use: the signs, and the plan with its names and its joints."""
+        """Returns the common part: the signs, and the plan with names and joints."""
         boards = "".join(tag("g", signs.board(way, aspect), id=signs.board_id(way, aspect))
                          for way in ("up", "down") for aspect in signs.ASPECTS)
         tracks = tag("g", "".join(self.tracks()), id="tracks")
@@ -101,7 +101,7 @@ class Drawing:
                 f"{boards}{tracks}{names}</defs></svg>")
 
     def tracks(self):
-        """The lines of all sections, and the joints."""
+        """Yields the lines of all sections, and the joints."""
         for x in range(len(self.plant.sections)):
             for points in self.legs(x).values():
                 yield path(points, "t f")
@@ -120,7 +120,7 @@ class Drawing:
                 yield path([(self.x(joint), y) for y in rows], "torn")
 
     def labels(self):
-        """The names of sections and boards: class, name, from where to where, and the line."""
+        """Yields the names of sections and boards: class, name, begin, end, and line."""
         for x, section in enumerate(self.plant.sections):
             at, y = self.names[x]
             half = len(section.name) * CHARACTER / 2
@@ -132,8 +132,8 @@ class Drawing:
             yield "b", board.name, begin, begin + length, y + 4
 
     def labels_in(self, strip, labels):
-        """The names that a strip shows: those that lie in it, and of those that lie whole in no
-        strip the part that is its, moved into it."""
+        """Yields a strip's names. A name that no strip has whole moves into the strip with most of
+        it."""
         begin, end = strip[0], strip[0] + strip[2]
         for class_, name, low, high, y in labels:
             inside = begin <= low and high <= end
@@ -144,15 +144,15 @@ class Drawing:
                 yield f'<text x="{low:.0f}" y="{y:.0f}" class="{class_}">{text(name)}</text>'
 
     def is_whole(self, low, high):
-        """Whether some strip has a name whole."""
+        """Returns whether some strip has a name whole."""
         return any(x <= low and high <= x + width for x, _, width, _ in self.strips)
 
     def best_strip(self, low, high):
-        """The strip that has most of a name."""
+        """Returns the strip that has most of a name."""
         return max(self.strips, key=lambda strip: min(high, strip[0] + strip[2]) - max(low, strip[0]))
 
     def is_torn(self):
-        """Whether some joint couldn't be drawn as one."""
+        """Returns whether some joint could not be drawn as one."""
         return self.layout.is_cut or any(
             not joint.is_aside() and self.layout.row(joint.low) != self.layout.row(joint.high)
             for joint in self.layout.joints)
@@ -160,14 +160,13 @@ class Drawing:
     # -- views
 
     def beside(self, frames):
-        """Frames side by side, as many in a row as the plan's width lets one read."""
+        """Returns frames side by side, as many as are readable at the plan's width."""
         width = max(strip[2] for strip in self.strips)
         in_row = next((count for count, most in IN_ROW if width <= most), 1)
         return tag("div", frames, class_=f"frames f{in_row}")
 
     def view(self, content, title):
-        """A view of all strips: `content` is a pair of what lies below the plan and what over
-        it."""
+        """Returns a view of all strips. `content` is a pair: below and over the plan."""
         self.count += 1
         below, over = content
         inner = f'{below}<use href="#tracks"/>{over}'
@@ -189,7 +188,7 @@ class Drawing:
                 f"<title>{text(title)}</title>{''.join(windows)}</svg></div>")
 
     def edges(self, number, y, width, height):
-        """The marks of a strip's ends, where the plan goes on."""
+        """Returns the marks at the cut ends of a strip."""
         marks = ""
         if number > 0:
             marks += path([(1, y), (1, y + height)], "cut")
@@ -198,14 +197,14 @@ class Drawing:
         return marks
 
     def plan(self, marks=None, title="track plan"):
-        """The plan with marks, as for a rule that is broken."""
+        """Returns the plan with marks, as for a broken rule."""
         marks = marks or Marks()
         boards = "".join(self.sign(b, None, b in marks.boards)
                          for b in range(len(self.plant.boards)))
         return self.view((self.marked(marks), boards), title)
 
     def frame(self, state, marks, title, numbers=()):
-        """The plan in a state; `numbers` are those of its trains."""
+        """Returns the plan in a state; `numbers` are its trains'."""
         over = "".join(self.in_state(x, state) for x in range(len(self.plant.sections)))
         over += "".join(self.sign(b, state.aspect[b], b in marks.boards)
                         for b in range(len(self.plant.boards)))
@@ -216,7 +215,7 @@ class Drawing:
         return self.view((self.marked(marks), over), title)
 
     def sign(self, b, aspect, is_marked):
-        """A board's sign; `aspect` is None in a plan without a state."""
+        """Returns a board's sign; `aspect` is `None` without a state."""
         x, y = self.signs[b]
         ring = f'<circle cx="{x:.0f}" cy="{y:.0f}" r="11" class="ring"/>' if is_marked else ""
         look = "hollow" if aspect is None and b in self.hollow else aspect
@@ -224,7 +223,7 @@ class Drawing:
         return f'{ring}<use href="#{name}" x="{x:.0f}" y="{y:.0f}"/>'
 
     def marked(self, marks):
-        """The marks below the plan."""
+        """Returns the marks below the plan."""
         parts = []
         for class_, legs in (("on", marks.path), ("ov", marks.overlap), ("pp", marks.protecting),
                              ("mk", marks.sections)):
@@ -235,20 +234,20 @@ class Drawing:
         return "".join(parts)
 
     def letter_place(self, x):
-        """The place of a section's letter, by its middle: above the begin of its line, of points
-        above the stem, so that no name is there."""
+        """Returns the middle of a section's letter: above the begin of its line, for points above
+        the stem, away from names."""
         section = self.plant.sections[x]
         if not section.is_point:
             return self.end(x, "down")[0] + 7, self.y(x) - 8
         return self.end(x, "stem")[0] + (4 if section.faces == "up" else -4), self.y(x) - 8
 
     def laid(self, points, lock):
-        """A line that is laid, in its state."""
+        """Returns a line that is set, in its state."""
         core = path(points, "core") if lock == "u" else ""
         return path(points, f"t {lock}") + core
 
     def in_state(self, x, state):
-        """A section with its lock and its letter, and a point as it lies."""
+        """Returns a section with its lock and its letter, and points in their position."""
         lock = LOCK_CLASS[state.lock[x]]
         legs = self.legs(x)
         letter = ""

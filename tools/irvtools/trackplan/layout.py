@@ -1,35 +1,33 @@
-"""Where the sections of a plant lie in a track plan.
+"""The places of a plant's sections in a track plan.
 
-It is hand-written because layout libraries draw general graphs: a track plan has rows of tracks, up trains from
-left to right, and legs of points that slant.
+It is hand-written because layout libraries draw general graphs: a track plan has rows of tracks, up
+trains from left to right, and slanting legs of points.
 
-A joint is where two sections meet, or where the network ends. A section reaches from joint to
-joint, straight on, but for the minus leg of a point, which leads aside: to another row, where the
-section at its end goes on. So the sections fall into tracks, chains of sections that are joined
-straight.
+A joint joins two sections, or is an end of the network. A section reaches from joint to joint,
+straight except for the minus leg of points, which leads aside to another row. There the section at
+its end goes on. So the sections fall into tracks: chains of sections joined straight.
 
-Rows are chosen for the tracks by a descent over a cost: tracks on one row must not overlap, legs
-should be short and cross no track. Then the joints get their places along the plan: each section is
-at least as long as what is written at it, and the plan as short as that allows. Nothing is by
-chance: a plant has one plan.
+A descent over a cost chooses the rows: tracks on one row must not overlap; legs should be short and
+cross no track. Then the joints get places along the plan: each section has room for its texts, and
+the plan is as short as possible. A plant has one plan; nothing is random.
 
-A network that breaks rules gets a plan too: a joint that one side alone names is a joint, and one
-that would close a circle is left out.
+A network that breaks rules gets a plan too. A joint that only one side names counts; one that would
+close a circle is left out.
 """
 
 from irvtools.model.plant import OPPOSITE
 from irvtools.trackplan.spacing import lowest, pulled
 from irvtools.trackplan.rows import GAP, ROW, Rows
 
-CHARACTER = 6.7         # the width of a letter of the plan
-FROG = 12               # from a point's stem joint to where its legs part
+CHARACTER = 6.7         # width of a letter
+FROG = 12               # from the stem joint of points to the parting of their legs
 LEAST_LINEAR = 80
 LEAST_POINT = 54
 
 
 class Joint:
-    """Where a lower and a higher section meet, each with the leg at which; None where the network
-    ends, or where that side doesn't name the other."""
+    """A joint of a lower and a higher section, each with its leg. A section is `None` at the
+    network's end; a leg is `None` if that side does not name the other."""
 
     def __init__(self, low, high):
         self.low, self.high = low, high
@@ -37,17 +35,17 @@ class Joint:
         self.x = 0.0
 
     def is_aside(self):
-        """Whether a minus leg leads to it."""
+        """Returns whether a minus leg leads to it."""
         return "minus" in (self.low_leg, self.high_leg)
 
     def is_between_minus(self):
-        """Whether it lies between two minus legs, as in the middle of a crossover."""
+        """Returns whether it is between two minus legs, as in the middle of a crossover."""
         return self.low_leg == self.high_leg == "minus"
 
 
 def make_joints(plant):
-    """The joints between sections, in the order of the sections and their ends; and whether some
-    were left out since they close a circle."""
+    """Returns the joints in the order of the sections and their ends, and whether any were left out
+    because they close a circle."""
     joints = {}
     for x, section in enumerate(plant.sections):
         for side, leg, name in section.ends:
@@ -65,7 +63,7 @@ def make_joints(plant):
 
 
 def without_circles(count, joints):
-    """The joints, without those that lead back to where a walk up has been."""
+    """Returns the joints, without those that lead a walk up back to an earlier section."""
     outs = [[] for _ in range(count)]
     for joint in joints:
         outs[joint.low].append(joint)
@@ -89,12 +87,12 @@ def without_circles(count, joints):
 
 
 class Layout:
-    """The places of a plant's joints along the plan, and the rows of its sections."""
+    """A plant's joints along the plan, and its sections' rows."""
 
     def __init__(self, plant):
         self.plant = plant
         self.joints, self.is_cut = make_joints(plant)
-        self.at = [{} for _ in plant.sections]      # of each section: leg or side, and the joint
+        self.at = [{} for _ in plant.sections]      # for each section: the joints by leg or side
         self.place_joints()
         self.tracks = self.make_tracks()
         self.track_of = {x: t for t, track in enumerate(self.tracks) for x in track}
@@ -105,17 +103,17 @@ class Layout:
         self.place_along(first=False)
         self.reach_edges()
 
-    # -- what there is
+    # -- joints and tracks
 
     def place_joints(self):
-        """Gives each section its joints, also those at which the network ends."""
+        """Gives each section its joints, also those at the network's ends."""
         for joint in self.joints:
             for x, side, leg in ((joint.low, "up", joint.low_leg),
                                  (joint.high, "down", joint.high_leg)):
                 section = self.plant.sections[x]
                 key = section.key_of(side, leg)
                 if key is None or key in self.at[x]:
-                    key = (side, joint.low, joint.high)     # a side that doesn't name it so
+                    key = (side, joint.low, joint.high)     # this side does not name the other
                 self.at[x][key] = joint
         for x, section in enumerate(self.plant.sections):
             keys = ("stem", "plus", "minus") if section.is_point else ("down", "up")
@@ -124,7 +122,7 @@ class Layout:
                     self.at[x][key] = self.end_joint(x, key)
 
     def end_joint(self, x, key):
-        """A joint at which the network ends."""
+        """Returns a joint at the network's end."""
         if self.side_of(x, key) == "up":
             joint = Joint(x, None)
             joint.low_leg = key if self.plant.sections[x].is_point else "line"
@@ -134,7 +132,7 @@ class Layout:
         return joint
 
     def side_of(self, x, key):
-        """On which side of a section an end lies."""
+        """Returns the side of a section on which an end is."""
         section = self.plant.sections[x]
         if isinstance(key, tuple):
             return key[0]
@@ -143,11 +141,11 @@ class Layout:
         return OPPOSITE[section.faces] if key == "stem" else section.faces
 
     def is_straight(self, joint):
-        """Whether the sections of a joint lie on one track by it."""
+        """Returns whether a joint's sections are on one track."""
         return joint in self.straight
 
     def make_tracks(self):
-        """Chains of sections that are joined straight, in the order of their first sections."""
+        """Returns the chains of sections joined straight, in order of their first sections."""
         after, before = {}, {}
         self.straight = set()
         for joint in self.joints:
@@ -168,13 +166,13 @@ class Layout:
         return tracks
 
     def row(self, x):
-        """The row of a section."""
+        """Returns the row of a section."""
         return self.rows[self.track_of[x]]
 
     # -- along the plan
 
     def length_of(self, x):
-        """How long a section has to be for what is written at it."""
+        """Returns the least length of a section for its texts."""
         section = self.plant.sections[x]
         widest = len(section.name)
         if section.is_point:
@@ -185,19 +183,19 @@ class Layout:
                     *(sign * CHARACTER + 32 for sign in signs)])
 
     def rise(self, joint, first):
-        """How far a leg has to go along the plan for the rows that it crosses."""
+        """Returns a leg's length along the plan for the rows that it crosses."""
         if first:
             return ROW
         rows = abs(self.row(joint.low) - self.row(joint.high)) or 1
         return ROW * min(rows, 1 + 0.5 * (rows - 1))
 
     def stem(self, x):
-        """The stem joint of a point."""
+        """Returns the stem joint of points."""
         return self.at[x]["stem"]
 
     def demands(self, first):
-        """What the joints' places have to keep: a joint, a later one, how far apart, and how much
-        it counts to have them no farther apart."""
+        """Yields the demands on the joints' places: a joint, a later one, their least distance, and
+        the weight of any excess."""
         for x, section in enumerate(self.plant.sections):
             weight = 1.6 if section.is_point else 1.0
             downs = [j for key, j in self.at[x].items() if self.side_of(x, key) == "down"]
@@ -212,7 +210,7 @@ class Layout:
             yield from self.track_demands()
 
     def leg_demand(self, x, section, first):
-        """What the minus leg of a point asks for."""
+        """Yields the demands of the minus leg of points."""
         joint, stem = self.at[x]["minus"], self.stem(x)
         up = section.faces == "up"
         if joint.low is None or joint.high is None:
@@ -226,7 +224,7 @@ class Layout:
             yield joint, stem, self.rise(joint, first) + FROG, 4.0
 
     def ends_of(self, track):
-        """The first joint of a track and the last."""
+        """Returns the first and the last joint of a track."""
         first, last = track[0], track[-1]
         low = min((j for key, j in self.at[first].items() if self.side_of(first, key) == "down"),
                   key=lambda j: j.x)
@@ -235,16 +233,16 @@ class Layout:
         return low, high
 
     def track_demands(self):
-        """Tracks on one row follow one another."""
+        """Yields the demands by which tracks on one row follow one another."""
         for row in set(self.rows):
             ends = sorted((self.ends_of(track) for track, at in zip(self.tracks, self.rows)
                            if at == row), key=lambda pair: (pair[0].x + pair[1].x))
             for (_, end), (begin, _) in zip(ends, ends[1:]):
-                if begin.x >= end.x:        # else they overlap, and the descent found nothing better
+                if begin.x >= end.x:        # otherwise they overlap, and the descent found nothing better
                     yield end, begin, GAP, 0.0
 
     def place_along(self, first):
-        """Places the joints: each as far down as its demands allow, then pulled together."""
+        """Places the joints as far down as the demands allow, then pulls them together."""
         demands = [demand for demand in self.demands(first) if demand[0] is not demand[1]]
         joints = list(dict.fromkeys(j for demand in demands for j in demand[:2]))
         number = {joint: i for i, joint in enumerate(joints)}
@@ -257,16 +255,16 @@ class Layout:
                 joint.x = (self.frog(joint.low) + self.frog(joint.high)) / 2
 
     def frog(self, x):
-        """Where the legs of a point part."""
+        """Returns the place at which the legs of points part."""
         return self.stem(x).x + (FROG if self.plant.sections[x].faces == "up" else -FROG)
 
     def span(self, track):
-        """From where to where a track reaches."""
+        """Returns both ends of a track."""
         low, high = self.ends_of(track)
         return low.x, high.x
 
     def reach_edges(self):
-        """Draws tracks that end near the plan's edge to the edge, where nothing lies between."""
+        """Draws tracks that end near the plan's edge to the edge, if nothing is between."""
         low = min(joint.x for at in self.at for joint in at.values())
         high = max(joint.x for at in self.at for joint in at.values())
         for t, track in enumerate(self.tracks):
@@ -277,7 +275,7 @@ class Layout:
                 end.x = high
 
     def is_clear(self, t, low, high):
-        """Whether no other track and no leg lies on a track's row between two places."""
+        """Returns whether a track's row has no other track and no leg between two places."""
         row = self.rows[t]
         for other, track in enumerate(self.tracks):
             begin, end = self.span(track)

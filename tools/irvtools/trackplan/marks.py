@@ -1,9 +1,9 @@
-"""What is marked in a plan."""
+"""Marks in a plan."""
 
 
 class Marks:
-    """What is marked in a plan: sections (each with a leg, or None for all legs), a route's path,
-    overlap and protecting points likewise, boards, and the section of a hazard."""
+    """Marks in a plan: sections (each with a leg, or `None` for all legs); a route's path, overlap
+    and protecting points likewise; boards; and a hazard's section."""
 
     def __init__(self, sections=(), boards=(), hazard=None):
         self.sections = [(x, None) for x in sections if x is not None]

@@ -1,13 +1,12 @@
-"""The rows of a plan: which track lies above which.
+"""A plan's rows: the vertical order of its tracks.
 
-A descent over a cost: tracks on one row must not overlap, the legs between tracks should be short
-and cross no track, and among equals tracks lie in the order of the configuration. There is no
-chance in it. """
+A descent over a cost finds them. Tracks on one row must not overlap; legs should be short and cross
+no track. Among equals the configuration's order counts. Nothing is random."""
 
-ROW = 68                # from row to row
+ROW = 68                # between rows
 GAP = 34                # between tracks on one row
-MOST_PAIRS = 1000       # of legs that may cross
-MOST_WORK = 1200000     # of the descent: tracks, legs and pairs of legs that are looked at
+MOST_PAIRS = 1000       # legs that may cross
+MOST_WORK = 1200000     # descent: tracks, legs and pairs of legs examined
 
 
 class Rows:
@@ -16,7 +15,7 @@ class Rows:
     def __init__(self, layout):
         self.layout = layout
         self.spans = [layout.span(track) for track in layout.tracks]
-        self.is_open = []       # of each track: whether the network ends where it begins, and ends
+        self.is_open = []       # for each track: whether the network ends at its begin, and at its end
         for track in layout.tracks:
             low, high = layout.ends_of(track)
             self.is_open.append((low.low is None, high.high is None))
@@ -26,7 +25,7 @@ class Rows:
                       for other in self.legs[:place]
                       if min(one[3], other[3]) > max(one[2], other[2]) + 1]
         if len(self.pairs) > MOST_PAIRS:
-            self.pairs = []     # so many can't be looked at; nobody could follow them either
+            self.pairs = []     # too many to examine, or to follow by eye
         self.near = [[] for _ in range(self.count)]
         for low, high, *_ in self.legs:
             if low != high:
@@ -35,7 +34,7 @@ class Rows:
         self.work, self.price = 0, self.count + 2 * len(self.legs) + len(self.pairs)
 
     def leg(self, joint):
-        """A leg: the tracks at its lower and its higher end, and from where to where it reaches."""
+        """Returns a leg: the tracks at its lower and higher end, and both ends' places."""
         layout = self.layout
         low, high = layout.track_of[joint.low], layout.track_of[joint.high]
         begin = layout.frog(joint.low) if joint.low_leg == "minus" else joint.x
@@ -43,13 +42,13 @@ class Rows:
         return low, high, begin, max(begin, end)
 
     def choose(self):
-        """The rows with the least cost that the descent finds."""
+        """Chooses the cheapest rows that the descent finds."""
         rows = self.descend(self.begin())
         self.layout.rows = ranks(rows)
 
     def begin(self):
-        """Rows to begin with: the longest track first, then each where it costs least beside those
-        that it is joined to."""
+        """Returns initial rows: the longest track first, then each in the cheapest place beside its
+        neighbours."""
         long_first = sorted(range(self.count),
                             key=lambda t: (-len(self.layout.tracks[t]), t))
         rows = {}
@@ -65,11 +64,11 @@ class Rows:
         return [rows[t] for t in range(self.count)]
 
     def cost_of(self, t, at, rows):
-        """What a track costs at a row beside those that have one."""
+        """Returns the cost with a track at a row beside those that have one."""
         return self.cost({**rows, t: at})
 
     def cost(self, rows):
-        """The cost of rows: of all tracks, or of some."""
+        """Returns the cost of rows: of all tracks, or of some."""
         total = 0.0
         named = rows if isinstance(rows, dict) else dict(enumerate(rows))
         by_row = {}
@@ -94,8 +93,8 @@ class Rows:
         return total + 0.3 * (max(by_row) - min(by_row)) + self.order_cost(named)
 
     def order_cost(self, named):
-        """Among equals: tracks that come first in the configuration lie above, and a short track
-        outside of a long one."""
+        """Returns a small cost that decides among equals: earlier tracks of the configuration lie
+        above, and short tracks outside of long ones."""
         total = 0.0
         longest = max(len(self.layout.tracks[t]) for t in named)
         for t, row in named.items():
@@ -104,8 +103,8 @@ class Rows:
         return total
 
     def descend(self, rows):
-        """Moves tracks one by one, to another row, into a new row, or with another track, as long
-        as that costs less."""
+        """Moves tracks one by one, to another row, into a new row, or with another track, while
+        that lowers the cost."""
         cost, moved = self.cost(rows), True
         while moved and self.work < MOST_WORK:
             moved = False
@@ -117,12 +116,12 @@ class Rows:
         return rows
 
     def tried(self, rows):
-        """The cost of a trial."""
+        """Returns the cost of a tried move, and counts the work."""
         self.work += self.price
         return self.cost(rows)
 
     def moves(self, rows, t):
-        """Rows with one track elsewhere."""
+        """Yields rows with one track elsewhere."""
         if self.work >= MOST_WORK:
             return
         around = {rows[n] for n in self.near[t]} | {rows[t]}
@@ -136,14 +135,14 @@ class Rows:
 
 
 def height(leg, x, rows):
-    """The row of a leg at a place, between the rows of its ends."""
+    """Returns the row of a leg at a place, between the rows of its ends."""
     low, high, begin, end = leg
     part = (x - begin) / (end - begin) if end > begin else 0.5
     return rows[low] + (rows[high] - rows[low]) * part
 
 
 def crosses(one, other, rows):
-    """Whether two legs cross, where all their tracks have rows."""
+    """Returns whether two legs cross; false unless all their tracks have rows."""
     if any(track not in rows for track in (*one[:2], *other[:2])):
         return False
     begin, end = max(one[2], other[2]), min(one[3], other[3])
@@ -152,6 +151,6 @@ def crosses(one, other, rows):
 
 
 def ranks(rows):
-    """The rows counted from 0, without gaps."""
+    """Returns the rows counted from 0, without gaps."""
     order = {row: i for i, row in enumerate(sorted(set(rows)))}
     return [order[row] for row in rows]

@@ -1,14 +1,14 @@
-"""The signs of a track plan, which the HTML report, the simulator, the evidence package and the
-comparison share: colours, shapes and the legend.
+"""A track plan's signs: colours, shapes and the legend, shared by the HTML report, the simulator,
+the evidence package and the comparison.
 
-Each state has a letter, a width or a shape beside its colour. The colours of two states differ by a
-contrast of at least 3 to 1 on a light and on a dark ground."""
+Each state has a letter, a width or a shape beside its colour. Two states' colours have a contrast
+of at least 3 to 1 on light and dark ground."""
 
 from __future__ import annotations
 
 from irvtools.html.markup import tag, text
 
-# the colours of a scheme; of a section in use `used` is the core of the line and `rim` its edge
+# a scheme's colours; for a section in use, `used` is the line's core and `rim` its edge
 LIGHT = {
     "ground": "#ffffff", "ink": "#1c1f24", "quiet": "#495057", "soft": "#f1f3f5", "edge": "#ced4da",
     "free": "#757c83", "locked": "#062b13", "used": "#ffe8c8", "rim": "#a63d00",
@@ -27,7 +27,7 @@ DARK = {
     "good": "#69db7c", "warn": "#ffc078", "bad": "#ff8787",
     "good-ground": "#10331a", "warn-ground": "#3a2a08", "bad-ground": "#401818",
     "answer": "#0b2c47", "own": "#3d3200", "focus": "#74c0fc"}
-# the states that have to be told apart, and the colours that have to stand out from the ground
+# states to tell apart, and colours that must stand out from the ground
 STATES = (("free", "locked", "used"), ("closed", "open"), ("up", "down"))
 DRAWN = ("free", "locked", "rim", "closed", "open", "up", "down", "moving", "hazard")
 
@@ -76,19 +76,18 @@ ul.legend{{display:flex;flex-wrap:wrap;gap:4px 18px;list-style:none;padding:0;ma
 
 
 def shapes(direction: str) -> dict:
-    """Returns the paths of a board's signs: the bar of a closed one and the arrow of an open
-    one."""
+    """Returns the paths of a board's signs: the bar if closed, the arrow if open."""
     way = 1 if direction == "up" else -1
     return {"bar": f"M{4 * way} -4.5V4.5M{-3 * way} 0H{3 * way}",
             "way": f"M{-3.5 * way} -4L{4.5 * way} 0L{-3.5 * way} 4z"}
 
 
-ASPECTS = (None, "open", "closed", "hollow")    # how boards look: without a state None or hollow
+ASPECTS = (None, "open", "closed", "hollow")    # looks of boards: without a state None or hollow
 SQUARE = '<rect x="-6" y="-6" width="12" height="12" class="{}"/>'
 
 
 def board(direction: str, aspect: str | None) -> str:
-    """Returns a board's sign around the origin, by how it looks."""
+    """Returns a board's sign around the origin, by its look."""
     paths = shapes(direction)
     if aspect == "closed":
         return SQUARE.format("shut") + f'<path d="{paths["bar"]}" class="bar"/>'
@@ -100,7 +99,7 @@ def board(direction: str, aspect: str | None) -> str:
 
 
 def board_id(direction: str, aspect: str | None) -> str:
-    """Returns the id under which a board's sign is defined."""
+    """Returns the id of a board's sign."""
     return f"b{direction[0]}{(aspect or 'n')[0]}"
 
 

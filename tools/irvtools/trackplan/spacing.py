@@ -1,11 +1,11 @@
-"""Places along a line that keep demands, each of which says how far apart two places have to be at
-least, and how much it counts to have them no farther apart: as short as that allows."""
+"""The shortest places along a line that keep demands. A demand has two places, their least
+distance, and the weight of any excess."""
 
 from __future__ import annotations
 
 
 def lowest(count: int, demands: list[tuple[int, int, float, float]]) -> list[float]:
-    """The least places that keep all demands, by the longest way to each."""
+    """Returns the least places that keep all demands, by the longest way to each."""
     outs, waits = [[] for _ in range(count)], [0] * count
     for low, high, least, _ in demands:
         outs[low].append((high, least))
@@ -24,8 +24,8 @@ def lowest(count: int, demands: list[tuple[int, int, float, float]]) -> list[flo
 
 def pulled(count: int, demands: list[tuple[int, int, float, float]],
            places: list[float]) -> list[float]:
-    """Pulls places together: a group that would have to move together moves as far as that makes
-    the plan shorter, until no group does."""
+    """Pulls places together. A group that must move together moves as far as that shortens the
+    plan, until no group does."""
     outs, ins = [[] for _ in range(count)], [[] for _ in range(count)]
     for low, high, least, weight in demands:
         outs[low].append((high, least, weight))
@@ -45,7 +45,7 @@ def pulled(count: int, demands: list[tuple[int, int, float, float]],
 
 
 def best_step(i, ahead, behind, sign, places):
-    """The group that moves with a place, and how far it should; None where it shouldn't."""
+    """Returns the group that moves with a place, and its distance; `None` if it should stay."""
     group, stack = {i}, [i]
     while stack:
         at = stack.pop()

@@ -1,4 +1,4 @@
-"""A train in a track plan: its line from rear to front, its arrow and its number."""
+"""A train in a track plan: line from rear to front, arrow and number."""
 
 from __future__ import annotations
 
@@ -12,17 +12,17 @@ if TYPE_CHECKING:
 
 
 def line(points):
-    """The path of a line through points."""
+    """Returns the path of a line through points."""
     return "M" + "L".join(f"{x:.0f} {y:.0f}" for x, y in points)
 
 
 def path(points: list[tuple[float, float]], class_: str) -> str:
-    """A line through points."""
+    """Returns a line through points."""
     return f'<path d="{line(points)}" class="{class_}"/>'
 
 
 def train(drawing: Drawing, direction: str, body: list[int], state: State, number: int) -> str:
-    """A train, from its rear to its front, with its number."""
+    """Returns a train from rear to front, with its number."""
     points = []
     for place, x in enumerate(body):
         before = body[place - 1] if place else None
@@ -39,7 +39,7 @@ def train(drawing: Drawing, direction: str, body: list[int], state: State, numbe
 
 
 def way(drawing, x, direction, before, after, state):
-    """The points of a train's way through a section."""
+    """Returns the points of a train's way through a section."""
     section = drawing.plant.sections[x]
     if not section.is_point:
         ends = [drawing.end(x, "down"), drawing.end(x, "up")]
@@ -51,12 +51,12 @@ def way(drawing, x, direction, before, after, state):
 
 
 def toward(point, other, part):
-    """A part of the way from a point to another."""
+    """Returns a point part of the way to another."""
     return point[0] + (other[0] - point[0]) * part, point[1] + (other[1] - point[1]) * part
 
 
 def arrow(base, tip, direction):
-    """The front of a train: a triangle that points where it runs."""
+    """Returns the front of a train: a triangle in its direction."""
     dx, dy = tip[0] - base[0], tip[1] - base[1]
     length = max((dx * dx + dy * dy) ** 0.5, 0.1)
     ux, uy = dx / length, dy / length

@@ -1,12 +1,11 @@
 use Rattle.std.proofs.Common.{◌≡◌, None, Ok, sym, ap, ◌∙◌, subst}
-use Rattle.ilk_plant.specs.NetNames.{IsNamedAs}
+use Rattle.ilk_plant.specs.NetNames.{HasNamesOf}
 use Rattle.ilk_plant.specs.NetworkRules.{network_rules_broken}
 use Rattle.ilk_plant.specs.declared.net_names.NetNames.{NetNames}
 use Rattle.ilk_answers.proofs.Checked.{let-through}
 use Rattle.ilk_answers.specs.Answer.{refusals_of}
 use Rattle.ilk_answers.proofs.checks.check_network.Goals as goal
 
--- the names are those of the network
 pub check_bare-requires-clause-named : goal.check_bare-requires-clause-named
 check_bare-requires-clause-named c =
     let asked : (refusals_of (network_rules_broken c.args.net.now) ≡ None) ×
@@ -15,5 +14,5 @@ check_bare-requires-clause-named c =
     c.in_ok-names.names c.in-Ok.names c.unless_broken.result c.check_named_network-found.ensures.rules
     c.unless_broken.ensures.answered c.unless_broken.ensures.wanting
     (c.in_ok-names-2.was ∙ ap Ok c.in-Ok.is) in
-    let Named : NetNames → Type 0 = λ names. IsNamedAs names c.args.net.now in
+    let Named : NetNames → Type 0 = λ names. HasNamesOf names c.args.net.now in
     subst Named (sym asked.1) c.in_ok-names.ensures

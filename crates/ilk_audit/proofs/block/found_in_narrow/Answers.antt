@@ -2,7 +2,7 @@ use Rattle.std.proofs.Common.{◌≡◌, ◌+◌, ◌∷◌, true, false, None, 
 use Rattle.ilk_base.proofs.Options.{none-of}
 use Rattle.ilk_cnf.specs.Literal.{Literal}
 use Rattle.ilk_cnf.specs.Code.{literal_of}
-use Rattle.ilk_cnf.specs.Formula.{lit_in}
+use Rattle.ilk_cnf.specs.Formula.{is_lit_over}
 use Rattle.ilk_log.specs.Propagation.{is_false}
 use Rattle.ilk_audit.proofs.Scans.{AtCodes, code-at, scan-false, scan-next, scan-open}
 use Rattle.ilk_audit.proofs.block.found_in_narrow.Goals as goal
@@ -19,7 +19,7 @@ literal_of-l-requires-clause-numbered c =
 pub is_false-requires : goal.is_false-requires
 is_false-requires c =
     let w = code-at c.args.partial.now.vars c.args.codes.now c.loop-code.code-index c.requires.within c.loop-code-test.true in
-    ap (lit_in c.args.partial.now.vars) c.literal_of-l.ensures ∙ w.0
+    ap (is_lit_over c.args.partial.now.vars) c.literal_of-l.ensures ∙ w.0
 
 pub loop-code-preserved : goal.loop-code-preserved
 loop-code-preserved c =

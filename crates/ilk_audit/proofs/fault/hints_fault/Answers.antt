@@ -2,7 +2,7 @@ use Rattle.std.proofs.Common.{◌+◌, drop, get_or, refl, ap, sym, ◌∙◌}
 use Rattle.ilk_base.specs.Option.{only_if}
 use Rattle.ilk_audit.specs.Stored.{PartialList}
 use Rattle.ilk_audit.specs.Taken.{hints_fault}
-use Rattle.ilk_audit.specs.declared.hinted.Hinted.TheVariants.{AllFalse, OneUnset, Other}
+use Rattle.ilk_audit.specs.declared.hinted.ClauseStatus.TheVariants.{AllFalse, OneUnset, Other}
 use Rattle.ilk_audit.specs.declared.taken.Why.TheVariants.{NotFalse}
 use Rattle.ilk_audit.proofs.Faults.{AtHints, hint-next, none-left_drop, some-left_drop}
 use Rattle.ilk_audit.proofs.fault.hints_fault.Goals as goal

@@ -1,4 +1,4 @@
-use Rattle.ilk_conditions.specs.Conditions.{seen_is}
+use Rattle.ilk_layout.specs.Conditions.{seen_is}
 use Rattle.ilk_behave.proofs.Pushed.{pushed_form}
 use Rattle.ilk_behave.proofs.passage_rules.seen_from.Goals as goal
 

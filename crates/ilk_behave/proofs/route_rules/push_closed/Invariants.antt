@@ -1,7 +1,7 @@
 use Rattle.std.proofs.Common.{◌≡◌, ◌++◌, drop, map}
 use Rattle.ilk_ir.specs.Form.{tree_of}
 use Rattle.ilk_plant.specs.declared.state.Aspect.TheVariants.{Closed}
-use Rattle.ilk_conditions.specs.Conditions as conditions
+use Rattle.ilk_layout.specs.Conditions as conditions
 use Rattle.ilk_behave.proofs.route_rules.push_closed.Given as goal
 
 abbrev pub invariant-loop-m : goal.invariant-loop-m

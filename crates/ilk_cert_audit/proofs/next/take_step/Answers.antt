@@ -1,5 +1,5 @@
 use Rattle.std.proofs.Common.{◌≡◌, List, ℕ, ap, sym, ◌∙◌}
-use Rattle.ilk_audit.specs.Taken.{after_step, taken_of}
+use Rattle.ilk_audit.specs.Taken.{after_step, step_answer}
 use Rattle.ilk_cnf.specs.Literal.{Literal}
 use Rattle.ilk_log.specs.declared.step.Step.{Step as LogStep}
 use Rattle.ilk_cert_audit.proofs.Answered.{bad_is, closed_closes, good_follows, IsFew, unread_is}
@@ -32,7 +32,7 @@ returns-in-Good c =
     let x : LogStep = record { clause = c.read_step.new.step.clause.items; hints = hs } in x)
     c.as_slice-2.ensures.value in
     let ok = c.in_ok-take_parts.ensures {u = tt} in
-    let answer = sym c.in-Good.is ∙ ok.taken ∙ ap (taken_of a) same in
+    let answer = sym c.in-Good.is ∙ ok.taken ∙ ap (step_answer a) same in
     let after = ok.after ∙ ap (after_step a) same in
     good_follows a c.take_parts.new.self line t few read answer after
 
@@ -55,7 +55,7 @@ returns-in-Closed c =
     let x : LogStep = record { clause = c.read_step.new.step.clause.items; hints = hs } in x)
     c.as_slice-2.ensures.value in
     let ok = c.in_ok-take_parts.ensures {u = tt} in
-    let answer = sym c.in-Closed.is ∙ ok.taken ∙ ap (taken_of a) same in
+    let answer = sym c.in-Closed.is ∙ ok.taken ∙ ap (step_answer a) same in
     let after = ok.after ∙ ap (after_step a) same in
     closed_closes a c.take_parts.new.self line t few read answer after
 
@@ -78,6 +78,6 @@ returns-in-Bad c =
     let x : LogStep = record { clause = c.read_step.new.step.clause.items; hints = hs } in x)
     c.as_slice-2.ensures.value in
     let ok = c.in_ok-take_parts.ensures {u = tt} in
-    let answer = sym c.in-Bad.is ∙ ok.taken ∙ ap (taken_of a) same in
+    let answer = sym c.in-Bad.is ∙ ok.taken ∙ ap (step_answer a) same in
     let after = ok.after ∙ ap (after_step a) same in
     bad_is a c.take_parts.new.self line t c.in-Bad.field-0 few read answer

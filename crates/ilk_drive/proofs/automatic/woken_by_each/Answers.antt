@@ -16,9 +16,9 @@ loop-event-preserved c =
     in
     let grown = c.in_ok-push.ensures.ok in
     let more = ap (λ (l : List (List ℕ)). length l) grown in
-    let both = length-append c.loop-event.woken (c.in_ok-places_woken.field-0 ∷ []) in
+    let both = length-append c.loop-event.woken (c.in_ok-indices_enabled_by.field-0 ∷ []) in
     let long = c.loop-event.invariant.long in
     record {
       long = omega (arith, more, both, long);
-      woken = wakes-more c.args.plant.now c.args.events.now c.loop-event.woken c.push.new.self c.loop-event.event-index event c.in_ok-places_woken.field-0 long here c.in_ok-places_woken.ensures grown c.loop-event.invariant.woken;
+      woken = wakes-more c.args.plant.now c.args.events.now c.loop-event.woken c.push.new.self c.loop-event.event-index event c.in_ok-indices_enabled_by.field-0 long here c.in_ok-indices_enabled_by.ensures grown c.loop-event.invariant.woken;
     }

@@ -2,8 +2,8 @@ use Rattle.std.proofs.Common.{◌≡◌, ◌≤◌, ◌++◌, List, length}
 use Rattle.ilk_plant.specs.Shape.{HasShape}
 use Rattle.ilk_model.specs.Hazard.{hazard}
 use Rattle.ilk_model.specs.declared.event.Event.{Event}
-use Rattle.ilk_drive.specs.Drive.{Drives, beginning}
-use Rattle.ilk_drive.specs.Places.{Covers}
+use Rattle.ilk_drive.specs.Drive.{IsDriveFrom, first_moment}
+use Rattle.ilk_drive.specs.Places.{HasAllEnabled}
 use Rattle.ilk_drive.specs.Progress.{moment_of}
 use Rattle.ilk_drive.specs.declared.outcome.Rest.{Rest}
 use Rattle.ilk_drive.proofs.Turns.{allows}
@@ -11,10 +11,10 @@ use Rattle.ilk_drive.proofs.driving.drive.Given as goal
 
 abbrev pub invariant-loop-events : goal.invariant-loop-events
 invariant-loop-events l = record {
-  drives : (later : List Event) (rest : Rest) → Drives l.plant (moment_of l.scene l.now.state l.now.given) later rest → Drives l.plant (beginning l.plant l.scene) (l.events ++ later) rest;
+  drives : (later : List Event) (rest : Rest) → IsDriveFrom l.plant (moment_of l.scene l.now.state l.now.given) later rest → IsDriveFrom l.plant (first_moment l.plant l.scene) (l.events ++ later) rest;
   shape : HasShape l.plant l.now.state;
   within : l.now.given ≤ length l.scene;
-  covers : Covers l.plant l.now.state l.now.candidates;
+  covers : HasAllEnabled l.plant l.now.state l.now.candidates;
   hazard : l.now.hazard ≡ hazard l.plant l.now.state;
 }
 

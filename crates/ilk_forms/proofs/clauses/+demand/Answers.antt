@@ -1,6 +1,6 @@
 use Rattle.std.proofs.Common.{◌+◌, ◌&&◌, ◌∙◌, true, ap, drop, refl}
 use Rattle.std.proofs.lemmas.Bool.{and_from}
-use Rattle.ilk_cnf.specs.Formula.{lit_in}
+use Rattle.ilk_cnf.specs.Formula.{is_lit_over}
 use Rattle.ilk_cnf.specs.Literal.{Literal}
 use Rattle.ilk_cnf.specs.Part.{with_part}
 use Rattle.ilk_base.proofs.Lists.{drop_at}
@@ -23,8 +23,8 @@ demand_each-loop-form-preserved t c =
     (trees_of (drop (i + 1) forms)) (trees_of (drop i forms)) split c.in_ok-demand_of.ensures
     c.loop-form.invariant
 
-pub demand_of-add_some-requires-clause-others : goal.demand_of-add_some-requires-clause-others
-demand_of-add_some-requires-clause-others t c =
+pub demand_of-add_joined_clause-requires-clause-others : goal.demand_of-add_joined_clause-requires-clause-others
+demand_of-add_joined_clause-requires-clause-others t c =
     let n = c.args.cnf.now.vars in
-    ap (λ (l : Literal). lit_in n l && true) c.signed-lit.ensures
-    ∙ and_from _ _ (signed-in c.args.positive n c.leaf.result (c.leaf.ensures.within n c.requires.within)) refl
+    ap (λ (l : Literal). is_lit_over n l && true) c.signed-lit.ensures
+    ∙ and_from _ _ (signed-in c.args.positive n c.value_lit.result (c.value_lit.ensures.within n c.requires.within)) refl

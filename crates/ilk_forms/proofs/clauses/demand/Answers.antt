@@ -1,6 +1,6 @@
 use Rattle.std.proofs.Common.{◌||◌, ◌*◌, true}
-use Rattle.ilk_cnf.specs.Truth.{some_true}
-use Rattle.ilk_cnf.specs.Extends.{OnlyIf}
+use Rattle.ilk_cnf.specs.Truth.{is_clause_true}
+use Rattle.ilk_cnf.specs.Extends.{IsExactlyIf}
 use Rattle.ilk_cnf.proofs.Extending.{extends-as_clauses}
 use Rattle.ilk_ir.specs.Form.{tree_of}
 use Rattle.ilk_ir.specs.Tree.{tree_holds}
@@ -21,7 +21,7 @@ returns-clause-law c =
     let t = tree_of c.args.form.now in
     let part = demand_part columns first t n in
     extends-as_clauses a part.vars part.clauses
-    (OnlyIf (some_true a first || tree_holds ws t) (demand_bits ranges ws t))
+    (IsExactlyIf (is_clause_true a first || tree_holds ws t) (demand_bits ranges ws t))
     (demand_of-law t columns ranges ws first true a n size
     (reads a columns ranges ws n size c.requires.within says fit) c.requires.first c.requires.valid)
 

@@ -5,9 +5,9 @@ use Rattle.ilk_cnf.specs.Formula.{Formula}
 use Rattle.ilk_ir.specs.Form.{tree_of, trees_of}
 use Rattle.ilk_ir.specs.Tree.{all_of, negation, more}
 use Rattle.ilk_forms.specs.Leaf.{columns_in}
-use Rattle.ilk_forms.specs.Gathered.{gathered, gathered_each}
+use Rattle.ilk_forms.specs.Gathered.{form_lits, each_form_lits}
 use Rattle.ilk_forms.proofs.Reading.{columns_in-more}
-use Rattle.ilk_forms.proofs.GatheredFits.{gathered-fits}
+use Rattle.ilk_forms.proofs.GatheredFits.{form_lits-fits}
 use Rattle.ilk_forms.proofs.Steps.{lits-in}
 use Rattle.ilk_forms.proofs.FormViolated.{more-lits, more-made, never-made, violated-made}
 use Rattle.ilk_forms.proofs.violated.add_holds_or_some_fails.Goals as goal
@@ -15,27 +15,27 @@ use Rattle.ilk_forms.proofs.violated.add_holds_or_some_fails.Goals as goal
 pub returns-then-either_never : goal.returns-then-either_never
 returns-then-either_never c = never-made c.args.cnf.now (all_of (more (negation (tree_of c.args.form.now)) (trees_of c.args.forms.now))) c.args.table.now (sym c.either_never.ensures ∙ c.if-either_never.true)
 
-pub gather_each-requires-clause-within : goal.gather_each-requires-clause-within
-gather_each-requires-clause-within c =
+pub each_form_lits-requires-clause-within : goal.each_form_lits-requires-clause-within
+each_form_lits-requires-clause-within c =
     let n = c.args.cnf.now.vars in
     let columns = c.args.table.now in
-    let g = gathered columns true false (tree_of c.args.form.now) n in
-    let vars : c.gather.new.cnf.vars ≡ g.part.vars = ap (λ (f : Formula). f.vars) c.in_ok-kept.ensures.made in
-    ap (λ (k : ℕ). columns_in k columns) vars ∙ columns_in-more n g.part.vars columns (gathered-fits (tree_of c.args.form.now) columns true false n c.requires.within c.requires.form).low c.requires.within
+    let g = form_lits columns true false (tree_of c.args.form.now) n in
+    let vars : c.form_lits.new.cnf.vars ≡ g.part.vars = ap (λ (f : Formula). f.vars) c.in_ok-kept.ensures.made in
+    ap (λ (k : ℕ). columns_in k columns) vars ∙ columns_in-more n g.part.vars columns (form_lits-fits (tree_of c.args.form.now) columns true false n c.requires.within c.requires.form).low c.requires.within
 
-pub first_violated-requires : goal.first_violated-requires
-first_violated-requires c =
+pub demand_some_violated-requires : goal.demand_some_violated-requires
+demand_some_violated-requires c =
     let n = c.args.cnf.now.vars in
     let columns = c.args.table.now in
     let t = all_of (more (negation (tree_of c.args.form.now)) (trees_of c.args.forms.now)) in
-    let first = gathered columns true false (tree_of c.args.form.now) n in
-    let rest = gathered_each columns true true (trees_of c.args.forms.now) in
-    let lits = more-lits c.args.cnf.now c.gather.new.cnf first rest c.in_ok-kept.kept c.in_ok-others.others c.in_ok-kept.ensures.made c.in_ok-kept.ensures.lits c.in_ok-others.ensures.lits in
+    let first = form_lits columns true false (tree_of c.args.form.now) n in
+    let rest = each_form_lits columns true true (trees_of c.args.forms.now) in
+    let lits = more-lits c.args.cnf.now c.form_lits.new.cnf first rest c.in_ok-kept.kept c.in_ok-others.others c.in_ok-kept.ensures.made c.in_ok-kept.ensures.lits c.in_ok-others.ensures.lits in
     let seen = c.as_slice-2.ensures ∙ c.in_ok-push_all.ensures ∙ ap (λ (ls : List Literal). c.in_ok-kept.kept ++ ls) c.as_slice.ensures ∙ lits in
-    lits-in n c.args.cnf.now c.gather_each.new.cnf (gathered columns true true t n) c.as_slice-2.result.now
-    (gathered-fits t columns true true n c.requires.within
+    lits-in n c.args.cnf.now c.each_form_lits.new.cnf (form_lits columns true true t n) c.as_slice-2.result.now
+    (form_lits-fits t columns true true n c.requires.within
     (and_from _ _ c.requires.form c.requires.valid))
-    (more-made c.args.cnf.now c.gather.new.cnf c.gather_each.new.cnf first rest c.in_ok-kept.ensures.made
+    (more-made c.args.cnf.now c.form_lits.new.cnf c.each_form_lits.new.cnf first rest c.in_ok-kept.ensures.made
     c.in_ok-others.ensures.made) seen
 
 pub returns : goal.returns
@@ -43,12 +43,12 @@ returns c =
     let n = c.args.cnf.now.vars in
     let columns = c.args.table.now in
     let t = all_of (more (negation (tree_of c.args.form.now)) (trees_of c.args.forms.now)) in
-    let first = gathered columns true false (tree_of c.args.form.now) n in
-    let rest = gathered_each columns true true (trees_of c.args.forms.now) in
-    let lits = more-lits c.args.cnf.now c.gather.new.cnf first rest c.in_ok-kept.kept c.in_ok-others.others c.in_ok-kept.ensures.made c.in_ok-kept.ensures.lits c.in_ok-others.ensures.lits in
+    let first = form_lits columns true false (tree_of c.args.form.now) n in
+    let rest = each_form_lits columns true true (trees_of c.args.forms.now) in
+    let lits = more-lits c.args.cnf.now c.form_lits.new.cnf first rest c.in_ok-kept.kept c.in_ok-others.others c.in_ok-kept.ensures.made c.in_ok-kept.ensures.lits c.in_ok-others.ensures.lits in
     let seen = c.as_slice-2.ensures ∙ c.in_ok-push_all.ensures ∙ ap (λ (ls : List Literal). c.in_ok-kept.kept ++ ls) c.as_slice.ensures ∙ lits in
-    violated-made c.args.cnf.now c.gather_each.new.cnf c.first_violated.new.cnf t columns
+    violated-made c.args.cnf.now c.each_form_lits.new.cnf c.demand_some_violated.new.cnf t columns
     c.as_slice-2.result.now (sym c.either_never.ensures ∙ c.if-either_never.false)
-    (more-made c.args.cnf.now c.gather.new.cnf c.gather_each.new.cnf first rest c.in_ok-kept.ensures.made
+    (more-made c.args.cnf.now c.form_lits.new.cnf c.each_form_lits.new.cnf first rest c.in_ok-kept.ensures.made
     c.in_ok-others.ensures.made) seen
-    c.in_ok-first_violated.ensures.made
+    c.in_ok-demand_some_violated.ensures.made

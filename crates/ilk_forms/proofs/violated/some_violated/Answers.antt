@@ -1,23 +1,23 @@
 use Rattle.std.proofs.Common.{◌∙◌, ◌∷◌, [], ap, refl}
 use Rattle.std.proofs.lemmas.Bool.{and_parts, and_from}
-use Rattle.ilk_cnf.specs.Formula.{clause_in}
-use Rattle.ilk_cnf.specs.Literal.{Literal, opposite}
+use Rattle.ilk_cnf.specs.Formula.{is_clause_over}
+use Rattle.ilk_cnf.specs.Literal.{Literal, negated_lit}
 use Rattle.ilk_forms.specs.Violated.{violated_after}
 use Rattle.ilk_forms.proofs.Steps.{lits-in, first-in, some-made}
 use Rattle.ilk_forms.proofs.ViolatedLaw.{after-fits}
 use Rattle.ilk_forms.proofs.violated.some_violated.Goals as goal
 
-pub add_some-requires-clause-first : goal.add_some-requires-clause-first
-add_some-requires-clause-first c =
+pub add_joined_clause-requires-clause-first : goal.add_joined_clause-requires-clause-first
+add_joined_clause-requires-clause-first c =
     let n = c.args.cnf.now.vars in
     let h = c.violated_after.new.cnf in
     let parts = and_parts _ _ c.requires in
     let g = violated_after c.args.kept c.args.others.now n in
-    ap (λ (l : Literal). clause_in h.vars (l ∷ [])) c.negated.ensures
-    ∙ first-in n c.args.cnf.now h g (opposite c.args.kept ∷ []) (after-fits c.args.others.now c.args.kept n parts.0 parts.1) (and_from _ _ parts.0 refl) c.in_ok-lits.ensures.made
+    ap (λ (l : Literal). is_clause_over h.vars (l ∷ [])) c.negated.ensures
+    ∙ first-in n c.args.cnf.now h g (negated_lit c.args.kept ∷ []) (after-fits c.args.others.now c.args.kept n parts.0 parts.1) (and_from _ _ parts.0 refl) c.in_ok-lits.ensures.made
 
-pub add_some-requires-clause-others : goal.add_some-requires-clause-others
-add_some-requires-clause-others c =
+pub add_joined_clause-requires-clause-others : goal.add_joined_clause-requires-clause-others
+add_joined_clause-requires-clause-others c =
     let n = c.args.cnf.now.vars in
     let parts = and_parts _ _ c.requires in
     let g = violated_after c.args.kept c.args.others.now n in
@@ -27,4 +27,5 @@ pub returns : goal.returns
 returns c =
     let g = violated_after c.args.kept c.args.others.now c.args.cnf.now.vars in
     let first = c.negated.ensures in
-    some-made c.args.cnf.now c.violated_after.new.cnf c.add_some.new.cnf g (opposite c.args.kept ∷ []) c.as_slice.result.now c.in_ok-lits.ensures.made (c.as_slice.ensures ∙ c.in_ok-lits.ensures.lits) (c.in_ok-add_some.ensures ∙ rw first refl)
+    some-made c.args.cnf.now c.violated_after.new.cnf c.add_joined_clause.new.cnf g (negated_lit c.args.kept ∷ []) c.as_slice.result.now c.in_ok-lits.ensures.made (c.as_slice.ensures ∙ c.in_ok-lits.ensures.lits)
+    (c.in_ok-add_joined_clause.ensures ∙ rw first refl)

@@ -1,5 +1,5 @@
 use Rattle.std.proofs.Common.{◌≡◌, ◌++◌, ◌∷◌, true, drop}
-use Rattle.ilk_cnf.specs.Formula.{clause_in}
+use Rattle.ilk_cnf.specs.Formula.{is_clause_over}
 use Rattle.ilk_cnf.specs.Part.{with_part}
 use Rattle.ilk_forms.specs.Violated.{violated_after}
 use Rattle.ilk_forms.proofs.violated.violated_after.Given as goal
@@ -7,7 +7,7 @@ use Rattle.ilk_forms.proofs.violated.violated_after.Given as goal
 abbrev pub invariant-loop-kept : goal.invariant-loop-kept
 invariant-loop-kept l =
     record {
-      within : clause_in l.cnf.vars (l.before ∷ drop l.kept-index l.others) ≡ true;
+      within : is_clause_over l.cnf.vars (l.before ∷ drop l.kept-index l.others) ≡ true;
       lits : l.lits ++ (violated_after l.before (drop l.kept-index l.others) l.cnf.vars).lits ≡ (violated_after l.fn.before l.others l.fn.cnf.vars).lits;
       made : with_part l.cnf (violated_after l.before (drop l.kept-index l.others) l.cnf.vars).part ≡ with_part l.fn.cnf (violated_after l.fn.before l.others l.fn.cnf.vars).part;
     }

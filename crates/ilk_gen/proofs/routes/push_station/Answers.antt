@@ -5,32 +5,31 @@ use Rattle.ilk_plant.specs.declared.draft.RouteDraft.{RouteDraft}
 use Rattle.ilk_plant.specs.declared.network.Position.TheVariants.{Plus, Minus}
 use Rattle.ilk_gen.proofs.Steps.{first-more, one-more}
 use Rattle.ilk_gen.proofs.routes.push_station.Goals as goal
-use Rattle.ilk_gen.specs.StationRoutes.{down_into, down_out_of, up_into, up_out_of}
-use Rattle.ilk_gen.specs.WrittenRoutes.{listing, names_down_out, names_up_out, route_names}
+use Rattle.ilk_gen.specs.StationRoutes.{down_route_into, down_route_out_of, up_route_into, up_route_out_of}
+use Rattle.ilk_gen.specs.WrittenRoutes.{with_listed_conflicts, conflicts_down_out_of, conflicts_up_out_of, route_names}
 
--- a route that lists what these names are
-listed : (route made : RouteDraft) (names same : List Name) → made ≡ listing names route → names ≡ same → made ≡ listing same route
-listed route made names same e is = e ∙ ap (λ ns. listing ns route) is
+listed : (route made : RouteDraft) (names same : List Name) → made ≡ with_listed_conflicts names route → names ≡ same → made ≡ with_listed_conflicts same route
+listed route made names same e is = e ∙ ap (λ ns. with_listed_conflicts ns route) is
 
 pub returns : goal.returns
 returns c =
     let start = c.args.routes.now in
-    let route1 : RouteDraft = listing (route_names c.args.j (2 ∷ 5 ∷ 7 ∷ 8 ∷ [])) (up_into c.args.j 1 Plus) in
-    let route2 : RouteDraft = listing (route_names c.args.j (1 ∷ 6 ∷ 7 ∷ 8 ∷ [])) (up_into c.args.j 2 Minus) in
-    let route3 : RouteDraft = listing (names_up_out c.args.n c.args.j (4 ∷ 5 ∷ 6 ∷ [])) (up_out_of c.args.n c.args.j 3 Plus) in
-    let route4 : RouteDraft = listing (names_up_out c.args.n c.args.j (3 ∷ 5 ∷ 6 ∷ [])) (up_out_of c.args.n c.args.j 4 Minus) in
-    let route5 : RouteDraft = listing (route_names c.args.j (1 ∷ 3 ∷ 4 ∷ 6 ∷ [])) (down_into c.args.j 5 Plus) in
-    let route6 : RouteDraft = listing (route_names c.args.j (2 ∷ 3 ∷ 4 ∷ 5 ∷ [])) (down_into c.args.j 6 Minus) in
-    let route7 : RouteDraft = listing (names_down_out c.args.j (1 ∷ 2 ∷ 8 ∷ [])) (down_out_of c.args.j 7 Plus) in
-    let route8 : RouteDraft = listing (names_down_out c.args.j (1 ∷ 2 ∷ 7 ∷ [])) (down_out_of c.args.j 8 Minus) in
-    let r1 = listed (up_into c.args.j 1 Plus) c.in_ok-up_into.field-0 c.in_ok-names_of.field-0 (route_names c.args.j (2 ∷ 5 ∷ 7 ∷ 8 ∷ [])) c.in_ok-up_into.ensures c.in_ok-names_of.ensures in
-    let r2 = listed (up_into c.args.j 2 Minus) c.in_ok-up_into-2.field-0 c.in_ok-names_of-2.field-0 (route_names c.args.j (1 ∷ 6 ∷ 7 ∷ 8 ∷ [])) c.in_ok-up_into-2.ensures c.in_ok-names_of-2.ensures in
-    let r3 = listed (up_out_of c.args.n c.args.j 3 Plus) c.in_ok-up_out_of.field-0 c.in_ok-names_up_out.field-0 (names_up_out c.args.n c.args.j (4 ∷ 5 ∷ 6 ∷ [])) c.in_ok-up_out_of.ensures c.in_ok-names_up_out.ensures in
-    let r4 = listed (up_out_of c.args.n c.args.j 4 Minus) c.in_ok-up_out_of-2.field-0 c.in_ok-names_up_out-2.field-0 (names_up_out c.args.n c.args.j (3 ∷ 5 ∷ 6 ∷ [])) c.in_ok-up_out_of-2.ensures c.in_ok-names_up_out-2.ensures in
-    let r5 = listed (down_into c.args.j 5 Plus) c.in_ok-down_into.field-0 c.in_ok-names_of-3.field-0 (route_names c.args.j (1 ∷ 3 ∷ 4 ∷ 6 ∷ [])) c.in_ok-down_into.ensures c.in_ok-names_of-3.ensures in
-    let r6 = listed (down_into c.args.j 6 Minus) c.in_ok-down_into-2.field-0 c.in_ok-names_of-4.field-0 (route_names c.args.j (2 ∷ 3 ∷ 4 ∷ 5 ∷ [])) c.in_ok-down_into-2.ensures c.in_ok-names_of-4.ensures in
-    let r7 = listed (down_out_of c.args.j 7 Plus) c.in_ok-down_out_of.field-0 c.in_ok-names_down_out.field-0 (names_down_out c.args.j (1 ∷ 2 ∷ 8 ∷ [])) c.in_ok-down_out_of.ensures c.in_ok-names_down_out.ensures in
-    let r8 = listed (down_out_of c.args.j 8 Minus) c.in_ok-down_out_of-2.field-0 c.in_ok-names_down_out-2.field-0 (names_down_out c.args.j (1 ∷ 2 ∷ 7 ∷ [])) c.in_ok-down_out_of-2.ensures c.in_ok-names_down_out-2.ensures in
+    let route1 : RouteDraft = with_listed_conflicts (route_names c.args.j (2 ∷ 5 ∷ 7 ∷ 8 ∷ [])) (up_route_into c.args.j 1 Plus) in
+    let route2 : RouteDraft = with_listed_conflicts (route_names c.args.j (1 ∷ 6 ∷ 7 ∷ 8 ∷ [])) (up_route_into c.args.j 2 Minus) in
+    let route3 : RouteDraft = with_listed_conflicts (conflicts_up_out_of c.args.n c.args.j (4 ∷ 5 ∷ 6 ∷ [])) (up_route_out_of c.args.n c.args.j 3 Plus) in
+    let route4 : RouteDraft = with_listed_conflicts (conflicts_up_out_of c.args.n c.args.j (3 ∷ 5 ∷ 6 ∷ [])) (up_route_out_of c.args.n c.args.j 4 Minus) in
+    let route5 : RouteDraft = with_listed_conflicts (route_names c.args.j (1 ∷ 3 ∷ 4 ∷ 6 ∷ [])) (down_route_into c.args.j 5 Plus) in
+    let route6 : RouteDraft = with_listed_conflicts (route_names c.args.j (2 ∷ 3 ∷ 4 ∷ 5 ∷ [])) (down_route_into c.args.j 6 Minus) in
+    let route7 : RouteDraft = with_listed_conflicts (conflicts_down_out_of c.args.j (1 ∷ 2 ∷ 8 ∷ [])) (down_route_out_of c.args.j 7 Plus) in
+    let route8 : RouteDraft = with_listed_conflicts (conflicts_down_out_of c.args.j (1 ∷ 2 ∷ 7 ∷ [])) (down_route_out_of c.args.j 8 Minus) in
+    let r1 = listed (up_route_into c.args.j 1 Plus) c.in_ok-up_into.field-0 c.in_ok-names_of.field-0 (route_names c.args.j (2 ∷ 5 ∷ 7 ∷ 8 ∷ [])) c.in_ok-up_into.ensures c.in_ok-names_of.ensures in
+    let r2 = listed (up_route_into c.args.j 2 Minus) c.in_ok-up_into-2.field-0 c.in_ok-names_of-2.field-0 (route_names c.args.j (1 ∷ 6 ∷ 7 ∷ 8 ∷ [])) c.in_ok-up_into-2.ensures c.in_ok-names_of-2.ensures in
+    let r3 = listed (up_route_out_of c.args.n c.args.j 3 Plus) c.in_ok-up_out_of.field-0 c.in_ok-names_up_out.field-0 (conflicts_up_out_of c.args.n c.args.j (4 ∷ 5 ∷ 6 ∷ [])) c.in_ok-up_out_of.ensures c.in_ok-names_up_out.ensures in
+    let r4 = listed (up_route_out_of c.args.n c.args.j 4 Minus) c.in_ok-up_out_of-2.field-0 c.in_ok-names_up_out-2.field-0 (conflicts_up_out_of c.args.n c.args.j (3 ∷ 5 ∷ 6 ∷ [])) c.in_ok-up_out_of-2.ensures c.in_ok-names_up_out-2.ensures in
+    let r5 = listed (down_route_into c.args.j 5 Plus) c.in_ok-down_into.field-0 c.in_ok-names_of-3.field-0 (route_names c.args.j (1 ∷ 3 ∷ 4 ∷ 6 ∷ [])) c.in_ok-down_into.ensures c.in_ok-names_of-3.ensures in
+    let r6 = listed (down_route_into c.args.j 6 Minus) c.in_ok-down_into-2.field-0 c.in_ok-names_of-4.field-0 (route_names c.args.j (2 ∷ 3 ∷ 4 ∷ 5 ∷ [])) c.in_ok-down_into-2.ensures c.in_ok-names_of-4.ensures in
+    let r7 = listed (down_route_out_of c.args.j 7 Plus) c.in_ok-down_out_of.field-0 c.in_ok-names_down_out.field-0 (conflicts_down_out_of c.args.j (1 ∷ 2 ∷ 8 ∷ [])) c.in_ok-down_out_of.ensures c.in_ok-names_down_out.ensures in
+    let r8 = listed (down_route_out_of c.args.j 8 Minus) c.in_ok-down_out_of-2.field-0 c.in_ok-names_down_out-2.field-0 (conflicts_down_out_of c.args.j (1 ∷ 2 ∷ 7 ∷ [])) c.in_ok-down_out_of-2.ensures c.in_ok-names_down_out-2.ensures in
     let one = first-more start c.push.new.self c.in_ok-up_into.field-0 route1 c.in_ok-push.ensures.ok r1 in
     let two = one-more start (route1 ∷ []) c.push.new.self c.push-2.new.self c.in_ok-up_into-2.field-0 route2 one c.in_ok-push-2.ensures.ok r2 in
     let three = one-more start (route1 ∷ route2 ∷ []) c.push-2.new.self c.push-3.new.self c.in_ok-up_out_of.field-0 route3 two c.in_ok-push-3.ensures.ok r3 in

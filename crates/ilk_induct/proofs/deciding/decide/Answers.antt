@@ -5,7 +5,7 @@ use Rattle.ilk_unroll.specs.declared.queries.Wanted.TheVariants.{Hazard}
 use Rattle.ilk_induct.specs.declared.due.Next.{Next}
 use Rattle.ilk_induct.specs.declared.due.Due.TheVariants.{Unbroken}
 use Rattle.ilk_certificate.specs.declared.asked.Asked.{Asked}
-use Rattle.ilk_induct.specs.Due.{IsDue, IsNext, still_due}
+use Rattle.ilk_induct.specs.Due.{IsDue, IsNext, queries_left}
 use Rattle.ilk_induct.proofs.Certified.{certifies}
 use Rattle.ilk_induct.proofs.Follows.{first-due, turned}
 use Rattle.ilk_induct.proofs.deciding.decide.Goals as goal
@@ -23,11 +23,11 @@ loop-due-preserved c =
     let rest = c.loop-due.left - c.conflicts_in-left.result in
     let next = turned s g c.args.depth c.args.conflicts c.loop-due.due c.query-query.result
     c.in_ok-response.field-0.response c.in_ok-response.field-0.log c.loop-due.asked c.push.new.self
-    c.loop-due.left c.conflicts_in-left.result rest c.what_follows.result c.requires.system
+    c.loop-due.left c.conflicts_in-left.result rest c.after_response.result c.requires.system
     c.requires.some_depth c.requires.depth c.loop-due.invariant c.query-query.ensures
     c.in_ok-response.ensures.log c.in_ok-response.ensures.response c.conflicts_in-left.ensures refl
-    c.in_ok-push.ensures.ok c.what_follows.ensures in
-    (subst (λ (n : Next). IsNext s g c.args.depth c.args.conflicts (still_due c.args.depth c.loop-due.due) n c.push.new.self rest) c.in-Ask.is next).0
+    c.in_ok-push.ensures.ok c.after_response.ensures in
+    (subst (λ (n : Next). IsNext s g c.args.depth c.args.conflicts (queries_left c.args.depth c.loop-due.due) n c.push.new.self rest) c.in-Ask.is next).0
 
 pub returns-in-End-clause-right : goal.returns-in-End-clause-right
 returns-in-End-clause-right c =
@@ -36,11 +36,11 @@ returns-in-End-clause-right c =
     let rest = c.loop-due.left - c.conflicts_in-left.result in
     let next = turned s g c.args.depth c.args.conflicts c.loop-due.due c.query-query.result
     c.in_ok-response.field-0.response c.in_ok-response.field-0.log c.loop-due.asked c.push.new.self
-    c.loop-due.left c.conflicts_in-left.result rest c.what_follows.result c.requires.system
+    c.loop-due.left c.conflicts_in-left.result rest c.after_response.result c.requires.system
     c.requires.some_depth c.requires.depth c.loop-due.invariant c.query-query.ensures
     c.in_ok-response.ensures.log c.in_ok-response.ensures.response c.conflicts_in-left.ensures refl
-    c.in_ok-push.ensures.ok c.what_follows.ensures in
-    (subst (λ (n : Next). IsNext s g c.args.depth c.args.conflicts (still_due c.args.depth c.loop-due.due) n c.push.new.self rest) c.in-End.is next).right
+    c.in_ok-push.ensures.ok c.after_response.ensures in
+    (subst (λ (n : Next). IsNext s g c.args.depth c.args.conflicts (queries_left c.args.depth c.loop-due.due) n c.push.new.self rest) c.in-End.is next).right
 
 pub returns-in-End-clause-lasts : goal.returns-in-End-clause-lasts
 returns-in-End-clause-lasts c =
@@ -49,11 +49,11 @@ returns-in-End-clause-lasts c =
     let rest = c.loop-due.left - c.conflicts_in-left.result in
     let next = turned s g c.args.depth c.args.conflicts c.loop-due.due c.query-query.result
     c.in_ok-response.field-0.response c.in_ok-response.field-0.log c.loop-due.asked c.push.new.self
-    c.loop-due.left c.conflicts_in-left.result rest c.what_follows.result c.requires.system
+    c.loop-due.left c.conflicts_in-left.result rest c.after_response.result c.requires.system
     c.requires.some_depth c.requires.depth c.loop-due.invariant c.query-query.ensures
     c.in_ok-response.ensures.log c.in_ok-response.ensures.response c.conflicts_in-left.ensures refl
-    c.in_ok-push.ensures.ok c.what_follows.ensures in
-    (subst (λ (n : Next). IsNext s g c.args.depth c.args.conflicts (still_due c.args.depth c.loop-due.due) n c.push.new.self rest) c.in-End.is next).lasts
+    c.in_ok-push.ensures.ok c.after_response.ensures in
+    (subst (λ (n : Next). IsNext s g c.args.depth c.args.conflicts (queries_left c.args.depth c.loop-due.due) n c.push.new.self rest) c.in-End.is next).lasts
 
 pub returns-in-End-clause-asked : goal.returns-in-End-clause-asked
 returns-in-End-clause-asked c =
@@ -62,11 +62,11 @@ returns-in-End-clause-asked c =
     let rest = c.loop-due.left - c.conflicts_in-left.result in
     let next = turned s g c.args.depth c.args.conflicts c.loop-due.due c.query-query.result
     c.in_ok-response.field-0.response c.in_ok-response.field-0.log c.loop-due.asked c.push.new.self
-    c.loop-due.left c.conflicts_in-left.result rest c.what_follows.result c.requires.system
+    c.loop-due.left c.conflicts_in-left.result rest c.after_response.result c.requires.system
     c.requires.some_depth c.requires.depth c.loop-due.invariant c.query-query.ensures
     c.in_ok-response.ensures.log c.in_ok-response.ensures.response c.conflicts_in-left.ensures refl
-    c.in_ok-push.ensures.ok c.what_follows.ensures in
-    (subst (λ (n : Next). IsNext s g c.args.depth c.args.conflicts (still_due c.args.depth c.loop-due.due) n c.push.new.self rest) c.in-End.is next).queries
+    c.in_ok-push.ensures.ok c.after_response.ensures in
+    (subst (λ (n : Next). IsNext s g c.args.depth c.args.conflicts (queries_left c.args.depth c.loop-due.due) n c.push.new.self rest) c.in-End.is next).queries
 
 pub returns-in-End-clause-certified : goal.returns-in-End-clause-certified
 returns-in-End-clause-certified c =
@@ -75,9 +75,9 @@ returns-in-End-clause-certified c =
     let rest = c.loop-due.left - c.conflicts_in-left.result in
     let next = turned s g c.args.depth c.args.conflicts c.loop-due.due c.query-query.result
     c.in_ok-response.field-0.response c.in_ok-response.field-0.log c.loop-due.asked c.push.new.self
-    c.loop-due.left c.conflicts_in-left.result rest c.what_follows.result c.requires.system
+    c.loop-due.left c.conflicts_in-left.result rest c.after_response.result c.requires.system
     c.requires.some_depth c.requires.depth c.loop-due.invariant c.query-query.ensures
     c.in_ok-response.ensures.log c.in_ok-response.ensures.response c.conflicts_in-left.ensures refl
-    c.in_ok-push.ensures.ok c.what_follows.ensures in
-    let end = subst (λ (n : Next). IsNext s g c.args.depth c.args.conflicts (still_due c.args.depth c.loop-due.due) n c.push.new.self rest) c.in-End.is next in
+    c.in_ok-push.ensures.ok c.after_response.ensures in
+    let end = subst (λ (n : Next). IsNext s g c.args.depth c.args.conflicts (queries_left c.args.depth c.loop-due.due) n c.push.new.self rest) c.in-End.is next in
     certifies s g c.args.depth c.args.conflicts c.in-End.verdict c.push.new.self end.queries

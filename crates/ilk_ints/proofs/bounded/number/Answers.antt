@@ -10,5 +10,5 @@ returns-clause-law c =
     λ a size.
     let range = c.args.range in
     let n = c.args.cnf.now.vars in
-    let enough : range ≤ 2 ^ bit_count range = subst (λ (b : ℕ). range ≤ 2 ^ b) c.bits.ensures.count c.bits.ensures.enough in
+    let enough : range ≤ 2 ^ bit_count range = subst (λ (b : ℕ). range ≤ 2 ^ b) c.bit_count.ensures.count c.bit_count.ensures.enough in
     extends-as_clauses a (number_part range n).vars (number_part range n).clauses (IsValue range) (number-law a range n enough size)

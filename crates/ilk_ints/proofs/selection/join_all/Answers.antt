@@ -1,7 +1,7 @@
 use Rattle.std.proofs.Common.{◌≡◌, ◌≤◌, ◌+◌, ◌∷◌, ◌++◌, [], ◌∙◌, List, length, drop, sym, ap, arith, length-append}
 use Rattle.std.proofs.lemmas.List.{drop-append-le}
-use Rattle.ilk_cnf.specs.Literal.{Literal, plus}
-use Rattle.ilk_cnf.specs.Formula.{clause_in}
+use Rattle.ilk_cnf.specs.Literal.{Literal, positive_lit}
+use Rattle.ilk_cnf.specs.Formula.{is_clause_over}
 use Rattle.ilk_cnf.specs.Part.{with_part}
 use Rattle.ilk_ints.specs.OneOf.{one_of_part}
 use Rattle.ilk_ints.proofs.OneOfLaw.{queue-front, first-two, join-step}
@@ -15,7 +15,7 @@ join-requires c =
     let s = c.index.result.now in
     let l = c.index-in-loop-first.result.now in
     let front : drop i queue ≡ s ∷ l ∷ drop (i + 2) queue = queue-front queue i s l (omega (arith, c.loop-first-test.true, c.len.ensures)) c.index.ensures c.index-in-loop-first.ensures in
-    first-two n s l (drop (i + 2) queue) (ap (clause_in n) (sym front) ∙ c.loop-first.invariant.within)
+    first-two n s l (drop (i + 2) queue) (ap (is_clause_over n) (sym front) ∙ c.loop-first.invariant.within)
 
 pub loop-first-preserved : goal.loop-first-preserved
 loop-first-preserved c =
@@ -25,14 +25,14 @@ loop-first-preserved c =
     let g = c.join.new.cnf in
     let s = c.index.result.now in
     let l = c.index-in-loop-first.result.now in
-    let v = plus (f.vars + 1) in
+    let v = positive_lit (f.vars + 1) in
     let rest = drop (i + 2) queue in
     let two : i + 2 ≤ length queue = omega (arith, c.loop-first-test.true, c.len.ensures) in
     let front : drop i queue ≡ s ∷ l ∷ rest = queue-front queue i s l (omega (arith, two)) c.index.ensures c.index-in-loop-first.ensures in
     let next : drop (i + 2) c.join.new.queue.items ≡ rest ++ v ∷ [] = ap (drop (i + 2)) c.in_ok-join.ensures.queued ∙ drop-append-le (i + 2) queue (v ∷ []) two in
-    let step = join-step f g s l rest c.in_ok-join.ensures.made (ap (clause_in f.vars) (sym front) ∙ c.loop-first.invariant.within) in
+    let step = join-step f g s l rest c.in_ok-join.ensures.made (ap (is_clause_over f.vars) (sym front) ∙ c.loop-first.invariant.within) in
     record {
       started = omega (arith, two, length-append queue (v ∷ []), ap length c.in_ok-join.ensures.queued);
-      within = ap (clause_in g.vars) next ∙ step.0;
+      within = ap (is_clause_over g.vars) next ∙ step.0;
       rest = ap (λ (ls : List Literal). with_part g (one_of_part ls g.vars)) next ∙ step.1 ∙ ap (λ (ls : List Literal). with_part f (one_of_part ls f.vars)) (sym front) ∙ c.loop-first.invariant.rest;
     }

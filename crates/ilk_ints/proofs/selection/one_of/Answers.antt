@@ -3,9 +3,9 @@ use Rattle.ilk_cnf.specs.Truth.{is_true}
 use Rattle.ilk_cnf.specs.Literal.{Literal}
 use Rattle.ilk_cnf.specs.Formula.{Formula}
 use Rattle.ilk_cnf.specs.Part.{with_part}
-use Rattle.ilk_cnf.specs.Extends.{OnlyIf}
+use Rattle.ilk_cnf.specs.Extends.{IsExactlyIf}
 use Rattle.ilk_cnf.proofs.Extending.{extends-as_clauses}
-use Rattle.ilk_ints.specs.OneOf.{one_of_part, one_true, one_of_bits}
+use Rattle.ilk_ints.specs.OneOf.{one_of_part, exactly_one_true, one_of_bits}
 use Rattle.ilk_ints.proofs.OneOfLaw.{one_of-law, clauses-few}
 use Rattle.ilk_ints.proofs.selection.one_of.Goals as goal
 
@@ -14,7 +14,7 @@ returns-clause-law c =
     λ a size.
     let n = c.args.cnf.now.vars in
     let ls = c.args.lits.now in
-    extends-as_clauses a (one_of_part ls n).vars (one_of_part ls n).clauses (OnlyIf (one_true (map (is_true a) ls)) (one_of_bits (map (is_true a) ls))) (one_of-law ls a n size c.requires)
+    extends-as_clauses a (one_of_part ls n).vars (one_of_part ls n).clauses (IsExactlyIf (exactly_one_true (map (is_true a) ls)) (one_of_bits (map (is_true a) ls))) (one_of-law ls a n size c.requires)
 
 pub returns-clause-few : goal.returns-clause-few
 returns-clause-few c =

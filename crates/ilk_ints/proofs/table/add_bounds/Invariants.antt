@@ -1,5 +1,5 @@
 use Rattle.std.proofs.Common.{◌≡◌, ◌+◌, ◌≤◌, ◌++◌, ◌∷◌, true, drop}
-use Rattle.ilk_cnf.specs.Formula.{clause_in, with_vars}
+use Rattle.ilk_cnf.specs.Formula.{is_clause_over, with_vars}
 use Rattle.ilk_cnf.specs.Part.{with_part}
 use Rattle.ilk_ints.specs.Bits.{bit_count}
 use Rattle.ilk_ints.specs.Named.{bounds_from}
@@ -11,7 +11,7 @@ invariant-loop-equal l =
       vars : l.cnf.vars ≡ l.fn.cnf.vars;
       place : l.k ≡ 1 + l.equal-index;
       within : l.n.first + bit_count l.n.range ≤ l.used + 1;
-      inside : clause_in l.used (l.below ∷ drop l.equal-index l.equals) ≡ true;
+      inside : is_clause_over l.used (l.below ∷ drop l.equal-index l.equals) ≡ true;
       lits : l.lits ++ (bounds_from l.n.first l.n.range l.below l.k (drop l.equal-index l.equals) l.used).lits ≡ (bounds_from l.n.first l.n.range l.fn.below 1 l.equals l.fn.used).lits;
       made : with_part (with_vars l.cnf l.used) (bounds_from l.n.first l.n.range l.below l.k (drop l.equal-index l.equals) l.used).part ≡ with_part (with_vars l.fn.cnf l.fn.used) (bounds_from l.n.first l.n.range l.fn.below 1 l.equals l.fn.used).part;
     }

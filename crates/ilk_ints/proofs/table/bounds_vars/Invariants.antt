@@ -1,5 +1,5 @@
 use Rattle.std.proofs.Common.{◌≡◌, ◌+◌, ◌-◌, ◌≤◌}
-use Rattle.ilk_ints.specs.Named.{bound_count, bounds_vars}
+use Rattle.ilk_ints.specs.Named.{bound_count, bound_var_count}
 use Rattle.ilk_ints.proofs.table.bounds_vars.Given as goal
 
 abbrev pub invariant-loop : goal.invariant-loop
@@ -7,5 +7,5 @@ invariant-loop l =
     record {
       place : l.k ≡ 1 + l.counter;
       few : l.count ≤ l.counter;
-      rest : l.count + bounds_vars l.range l.k (bound_count l.range - l.counter) ≡ bounds_vars l.range 1 (bound_count l.range);
+      rest : l.count + bound_var_count l.range l.k (bound_count l.range - l.counter) ≡ bound_var_count l.range 1 (bound_count l.range);
     }

@@ -1,5 +1,5 @@
 use Rattle.std.proofs.Common.{[]}
-use Rattle.ilk_conditions.specs.Conditions.{rel_is}
+use Rattle.ilk_layout.specs.Conditions.{rel_is}
 use Rattle.ilk_invs.proofs.Pushed.{one_form_more}
 use Rattle.ilk_invs.proofs.held.rel_below.Goals as goal
 

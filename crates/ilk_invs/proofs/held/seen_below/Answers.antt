@@ -1,5 +1,5 @@
 use Rattle.std.proofs.Common.{[]}
-use Rattle.ilk_conditions.specs.Conditions.{seen_is}
+use Rattle.ilk_layout.specs.Conditions.{seen_is}
 use Rattle.ilk_invs.proofs.Pushed.{one_form_more}
 use Rattle.ilk_invs.proofs.held.seen_below.Goals as goal
 

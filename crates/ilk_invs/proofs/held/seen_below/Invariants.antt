@@ -1,7 +1,7 @@
 use Rattle.std.proofs.Common.{◌≡◌, map}
 use Rattle.std.specs.List.{range_with_len}
 use Rattle.ilk_ir.specs.Form.{tree_of}
-use Rattle.ilk_conditions.specs.Conditions.{seen_is}
+use Rattle.ilk_layout.specs.Conditions.{seen_is}
 use Rattle.ilk_invs.proofs.held.seen_below.Given as goal
 
 abbrev pub invariant-loop-count : goal.invariant-loop-count

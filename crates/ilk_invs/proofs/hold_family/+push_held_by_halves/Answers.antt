@@ -15,6 +15,6 @@ returns t c =
     c.split_at.result.1.now start (map tree_of c.push.new.self.items)
     (map tree_of c.push_held_by_halves.new.forms.items)
     (map tree_of c.push_held_by_halves-2.new.forms.items)
-    (omega (arith, c.if-routes-le-MAX_IN_ORDER.false)) c.split_at.ensures.front c.split_at.ensures.back
+    (omega (arith, c.if-routes-le-MAX_ORDERED_HOLDERS.false)) c.split_at.ensures.front c.split_at.ensures.back
     both c.in_ok-push_held_by_halves.ensures c.in_ok-push_held_by_halves-2.ensures
     ∙ ap (λ n. start ++ held_by_halves n c.args.plant.now c.args.x c.args.routes.now) (sym less)

@@ -1,7 +1,7 @@
 use Rattle.std.proofs.Common.{◌≡◌, ◌++◌, drop, map}
 use Rattle.ilk_ir.specs.Form.{tree_of}
 use Rattle.ilk_plant.specs.declared.state.Hold.TheVariants.{Locked as LockedLock}
-use Rattle.ilk_conditions.specs.Conditions.{lock_is}
+use Rattle.ilk_layout.specs.Conditions.{lock_is}
 use Rattle.ilk_invs.proofs.lock_family.push_locked.Given as goal
 
 abbrev pub invariant-loop-x : goal.invariant-loop-x

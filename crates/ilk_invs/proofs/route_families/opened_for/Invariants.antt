@@ -5,7 +5,7 @@ use Rattle.ilk_ir.specs.Form.{tree_of}
 use Rattle.ilk_ir.specs.Tree.{negation}
 use Rattle.ilk_plant.specs.declared.state.Aspect.TheVariants.{Open}
 use Rattle.ilk_plant.specs.declared.state.Mode.TheVariants.{Locked}
-use Rattle.ilk_conditions.specs.Conditions.{mode_is, board_is}
+use Rattle.ilk_layout.specs.Conditions.{mode_is, board_is}
 use Rattle.ilk_invs.specs.Parts.{each_of, conditions_for}
 use Rattle.ilk_invs.specs.RouteFamilies.{path_vacant}
 use Rattle.ilk_invs.proofs.route_families.opened_for.Given as goal

@@ -2,7 +2,7 @@ use Rattle.std.proofs.Common.{◌∷◌, [], map}
 use Rattle.ilk_ir.specs.Form.{tree_of}
 use Rattle.ilk_ir.specs.Tree.{negation}
 use Rattle.ilk_plant.specs.declared.state.Mode.TheVariants.{Occupied}
-use Rattle.ilk_conditions.specs.Conditions.{mode_is, seen_is}
+use Rattle.ilk_layout.specs.Conditions.{mode_is, seen_is}
 use Rattle.ilk_invs.specs.Held.{rel_below}
 use Rattle.ilk_invs.specs.Parts.{some_of}
 use Rattle.ilk_invs.proofs.Pushed.{one_form_more}

@@ -1,6 +1,6 @@
 use Rattle.std.proofs.Common.{◌≡◌, ◌++◌, drop, map}
 use Rattle.ilk_ir.specs.Form.{tree_of}
-use Rattle.ilk_conditions.specs.Conditions.{no_train_at}
+use Rattle.ilk_layout.specs.Conditions.{no_train_at}
 use Rattle.ilk_invs.proofs.route_families.push_vacant.Given as goal
 
 abbrev pub invariant-loop-x : goal.invariant-loop-x

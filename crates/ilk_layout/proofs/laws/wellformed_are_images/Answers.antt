@@ -2,4 +2,4 @@ use Rattle.ilk_layout.proofs.Ranged.{wellformed-images}
 use Rattle.ilk_layout.proofs.laws.wellformed_are_images.Goals as goal
 
 pub returns : goal.returns
-returns c = wellformed-images c.args.plant.now c.is_sound.ensures c.is_of_drafts.ensures.walks
+returns c = wellformed-images c.args.plant.now c.is_sound.ensures c.is_from_drafts.ensures.walks

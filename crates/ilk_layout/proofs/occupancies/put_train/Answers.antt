@@ -21,6 +21,6 @@ loop-i-preserved c = record {
   sections = length-set c.loop-i.occupancies _ c.after_taking.result ∙ c.loop-i.invariant.sections;
   gone = put_on c.args.plant.now c.args.s.now c.args.train.now c.loop-i.i c.as_slice-body.result.now
       c.at-before.result.now c.after_taking.result c.args.occupancies.now c.loop-i.occupancies
-      c.is_sound.ensures c.is_of_drafts.ensures.walks c.requires.body c.as_slice-body.ensures (omega arith)
+      c.is_sound.ensures c.is_from_drafts.ensures.walks c.requires.body c.as_slice-body.ensures (omega arith)
       c.at-before.ensures c.after_taking.ensures c.loop-i.invariant.gone;
 }

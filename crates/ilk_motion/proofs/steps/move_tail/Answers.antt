@@ -6,4 +6,4 @@ use Rattle.ilk_base.proofs.Positions.{position-at}
 
 pub leave_first-requires : goal.leave_first-requires
 leave_first-requires c =
-    is_first_of_several-long c.args.x c.at_mut.result.now.body (position-at (has_tail_before_head c.args.x) _ c.in-Some.i _ (sym c.with_tail.ensures ∙ c.in-Some.is) c.at_mut.ensures.value)
+    is_first_of_several-long c.args.x c.at_mut.result.now.body (position-at (has_tail_before_head c.args.x) _ c.in-Some.i _ (sym c.find_train_with_tail.ensures ∙ c.in-Some.is) c.at_mut.ensures.value)

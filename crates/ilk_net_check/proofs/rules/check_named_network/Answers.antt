@@ -2,7 +2,7 @@ use Rattle.std.proofs.Common.{◌≡◌, ◌∙◌, ap, arith}
 use Rattle.std.proofs.lemmas.List.{take_all}
 use Rattle.ilk_base.proofs.FlatMaps.{flat_map-grows}
 use Rattle.ilk_net_check.proofs.Returning.{listed-walks}
-use Rattle.ilk_plant.specs.Broken.{broken_at, each_broken_at, places_of}
+use Rattle.ilk_plant.specs.Broken.{broken_at, broken_rules_at, places_of}
 use Rattle.ilk_plant.specs.NetworkRules.{breaks_network, count_in_network, network_rules, network_rules_broken}
 use Rattle.ilk_net_check.proofs.rules.check_named_network.Goals as goal
 
@@ -17,5 +17,5 @@ loop-rule-preserved c =
 pub returns-clause-walks : goal.returns-clause-walks
 returns-clause-walks c x =
     let whole : c.loop-rule.broken ≡ network_rules_broken c.args.net.now =
-    c.loop-rule.invariant ∙ ap (λ asked. each_broken_at asked (count_in_network c.args.net.now) (breaks_network c.args.net.now)) (take_all c.loop-rule.rule-index network_rules (omega (arith, c.loop-rule-test.false))) in
+    c.loop-rule.invariant ∙ ap (λ asked. broken_rules_at asked (count_in_network c.args.net.now) (breaks_network c.args.net.now)) (take_all c.loop-rule.rule-index network_rules (omega (arith, c.loop-rule-test.false))) in
     listed-walks c.args.net.now x c.loop-rule.broken whole

@@ -7,4 +7,4 @@ pub loop-x-preserved : goal.loop-x-preserved
 loop-x-preserved c =
     grows_if (λ x. record { rule = c.args.rule; first = x; second = None })
     (breaks_network c.args.network.now.net.now c.args.rule) c.loop-x.x c.breaks.result c.args.broken.now
-    c.loop-x.broken c.push_if.new.found c.breaks.ensures c.loop-x.invariant c.in_ok-push_if.ensures.ok
+    c.loop-x.broken c.push_broken_if.new.found c.breaks.ensures c.loop-x.invariant c.in_ok-push_broken_if.ensures.ok

@@ -3,7 +3,7 @@ use Rattle.std.proofs.lemmas.List.{length-append}
 use Rattle.serde_json.specs.View.{view}
 use Rattle.ilk_net_read.specs.Network.{section_of}
 use Rattle.ilk_plant.specs.Limits.{section_has_names}
-use Rattle.ilk_base.proofs.Results.{in_order-more}
+use Rattle.ilk_base.proofs.Results.{try_map_numbered-more}
 use Rattle.ilk_net_read.proofs.InOrder.{entries-left}
 use Rattle.ilk_net_read.proofs.network.sections.Goals as goal
 use Rattle.ilk_base.proofs.Tested.{list_all-more}
@@ -12,7 +12,7 @@ pub loop-i-preserved : goal.loop-i-preserved
 loop-i-preserved c = record {
   rest = rw c.in_ok-push.ensures.ok
       (sym
-      (in_order-more section_of c.loop-i.sections _ _ c.loop-i.i (view c.index-values-i.result)
+      (try_map_numbered-more section_of c.loop-i.sections _ _ c.loop-i.i (view c.index-values-i.result)
       c.in_ok-section.section
       (entries-left c.args.values.now c.loop-i.i c.index-values-i.result c.loop-i-test.true
       c.index-values-i.is)

@@ -9,4 +9,4 @@ pub returns-clause-wellformed : goal.returns-clause-wellformed
 returns-clause-wellformed c = wellformed-holds c.args.plant.now c.is_sound.ensures
 
 pub returns-clause-images : goal.returns-clause-images
-returns-clause-images c = holds-at_images c.args.plant.now c.is_sound.ensures c.is_of_drafts.ensures.walks
+returns-clause-images c = holds-at_images c.args.plant.now c.is_sound.ensures c.is_from_drafts.ensures.walks

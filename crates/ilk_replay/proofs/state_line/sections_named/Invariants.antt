@@ -5,7 +5,6 @@ use Rattle.ilk_replay.specs.StateLine.{sections_named}
 use Rattle.ilk_base.proofs.Fronts.{after_front}
 use Rattle.ilk_replay.proofs.state_line.sections_named.Given as goal
 
--- the sections of the words so far stand after_front those of the words to come
 abbrev pub invariant-loop-rest : goal.invariant-loop-rest
 invariant-loop-rest l = sections_named l.plant (words_of l.names) ≡ after_front l.body (sections_named l.plant (option_map_or (λ text. words_of text.now) l.rest []))
 

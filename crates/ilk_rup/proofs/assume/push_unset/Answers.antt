@@ -1,7 +1,7 @@
 use Rattle.std.proofs.Common.{◌++◌, ◌∷◌, [], ℕ, Bool, List, ap, sym, ◌∙◌, append_assoc, take, cond, not}
 use Rattle.std.specs.List.{filter}
 use Rattle.ilk_cnf.specs.Literal.{Literal}
-use Rattle.ilk_cnf.specs.Formula.{lit_in}
+use Rattle.ilk_cnf.specs.Formula.{is_lit_over}
 use Rattle.ilk_trail.specs.Laws.{is_set}
 use Rattle.ilk_base.proofs.Tested.{list_all-slice_get}
 use Rattle.ilk_rup.proofs.Assuming.{filter-more}
@@ -10,7 +10,7 @@ use Rattle.ilk_rup.proofs.assume.push_unset.Goals as goal
 pub is_set-requires : goal.is_set-requires
 is_set-requires c =
     let s = c.args.set.now in
-    ap (λ (n : ℕ). lit_in n c.at-l.result) (sym c.requires) ∙ list_all-slice_get (lit_in s.vars) s.lits c.loop-i.i c.at-l.result c.len-i-end.ensures.within c.at-l.ensures
+    ap (λ (n : ℕ). is_lit_over n c.at-l.result) (sym c.requires) ∙ list_all-slice_get (is_lit_over s.vars) s.lits c.loop-i.i c.at-l.result c.len-i-end.ensures.within c.at-l.ensures
 
 pub loop-i-preserved : goal.loop-i-preserved
 loop-i-preserved c =

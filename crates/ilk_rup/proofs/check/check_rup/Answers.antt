@@ -9,9 +9,9 @@ use Rattle.ilk_rup.proofs.check.check_rup.Goals as goal
 
 pub items-init : goal.items-init
 items-init c =
-    let words = c.of-words.ensures in
+    let words = c.from_text-words.ensures in
     let long = ap length words in
-    record { numbered = omega (arith, long); going = going-start c.args.cnf.now c.args.text.now c.in_ok-checker.checker c.of-words.result c.in_ok-checker.ensures.formula c.in_ok-checker.ensures.alike words }
+    record { numbered = omega (arith, long); going = going-start c.args.cnf.now c.args.text.now c.in_ok-checker.checker c.from_text-words.result c.in_ok-checker.ensures.formula c.in_ok-checker.ensures.alike words }
 
 pub returns-in-Bad : goal.returns-in-Bad
 returns-in-Bad c =

@@ -1,5 +1,5 @@
 use Rattle.std.proofs.Common.{◌∙◌, List, take, arith}
-use Rattle.ilk_clauses.specs.Reasons.{clause_at}
+use Rattle.ilk_watches.specs.Reasons.{clause_at}
 use Rattle.ilk_cnf.specs.Literal.{Literal}
 use Rattle.ilk_rup.specs.Needs.{IsNeeded}
 use Rattle.ilk_rup.proofs.Needing.{all-taken, needed-next, one-more}

@@ -2,8 +2,8 @@ use Rattle.std.proofs.Common.{◌∙◌, ap, sym, subst, List, ℕ, arith, rever
 use Rattle.std.specs.List.{slice_get}
 use Rattle.ilk_base.proofs.Options.{mapped-Some}
 use Rattle.ilk_cnf.specs.Literal.{Literal, has_lit}
-use Rattle.ilk_cnf.specs.Formula.{lit_in}
-use Rattle.ilk_clauses.specs.Chained.{formula_of}
+use Rattle.ilk_cnf.specs.Formula.{is_lit_over}
+use Rattle.ilk_watches.specs.Chained.{formula_of}
 use Rattle.ilk_trail.specs.declared.entry.Entry.{Entry}
 use Rattle.ilk_trail.proofs.Entries.{entry-within}
 use Rattle.ilk_rup.specs.Needs.{IsPassed}
@@ -14,7 +14,7 @@ pub has-requires : goal.has-requires
 has-requires c =
     let t = c.args.trail.now in
     let x = mapped-Some (λ (e : Entry). e.lit) (slice_get t.entries c.args.i) c.at.result c.at.ensures in
-    ap (λ (n : ℕ). lit_in n c.at.result) (c.requires.vars ∙ sym c.requires.trail) ∙ ap (lit_in t.vars) (sym x.2) ∙ entry-within t c.args.i x.0 c.count-trail.ensures.is_trail x.1
+    ap (λ (n : ℕ). is_lit_over n c.at.result) (c.requires.vars ∙ sym c.requires.trail) ∙ ap (is_lit_over t.vars) (sym x.2) ∙ entry-within t c.args.i x.0 c.count-trail.ensures.is_trail x.1
 
 pub returns-then-not-has-clause-passed : goal.returns-then-not-has-clause-passed
 returns-then-not-has-clause-passed c =

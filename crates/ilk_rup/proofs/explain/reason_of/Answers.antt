@@ -2,8 +2,8 @@ use Rattle.std.proofs.Common.{◌≡◌, ◌∙◌, ap, sym, Some, take, true}
 use Rattle.std.specs.List.{slice_get}
 use Rattle.ilk_base.proofs.Options.{mapped-Some}
 use Rattle.ilk_cnf.specs.Literal.{Literal}
-use Rattle.ilk_cnf.specs.Formula.{lit_in}
-use Rattle.ilk_clauses.specs.Reasons.{is_reason}
+use Rattle.ilk_cnf.specs.Formula.{is_lit_over}
+use Rattle.ilk_watches.specs.Reasons.{is_reason}
 use Rattle.ilk_trail.specs.declared.entry.Entry.{Entry}
 use Rattle.ilk_trail.specs.Laws.{is_set, lits_of}
 use Rattle.ilk_trail.proofs.Entries.{entry-within, set-at}
@@ -14,7 +14,7 @@ pub reason-requires-clause-within : goal.reason-requires-clause-within
 reason-requires-clause-within c =
     let t = c.args.trail.now in
     let x = mapped-Some (λ (e : Entry). e.lit) (slice_get t.entries c.args.i) c.at.result c.at.ensures in
-    ap (lit_in t.vars) (sym x.2) ∙ entry-within t c.args.i x.0 c.count-trail.ensures.is_trail x.1
+    ap (is_lit_over t.vars) (sym x.2) ∙ entry-within t c.args.i x.0 c.count-trail.ensures.is_trail x.1
 
 pub reason-requires-clause-set : goal.reason-requires-clause-set
 reason-requires-clause-set c =

@@ -4,8 +4,8 @@ use Rattle.std.proofs.lemmas.Option.{slice_get-get_or}
 use Rattle.ilk_base.proofs.Lists.{drop_at}
 use Rattle.ilk_base.proofs.Tested.{list_all-slice_get}
 use Rattle.ilk_cnf.specs.Literal.{Literal, has_var, vars_differ}
-use Rattle.ilk_cnf.specs.Formula.{lit_in}
-use Rattle.ilk_cnf.proofs.Literals.{lit_in-parts}
+use Rattle.ilk_cnf.specs.Formula.{is_lit_over}
+use Rattle.ilk_cnf.proofs.Literals.{is_lit_over-parts}
 use Rattle.ilk_solver.proofs.Trees.{keeps-on}
 use Rattle.ilk_solver.proofs.Weights.{counted-step, differ-drop}
 use Rattle.ilk_solver.proofs.view.count_in.Goals as goal
@@ -22,11 +22,11 @@ loop-lit-preserved c = record {
       let next : drop i clause ≡ l ∷ rest = drop_at clause i l within c.lit-item.is in
       let differ : vars_differ (l ∷ rest) ≡ true = ap vars_differ (sym next) ∙ differ-drop clause i c.requires.differ in
       let stands : slice_get clause i ≡ Some l = slice_get-get_or clause i l within ∙ ap Some (sym c.lit-item.is) in
-      let var = lit_in-parts (length c.args.weights.now) l (list_all-slice_get (lit_in (length c.args.weights.now)) clause i l c.requires.within stands) in
+      let var = is_lit_over-parts (length c.args.weights.now) l (list_all-slice_get (is_lit_over (length c.args.weights.now)) clause i l c.requires.within stands) in
       let room : l.var - 1 < length w = omega (arith, var.0, var.1, c.loop-lit.auto.weights) in
       let step = counted-step w v l rest differ from_1 var.0 room in
       let kept = ap (λ (ls : List Literal). get_or w (v - 1) 0 + cond (has_var v ls) 1 0) (sym next) ∙ c.loop-lit.invariant.weights v from_1 in
-      rw (c.count_one.ensures.weights, c.var.ensures) (step ∙ kept));
-  tree = c.count_one.ensures.tree;
-  leaves = keeps-on _ _ _ _ _ _ c.loop-lit.invariant.leaves c.count_one.ensures.leaves;
+      rw (c.add_one_weight.ensures.weights, c.var.ensures) (step ∙ kept));
+  tree = c.add_one_weight.ensures.tree;
+  leaves = keeps-on _ _ _ _ _ _ c.loop-lit.invariant.leaves c.add_one_weight.ensures.leaves;
 }

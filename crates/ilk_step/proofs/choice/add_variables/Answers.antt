@@ -1,6 +1,6 @@
 use Rattle.std.proofs.Common.{◌≡◌, ◌+◌, ◌++◌, ◌∷◌, [], List, false, ap, sym, ◌∙◌, arith}
 use Rattle.std.proofs.lemmas.List.{append-nil}
-use Rattle.ilk_cnf.specs.Literal.{Literal, has_var, minus}
+use Rattle.ilk_cnf.specs.Literal.{Literal, has_var, negative_lit}
 use Rattle.ilk_cnf.specs.Formula.{Formula}
 use Rattle.ilk_step.specs.Choice.{chosen_lits}
 use Rattle.ilk_step.proofs.ChoiceLaw.{chosen_lits-more, chosen_lits-away}
@@ -30,6 +30,6 @@ loop-preserved c =
       clauses = ap (λ (f : Formula). f.clauses) grown ∙ simp append-nil c.loop.invariant.clauses;
       lits = c.in_ok-push.ensures.ok
           ∙ ap (λ (ls : List Literal). ls ++ c.new.result ∷ []) c.loop.invariant.lits
-          ∙ ap (λ (l : Literal). chosen_lits (n + 1) i ++ l ∷ []) (c.new.ensures ∙ ap minus place)
+          ∙ ap (λ (l : Literal). chosen_lits (n + 1) i ++ l ∷ []) (c.new.ensures ∙ ap negative_lit place)
           ∙ sym (chosen_lits-more (n + 1) i);
     }

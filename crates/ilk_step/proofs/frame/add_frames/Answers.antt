@@ -3,11 +3,11 @@ use Rattle.std.proofs.lemmas.List.{length-map}
 use Rattle.std.proofs.lemmas.Bool.{and_parts, and_from}
 use Rattle.ilk_base.proofs.Lists.{drop_at, drop_from}
 use Rattle.ilk_cnf.specs.Literal.{Literal}
-use Rattle.ilk_cnf.specs.Formula.{Formula, clause_in}
+use Rattle.ilk_cnf.specs.Formula.{Formula, is_clause_over}
 use Rattle.ilk_ir.specs.System.{rule_tree}
-use Rattle.ilk_copy.specs.declared.copy.Column.{Column}
+use Rattle.ilk_forms.specs.declared.copy.Column.{Column}
 use Rattle.ilk_forms.specs.Leaf.{columns_in}
-use Rattle.ilk_step.proofs.FrameSteps.{setters-in, frames_step}
+use Rattle.ilk_step.proofs.FrameSteps.{setter_lits-in, frames_step}
 use Rattle.ilk_step.proofs.frame.add_frames.Goals as goal
 
 pub add_frame-requires-clause-first : goal.add_frame-requires-clause-first
@@ -15,7 +15,7 @@ add_frame-requires-clause-first c =
     let rs = map rule_tree c.args.rules.now in
     let vars = c.loop-v.invariant.vars in
     let long : length rs ≡ length c.args.rules.now = length-map c.args.rules.now rule_tree in
-    ap (λ (ls : List Literal). clause_in c.loop-v.cnf.vars ls) c.in_ok-setters.ensures ∙ setters-in rs c.loop-v.v c.args.first c.loop-v.cnf.vars c.requires.from_1 (omega (arith, vars, long, c.requires.numbered))
+    ap (λ (ls : List Literal). is_clause_over c.loop-v.cnf.vars ls) c.in_ok-setters.ensures ∙ setter_lits-in rs c.loop-v.v c.args.first c.loop-v.cnf.vars c.requires.from_1 (omega (arith, vars, long, c.requires.numbered))
 
 pub add_frame-requires-clause-columns : goal.add_frame-requires-clause-columns
 add_frame-requires-clause-columns c =

@@ -1,5 +1,5 @@
 use Rattle.std.proofs.Common.{◌≡◌, ◌++◌, true, drop}
-use Rattle.ilk_cnf.specs.Formula.{clause_in}
+use Rattle.ilk_cnf.specs.Formula.{is_clause_over}
 use Rattle.ilk_cnf.specs.Part.{as_clauses}
 use Rattle.ilk_step.specs.Frame.{carry_over}
 use Rattle.ilk_step.proofs.frame.carry_over.Given as goal
@@ -8,7 +8,7 @@ abbrev pub invariant-loop-i : goal.invariant-loop-i
 invariant-loop-i l =
     record {
       vars : l.cnf.vars ≡ l.fn.cnf.vars;
-      now : clause_in l.cnf.vars (drop l.i l.now) ≡ true;
-      next : clause_in l.cnf.vars (drop l.i l.next) ≡ true;
+      now : is_clause_over l.cnf.vars (drop l.i l.now) ≡ true;
+      next : is_clause_over l.cnf.vars (drop l.i l.next) ≡ true;
       rest : l.cnf.clauses ++ as_clauses (carry_over l.first (drop l.i l.now) (drop l.i l.next)) ≡ l.fn.cnf.clauses ++ as_clauses (carry_over l.first l.now l.next);
     }

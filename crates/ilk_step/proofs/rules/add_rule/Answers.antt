@@ -1,6 +1,6 @@
 use Rattle.std.proofs.Common.{◌≡◌, ◌∷◌, [], ◌∙◌, ℕ, List, true, refl, ap}
-use Rattle.ilk_cnf.specs.Formula.{Formula, clause_in}
-use Rattle.ilk_cnf.proofs.Literals.{clause_in-more}
+use Rattle.ilk_cnf.specs.Formula.{Formula, is_clause_over}
+use Rattle.ilk_cnf.proofs.Literals.{is_clause_over-more}
 use Rattle.ilk_ir.specs.System.{rule_tree}
 use Rattle.ilk_forms.specs.Leaf.{columns_in}
 use Rattle.ilk_forms.specs.Demand.{demand_part}
@@ -30,7 +30,7 @@ add_settings-requires-clause-skip c =
     let skip = c.args.skip ∷ [] in
     let p = demand_part c.args.now.now skip r.guard n in
     let fits = demand_of-fits r.guard c.args.now.now skip true n c.requires.now c.requires.skip (rule_valid-guard _ r c.requires.valid) in
-    ap (λ (f : Formula). clause_in f.vars skip) c.in_ok-demand.ensures.made ∙ clause_in-more n p.vars skip fits.low c.requires.skip
+    ap (λ (f : Formula). is_clause_over f.vars skip) c.in_ok-demand.ensures.made ∙ is_clause_over-more n p.vars skip fits.low c.requires.skip
 
 pub add_settings-requires-clause-valid : goal.add_settings-requires-clause-valid
 add_settings-requires-clause-valid c =

@@ -2,7 +2,7 @@ use Rattle.std.proofs.Common.{◌≡◌, ◌∷◌, ◌+◌, ◌≤◌, ◌∙�
 use Rattle.std.specs.List.{list_all}
 use Rattle.std.proofs.lemmas.Bool.{and_parts}
 use Rattle.ilk_base.proofs.Lists.{drop_at}
-use Rattle.ilk_cnf.specs.Literal.{Literal, plus}
+use Rattle.ilk_cnf.specs.Literal.{Literal, positive_lit}
 use Rattle.ilk_cnf.specs.Formula.{Formula}
 use Rattle.ilk_cnf.specs.Part.{with_part}
 use Rattle.ilk_ir.specs.System.{RuleTree, rule_tree, rule_valid}
@@ -30,13 +30,13 @@ loop-rule-preserved c =
     let split : drop i all ≡ c.rule-item.result ∷ drop (i + 1) all = drop_at all i c.rule-item.result c.loop-rule-test.true c.rule-item.is in
     let rest = drop (i + 1) all in
     let valid = and_parts (rule_valid ranges r) (list_all (rule_valid ranges) (map rule_tree rest)) (sym (ap (λ (rs : List Rule). list_all (rule_valid ranges) (map rule_tree rs)) split) ∙ before.valid) in
-    let made : g ≡ with_part f (rule_part now next (plus k) r n) = c.in_ok-add_rule.ensures ∙ ap (λ (l : Literal). with_part f (rule_part now next l r n)) c.new.ensures in
-    let p = rule_part now next (plus k) r n in
+    let made : g ≡ with_part f (rule_part now next (positive_lit k) r n) = c.in_ok-add_rule.ensures ∙ ap (λ (l : Literal). with_part f (rule_part now next l r n)) c.new.ensures in
+    let p = rule_part now next (positive_lit k) r n in
     let long : length (drop i all) ≡ length rest + 1 = ap length split ∙ omega arith in
     let low = before.low in
     let room = before.fits in
     let small : k ≤ n = omega arith in
-    let fits = rule-fits r now next (plus k) n before.now before.next c.requires.same (skip-in k n low small) valid.0 in
+    let fits = rule-fits r now next (positive_lit k) n before.now before.next c.requires.same (skip-in k n low small) valid.0 in
     let grows = fits.low in
     let vars : g.vars ≡ p.vars = ap (λ (u : Formula). u.vars) made in
     record {

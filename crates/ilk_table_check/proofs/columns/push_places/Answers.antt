@@ -7,4 +7,4 @@ pub loop-i-preserved : goal.loop-i-preserved
 loop-i-preserved c =
     grows_if (λ i. record { rule = c.args.rule; first = i; second = None })
     (breaks_columns c.args.plant.now c.args.rule) c.loop-i.i c.breaks.result c.args.found.now
-    c.loop-i.found c.push_if.new.found c.breaks.ensures c.loop-i.invariant c.in_ok-push_if.ensures.ok
+    c.loop-i.found c.push_broken_if.new.found c.breaks.ensures c.loop-i.invariant c.in_ok-push_broken_if.ensures.ok

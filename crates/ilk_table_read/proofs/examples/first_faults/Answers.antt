@@ -5,7 +5,7 @@ use Rattle.ilk_net_read.proofs.Values.{value_of-read, value_of-refused}
 use Rattle.ilk_table_read.proofs.examples.first_faults.Goals as goal
 use Rattle.ilk_base.proofs.Ascii.{ascii}
 
--- a document of this version with no section and no route
+-- A document of this version without sections and routes.
 bare : ℕ → Data
 bare version = object (member (codes "routes") (array no_items) (member (codes "sections") (array no_items) (member (codes "version") (number (unsigned version)) no_members)))
 

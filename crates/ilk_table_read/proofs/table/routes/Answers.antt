@@ -1,7 +1,7 @@
 use Rattle.std.proofs.Common.{◌∙◌, sym, ap, length, arith}
 use Rattle.std.proofs.lemmas.List.{length-append}
 use Rattle.serde_json.specs.View.{view}
-use Rattle.ilk_base.proofs.Results.{in_order-more}
+use Rattle.ilk_base.proofs.Results.{try_map_numbered-more}
 use Rattle.ilk_net_read.proofs.InOrder.{entries-left}
 use Rattle.ilk_plant.specs.Limits.{route_has_limits, route_has_names}
 use Rattle.ilk_table_read.specs.Table.{route_of}
@@ -12,7 +12,7 @@ pub loop-i-preserved : goal.loop-i-preserved
 loop-i-preserved c = record {
   rest = rw c.in_ok-push.ensures.ok
       (sym
-      (in_order-more (route_of c.args.version) c.loop-i.routes _ _ c.loop-i.i
+      (try_map_numbered-more (route_of c.args.version) c.loop-i.routes _ _ c.loop-i.i
       (view c.index-values-i.result) c.in_ok-route.route
       (entries-left c.args.values.now c.loop-i.i c.index-values-i.result c.loop-i-test.true
       c.index-values-i.is)

@@ -1,7 +1,7 @@
 use Rattle.std.proofs.Common.{◌≡◌, drop, length, true}
 use Rattle.std.specs.List.{list_all}
 use Rattle.serde_json.specs.View.{items_view}
-use Rattle.ilk_base.specs.Result.{in_order}
+use Rattle.ilk_base.specs.Result.{try_map_numbered}
 use Rattle.ilk_net_read.specs.Member.{entries_of}
 use Rattle.ilk_base.proofs.Results.{with_front}
 use Rattle.ilk_plant.specs.Limits.{route_has_limits, route_has_names}
@@ -10,7 +10,7 @@ use Rattle.ilk_table_read.proofs.table.routes.Given as goal
 
 abbrev pub invariant-loop-i : goal.invariant-loop-i
 invariant-loop-i l = record {
-  rest : with_front l.routes (in_order (route_of l.version) l.i (entries_of (items_view (drop l.i l.values)))) ≡ in_order (route_of l.version) 0 (entries_of (items_view l.values));
+  rest : with_front l.routes (try_map_numbered (route_of l.version) l.i (entries_of (items_view (drop l.i l.values)))) ≡ try_map_numbered (route_of l.version) 0 (entries_of (items_view l.values));
   count : length l.routes ≡ l.i;
   limits : list_all route_has_limits l.routes ≡ true;
   named : list_all route_has_names l.routes ≡ true;

@@ -24,8 +24,8 @@ returns-in-Ok-clause-strict g c =
     c.requires.options (subst Found c.in-Ok.is c.in_ok-plant.ensures.found) c.in_ok-plant.ensures.plant
     (record {
       plant = c.is_sound.ensures;
-      walks = c.is_of_drafts.ensures.walks;
-      drafts = c.is_of_drafts.ensures.drafts;
+      walks = c.is_from_drafts.ensures.walks;
+      drafts = c.is_from_drafts.ensures.drafts;
     })
     c.plant_reply-reply.ensures.reply
 
@@ -40,7 +40,7 @@ returns-in-Ok-clause-handled g c =
     c.plant_reply-reply.ensures.handled.read)
     c.plant_reply-reply.ensures.handled.failed c.plant_reply-reply.ensures.handled.rises
 
--- a refusal keeps the second source from being read
+-- A refusal keeps the second source from being read.
 pub returns-in_ok-reply-in-Err-clause-handled : goal.returns-in_ok-reply-in-Err-clause-handled
 returns-in_ok-reply-in-Err-clause-handled g c =
     let Found : Result PlantLists Refusals → Type 0 = λ found. IfSome (g.C.Source.left c.args.conf.now) (λ x. found ≡ plant_of c.args.stages x) in

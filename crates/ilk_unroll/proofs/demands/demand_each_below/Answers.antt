@@ -5,9 +5,9 @@ use Rattle.ilk_base.proofs.Lists.{drop_at}
 use Rattle.ilk_cnf.specs.Part.{with_part}
 use Rattle.ilk_ir.specs.Form.{tree_of}
 use Rattle.ilk_ir.specs.declared.form.Form.{Form}
-use Rattle.ilk_unroll.specs.Goal.{holds_below}
+use Rattle.ilk_unroll.specs.Goal.{must_hold_below}
 use Rattle.ilk_unroll.specs.Query.{demands_part}
-use Rattle.ilk_unroll.specs.Tables.{valid_in}
+use Rattle.ilk_unroll.specs.Tables.{is_valid_in_each}
 use Rattle.ilk_unroll.proofs.DemandsLaw.{demands-rest}
 use Rattle.ilk_unroll.proofs.demands.demand_each_below.Goals as goal
 
@@ -18,7 +18,7 @@ demand_below-requires-clause-valid c =
     let form = c.form-item.result in
     let tables = c.args.tables.now in
     let split : drop i all ≡ form ∷ drop (i + 1) all = drop_at all i form c.loop-form-test.true c.form-item.is in
-    (and_parts (valid_in tables (tree_of form)) (list_all (valid_in tables) (map tree_of (drop (i + 1) all))) (sym (ap (λ (fs : List Form). list_all (valid_in tables) (map tree_of fs)) split) ∙ c.loop-form.invariant.valid)).0
+    (and_parts (is_valid_in_each tables (tree_of form)) (list_all (is_valid_in_each tables) (map tree_of (drop (i + 1) all))) (sym (ap (λ (fs : List Form). list_all (is_valid_in_each tables) (map tree_of fs)) split) ∙ c.loop-form.invariant.valid)).0
 
 pub loop-form-preserved : goal.loop-form-preserved
 loop-form-preserved c =
@@ -30,14 +30,14 @@ loop-form-preserved c =
     let f = c.args.cnf.now in
     let rest = drop (i + 1) all in
     let split : drop i all ≡ form ∷ rest = drop_at all i form c.loop-form-test.true c.form-item.is in
-    let end = with_part f (demands_part tables (flat_map (λ t. holds_below t count) (map tree_of all)) f.vars) in
+    let end = with_part f (demands_part tables (flat_map (λ t. must_hold_below t count) (map tree_of all)) f.vars) in
     record {
       within = c.in_ok-demand_below.ensures.within;
-      valid = (and_parts (valid_in tables (tree_of form)) (list_all (valid_in tables) (map tree_of rest)) (sym (ap (λ (fs : List Form). list_all (valid_in tables) (map tree_of fs)) split) ∙ c.loop-form.invariant.valid)).1;
-      made = demands-rest (holds_below (tree_of form) count)
-          (flat_map (λ t. holds_below t count) (map tree_of rest))
-          (flat_map (λ t. holds_below t count) (map tree_of (drop i all))) tables c.loop-form.cnf
+      valid = (and_parts (is_valid_in_each tables (tree_of form)) (list_all (is_valid_in_each tables) (map tree_of rest)) (sym (ap (λ (fs : List Form). list_all (is_valid_in_each tables) (map tree_of fs)) split) ∙ c.loop-form.invariant.valid)).1;
+      made = demands-rest (must_hold_below (tree_of form) count)
+          (flat_map (λ t. must_hold_below t count) (map tree_of rest))
+          (flat_map (λ t. must_hold_below t count) (map tree_of (drop i all))) tables c.loop-form.cnf
           c.demand_below.new.cnf end
-          (ap (λ (fs : List Form). flat_map (λ t. holds_below t count) (map tree_of fs)) split)
+          (ap (λ (fs : List Form). flat_map (λ t. must_hold_below t count) (map tree_of fs)) split)
           c.in_ok-demand_below.ensures.made c.loop-form.invariant.made;
     }

@@ -2,22 +2,22 @@ use Rattle.std.proofs.Common.{◌≡◌, true, drop, map}
 use Rattle.std.specs.List.{list_all, flat_map}
 use Rattle.ilk_cnf.specs.Part.{with_part}
 use Rattle.ilk_ir.specs.Form.{tree_of}
-use Rattle.ilk_unroll.specs.Goal.{holds_below}
+use Rattle.ilk_unroll.specs.Goal.{must_hold_below}
 use Rattle.ilk_unroll.specs.Query.{demands_part}
-use Rattle.ilk_unroll.specs.Tables.{tables_in, valid_in}
+use Rattle.ilk_unroll.specs.Tables.{tables_in, is_valid_in_each}
 use Rattle.ilk_unroll.proofs.demands.demand_each_below.Given as goal
 
 abbrev pub invariant-loop-form : goal.invariant-loop-form
 invariant-loop-form l =
     record {
       within : tables_in l.cnf.vars l.tables ≡ true;
-      valid : list_all (valid_in l.tables) (map tree_of (drop l.form-index l.forms)) ≡ true;
+      valid : list_all (is_valid_in_each l.tables) (map tree_of (drop l.form-index l.forms)) ≡ true;
       made :
           with_part l.cnf
           (demands_part l.tables
-          (flat_map (λ t. holds_below t l.count) (map tree_of (drop l.form-index l.forms)))
+          (flat_map (λ t. must_hold_below t l.count) (map tree_of (drop l.form-index l.forms)))
           l.cnf.vars)
           ≡ with_part l.fn.cnf
-          (demands_part l.tables (flat_map (λ t. holds_below t l.count) (map tree_of l.forms))
+          (demands_part l.tables (flat_map (λ t. must_hold_below t l.count) (map tree_of l.forms))
           l.fn.cnf.vars);
     }

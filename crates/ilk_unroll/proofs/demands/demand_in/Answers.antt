@@ -1,9 +1,9 @@
 use Rattle.std.proofs.Common.{◌≡◌, ℕ, ◌∙◌, [], List, Some, slice_get, sym, ap}
 use Rattle.ilk_cnf.specs.Part.{with_part}
 use Rattle.ilk_ir.specs.Form.{tree_of}
-use Rattle.ilk_copy.specs.declared.copy.Column.{Column}
+use Rattle.ilk_forms.specs.declared.copy.Column.{Column}
 use Rattle.ilk_forms.specs.Demand.{demand_part}
-use Rattle.ilk_unroll.specs.Goal.{holds_in}
+use Rattle.ilk_unroll.specs.Goal.{must_hold_in}
 use Rattle.ilk_unroll.proofs.CopiesLaw.{within-at, valid-at, tables_in-more}
 use Rattle.ilk_unroll.proofs.DemandsLaw.{one-made, table-is}
 use Rattle.ilk_unroll.proofs.demands.demand_in.Goals as goal
@@ -20,7 +20,7 @@ returns-clause-made c =
     let t = tree_of c.args.form.now in
     let f = c.args.cnf.now in
     let at : slice_get tables c.args.copy ≡ Some c.at.result.now = ap (λ (i : ℕ). slice_get tables i) (sym c.from.ensures) ∙ c.at.ensures in
-    one-made tables (holds_in c.args.copy t) f c.demand.new.cnf (c.in_ok-demand.ensures.made ∙ ap (λ (table : List Column). with_part f (demand_part table [] t f.vars)) (sym (table-is tables c.args.copy c.at.result.now at)))
+    one-made tables (must_hold_in c.args.copy t) f c.demand.new.cnf (c.in_ok-demand.ensures.made ∙ ap (λ (table : List Column). with_part f (demand_part table [] t f.vars)) (sym (table-is tables c.args.copy c.at.result.now at)))
 
 pub returns-clause-within : goal.returns-clause-within
 returns-clause-within c = tables_in-more c.args.cnf.now.vars c.demand.new.cnf.vars c.args.tables.now c.in_ok-demand.ensures.more c.requires.within

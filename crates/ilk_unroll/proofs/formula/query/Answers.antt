@@ -3,11 +3,11 @@ use Rattle.std.specs.Prelude.{sum}
 use Rattle.ilk_cnf.proofs.Extending.{extends-as_clauses}
 use Rattle.ilk_ir.specs.Tree.{all_of, negation, trees}
 use Rattle.ilk_ir.specs.System.{system_tree}
-use Rattle.ilk_copy.proofs.CopyLaw.{ranges_fit-small}
+use Rattle.ilk_forms.proofs.CopyLaw.{ranges_fit-small}
 use Rattle.ilk_unroll.specs.Goal.{goal_tree, step_count}
 use Rattle.ilk_unroll.specs.Query.{copies_part, query_part}
 use Rattle.ilk_unroll.specs.Assignment.{run_assignment, IsWantedRun}
-use Rattle.ilk_unroll.proofs.CopiesLaw.{copies-few, valid_in-from}
+use Rattle.ilk_unroll.proofs.CopiesLaw.{copies-few, is_valid_in_each-from}
 use Rattle.ilk_unroll.proofs.DemandsLaw.{goal-valid}
 use Rattle.ilk_unroll.proofs.QueryLaw.{query-law}
 use Rattle.ilk_unroll.proofs.QueryMade.{query_made, forms-valid, few-wanted, tables-many}
@@ -25,17 +25,17 @@ add_demands-requires-clause-few c = few-wanted c.args.q c.requires.wanted
 pub add_demands-requires-clause-start : goal.add_demands-requires-clause-start
 add_demands-requires-clause-start c =
     let g = goal_tree c.args.goal.now in
-    valid_in-from c.args.system.now.ranges c.in_ok-unrolled.unrolled.tables g.start c.in_ok-unrolled.ensures.ranges (goal-valid c.args.system.now.ranges g c.requires.goal).start
+    is_valid_in_each-from c.args.system.now.ranges c.in_ok-unrolled.unrolled.tables g.start c.in_ok-unrolled.ensures.ranges (goal-valid c.args.system.now.ranges g c.requires.goal).start
 
 pub add_demands-requires-clause-hazard : goal.add_demands-requires-clause-hazard
 add_demands-requires-clause-hazard c =
     let g = goal_tree c.args.goal.now in
-    valid_in-from c.args.system.now.ranges c.in_ok-unrolled.unrolled.tables g.hazard c.in_ok-unrolled.ensures.ranges (goal-valid c.args.system.now.ranges g c.requires.goal).hazard
+    is_valid_in_each-from c.args.system.now.ranges c.in_ok-unrolled.unrolled.tables g.hazard c.in_ok-unrolled.ensures.ranges (goal-valid c.args.system.now.ranges g c.requires.goal).hazard
 
 pub add_demands-requires-clause-wellformed : goal.add_demands-requires-clause-wellformed
 add_demands-requires-clause-wellformed c =
     let g = goal_tree c.args.goal.now in
-    valid_in-from c.args.system.now.ranges c.in_ok-unrolled.unrolled.tables g.wellformed c.in_ok-unrolled.ensures.ranges (goal-valid c.args.system.now.ranges g c.requires.goal).wellformed
+    is_valid_in_each-from c.args.system.now.ranges c.in_ok-unrolled.unrolled.tables g.wellformed c.in_ok-unrolled.ensures.ranges (goal-valid c.args.system.now.ranges g c.requires.goal).wellformed
 
 pub add_demands-requires-clause-each : goal.add_demands-requires-clause-each
 add_demands-requires-clause-each c =
@@ -45,12 +45,12 @@ add_demands-requires-clause-each c =
 pub add_demands-requires-clause-families : goal.add_demands-requires-clause-families
 add_demands-requires-clause-families c =
     let g = goal_tree c.args.goal.now in
-    valid_in-from c.args.system.now.ranges c.in_ok-unrolled.unrolled.tables (all_of (trees g.families)) c.in_ok-unrolled.ensures.ranges (goal-valid c.args.system.now.ranges g c.requires.goal).kept
+    is_valid_in_each-from c.args.system.now.ranges c.in_ok-unrolled.unrolled.tables (all_of (trees g.families)) c.in_ok-unrolled.ensures.ranges (goal-valid c.args.system.now.ranges g c.requires.goal).kept
 
 pub add_demands-requires-clause-last : goal.add_demands-requires-clause-last
 add_demands-requires-clause-last c =
     let g = goal_tree c.args.goal.now in
-    valid_in-from c.args.system.now.ranges c.in_ok-unrolled.unrolled.tables (all_of (trees (negation g.hazard ∷ g.families))) c.in_ok-unrolled.ensures.ranges (goal-valid c.args.system.now.ranges g c.requires.goal).safe
+    is_valid_in_each-from c.args.system.now.ranges c.in_ok-unrolled.unrolled.tables (all_of (trees (negation g.hazard ∷ g.families))) c.in_ok-unrolled.ensures.ranges (goal-valid c.args.system.now.ranges g c.requires.goal).safe
 
 pub returns-clause-formula : goal.returns-clause-formula
 returns-clause-formula c =
@@ -74,7 +74,7 @@ returns-clause-complete c =
     let p = query_part s g c.args.q in
     let law = extends-as_clauses [] p.vars p.clauses (IsWantedRun s g c.args.q) (query-law s g c.args.q c.requires.system (ranges_fit-small s.ranges c.in_ok-unrolled.ensures.bytes) c.requires.goal) in
     let a = run_assignment s g c.args.q first rules in
-    (law.sized a (first, rules, wanted, refl), law.does a (first, rules, wanted, refl))
+    (law.sized a (first, rules, wanted, refl), law.all_satisfy a (first, rules, wanted, refl))
 
 pub returns-clause-copies : goal.returns-clause-copies
 returns-clause-copies c =

@@ -1,6 +1,6 @@
 use Rattle.std.proofs.Common.{arith}
 use Rattle.ilk_ir.specs.System.{system_tree}
-use Rattle.ilk_copy.proofs.CopyLaw.{ranges_fit-small}
+use Rattle.ilk_forms.proofs.CopyLaw.{ranges_fit-small}
 use Rattle.ilk_unroll.specs.Goal.{goal_tree}
 use Rattle.ilk_unroll.proofs.QueryMade.{few-wanted, reads_as}
 use Rattle.ilk_unroll.proofs.reading.read_back.Goals as goal

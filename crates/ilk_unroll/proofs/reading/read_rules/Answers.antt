@@ -1,7 +1,7 @@
 use Rattle.std.proofs.Common.{ℕ, ◌+◌, ◌^◌, ◌++◌, List, drop, get_or, sym, ap, ◌∙◌, subst}
 use Rattle.std.proofs.lemmas.List.{drop_all, drop_more}
 use Rattle.ilk_step.specs.declared.choice.Choice.{Choice}
-use Rattle.ilk_unroll.specs.Tables.{AllChosen, choices_numbered}
+use Rattle.ilk_unroll.specs.Tables.{AllChosen, choices_begin_by}
 use Rattle.ilk_unroll.proofs.ReadBack.{head, rules-next, no_rules-left, numbered-first}
 use Rattle.ilk_unroll.proofs.reading.read_rules.Goals as goal
 
@@ -22,7 +22,7 @@ chosen_rule-requires-clause-numbered c =
     let all = c.as_slice-choice-items.result.now in
     let i = c.loop-choice.choice-index in
     let choice : Choice = get_or all i none in
-    numbered-first (2 ^ 62) all i choice (drop (i + 1) all) (ap (choices_numbered (2 ^ 62)) c.as_slice-choice-items.ensures ∙ c.requires.numbered) (drop_more all i none c.loop-choice-test.true)
+    numbered-first (2 ^ 62) all i choice (drop (i + 1) all) (ap (choices_begin_by (2 ^ 62)) c.as_slice-choice-items.ensures ∙ c.requires.numbered) (drop_more all i none c.loop-choice-test.true)
 
 pub chosen_rule-requires-clause-one : goal.chosen_rule-requires-clause-one
 chosen_rule-requires-clause-one c =

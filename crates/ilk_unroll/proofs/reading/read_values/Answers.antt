@@ -2,7 +2,7 @@ use Rattle.std.proofs.Common.{◌≡◌, ℕ, ◌∙◌, ◌+◌, ◌∷◌, ◌
 use Rattle.std.proofs.lemmas.List.{drop_more, drop_all}
 use Rattle.ilk_ints.specs.Bits.{bit_count}
 use Rattle.ilk_ir.specs.System.{in_ranges}
-use Rattle.ilk_copy.specs.Copy.{total_bits, HaveBits}
+use Rattle.ilk_forms.specs.Copy.{total_bits, HaveBits}
 use Rattle.ilk_unroll.proofs.ReadBack.{told, told-passes, left-next, none-left, bits_reach}
 use Rattle.ilk_unroll.proofs.reading.read_values.Goals as goal
 
@@ -29,9 +29,9 @@ value_of-requires-clause-reached c =
     let all = c.as_slice-range-items.result.now in
     let i = c.loop-range.range-index in
     let fits =
-    (bits_reach c.loop-range.first (get_or all i 0) c.bits-count.result
+    (bits_reach c.loop-range.first (get_or all i 0) c.bit_count-count.result
     (c.args.from + total_bits c.args.ranges.now) (drop i all) (drop (i + 1) all)
-    (drop_more all i 0 c.loop-range-test.true) c.bits-count.ensures.count
+    (drop_more all i 0 c.loop-range-test.true) c.bit_count-count.ensures.count
     c.loop-range.invariant.reached).0 in
     omega (arith, fits, c.requires.reached)
 
@@ -40,9 +40,9 @@ overflow_add-first c =
     let all = c.as_slice-range-items.result.now in
     let i = c.loop-range.range-index in
     let fits =
-    (bits_reach c.loop-range.first (get_or all i 0) c.bits-count.result
+    (bits_reach c.loop-range.first (get_or all i 0) c.bit_count-count.result
     (c.args.from + total_bits c.args.ranges.now) (drop i all) (drop (i + 1) all)
-    (drop_more all i 0 c.loop-range-test.true) c.bits-count.ensures.count
+    (drop_more all i 0 c.loop-range-test.true) c.bit_count-count.ensures.count
     c.loop-range.invariant.reached).1 in
     omega (arith, fits, c.requires.numbered)
 
@@ -53,7 +53,7 @@ value_of-requires-clause-satisfied c =
     let range = get_or all i 0 in
     let values = c.requires.told in
     let left = c.loop-range.invariant.left values.0 values.1 values.2 in
-    let enough : range ≤ 2 ^ bit_count range = subst (λ (k : ℕ). range ≤ 2 ^ k) c.bits-count.ensures.count c.bits-count.ensures.enough in
+    let enough : range ≤ 2 ^ bit_count range = subst (λ (k : ℕ). range ≤ 2 ^ k) c.bit_count-count.ensures.count c.bit_count-count.ensures.enough in
     told-passes c.args.a.now c.loop-range.first range (drop (i + 1) all) left.rest enough (told c.args.a.now c.loop-range.first range (drop i all) (drop (i + 1) all) left.rest (drop_more all i 0 c.loop-range-test.true) left.in_range left.have)
 
 pub loop-range-preserved : goal.loop-range-preserved
@@ -62,15 +62,15 @@ loop-range-preserved c =
     let i = c.loop-range.range-index in
     let range = get_or all i 0 in
     let split : drop i all ≡ range ∷ drop (i + 1) all = drop_more all i 0 c.loop-range-test.true in
-    let enough : range ≤ 2 ^ bit_count range = subst (λ (k : ℕ). range ≤ 2 ^ k) c.bits-count.ensures.count c.bits-count.ensures.enough in
+    let enough : range ≤ 2 ^ bit_count range = subst (λ (k : ℕ). range ≤ 2 ^ k) c.bit_count-count.ensures.count c.bit_count-count.ensures.enough in
     let low = c.loop-range.invariant.from_1 in
     record {
       from_1 = omega arith;
-      reached = (bits_reach c.loop-range.first range c.bits-count.result (c.args.from + total_bits c.args.ranges.now) (drop i all) (drop (i + 1) all) split c.bits-count.ensures.count c.loop-range.invariant.reached).1;
+      reached = (bits_reach c.loop-range.first range c.bit_count-count.result (c.args.from + total_bits c.args.ranges.now) (drop i all) (drop (i + 1) all) split c.bit_count-count.ensures.count c.loop-range.invariant.reached).1;
       left =
-          λ values h k. left-next c.args.a.now c.loop-range.first range c.bits-count.result c.value_of.result
+          λ values h k. left-next c.args.a.now c.loop-range.first range c.bit_count-count.result c.value_of.result
           (drop i all) (drop (i + 1) all) c.loop-range.values c.push.new.self values split
-          c.bits-count.ensures.count enough c.value_of.ensures.bits c.value_of.ensures.below
+          c.bit_count-count.ensures.count enough c.value_of.ensures.bits c.value_of.ensures.below
           c.in_ok-push.ensures.ok (c.loop-range.invariant.left values h k);
     }
 

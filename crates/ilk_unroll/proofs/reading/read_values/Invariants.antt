@@ -1,6 +1,6 @@
 use Rattle.std.proofs.Common.{◌≡◌, ℕ, ◌+◌, ◌<◌, ◌≤◌, true, List, drop}
 use Rattle.ilk_ir.specs.System.{in_ranges}
-use Rattle.ilk_copy.specs.Copy.{total_bits, HaveBits}
+use Rattle.ilk_forms.specs.Copy.{total_bits, HaveBits}
 use Rattle.ilk_unroll.proofs.ReadBack.{Left}
 use Rattle.ilk_unroll.proofs.reading.read_values.Given as goal
 

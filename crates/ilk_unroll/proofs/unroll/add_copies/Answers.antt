@@ -1,8 +1,8 @@
 use Rattle.std.proofs.Common.{◌≡◌, ℕ, ◌∙◌, ◌+◌, ◌-◌, ◌*◌, ◌++◌, List, suc, ap, arith}
 use Rattle.std.proofs.Math.Nat.{suc-mul}
 use Rattle.ilk_cnf.specs.Formula.{Formula}
-use Rattle.ilk_copy.specs.declared.copy.Column.{Column}
-use Rattle.ilk_copy.specs.Copy.{copy_width}
+use Rattle.ilk_forms.specs.declared.copy.Column.{Column}
+use Rattle.ilk_forms.specs.Copy.{copy_var_count}
 use Rattle.ilk_unroll.specs.Query.{copies_part}
 use Rattle.ilk_unroll.proofs.CopiesLaw.{copies-step}
 use Rattle.ilk_unroll.proofs.unroll.add_copies.Goals as goal
@@ -10,7 +10,7 @@ use Rattle.ilk_unroll.proofs.unroll.add_copies.Goals as goal
 pub loop-preserved : goal.loop-preserved
 loop-preserved c =
     let ranges = c.args.ranges.now in
-    let w = copy_width ranges in
+    let w = copy_var_count ranges in
     let i = c.args.count - (c.loop.counter + 1) in
     let left : c.args.count - c.loop.counter ≡ suc i = omega (arith, c.loop-test.true) in
     let more : suc i * w ≡ i * w + w = suc-mul i w in

@@ -1,7 +1,7 @@
 use Rattle.std.proofs.Common.{◌≡◌, ◌-◌, ◌*◌, ◌≤◌, ◌++◌}
-use Rattle.ilk_cnf.specs.Formula.{grown}
+use Rattle.ilk_cnf.specs.Formula.{with_clauses}
 use Rattle.ilk_cnf.specs.Part.{as_clauses}
-use Rattle.ilk_copy.specs.Copy.{copy_width}
+use Rattle.ilk_forms.specs.Copy.{copy_var_count}
 use Rattle.ilk_unroll.specs.Query.{copies_part}
 use Rattle.ilk_unroll.proofs.unroll.add_copies.Given as goal
 
@@ -9,8 +9,8 @@ abbrev pub invariant-loop : goal.invariant-loop
 invariant-loop l =
     record {
       vars : l.cnf.vars ≡ l.fn.cnf.vars;
-      before : l.before ≡ (l.count - l.counter) * copy_width l.ranges;
+      before : l.before ≡ (l.count - l.counter) * copy_var_count l.ranges;
       within : l.before ≤ l.fn.cnf.vars;
       tables : l.tables ++ (copies_part l.ranges (l.count - l.counter) 0).tables ≡ (copies_part l.ranges l.count 0).tables;
-      made : grown l.cnf l.cnf.vars (as_clauses (copies_part l.ranges (l.count - l.counter) 0).part.clauses) ≡ grown l.fn.cnf l.fn.cnf.vars (as_clauses (copies_part l.ranges l.count 0).part.clauses);
+      made : with_clauses l.cnf l.cnf.vars (as_clauses (copies_part l.ranges (l.count - l.counter) 0).part.clauses) ≡ with_clauses l.fn.cnf l.fn.cnf.vars (as_clauses (copies_part l.ranges l.count 0).part.clauses);
     }

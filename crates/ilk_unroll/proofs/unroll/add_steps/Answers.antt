@@ -5,7 +5,7 @@ use Rattle.std.proofs.lemmas.Option.{slice_get_within, get_or_from_slice_get}
 use Rattle.ilk_cnf.specs.Part.{with_part}
 use Rattle.ilk_cnf.specs.Formula.{Formula}
 use Rattle.ilk_ir.specs.System.{rule_tree, rule_valid, system_tree}
-use Rattle.ilk_copy.specs.declared.copy.Column.{Column}
+use Rattle.ilk_forms.specs.declared.copy.Column.{Column}
 use Rattle.ilk_step.specs.declared.choice.Choice.{Choice}
 use Rattle.ilk_step.specs.Step.{step_part}
 use Rattle.ilk_unroll.specs.Query.{steps_part}

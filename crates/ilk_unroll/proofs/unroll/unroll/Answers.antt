@@ -3,12 +3,12 @@ use Rattle.std.specs.List.{list_all}
 use Rattle.ilk_cnf.specs.Formula.{Formula}
 use Rattle.ilk_cnf.specs.Part.{with_part}
 use Rattle.ilk_ir.specs.System.{rule_tree, system_tree}
-use Rattle.ilk_copy.specs.declared.copy.Column.{Column}
-use Rattle.ilk_copy.specs.Copy.{copy_width}
-use Rattle.ilk_copy.proofs.ColumnLaw.{ranges_fit}
+use Rattle.ilk_forms.specs.declared.copy.Column.{Column}
+use Rattle.ilk_forms.specs.Copy.{copy_var_count}
+use Rattle.ilk_forms.proofs.ColumnLaw.{ranges_fit}
 use Rattle.ilk_unroll.proofs.ReadBack.{ranges_fit-bytes}
 use Rattle.ilk_unroll.specs.Query.{copies_part, steps_part}
-use Rattle.ilk_unroll.specs.Tables.{step_choices, choices_numbered, tables_in, HaveRanges}
+use Rattle.ilk_unroll.specs.Tables.{step_choices, choices_begin_by, tables_in, HaveRanges}
 use Rattle.ilk_unroll.proofs.StepsLaw.{choices-numbered}
 use Rattle.ilk_unroll.proofs.CopiesLaw.{one-more}
 use Rattle.ilk_unroll.proofs.QueryLaw.{rules-valid}
@@ -18,19 +18,18 @@ use Rattle.ilk_unroll.proofs.unroll.unroll.Goals.{In_ok-tables}
 
 pub add_copies-requires-clause-width : goal.add_copies-requires-clause-width
 add_copies-requires-clause-width c =
-    let taken = ap (λ (f : Formula). f.vars) c.in_ok-take_copy.ensures.taken in
+    let taken = ap (λ (f : Formula). f.vars) c.in_ok-reserve_copy.ensures.taken in
     omega (arith, taken, c.vars-before.ensures.count, c.vars-all.ensures.count)
 
 pub add_copies-requires-clause-there : goal.add_copies-requires-clause-there
 add_copies-requires-clause-there c =
-    let w = copy_width c.args.system.now.ranges in
+    let w = copy_var_count c.args.system.now.ranges in
     let empty = ap (λ (f : Formula). f.vars) c.requires.empty in
     let later = ap (λ (f : Formula). f.vars) c.in_ok-take_copies.ensures in
-    let first = ap (λ (f : Formula). f.vars) c.in_ok-take_copy.ensures.taken in
+    let first = ap (λ (f : Formula). f.vars) c.in_ok-reserve_copy.ensures.taken in
     let more : (c.args.steps + 1) * w ≡ c.args.steps * w + w = one-more c.args.steps w in
     omega (arith, more, first, later, empty)
 
--- the copies of all moments
 many : (c : In_ok-tables) → c.args.steps + 1 ≡ suc c.args.steps
 many c = omega arith
 
@@ -39,8 +38,8 @@ seen c = c.in_ok-tables.ensures.tables ∙ ap (λ (k : ℕ). (copies_part c.args
 
 made : (c : In_ok-tables) → c.add_copies.new.cnf ≡ with_part no_formula (copies_part c.args.system.now.ranges (suc c.args.steps) 0).part
 made c = copies_made c.args.system.now.ranges c.args.steps (c.args.steps + 1) c.args.cnf.now
-    c.take_copies.new.cnf c.take_copy.new.cnf c.add_copies.new.cnf c.requires.empty
-    c.in_ok-take_copies.ensures c.in_ok-take_copy.ensures.taken (many c) c.in_ok-tables.ensures.made
+    c.take_copies.new.cnf c.reserve_copy.new.cnf c.add_copies.new.cnf c.requires.empty
+    c.in_ok-take_copies.ensures c.in_ok-reserve_copy.ensures.taken (many c) c.in_ok-tables.ensures.made
 
 fit : (c : In_ok-tables) → ranges_fit c.args.system.now.ranges ≡ true
 fit c = ranges_fit-bytes c.args.system.now.ranges c.as_slice.result.now c.as_slice.ensures c.bytes_of-ranges.ensures.bytes
@@ -96,7 +95,7 @@ returns-clause-numbered c =
     let are = inside (goal.at.returns-clause-numbered c).In_ok-tables in
     let vars = ap (λ (f : Formula). f.vars) c.in_ok-choices.ensures.made in
     let high : (steps_part s.rules tables g.vars).vars ≤ 2 ^ 62 = omega (arith, vars, c.vars.ensures.count, c.vars.ensures.numbered) in
-    ap (choices_numbered (2 ^ 62)) c.in_ok-choices.ensures.choices ∙ choices-numbered tables s.ranges s.rules g.vars (2 ^ 62) are.0 are.1 (rules-valid s c.requires.valid) high
+    ap (choices_begin_by (2 ^ 62)) c.in_ok-choices.ensures.choices ∙ choices-numbered tables s.ranges s.rules g.vars (2 ^ 62) are.0 are.1 (rules-valid s c.requires.valid) high
 
 pub returns-clause-reach : goal.returns-clause-reach
 returns-clause-reach c =

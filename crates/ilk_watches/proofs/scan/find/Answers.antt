@@ -1,8 +1,8 @@
 use Rattle.std.proofs.Common.{◌<◌, ◌&&◌, ℕ, not, length, arith, ap, sym, ◌∙◌}
-use Rattle.ilk_cnf.specs.Literal.{plus}
-use Rattle.ilk_cnf.specs.Formula.{lit_in}
+use Rattle.ilk_cnf.specs.Literal.{positive_lit}
+use Rattle.ilk_cnf.specs.Formula.{is_lit_over}
 use Rattle.ilk_trail.specs.Laws.{is_set}
-use Rattle.ilk_clauses.specs.Chained.{formula_of}
+use Rattle.ilk_watches.specs.Chained.{formula_of}
 use Rattle.ilk_watches.proofs.Finding.{forced-is}
 use Rattle.ilk_watches.proofs.scan.find.Goals as goal
 
@@ -13,4 +13,4 @@ returns-in-Unit-clause-found c =
     let l = c.in-Unit.l in
     let within : c.loop-c.c < length a.clauses = omega (arith, c.count-c-end.ensures.count, c.loop-c-test.true) in
     let r = forced-is (formula_of a) es c.loop-c.c l c.count-c-end.ensures.formula c.level.ensures.is_trail.once within (sym c.in-Unit.ensures.look) in
-    (r.0, ap (λ (n : ℕ). lit_in n (plus l.var) && not (is_set es l.var)) c.requires ∙ r.1)
+    (r.0, ap (λ (n : ℕ). is_lit_over n (positive_lit l.var) && not (is_set es l.var)) c.requires ∙ r.1)

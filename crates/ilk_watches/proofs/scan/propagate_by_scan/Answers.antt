@@ -1,6 +1,6 @@
 use Rattle.std.proofs.Common.{◌∷◌, [], List, Some, length, arith, ap, sym, ◌∙◌, subst, length-append}
 use Rattle.ilk_trail.specs.declared.entry.Entry.{Entry}
-use Rattle.ilk_trail.specs.Trail.{TrailList, assigned, level_of}
+use Rattle.ilk_trail.specs.Trail.{TrailList, with_assignment, level_of}
 use Rattle.ilk_watches.specs.Propagated.{IsPropagated}
 use Rattle.ilk_watches.proofs.Entries.{entries-few}
 use Rattle.ilk_watches.proofs.Propagations.{propagated-push}
@@ -19,7 +19,7 @@ pub rounds-preserved : goal.rounds-preserved
 rounds-preserved c =
     let old = c.args.trail.now in
     let now = c.rounds.trail in
-    let es = assigned now.entries c.in-Forced.l c.in-Forced.c in
+    let es = with_assignment now.entries c.in-Forced.l c.in-Forced.c in
     let made = c.assign.ensures in
     let entries = ap (λ (t : TrailList). t.entries) made in
     let P : List Entry → Type 0 = λ xs. IsPropagated c.args.clauses.now.clauses old.entries xs in

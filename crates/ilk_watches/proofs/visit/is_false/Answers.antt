@@ -1,6 +1,6 @@
 use Rattle.std.proofs.Common.{Bool, Option, not, ap, sym, ◌∙◌}
 use Rattle.ilk_base.specs.Option.{is_some_and}
-use Rattle.ilk_clauses.proofs.Values.{value-tells}
+use Rattle.ilk_watches.proofs.Values.{value-tells}
 use Rattle.ilk_watches.proofs.visit.is_false.Goals as goal
 
 pub returns-in-Some : goal.returns-in-Some

@@ -1,13 +1,13 @@
 use Rattle.std.proofs.Common.{◌≡◌, ◌-◌, ℕ, Bool, true, false, not, Option, Some, ap, sym, ◌∙◌, subst, refl}
 use Rattle.ilk_base.specs.Option.{is_some_and}
 use Rattle.ilk_cnf.specs.Literal.{has_lit}
-use Rattle.ilk_cnf.specs.Formula.{lit_in}
+use Rattle.ilk_cnf.specs.Formula.{is_lit_over}
 use Rattle.ilk_trail.specs.declared.entry.Entry.{Entry}
 use Rattle.ilk_trail.specs.Trail.{TrailList, level_of, value_of_literal}
 use Rattle.ilk_trail.specs.Laws.{lits_of}
 use Rattle.ilk_arena.specs.Arena.{ArenaLists, number_of_clause, other_watch_of}
-use Rattle.ilk_clauses.specs.Reasons.{is_reason}
-use Rattle.ilk_clauses.proofs.Values.{value-none, value-tells}
+use Rattle.ilk_watches.specs.Reasons.{is_reason}
+use Rattle.ilk_watches.proofs.Values.{value-none, value-tells}
 use Rattle.ilk_watches.specs.Propagated.{IsPropagated}
 use Rattle.ilk_watches.proofs.Others.{conflict-of, number-same, other-facts, other-true, other-within, pushed-true, reason-of}
 use Rattle.ilk_watches.proofs.Propagations.{propagated-one, propagated-start}
@@ -20,7 +20,7 @@ value-requires c =
     let m = c.other_watch-other.result in
     let k = c.arena.ensures.clauses in
     let o = other-facts a c.args.c c.args.f m k c.requires.stands (ap (λ (x : ArenaLists). other_watch_of x c.args.c c.args.f) (sym c.arena.ensures.arena) ∙ c.other_watch-other.ensures) in
-    ap (λ (n : ℕ). lit_in n m) c.requires.vars ∙ other-within a c.args.c c.args.f m k o
+    ap (λ (n : ℕ). is_lit_over n m) c.requires.vars ∙ other-within a c.args.c c.args.f m k o
 
 pub assign-requires-clause-within : goal.assign-requires-clause-within
 assign-requires-clause-within c =
@@ -29,7 +29,7 @@ assign-requires-clause-within c =
     let m = c.other_watch-other.result in
     let k = c.arena.ensures.clauses in
     let o = other-facts a c.args.c c.args.f m k c.requires.stands (ap (λ (x : ArenaLists). other_watch_of x c.args.c c.args.f) (sym c.arena.ensures.arena) ∙ c.other_watch-other.ensures) in
-    ap (λ (n : ℕ). lit_in n m) c.requires.vars ∙ other-within a c.args.c c.args.f m k o
+    ap (λ (n : ℕ). is_lit_over n m) c.requires.vars ∙ other-within a c.args.c c.args.f m k o
 
 pub assign-requires-clause-unset : goal.assign-requires-clause-unset
 assign-requires-clause-unset c = value-none c.args.trail.now.entries c.other_watch-other.result (sym c.in-None.ensures)

@@ -2,14 +2,13 @@ use Rattle.std.proofs.Common.{◌≡◌, ◌≢◌, ◌+◌, ◌≤◌, ℕ, Boo
 use Rattle.std.specs.Prelude.{is_some}
 use Rattle.ilk_cnf.specs.Literal.{Literal}
 use Rattle.ilk_trail.specs.Trail.{TrailList}
-use Rattle.ilk_watches.specs.Visits.{left_of}
+use Rattle.ilk_watches.specs.Visits.{remaining_clauses}
 use Rattle.ilk_watches.proofs.Beside.{StepAt, left-beside}
 use Rattle.ilk_watches.proofs.Entries.{entries-few}
 use Rattle.ilk_watches.proofs.Going.{Both, alone-before, alone-broken, alone-ended, alone-start, alone-step, at-level, both-broken, both-ended, both-start, both-step, both-turned, sofar-more, sofar-start}
 use Rattle.ilk_watches.proofs.walk.walk_from.Goals as goal
 use Rattle.ilk_watches.proofs.walk.walk_from.Goals.{In_default-step, then-alone-test+else-next-count, else-alone-test, then-both-test+else-is_some, else-both-test}
 
--- what the tests of a walk tell
 no-next : (o : Option ℕ) (b : Bool) → b ≡ is_some o → b ≡ false → o ≡ None
 no-next None b e f = refl
 no-next (Some x) b e f = absurd (let t : true ≡ false = sym e ∙ f in cc)
@@ -104,7 +103,6 @@ pub returns-in-Some-step-clause-propagated : goal.returns-in-Some-step-clause-pr
 returns-in-Some-step-clause-propagated c =
     (sofar-more c.both.invariant.sofar c.step-in-both.ensures.clauses c.step-in-both.ensures.trail c.step-in-both.ensures.propagated).propagated
 
--- after the step of the older walk
 halfway : (c : In_default-step) → Both c.step-in-both.new.clauses c.step-in-both.new.trail.entries c.args.head (c.entries.next + 1) c.step-in-both.new.walk c.both.newer
 halfway c =
     let o = c.both.invariant.both in
@@ -172,8 +170,8 @@ both-smaller c =
     let two = c.in_default-step-2.ensures.shorter newer_next in
     let beside = left-beside _ _ _ _ c.both.older.f c.both.newer.f c.both.newer.next s o.two.made.denied o.apart in
     let kept = left-beside _ _ _ _ c.both.newer.f c.step-in-both.new.walk.f c.step-in-both.new.walk.next u half.one.made.denied (λ e. half.apart (sym e)) in
-    let f = ap (λ (l : Literal). left_of c.step-in-both.new.clauses l c.step-in-both.new.walk.next) c.in_default-step.ensures.literal in
-    let g = ap (λ (l : Literal). left_of c.step-in-both-2.new.clauses l c.step-in-both-2.new.walk.next) c.in_default-step-2.ensures.literal in
+    let f = ap (λ (l : Literal). remaining_clauses c.step-in-both.new.clauses l c.step-in-both.new.walk.next) c.in_default-step.ensures.literal in
+    let g = ap (λ (l : Literal). remaining_clauses c.step-in-both-2.new.clauses l c.step-in-both-2.new.walk.next) c.in_default-step-2.ensures.literal in
     omega (arith, one, two, beside, kept, f, g)
 
 pub both-preserved : goal.both-preserved

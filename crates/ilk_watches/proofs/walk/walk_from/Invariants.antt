@@ -1,5 +1,5 @@
 use Rattle.std.proofs.Common.{◌+◌, ◌-◌}
-use Rattle.ilk_watches.specs.Visits.{left_of}
+use Rattle.ilk_watches.specs.Visits.{remaining_clauses}
 use Rattle.ilk_watches.proofs.Going.{Alone, Both, Sofar}
 use Rattle.ilk_watches.proofs.walk.walk_from.Given as goal
 
@@ -19,7 +19,7 @@ invariant-alone l = record {
 }
 
 abbrev pub decreases-alone : goal.decreases-alone
-decreases-alone l = left_of l.clauses l.older.f l.older.next
+decreases-alone l = remaining_clauses l.clauses l.older.f l.older.next
 
 abbrev pub invariant-both : goal.invariant-both
 invariant-both l = record {
@@ -28,4 +28,4 @@ invariant-both l = record {
 }
 
 abbrev pub decreases-both : goal.decreases-both
-decreases-both l = left_of l.clauses l.older.f l.older.next + left_of l.clauses l.newer.f l.newer.next
+decreases-both l = remaining_clauses l.clauses l.older.f l.older.next + remaining_clauses l.clauses l.newer.f l.newer.next

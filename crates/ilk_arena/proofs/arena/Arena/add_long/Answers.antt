@@ -2,18 +2,17 @@ use Rattle.std.proofs.Common.{◌≡◌, ◌+◌, ◌-◌, ◌/◌, ◌≤◌, �
 use Rattle.std.specs.Vec.{with_items}
 use Rattle.std.proofs.lemmas.List.{length-map}
 use Rattle.ilk_base.proofs.Lists.{all-written}
-use Rattle.ilk_cnf.specs.Formula.{clause_in}
-use Rattle.ilk_cnf.proofs.Literals.{clause_in-more}
-use Rattle.ilk_arena.specs.Arena.{ArenaLists, added}
+use Rattle.ilk_cnf.specs.Formula.{is_clause_over}
+use Rattle.ilk_cnf.proofs.Literals.{is_clause_over-more}
+use Rattle.ilk_arena.specs.Arena.{ArenaLists, with_clause_added}
 use Rattle.ilk_arena.specs.declared.place.TheConstants.{WORD_LIMIT}
 use Rattle.ilk_arena.proofs.Law.{arena-law}
 use Rattle.ilk_arena.proofs.Readings.{vars-are, spare-are, count-fits}
 use Rattle.ilk_arena.proofs.AddedClauses.{Grown, new-reference}
 use Rattle.ilk_arena.proofs.LongClauses.{LiteralRead, literal-read, long-grown}
 use Rattle.ilk_arena.proofs.arena.Arena.add_long.Goals as goal
-use Rattle.ilk_arena.proofs.arena.Arena.add_long.Goals.{After-self, After-index-clause-0, After-index-clause-1, After-lead}
+use Rattle.ilk_arena.proofs.arena.Arena.add_long.Goals.{After-self, After-index-clause-0, After-index-clause-1, After-set_both_heads}
 
--- the clause has room
 room : (c : After-self) →
     let words = c.self.inside.words in
     length c.args.clause.now + 8 ≤ min words.cap WORD_LIMIT - words.len
@@ -21,7 +20,6 @@ room c =
     let s = c.self.inside in
     omega (arith, spare-are s.vars _ s.words.items s.heads.items c.args.self.now c.self.view_is, c.requires.room)
 
--- its first literal, as it was read, and its second
 left-read : (c : After-index-clause-0) →
     LiteralRead c.self.inside.heads.items c.args.clause.now 0 c.index-clause-0.result
 left-read c =
@@ -67,34 +65,33 @@ append-requires-clause-within c =
     let s = c.self.inside in
     let ls = c.args.clause.now in
     let vars = vars-are s.vars _ s.words.items s.heads.items c.args.self.now c.self.view_is in
-    let within = ap (λ (n : ℕ). clause_in n ls) vars ∙ c.requires.within in
-    clause_in-more s.vars (WORD_LIMIT / 2 - 1) ls (omega (arith, c.self.invariant.few)) within
+    let within = ap (λ (n : ℕ). is_clause_over n ls) vars ∙ c.requires.within in
+    is_clause_over-more s.vars (WORD_LIMIT / 2 - 1) ls (omega (arith, c.self.invariant.few)) within
 
-pub lead-requires-clause-left_in : goal.lead-requires-clause-left_in
-lead-requires-clause-left_in c =
-    let l = left-read (goal.at.lead-requires-clause-left_in c).After-index-clause-0 in
+pub set_both_heads-requires-clause-left_in : goal.set_both_heads-requires-clause-left_in
+set_both_heads-requires-clause-left_in c =
+    let l = left-read (goal.at.set_both_heads-requires-clause-left_in c).After-index-clause-0 in
     rw (c.deref_mut.ensures.value, c.place-left.ensures) l.chained
 
-pub lead-requires-clause-right_in : goal.lead-requires-clause-right_in
-lead-requires-clause-right_in c =
-    let m = right-read (goal.at.lead-requires-clause-right_in c).After-index-clause-1 in
+pub set_both_heads-requires-clause-right_in : goal.set_both_heads-requires-clause-right_in
+set_both_heads-requires-clause-right_in c =
+    let m = right-read (goal.at.set_both_heads-requires-clause-right_in c).After-index-clause-1 in
     rw (c.deref_mut.ensures.value, c.place-right.ensures) m.chained
 
-pub lead-requires-clause-fits : goal.lead-requires-clause-fits
-lead-requires-clause-fits c = omega (arith, room (goal.at.lead-requires-clause-fits c).After-self, c.len-reference.ensures)
+pub set_both_heads-requires-clause-fits : goal.set_both_heads-requires-clause-fits
+set_both_heads-requires-clause-fits c = omega (arith, room (goal.at.set_both_heads-requires-clause-fits c).After-self, c.len-reference.ensures)
 
--- the words and the heads at the end hold the arena with the clause
-grown : (c : After-lead) →
+grown : (c : After-set_both_heads) →
     let s = c.self.inside in
     let words = c.append.new.words in
-    let heads = with_items s.heads c.lead.new.heads in
+    let heads = with_items s.heads c.set_both_heads.new.heads in
     let spare = min words.cap WORD_LIMIT - words.len in
     Grown s.vars spare s.count words.items heads.items c.args.self.now c.args.clause.now c.len-reference.result
 grown c =
     let s = c.self.inside in
     let asked = c.requires in
     let holds = c.self.invariant in
-    let size : length c.lead.new.heads ≡ s.heads.len = omega (arith, c.lead.auto.heads, c.deref_mut.ensures.len) in
+    let size : length c.set_both_heads.new.heads ≡ s.heads.len = omega (arith, c.set_both_heads.auto.heads, c.deref_mut.ensures.len) in
     long-grown _ _ holds c.self.view_is asked.within asked.differ asked.long asked.room (omega (arith, holds.addressed, s.words.ok.0)) (record {
       l = c.index-clause-0.result;
       m = c.index-clause-1.result;
@@ -110,17 +107,17 @@ grown c =
       right_link_is = c.index-right_link.ensures;
       reference_is = omega (arith, c.len-reference.ensures, s.words.ok.0);
       words_are = c.append.ensures.items;
-      heads_are = all-written s.heads.len c.lead.new.heads s.heads.items size ∙ rw c.deref_mut.ensures.value at c.lead.ensures;
+      heads_are = all-written s.heads.len c.set_both_heads.new.heads s.heads.items size ∙ rw c.deref_mut.ensures.value at c.set_both_heads.ensures;
     })
 
 pub invariant_of-self : goal.invariant_of-self
-invariant_of-self c = (grown (goal.at.invariant_of-self c).After-lead).holds
+invariant_of-self c = (grown (goal.at.invariant_of-self c).After-set_both_heads).holds
 
 pub returns-clause-added : goal.returns-clause-added
 returns-clause-added c =
-    let g = grown (goal.at.returns-clause-added c).After-lead in
+    let g = grown (goal.at.returns-clause-added c).After-set_both_heads in
     let spare = ap (λ (x : ArenaLists). x.spare) g.lists in
-    g.lists ∙ ap (added c.args.self.now c.args.clause.now c.len-reference.result) (sym spare)
+    g.lists ∙ ap (with_clause_added c.args.self.now c.args.clause.now c.len-reference.result) (sym spare)
 
 pub returns-clause-fresh : goal.returns-clause-fresh
 returns-clause-fresh c =
@@ -131,11 +128,11 @@ returns-clause-fresh c =
 pub returns-clause-room : goal.returns-clause-room
 returns-clause-room c =
     let s = c.self.inside in
-    let g = grown (goal.at.returns-clause-room c).After-lead in
+    let g = grown (goal.at.returns-clause-room c).After-set_both_heads in
     let new = ap (λ (x : ArenaLists). x.spare) g.lists in
     let old = spare-are s.vars _ s.words.items s.heads.items c.args.self.now c.self.view_is in
     let size = simp (length-append, length-map) at (ap length c.append.ensures.items) in
     omega (arith, new, old, size, c.append.ensures.capacity, c.append.new.words.ok.0, s.words.ok.0)
 
 pub returns-clause-arena : goal.returns-clause-arena
-returns-clause-arena c = arena-law _ _ _ _ _ (grown (goal.at.returns-clause-arena c).After-lead).holds.linked
+returns-clause-arena c = arena-law _ _ _ _ _ (grown (goal.at.returns-clause-arena c).After-set_both_heads).holds.linked

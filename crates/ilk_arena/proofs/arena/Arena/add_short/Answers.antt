@@ -1,8 +1,8 @@
 use Rattle.std.proofs.Common.{◌≡◌, ◌+◌, ◌-◌, ◌/◌, ◌++◌, ◌∷◌, ℕ, min, List, length, map, arith, ap, sym, subst, ◌∙◌, length-append}
 use Rattle.std.proofs.lemmas.List.{length-map}
-use Rattle.ilk_cnf.specs.Formula.{clause_in}
-use Rattle.ilk_cnf.proofs.Literals.{clause_in-more}
-use Rattle.ilk_arena.specs.Arena.{place, added}
+use Rattle.ilk_cnf.specs.Formula.{is_clause_over}
+use Rattle.ilk_cnf.proofs.Literals.{is_clause_over-more}
+use Rattle.ilk_arena.specs.Arena.{place, with_clause_added}
 use Rattle.ilk_arena.specs.declared.place.TheConstants.{WORD_LIMIT}
 use Rattle.ilk_arena.specs.Linked.{lists_of, references_in, HoldsArena}
 use Rattle.ilk_arena.proofs.Law.{arena-law}
@@ -20,13 +20,13 @@ append-requires-clause-room c = let s = c.self.inside in omega (arith, spare-are
 pub append-requires-clause-within : goal.append-requires-clause-within
 append-requires-clause-within c = let s = c.self.inside in
     let within =
-    ap (λ (n : ℕ). clause_in n c.args.clause.now)
+    ap (λ (n : ℕ). is_clause_over n c.args.clause.now)
     (vars-are s.vars _ s.words.items s.heads.items c.args.self.now c.self.view_is)
     ∙ c.requires.within in
-    clause_in-more s.vars (WORD_LIMIT / 2 - 1) c.args.clause.now (omega (arith, c.self.invariant.few)) within
+    is_clause_over-more s.vars (WORD_LIMIT / 2 - 1) c.args.clause.now (omega (arith, c.self.invariant.few)) within
 
 pub invariant_of-self : goal.invariant_of-self
-invariant_of-self c = let s = c.self.inside in let within = ap (λ (n : ℕ). clause_in n c.args.clause.now) (vars-are s.vars _ s.words.items s.heads.items c.args.self.now c.self.view_is) ∙ c.requires.within in
+invariant_of-self c = let s = c.self.inside in let within = ap (λ (n : ℕ). is_clause_over n c.args.clause.now) (vars-are s.vars _ s.words.items s.heads.items c.args.self.now c.self.view_is) ∙ c.requires.within in
     let V = min c.append.new.words.cap WORD_LIMIT - c.append.new.words.len in
     let ls = c.args.clause.now in
     let len : length ls ≡ length (map place ls) = sym (length-map ls place) in
@@ -43,7 +43,7 @@ invariant_of-self c = let s = c.self.inside in let within = ap (λ (n : ℕ). cl
     rw ew g.holds
 
 pub returns-clause-added : goal.returns-clause-added
-returns-clause-added c = let s = c.self.inside in let within = ap (λ (n : ℕ). clause_in n c.args.clause.now) (vars-are s.vars _ s.words.items s.heads.items c.args.self.now c.self.view_is) ∙ c.requires.within in
+returns-clause-added c = let s = c.self.inside in let within = ap (λ (n : ℕ). is_clause_over n c.args.clause.now) (vars-are s.vars _ s.words.items s.heads.items c.args.self.now c.self.view_is) ∙ c.requires.within in
     let V = min c.append.new.words.cap WORD_LIMIT - c.append.new.words.len in
     let ls = c.args.clause.now in
     let len : length ls ≡ length (map place ls) = sym (length-map ls place) in
@@ -58,8 +58,8 @@ returns-clause-added c = let s = c.self.inside in let within = ap (λ (n : ℕ).
     )) in
     let n : c.len-reference.result ≡ length s.words.items = omega (arith, c.len-reference.ensures, s.words.ok.0) in
     let us = c.append.new.words.items in
-    let Q : List ℕ → Type 0 = λ ws. lists_of s.vars V ws s.heads.items (references_in ws) ≡ added c.args.self.now ls (length s.words.items) V in
-    subst Q (sym ew) g.lists ∙ ap (λ (r : ℕ). added c.args.self.now ls r V) (sym n) ∙ ap (λ (v : ℕ). added c.args.self.now ls c.len-reference.result v) (sym (spare-is s.vars V us s.heads.items (references_in us)))
+    let Q : List ℕ → Type 0 = λ ws. lists_of s.vars V ws s.heads.items (references_in ws) ≡ with_clause_added c.args.self.now ls (length s.words.items) V in
+    subst Q (sym ew) g.lists ∙ ap (λ (r : ℕ). with_clause_added c.args.self.now ls r V) (sym n) ∙ ap (λ (v : ℕ). with_clause_added c.args.self.now ls c.len-reference.result v) (sym (spare-is s.vars V us s.heads.items (references_in us)))
 
 pub returns-clause-fresh : goal.returns-clause-fresh
 returns-clause-fresh c = let s = c.self.inside in
@@ -67,7 +67,7 @@ returns-clause-fresh c = let s = c.self.inside in
     rw n (new-reference s.vars _ s.count s.words.items s.heads.items c.args.self.now c.self.invariant c.self.view_is)
 
 pub returns-clause-room : goal.returns-clause-room
-returns-clause-room c = let s = c.self.inside in let within = ap (λ (n : ℕ). clause_in n c.args.clause.now) (vars-are s.vars _ s.words.items s.heads.items c.args.self.now c.self.view_is) ∙ c.requires.within in
+returns-clause-room c = let s = c.self.inside in let within = ap (λ (n : ℕ). is_clause_over n c.args.clause.now) (vars-are s.vars _ s.words.items s.heads.items c.args.self.now c.self.view_is) ∙ c.requires.within in
     let V = min c.append.new.words.cap WORD_LIMIT - c.append.new.words.len in
     let ls = c.args.clause.now in
     let len : length ls ≡ length (map place ls) = sym (length-map ls place) in
@@ -88,7 +88,7 @@ returns-clause-room c = let s = c.self.inside in let within = ap (λ (n : ℕ). 
     omega (arith, new, old, size, length-map ls place, c.append.ensures.capacity, c.append.new.words.ok.0, s.words.ok.0)
 
 pub returns-clause-arena : goal.returns-clause-arena
-returns-clause-arena c = let s = c.self.inside in let within = ap (λ (n : ℕ). clause_in n c.args.clause.now) (vars-are s.vars _ s.words.items s.heads.items c.args.self.now c.self.view_is) ∙ c.requires.within in
+returns-clause-arena c = let s = c.self.inside in let within = ap (λ (n : ℕ). is_clause_over n c.args.clause.now) (vars-are s.vars _ s.words.items s.heads.items c.args.self.now c.self.view_is) ∙ c.requires.within in
     let V = min c.append.new.words.cap WORD_LIMIT - c.append.new.words.len in
     let ls = c.args.clause.now in
     let len : length ls ≡ length (map place ls) = sym (length-map ls place) in

@@ -1,7 +1,7 @@
 use Rattle.std.proofs.Common.{◌≡◌, ◌++◌, ◌∷◌, [], true, length, map, ap, sym, ◌∙◌, subst, refl, List, ℕ}
 use Rattle.std.specs.Result.{is_ok}
 use Rattle.ilk_cnf.specs.Code.{code_of}
-use Rattle.ilk_cnf.specs.Formula.{clause_in, Formula, grown}
+use Rattle.ilk_cnf.specs.Formula.{is_clause_over, Formula, with_clauses}
 use Rattle.ilk_cnf.specs.Literal.{Literal}
 use Rattle.ilk_audit.specs.Codes.{codes_in}
 use Rattle.ilk_audit.specs.Stored.{clauses_between, IsBlock}
@@ -19,7 +19,7 @@ invariant_of-self-2 c =
     let codes : codes_in c.append.new.self ≡ codes_in b.codes ++ map code_of c.args.clause.now = c.append.ensures.codes ∙ ap (λ (xs : List ℕ). xs ++ map code_of c.args.clause.now) c.in_ok-reserve.ensures.same in
     let pushed = block-push b.vars b.codes c.append.new.self b.bounds.items c.args.clause.now c.self.invariant
     codes c.append.ensures.fit
-    (ap (λ (f : Formula). clause_in f.vars c.args.clause.now) c.self.view_is ∙ c.requires.within)
+    (ap (λ (f : Formula). is_clause_over f.vars c.args.clause.now) c.self.view_is ∙ c.requires.within)
     c.requires.differ in
     let P : List ℕ → Type 0 = λ xs. IsBlock b.vars c.append.new.self xs in
     subst P (sym items) pushed.0
@@ -35,8 +35,8 @@ returns-clause-ok c =
     let codes : codes_in c.append.new.self ≡ codes_in b.codes ++ map code_of c.args.clause.now = c.append.ensures.codes ∙ ap (λ (xs : List ℕ). xs ++ map code_of c.args.clause.now) c.in_ok-reserve.ensures.same in
     let pushed = block-push b.vars b.codes c.append.new.self b.bounds.items c.args.clause.now c.self.invariant
     codes c.append.ensures.fit
-    (ap (λ (f : Formula). clause_in f.vars c.args.clause.now) c.self.view_is ∙ c.requires.within)
+    (ap (λ (f : Formula). is_clause_over f.vars c.args.clause.now) c.self.view_is ∙ c.requires.within)
     c.requires.differ in
     ap (λ (xs : List ℕ). let f : Formula = record { vars = b.vars; clauses = clauses_between xs (codes_in c.append.new.self) } in f) items
     ∙ ap (λ (cs : List (List Literal)). let f : Formula = record { vars = b.vars; clauses = cs } in f) pushed.1
-    ∙ ap (λ (f : Formula). grown f f.vars (c.args.clause.now ∷ [])) c.self.view_is
+    ∙ ap (λ (f : Formula). with_clauses f f.vars (c.args.clause.now ∷ [])) c.self.view_is

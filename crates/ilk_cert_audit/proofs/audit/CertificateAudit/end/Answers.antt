@@ -13,4 +13,4 @@ returns c = λ s g bytes h.
     let whole : is_refused audit.lines.stage ≡ false → (c.is_empty.result ≡ true) ↔ (after_lines bytes ≡ []) = λ open_. (let kept = waits s g audit.lines audit.unfinished.items bytes open_ h in
     let K : Bytes → Type 0 = λ u. IsKept audit.lines.stage u (after_lines bytes) in
     (λ t. kept-none audit.lines.stage (after_lines bytes) (subst K (none.0 t) kept), λ empty. none.1 (kept-all audit.lines.stage audit.unfinished.items (after_lines bytes) kept empty))) in
-    c.ended.ensures s g bytes h.taken whole)
+    c.end.ensures s g bytes h.taken whole)

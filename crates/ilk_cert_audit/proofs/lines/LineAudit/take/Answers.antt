@@ -2,16 +2,16 @@ use Rattle.std.proofs.Common.{◌++◌, ◌∷◌, [], sym, subst, Option, Some,
 use Rattle.std.specs.Prelude.{IfSome}
 use Rattle.ilk_ir.specs.System.{system_tree, SystemTree}
 use Rattle.ilk_unroll.specs.Goal.{goal_tree, GoalTree}
-use Rattle.ilk_cert_audit.specs.Fed.{IsReached}
-use Rattle.ilk_cert_audit.specs.Stages.{is_stage, IsNext}
+use Rattle.ilk_cert_audit.specs.Fed.{IsStageAfter}
+use Rattle.ilk_cert_audit.specs.Stages.{is_valid_stage, IsNext}
 use Rattle.ilk_cert_audit.specs.declared.stage.Stage.{Stage}
 use Rattle.ilk_cert_audit.proofs.Taking.{at-next, at-reached, bad-more, bad-next, reached-at, unrefused}
 use Rattle.ilk_cert_audit.proofs.lines.LineAudit.take.Goals as goal
 
 pub returns-in-Refused : goal.returns-in-Refused
 returns-in-Refused c = λ s g lines h.
-    (let P : Stage → Type 0 = λ stage. IsReached s g stage lines c.args.self.now.line in
-    let Q : Stage → Type 0 = λ stage. IsReached s g stage (lines ++ c.args.line.now ∷ []) c.args.self.now.line in
+    (let P : Stage → Type 0 = λ stage. IsStageAfter s g stage lines c.args.self.now.line in
+    let Q : Stage → Type 0 = λ stage. IsStageAfter s g stage (lines ++ c.args.line.now ∷ []) c.args.self.now.line in
     let r = subst P c.in-Refused.is h.reached in
     record {
       system = h.system;
@@ -31,7 +31,7 @@ returns-in-Some c = λ s g lines h.
     let S : SystemTree → Type 0 = λ x. IsNext x (goal_tree old.goal) old.stage line (Some c.in-Some.next) in
     let G : GoalTree → Type 0 = λ x. IsNext s x old.stage line (Some c.in-Some.next) in
     let goes = subst G h.goal (subst S h.system (subst N c.in-Some.is (subst F c.replace-stage.ensures.value ok.next))) in
-    let I : Option Stage → Type 0 = λ next. IfSome next (λ stage. IsTrue (is_stage stage)) in
+    let I : Option Stage → Type 0 = λ next. IfSome next (λ stage. IsTrue (is_valid_stage stage)) in
     let next_staged = subst I c.in-Some.is ok.stage in
     record {
       system = h.system;
@@ -51,7 +51,7 @@ returns-in_default-next c = λ s g lines h.
     let S : SystemTree → Type 0 = λ x. IsNext x (goal_tree old.goal) old.stage line None in
     let G : GoalTree → Type 0 = λ x. IsNext s x old.stage line None in
     let goes = subst G h.goal (subst S h.system (subst N c.in_default-next.is (subst F c.replace-stage.ensures.value ok.next))) in
-    let Q : Stage → Type 0 = λ stage. IsReached s g stage (lines ++ line ∷ []) old.line in
+    let Q : Stage → Type 0 = λ stage. IsStageAfter s g stage (lines ++ line ∷ []) old.line in
     record {
       system = h.system;
       goal = h.goal;

@@ -13,4 +13,4 @@ returns-then-self-clause-clause-left c =
 
 pub returns-else-self-clause-clause-left : goal.returns-else-self-clause-clause-left
 returns-else-self-clause-clause-left c =
-    end-made c.self.inside.cnf.clauses c.self.inside.made c.self.inside.literals c.clause-clause.result.now c.args.token.now _ _ c.clause-clause.ensures.clause (omega (arith, c.if-self-clause.false)) c.requires c.lead.ensures c.self.view_is
+    end-made c.self.inside.cnf.clauses c.self.inside.made c.self.inside.literals c.clause-clause.result.now c.args.token.now _ _ c.clause-clause.ensures.clause (omega (arith, c.if-self-clause.false)) c.requires c.prepend.ensures c.self.view_is

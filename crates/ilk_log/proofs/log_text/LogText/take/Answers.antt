@@ -8,7 +8,7 @@ tokens-preserved c =
     let l = c.tokens in
     let now = c.take-count-in-tokens in
     let empty = l.invariant.2 c.tokens-test.true in
-    token_taken c.args.self.now l.into now.new.into c.make.new.token now.new.self c.make.new.self l.count now.result
+    token_taken c.args.self.now l.into now.new.into c.next_piece.new.token now.new.self c.next_piece.new.self l.count now.result
     l.invariant.1 (search rules)
-    (l.invariant.0 ∙ ap (λ (t : Bytes). take l.count l.into ++ (t ++ l.self-inside.left)) empty ∙ ap (λ (t : Bytes). take l.count l.into ++ t) c.make.ensures.bytes)
+    (l.invariant.0 ∙ ap (λ (t : Bytes). take l.count l.into ++ (t ++ l.self-inside.left)) empty ∙ ap (λ (t : Bytes). take l.count l.into ++ t) c.next_piece.ensures.bytes)
     (search rules) now.ensures.bytes now.ensures.rest

@@ -1,7 +1,7 @@
 use Rattle.ilk_plant.proofs.plant.Plant.make.Goals as goal
 
-pub of_numbered-requires : goal.of_numbered-requires
-of_numbered-requires c = record {
+pub from_numbered-requires : goal.from_numbered-requires
+from_numbered-requires c = record {
   net = c.args.net.now;
   table = c.args.table.now;
   sound = record { limits = c.requires.limits; network = c.requires.network; routes = c.requires.routes };

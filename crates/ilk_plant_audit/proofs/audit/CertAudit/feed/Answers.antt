@@ -3,7 +3,6 @@ use Rattle.ilk_behave.specs.Behaviour.{system_of}
 use Rattle.ilk_queries.specs.Goal.{goal_of}
 use Rattle.ilk_plant_audit.proofs.audit.CertAudit.feed.Goals as goal
 
--- what is so over each system and goal is so over the plant's
 pub returns-clause-fed : goal.returns-clause-fed
 returns-clause-fed c =
     let p = c.args.self.now.plant.now in

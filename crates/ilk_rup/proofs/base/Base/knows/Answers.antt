@@ -1,7 +1,7 @@
 use Rattle.std.proofs.Common.{◌≡◌, ◌∙◌, ℕ, List, inl, inr, false, true, take, ap, sym, arith}
 use Rattle.ilk_base.proofs.Tested.{list_all-slice_get, list_any-from}
 use Rattle.ilk_cnf.specs.Literal.{Literal, has_lit, same_lit}
-use Rattle.ilk_cnf.specs.Formula.{lit_in}
+use Rattle.ilk_cnf.specs.Formula.{is_lit_over}
 use Rattle.ilk_cnf.proofs.SameLiterals.{same-lit}
 use Rattle.ilk_trail.specs.Laws.{lits_of}
 use Rattle.ilk_rup.proofs.Needing.{all-taken, one-more, pushed-lit}
@@ -10,7 +10,7 @@ use Rattle.ilk_rup.proofs.base.Base.knows.Goals as goal
 pub is_true-requires : goal.is_true-requires
 is_true-requires c =
     let s = c.args.self.now.set in
-    ap (λ (n : ℕ). lit_in n c.at.result) (sym c.requires) ∙ list_all-slice_get (lit_in s.vars) s.lits c.loop-i.i c.at.result c.len-i-end.ensures.within c.at.ensures
+    ap (λ (n : ℕ). is_lit_over n c.at.result) (sym c.requires) ∙ list_all-slice_get (is_lit_over s.vars) s.lits c.loop-i.i c.at.result c.len-i-end.ensures.within c.at.ensures
 
 pub returns-then-is_true-clause-yes : goal.returns-then-is_true-clause-yes
 returns-then-is_true-clause-yes c = λ _. (c.at.result, list_any-from (same_lit c.at.result) c.args.self.now.set.lits c.loop-i.i c.at.result c.at.ensures (same-lit c.at.result), sym c.is_true.ensures ∙ c.if-is_true.true)

@@ -3,19 +3,19 @@ use Rattle.std.specs.List.{slice_get}
 use Rattle.std.proofs.lemmas.Bool.{and_from}
 use Rattle.ilk_base.proofs.Options.{mapped-Some}
 use Rattle.ilk_cnf.specs.Literal.{Literal}
-use Rattle.ilk_cnf.specs.Formula.{clause_in, lit_in}
-use Rattle.ilk_cnf.proofs.Literals.{lit_in-parts}
-use Rattle.ilk_clauses.specs.Chained.{IsClauseAdded}
+use Rattle.ilk_cnf.specs.Formula.{is_clause_over, is_lit_over}
+use Rattle.ilk_cnf.proofs.Literals.{is_lit_over-parts}
+use Rattle.ilk_watches.specs.Chained.{IsClauseAdded}
 use Rattle.ilk_log.specs.declared.step.Step.{Step}
-use Rattle.ilk_clauses.specs.Reasons.{is_conflict}
+use Rattle.ilk_watches.specs.Reasons.{is_conflict}
 use Rattle.ilk_trail.specs.declared.entry.Entry.{Entry}
 use Rattle.ilk_trail.specs.Laws.{lits_of}
 use Rattle.ilk_trail.specs.Trail.{TrailList}
 use Rattle.ilk_trail.proofs.Entries.{entry-within}
-use Rattle.ilk_rup.specs.Alike.{Alike}
+use Rattle.ilk_rup.specs.Alike.{AreEquivalent}
 use Rattle.ilk_rup.specs.LitSet.{LitSetList}
-use Rattle.ilk_rup.specs.Needs.{AreHints, Explains, IsClauseOf, IsKnown}
-use Rattle.ilk_rup.specs.Standing.{Held}
+use Rattle.ilk_rup.specs.Needs.{AreHints, Explains, IsClauseOf, AreUnitHints}
+use Rattle.ilk_rup.specs.Standing.{IsBaseInvariant}
 use Rattle.ilk_rup.specs.declared.base.Base.{Base}
 use Rattle.ilk_rup.specs.declared.explain.Explainer.{Explainer}
 use Rattle.ilk_rup.proofs.Alike.{alike-back}
@@ -29,7 +29,7 @@ put-requires-clause-within c =
     let t = k.trail in
     let l = c.requires.loose in
     let x = mapped-Some (λ (e : Entry). e.lit) (slice_get t.entries k.explainer.named) c.at-l.result c.at-l.ensures in
-    ap (λ (n : ℕ). lit_in n c.at-l.result) (ap (λ (s : LitSetList). s.vars) c.clear.ensures ∙ l.set_vars ∙ sym l.held.trail_vars) ∙ ap (lit_in t.vars) (sym x.2) ∙ entry-within t k.explainer.named x.0 c.count-2.ensures.is_trail x.1
+    ap (λ (n : ℕ). is_lit_over n c.at-l.result) (ap (λ (s : LitSetList). s.vars) c.clear.ensures ∙ l.set_vars ∙ sym l.held.trail_vars) ∙ ap (is_lit_over t.vars) (sym x.2) ∙ entry-within t k.explainer.named x.0 c.count-2.ensures.is_trail x.1
 
 pub explain-requires : goal.explain-requires
 explain-requires c =
@@ -39,7 +39,7 @@ explain-requires c =
     let h = l.held in
     let x = mapped-Some (λ (e : Entry). e.lit) (slice_get t.entries k.explainer.named) c.at-l.result c.at-l.ensures in
     let r = c.reason_of-reason.result in
-    let K : ℕ → Type 0 = λ n. IsKnown k.explainer.units.items k.clauses.clauses t.entries n k.explainer.named in
+    let K : ℕ → Type 0 = λ n. AreUnitHints k.explainer.units.items k.clauses.clauses t.entries n k.explainer.named in
     let P : List Literal → Type 0 = λ ls. Explains k.clauses.clauses t.entries ls r k.explainer.named k.explainer.named k.explainer.named in
     let lits : c.put.new.self.lits ≡ x.0.lit ∷ [] = ap (λ (s : LitSetList). s.lits) c.put.ensures ∙ ap (λ (s : LitSetList). s.lits ++ c.at-l.result ∷ []) c.clear.ensures ∙ ap (λ (y : Literal). y ∷ []) (sym x.2) in
     record {
@@ -56,8 +56,8 @@ add-requires-clause-within c =
     let t = k.trail in
     let x = mapped-Some (λ (e : Entry). e.lit) (slice_get t.entries k.explainer.named) c.at-l.result c.at-l.ensures in
     let h = c.requires.loose.held in
-    let own : lit_in k.clauses.vars c.at-l.result ≡ true = ap (λ (n : ℕ). lit_in n c.at-l.result) (h.vars ∙ sym h.trail_vars) ∙ ap (lit_in t.vars) (sym x.2) ∙ entry-within t k.explainer.named x.0 c.count-2.ensures.is_trail x.1 in
-    ap (clause_in k.clauses.vars) c.in_ok-alone.ensures ∙ and_from (lit_in k.clauses.vars c.at-l.result) true own refl
+    let own : is_lit_over k.clauses.vars c.at-l.result ≡ true = ap (λ (n : ℕ). is_lit_over n c.at-l.result) (h.vars ∙ sym h.trail_vars) ∙ ap (is_lit_over t.vars) (sym x.2) ∙ entry-within t k.explainer.named x.0 c.count-2.ensures.is_trail x.1 in
+    ap (is_clause_over k.clauses.vars) c.in_ok-alone.ensures ∙ and_from (is_lit_over k.clauses.vars c.at-l.result) true own refl
 
 pub returns-clause-loose : goal.returns-clause-loose
 returns-clause-loose c =
@@ -77,18 +77,18 @@ returns-clause-loose c =
     let A : List Literal → Type 0 = λ ls. IsClauseAdded k.clauses ls m.clauses in
     let H : List Literal → Type 0 = λ ls. AreHints k.clauses.clauses ls hints in
     let lits : c.put.new.self.lits ≡ l ∷ [] = ap (λ (s : LitSetList). s.lits) c.put.ensures ∙ ap (λ (s : LitSetList). s.lits ++ c.at-l.result ∷ []) c.clear.ensures ∙ ap (λ (z : Literal). z ∷ []) (sym x.2) in
-    let within : lit_in f.vars l ≡ true = ap (λ (n : ℕ). lit_in n l) (sym h.trail_vars) ∙ entry-within t y.named x.0 trail x.1 in
-    let of : IsClauseOf f.vars (l ∷ []) (l ∷ []) = record { within = and_from (lit_in f.vars l) true within refl; differ = refl; fewer = λ n z. z; more = λ n z. z } in
+    let within : is_lit_over f.vars l ≡ true = ap (λ (n : ℕ). is_lit_over n l) (sym h.trail_vars) ∙ entry-within t y.named x.0 trail x.1 in
+    let of : IsClauseOf f.vars (l ∷ []) (l ∷ []) = record { within = and_from (is_lit_over f.vars l) true within refl; differ = refl; fewer = λ n z. z; more = λ n z. z } in
     let derived = step-derived f.vars k.clauses.clauses (l ∷ []) (l ∷ []) hints (subst H lits c.in_ok-hints.ensures.hints) of in
-    let low = lit_in-parts f.vars l within in
+    let low = is_lit_over-parts f.vars l within in
     let added = subst A alone c.in_ok-add.ensures.clauses in
     let room : l.var < length y.units.items = omega (arith, low.1, h.known.sized) in
     let named = held-named f k.clauses m.clauses t k.queue y.units.items y.named count k.log x.0 hints h c.count.ensures.clauses c.count-3.ensures.clauses added trail x.1 derived room c.count-3.ensures.count in
-    let V : ℕ → Type 0 = λ v. Held f m.clauses t k.queue (set y.units.items v count) (y.named + 1) (k.log ++ record { clause = l ∷ []; hints = hints } ∷ []) in
-    let C : List Literal → Type 0 = λ ls. Held f m.clauses t k.queue (set y.units.items c.var.result count) (y.named + 1) (k.log ++ record { clause = ls; hints = hints } ∷ []) in
-    let E : Explainer → Type 0 = λ z. Held f m.clauses t k.queue (set z.units.items c.var.result count) (z.named + 1) (k.log ++ record { clause = c.in_ok-alone.field-0; hints = hints } ∷ []) in
-    let L : List Step → Type 0 = λ log. Held f m.clauses t k.queue (set c.explain.new.self.units.items c.var.result count) (c.explain.new.self.named + 1) log in
-    let B : Base → Type 0 = λ b. Held b.formula.now m.clauses b.trail b.queue (set b.explainer.units.items c.var.result count) (b.explainer.named + 1) b.log in
+    let V : ℕ → Type 0 = λ v. IsBaseInvariant f m.clauses t k.queue (set y.units.items v count) (y.named + 1) (k.log ++ record { clause = l ∷ []; hints = hints } ∷ []) in
+    let C : List Literal → Type 0 = λ ls. IsBaseInvariant f m.clauses t k.queue (set y.units.items c.var.result count) (y.named + 1) (k.log ++ record { clause = ls; hints = hints } ∷ []) in
+    let E : Explainer → Type 0 = λ z. IsBaseInvariant f m.clauses t k.queue (set z.units.items c.var.result count) (z.named + 1) (k.log ++ record { clause = c.in_ok-alone.field-0; hints = hints } ∷ []) in
+    let L : List Step → Type 0 = λ log. IsBaseInvariant f m.clauses t k.queue (set c.explain.new.self.units.items c.var.result count) (c.explain.new.self.named + 1) log in
+    let B : Base → Type 0 = λ b. IsBaseInvariant b.formula.now m.clauses b.trail b.queue (set b.explainer.units.items c.var.result count) (b.explainer.named + 1) b.log in
     let N : Base → Type 0 = λ b. b.explainer.needed.vars ≡ b.formula.now.vars in
     let S : Base → Type 0 = λ b. b.set.vars ≡ b.formula.now.vars in
     record {
@@ -109,8 +109,8 @@ returns-clause-same c =
     let alone : x.0.lit ∷ [] ≡ d = ap (λ (z : Literal). z ∷ []) x.2 ∙ sym c.in_ok-alone.ensures in
     let is = added-clauses k.clauses m.clauses d c.in_ok-add.ensures.clauses in
     let trail = ap (λ (b : Base). b.trail) rest in
-    let A : List Literal → Type 0 = λ ls. Alike (k.clauses.clauses ++ ls ∷ []) k.clauses.clauses in
-    let M : List (List Literal) → Type 0 = λ cs. Alike k.clauses.clauses cs in
+    let A : List Literal → Type 0 = λ ls. AreEquivalent (k.clauses.clauses ++ ls ∷ []) k.clauses.clauses in
+    let M : List (List Literal) → Type 0 = λ cs. AreEquivalent k.clauses.clauses cs in
     let r = c.reason_of-reason in
     let spare = subst A alone (entry-alike k.clauses.clauses t.entries y.units.items k.formula.now.vars y.named r.result x.0 c.count.ensures.formula.differ c.requires.loose.held.known x.1 (r.ensures.reason x.0 x.1)) in
     record {

@@ -2,9 +2,9 @@ use Rattle.std.proofs.Common.{◌+◌, [], ◌∙◌, List, ℕ, ap, sym, subst,
 use Rattle.ilk_cnf.specs.Formula.{Formula}
 use Rattle.ilk_log.specs.declared.step.Step.{Step}
 use Rattle.ilk_trail.specs.Trail.{TrailList}
-use Rattle.ilk_watches.specs.declared.queue.Queue.{Queue}
+use Rattle.ilk_watches.specs.declared.queue.Propagator.{Propagator}
 use Rattle.ilk_rup.specs.LitSet.{LitSetList}
-use Rattle.ilk_rup.specs.Standing.{Held}
+use Rattle.ilk_rup.specs.Standing.{IsBaseInvariant}
 use Rattle.ilk_rup.proofs.Holds.{held-start}
 use Rattle.ilk_rup.proofs.base.Base.new.Goals as goal
 
@@ -18,11 +18,11 @@ returns-clause-loose c =
     let is = c.in_ok-clauses.ensures in
     let x = c.in_ok-explainer.explainer in
     let vars = c.vars-vars.ensures.count in
-    let T : TrailList → Type 0 = λ t. Held f a t (record { head = 0; settled = 0 }) (replicate (f.vars + 1) 0) 0 [] in
-    let Q : Queue → Type 0 = λ q. Held f a c.in_ok-trail.trail q (replicate (f.vars + 1) 0) 0 [] in
-    let U : List ℕ → Type 0 = λ us. Held f a c.in_ok-trail.trail c.new-queue.result us 0 [] in
-    let N : ℕ → Type 0 = λ n. Held f a c.in_ok-trail.trail c.new-queue.result x.units.items n [] in
-    let L : List Step → Type 0 = λ log. Held f a c.in_ok-trail.trail c.new-queue.result x.units.items x.named log in
+    let T : TrailList → Type 0 = λ t. IsBaseInvariant f a t (record { head = 0; settled = 0 }) (replicate (f.vars + 1) 0) 0 [] in
+    let Q : Propagator → Type 0 = λ q. IsBaseInvariant f a c.in_ok-trail.trail q (replicate (f.vars + 1) 0) 0 [] in
+    let U : List ℕ → Type 0 = λ us. IsBaseInvariant f a c.in_ok-trail.trail c.new-queue.result us 0 [] in
+    let N : ℕ → Type 0 = λ n. IsBaseInvariant f a c.in_ok-trail.trail c.new-queue.result x.units.items n [] in
+    let L : List Step → Type 0 = λ log. IsBaseInvariant f a c.in_ok-trail.trail c.new-queue.result x.units.items x.named log in
     let start = held-start f a (ap (λ (y : Formula). y.vars) is) (ap (λ (y : Formula). y.clauses) is) in
     let trail = subst T (sym (c.in_ok-trail.ensures ∙ ap (λ (n : ℕ). let t : TrailList = record { vars = n; entries = [] } in t) vars)) start in
     let units = subst U (sym (c.in_ok-explainer.ensures.units ∙ ap (λ (n : ℕ). replicate (n + 1) 0) vars)) (subst Q (sym c.new-queue.ensures) trail) in

@@ -1,6 +1,6 @@
 use Rattle.std.proofs.Common.{arith, ap}
 use Rattle.ilk_trail.specs.Trail.{TrailList, level_of}
-use Rattle.ilk_clauses.specs.Chained.{formula_of}
+use Rattle.ilk_watches.specs.Chained.{formula_of}
 use Rattle.ilk_solver.specs.Held.{search_of}
 use Rattle.ilk_solver.specs.Search.{SearchLists}
 use Rattle.ilk_solver.proofs.SetVariables.{level-few}

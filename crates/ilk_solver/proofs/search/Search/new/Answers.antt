@@ -1,8 +1,8 @@
 use Rattle.std.proofs.Common.{◌≡◌, [], List, ℕ, replicate, ap, sym, ◌∙◌, subst}
 use Rattle.ilk_cnf.specs.Formula.{Formula}
 use Rattle.ilk_log.specs.declared.step.Step.{Step}
-use Rattle.ilk_clauses.specs.Chained.{formula_of}
-use Rattle.ilk_watches.specs.declared.queue.Queue.{Queue}
+use Rattle.ilk_watches.specs.Chained.{formula_of}
+use Rattle.ilk_watches.specs.declared.queue.Propagator.{Propagator}
 use Rattle.ilk_watches.specs.Watched.{IsQueue}
 use Rattle.ilk_watches.proofs.Queues.{queue-start}
 use Rattle.ilk_solver.specs.View.{ViewLists}
@@ -23,7 +23,7 @@ invariant_of-result c =
     let G : ℕ → Type 0 = λ n. HoldsSearch f n [] (V f.vars) in
     let L : List Step → Type 0 = λ l. HoldsSearch f given l (V f.vars) in
     let S : ViewLists → Type 0 = λ v. HoldsSearch f given log v in
-    let Q : Queue → Type 0 = λ q. IsQueue a [] q.head q.settled in
+    let Q : Propagator → Type 0 = λ q. IsQueue a [] q.head q.settled in
     let E : ViewLists → Type 0 = λ v. IsQueue a v.trail.entries c.new-queue.result.head c.new-queue.result.settled in
     record {
       search = subst S (sym view_is) (subst L (sym c.new-log.ensures) (subst G (sym c.count-given.ensures.count) (held-start f)));

@@ -2,10 +2,10 @@ use Rattle.std.proofs.Common.{◌≡◌, List, true, sym, ap, ◌∙◌, subst}
 use Rattle.std.specs.Prelude.{IfNone, IfSome}
 use Rattle.ilk_cnf.specs.Literal.{Literal}
 use Rattle.ilk_cnf.specs.Formula.{Formula}
-use Rattle.ilk_log.specs.Propagation.{is_closed}
+use Rattle.ilk_log.specs.Propagation.{is_saturated}
 use Rattle.ilk_trail.specs.Laws.{lits_of}
-use Rattle.ilk_clauses.specs.Reasons.{is_conflict}
-use Rattle.ilk_clauses.specs.Chained.{formula_of}
+use Rattle.ilk_watches.specs.Reasons.{is_conflict}
+use Rattle.ilk_watches.specs.Chained.{formula_of}
 use Rattle.ilk_watches.specs.Propagated.{IsPropagated}
 use Rattle.ilk_solver.specs.View.{ViewLists}
 use Rattle.ilk_solver.specs.Held.{HoldsSearch, search_of}
@@ -39,7 +39,7 @@ returns-clause-closed c =
     let s = c.self.inside in
     let set = lits_of c.propagate.new.self.trail.entries in
     let e : s.clauses.clauses ≡ all_clauses c.args.self.now = c.self.invariant.search.laid ∙ ap all_clauses c.self.view_is in
-    let P : List (List Literal) → Type 0 = λ cs. IfNone c.propagate.result (is_closed cs set ≡ true) in
+    let P : List (List Literal) → Type 0 = λ cs. IfNone c.propagate.result (is_saturated cs set ≡ true) in
     subst P e c.propagate.ensures.closed
 
 pub returns-clause-same : goal.returns-clause-same

@@ -5,10 +5,10 @@ use Rattle.ilk_log.specs.Derived.{is_derived, is_refutation, step_clauses}
 use Rattle.ilk_log.specs.Fresh.{IsFresh, IsStuck}
 use Rattle.ilk_trail.specs.Trail.{level_of}
 use Rattle.ilk_trail.proofs.Levels.{last_level-push}
-use Rattle.ilk_solver.specs.Answered.{IsLog, IsSpent, none_empty}
+use Rattle.ilk_solver.specs.Answered.{IsSearchLog, IsSpentLog, has_no_empty_step}
 use Rattle.ilk_solver.specs.Search.{SearchLists, IsSearch}
 use Rattle.ilk_solver.proofs.Learning.{stuck}
-use Rattle.ilk_solver.proofs.LogsGrow.{log-ended, log-more, moved, none_empty-more, refuted, spent}
+use Rattle.ilk_solver.proofs.LogsGrow.{log-ended, log-more, moved, has_no_empty_step-more, refuted, spent}
 use Rattle.ilk_solver.proofs.Measure.{decided-less, learned-less, rounds_left}
 use Rattle.ilk_solver.proofs.SetVariables.{level-few}
 use Rattle.ilk_solver.proofs.solver.Solver.solve.Goals as goal
@@ -53,7 +53,7 @@ returns-then-level-eq0-clause-log g c =
     let log : now.log ≡ old.log = ap (λ (x : SearchLists). x.log) c.in-Some.ensures.same in
     let derived = moved (λ (h : Formula) (l : List Step). is_derived h.vars (h.clauses ++ step_clauses l) last ≡ true) now f old.log formula log c.in_ok-last-in-Some.ensures.derived in
     let longer : c.push.new.self ≡ old.log ++ last ∷ [] = c.in_ok-push-in-Some.ensures.ok ∙ ap (λ (l : List Step). l ++ last ∷ []) (c.into_log-log.ensures ∙ log) in
-    let P : List Step → Type 0 = λ l. IsLog f c.args.budget l in
+    let P : List Step → Type 0 = λ l. IsSearchLog f c.args.budget l in
     subst P (sym longer) (log-ended f c.args.budget old.log last c.rounds.invariant.log derived c.in_ok-last-in-Some.ensures.empty)
 
 pub returns-then-level-eq0-clause-answer : goal.returns-then-level-eq0-clause-answer
@@ -80,7 +80,7 @@ returns-then-steps-budget-clause-answer g c =
     let search = subst IsSearch c.search-in-Some.view_is c.search-in-Some.invariant.search.search in
     let high : 0 < level_of now.view.trail.entries = omega (arith, c.level.ensures.level, c.if-level-eq0.false) in
     let none_left = moved IsStuck now f old.log formula log (stuck now learned.step learned.level search high c.in_ok-learned-in-Some.ensures) in
-    let P : List Step → Type 0 = λ l. IsSpent f c.args.budget l in
+    let P : List Step → Type 0 = λ l. IsSpentLog f c.args.budget l in
     subst P (sym (c.into_log-then-steps-budget.ensures ∙ log)) (spent f c.args.budget old.log c.rounds.invariant.log c.rounds.invariant.unfinished (omega (arith, c.rounds.invariant.steps, c.if-steps-budget.true)) none_left)
 
 pub rounds-preserved : goal.rounds-preserved
@@ -99,12 +99,12 @@ rounds-preserved g c =
     let size = ap length longer in
     let more = length-append old.log (step ∷ []) in
     let room : length old.log < c.args.budget = omega (arith, c.rounds.invariant.steps, c.rounds.invariant.within, c.if-steps-budget.false) in
-    let L : List Step → Type 0 = λ l. IsLog f c.args.budget l in
-    let N : List Step → Type 0 = λ l. none_empty l ≡ true in
+    let L : List Step → Type 0 = λ l. IsSearchLog f c.args.budget l in
+    let N : List Step → Type 0 = λ l. has_no_empty_step l ≡ true in
     record {
       formula = c.in_ok-search-in-Some.ensures.formula ∙ formula;
       log = subst L (sym longer) (log-more f c.args.budget old.log step c.rounds.invariant.log room derived fresh);
-      unfinished = subst N (sym longer) (none_empty-more (f.clauses ++ step_clauses old.log) old.log step c.rounds.invariant.unfinished fresh);
+      unfinished = subst N (sym longer) (has_no_empty_step-more (f.clauses ++ step_clauses old.log) old.log step c.rounds.invariant.unfinished fresh);
       steps = omega (arith, size, more, c.rounds.invariant.steps);
       within = omega (arith, room, c.rounds.invariant.steps);
     }

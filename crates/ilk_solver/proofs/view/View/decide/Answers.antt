@@ -21,14 +21,14 @@ invariant_of-self c =
     let s = c.self.inside in
     let now = c.decide.new.trail in
     let view : ViewLists = record { trail = s.trail; weights = s.weights.items } in
-    let t = c.settle.new.tree in
-    let n : length t ≡ s.tree.len = omega (arith, c.settle.auto.tree, c.deref_mut.ensures.len) in
-    let won = rw c.deref.ensures.value at c.settle.ensures.tree in
-    let kept = rw (c.deref.ensures.value, c.deref_mut.ensures.value) at c.settle.ensures.kept in
+    let t = c.drop_set_from_top.new.tree in
+    let n : length t ≡ s.tree.len = omega (arith, c.drop_set_from_top.auto.tree, c.deref_mut.ensures.len) in
+    let won = rw c.deref.ensures.value at c.drop_set_from_top.ensures.tree in
+    let kept = rw (c.deref.ensures.value, c.deref_mut.ensures.value) at c.drop_set_from_top.ensures.kept in
     let P : List ℕ → Type 0 = HoldsView (record { trail = now; weights = s.weights.items }) in
     subst P (sym (all-written s.tree.len t s.tree.items n))
     (holds-longer view now s.tree.items t c.self.invariant c.level.ensures.is_trail
     (ap (λ (x : TrailList). x.vars) c.decide.ensures.trail)
     (ap (λ (x : TrailList). take (length s.trail.entries) x.entries) c.decide.ensures.trail
     ∙ take-append_seam s.trail.entries _) won kept
-    c.settle.ensures.settled)
+    c.drop_set_from_top.ensures.settled)

@@ -3,8 +3,8 @@ use Rattle.std.specs.Result.{is_ok}
 use Rattle.std.proofs.Math.ListN.{length-set}
 use Rattle.ilk_trail.specs.Trail.{TrailList, level_of}
 use Rattle.ilk_cnf.specs.Code.{code_of}
-use Rattle.ilk_cnf.specs.Formula.{lit_in}
-use Rattle.ilk_trail.specs.Laws.{is_level_next, is_set}
+use Rattle.ilk_cnf.specs.Formula.{is_lit_over}
+use Rattle.ilk_trail.specs.Laws.{is_next_level, is_set}
 use Rattle.ilk_trail.proofs.Kept.{room-for, stored-add}
 use Rattle.ilk_trail.proofs.trail.Trail.add.Goals as goal
 
@@ -14,7 +14,7 @@ unwrap-requires c =
     let n = length s.places.items - 1 in
     let k = c.self.invariant in
     let fits : length s.entries.items < n + 1 = room-for n s.entries.items c.args.entry.lit k.is_trail
-    (ap (λ (t : TrailList). lit_in t.vars c.args.entry.lit) c.self.view_is ∙ c.requires.within)
+    (ap (λ (t : TrailList). is_lit_over t.vars c.args.entry.lit) c.self.view_is ∙ c.requires.within)
     (ap (λ (t : TrailList). is_set t.entries c.args.entry.lit.var) c.self.view_is ∙ c.requires.unset) in
     c.push.ensures.succeeds (omega (arith, fits, k.roomy, s.entries.ok.0))
 
@@ -31,6 +31,6 @@ invariant_of-self c =
     let opposite = c.place_of-2.ensures ∙ ap code_of c.negated.ensures in
     rw (c.place_of.ensures, opposite, c.var-var.ensures, m, items, size)
     (stored-add s.values.items s.places.items n s.entries.items e _ _ k c.push.ensures.capacity
-    (ap (λ (t : TrailList). lit_in t.vars e.lit) c.self.view_is ∙ c.requires.within)
+    (ap (λ (t : TrailList). is_lit_over t.vars e.lit) c.self.view_is ∙ c.requires.within)
     (ap (λ (t : TrailList). is_set t.entries e.lit.var) c.self.view_is ∙ c.requires.unset)
-    (ap (λ (t : TrailList). is_level_next (level_of t.entries) e) c.self.view_is ∙ c.requires.level))
+    (ap (λ (t : TrailList). is_next_level (level_of t.entries) e) c.self.view_is ∙ c.requires.level))

@@ -1,7 +1,0 @@
-use Rattle.std.proofs.Common.{◌≡◌, ◌++◌, drop}
-use Rattle.ilk_behave.specs.Settings as settings
-use Rattle.ilk_behave.proofs.settings.push_locks_become.Given as goal
-
-abbrev pub invariant-loop-x : goal.invariant-loop-x
-invariant-loop-x l =
-    l.sets ++ settings.locks_become l.plant (drop l.x-index l.x-items) l.hold ≡ l.initial.sets ++ settings.locks_become l.plant l.x-items l.hold

@@ -1,4 +1,0 @@
-pub mod Middles
-pub mod Demands
-pub mod Induction
-pub mod Satisfying

@@ -1,0 +1,5 @@
+use Rattle.ilk_forever.proofs.OnPlant.{lifts}
+use Rattle.ilk_forever.proofs.laws.runs_correspond.Goals as goal
+
+pub returns : goal.returns
+returns c = λ q valid. lifts c.args.plant.now c.is_sound.ensures c.system_steps.ensures c.goal_is_correct.ensures.means q valid

@@ -1,5 +1,0 @@
-use Rattle.ilk_forever.proofs.OnPlant.{lifts}
-use Rattle.ilk_forever.proofs.laws.runs_lift.Goals as goal
-
-pub returns : goal.returns
-returns c = λ q valid. lifts c.args.plant.now c.is_sound.ensures c.system_steps.ensures c.goal_means.ensures.means q valid

@@ -1,9 +1,0 @@
-use Rattle.ilk_behave.specs.Behaviour.{system_of}
-use Rattle.ilk_queries.specs.Goal.{goal_of}
-use Rattle.ilk_forever.proofs.OnPlant.{lasting}
-use Rattle.ilk_forever.proofs.laws.safe_forever.Goals as goal
-
-pub returns : goal.returns
-returns c = λ k some few hazards breaches step.
-    lasting c.args.plant.now c.is_sound.ensures c.system_steps.ensures c.goal_means.ensures.means k some few
-    (c.no_run_ever.ensures (system_of c.args.plant.now) (goal_of c.args.plant.now) k c.system_is_valid.ensures) hazards breaches step

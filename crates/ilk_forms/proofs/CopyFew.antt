@@ -1,0 +1,101 @@
+-- A copy adds at most two variables for each value of a range.
+use Rattle.std.proofs.Common.{◌≡◌, ℕ, ◌+◌, ◌-◌, ◌*◌, ◌^◌, ◌≤◌, zero, suc, Bool, true, false, List, [], ◌∷◌, Option, Some, None, unwrap_or, length, take, cond, refl, arith, leb, eqb}
+use Rattle.std.specs.List.{find, range_with_len}
+use Rattle.std.specs.Prelude.{sum, min}
+use Rattle.std.proofs.lemmas.Bool.{eqb-true}
+use Rattle.std.proofs.lemmas.List.{length-take}
+use Rattle.std.proofs.lemmas.List.Sums.{sum_by-cons}
+use Rattle.ilk_base.proofs.Ranges.{find-within}
+use Rattle.ilk_cnf.specs.Literal.{Literal}
+use Rattle.ilk_cnf.specs.Part.{Part, empty_part, or_gate_part}
+use Rattle.ilk_ints.specs.Bits.{bit_count}
+use Rattle.ilk_ints.specs.AtMost.{at_most_part, at_most_lit, highest_bit_decides}
+use Rattle.ilk_ints.specs.Named.{values_part, bound_count, bounds_from, bounds_part}
+use Rattle.ilk_forms.specs.Copy.{numbers_part, column_part, columns_part, copy_part, total_bits}
+use Rattle.ilk_forms.proofs.ColumnLaw.{numbers-end}
+use Rattle.ilk_ints.proofs.ValuesLaw.{values-low}
+
+bit_count-few : (range : ℕ) → bit_count range ≤ 8
+bit_count-few range = by_case (find (λ b. leb range (2 ^ b)) (range_with_len 0 8)) refl
+  where
+    by_case : (o : Option ℕ) → find (λ b. leb range (2 ^ b)) (range_with_len 0 8) ≡ o → unwrap_or o 8 ≤ 8
+    by_case None h = omega arith
+    by_case (Some b) h = (let less = find-within (λ k. leb range (2 ^ k)) 0 8 b h in omega arith)
+
+pub bit_count-below : (range : ℕ) → bit_count range ≤ range
+bit_count-below zero = omega arith
+bit_count-below (suc zero) = omega arith
+bit_count-below (suc (suc zero)) = omega arith
+bit_count-below (suc (suc (suc zero))) = omega arith
+bit_count-below (suc (suc (suc (suc zero)))) = omega arith
+bit_count-below (suc (suc (suc (suc (suc zero))))) = omega arith
+bit_count-below (suc (suc (suc (suc (suc (suc zero)))))) = omega arith
+bit_count-below (suc (suc (suc (suc (suc (suc (suc zero))))))) = omega arith
+bit_count-below (suc (suc (suc (suc (suc (suc (suc (suc range)))))))) = (let few = bit_count-few (suc (suc (suc (suc (suc (suc (suc (suc range)))))))) in omega arith)
+
+at_most-few : (range k n : ℕ) (below equal : Literal) → (at_most_part range k below equal n).vars ≤ n + 1
+at_most-few range k n below equal = by_case (highest_bit_decides range k)
+  where
+    by_case : (b : Bool) → (cond {A = Part} b (empty_part n) (or_gate_part (below ∷ equal ∷ []) n)).vars ≤ n + 1
+    by_case true = omega arith
+    by_case false = omega arith
+
+bounds_from-few : (es : List Literal) (first range k n : ℕ) (below : Literal) → (bounds_from first range below k es n).part.vars ≤ n + length es
+bounds_from-few [] first range k n below = omega arith
+bounds_from-few (e ∷ es) first range k n below =
+    let m = (at_most_part range k below e n).vars in
+    let one = at_most-few range k n below e in
+    let rest = bounds_from-few es first range (k + 1) m (at_most_lit first range k n) in
+    omega arith
+
+bounds-few : (values : List Literal) (first range n : ℕ) → (bounds_part first range values n).part.vars ≤ n + bound_count range
+bounds-few [] first range n = omega arith
+bounds-few (e ∷ es) first range n =
+    let few = bounds_from-few (take (bound_count range) es) first range 1 n e in
+    omega (arith, few, length-take (bound_count range) es)
+
+values-two : (first range n : ℕ) → eqb range 2 ≡ true → (values_part first range n).part.vars ≡ n
+values-two first range n e = rw e refl
+
+values-all : (first range n : ℕ) → eqb range 2 ≡ false → (values_part first range n).part.vars ≡ n + range
+values-all first range n e = rw e (values-low range first range 0 n)
+
+least : (a b : ℕ) → (min a b ≤ a) × (min a b ≤ b)
+least a b = (omega arith, omega arith)
+
+column-few : (first range n : ℕ) → (column_part first range n).part.vars + bit_count range ≤ n + 2 * range
+column-few first range n = by_case (eqb range 2) refl
+  where
+    m : ℕ
+    m = (values_part first range n).part.vars
+
+    bits : bit_count range ≤ range
+    bits = bit_count-below range
+
+    few : (column_part first range n).part.vars ≤ m + bound_count range
+    few = bounds-few (values_part first range n).lits first range m
+
+    by_case : (b : Bool) → eqb range 2 ≡ b → (column_part first range n).part.vars + bit_count range ≤ n + 2 * range
+    by_case true h =
+        let is : range ≡ 2 = eqb-true range 2 h in
+        let none : m ≡ n = values-two first range n h in
+        let bounds : bound_count range ≤ range - 3 = (least (range - 3) (range - bit_count range)).0 in
+        omega (arith, is, none, few, bounds, bits)
+    by_case false h =
+        let all : m ≡ n + range = values-all first range n h in
+        let bounds : bound_count range ≤ range - bit_count range = (least (range - 3) (range - bit_count range)).1 in
+        omega (arith, all, few, bounds, bits)
+
+columns-few : (ranges : List ℕ) (first n : ℕ) → (columns_part ranges first n).part.vars + total_bits ranges ≤ n + 2 * sum ranges
+columns-few [] first n = omega arith
+columns-few (range ∷ ranges) first n =
+    let p = column_part first range n in
+    let one = column-few first range n in
+    let rest = columns-few ranges (first + bit_count range) p.part.vars in
+    let all : sum (range ∷ ranges) ≡ range + sum ranges = sum_by-cons (λ (x : ℕ). x) range ranges in
+    omega (arith, one, rest, all)
+
+pub copy-few : (ranges : List ℕ) (n : ℕ) → (copy_part ranges n).part.vars ≤ n + 2 * sum ranges
+copy-few ranges n =
+    let rest = columns-few ranges (n + 1) (numbers_part ranges n).vars in
+    omega (arith, rest, numbers-end ranges n)

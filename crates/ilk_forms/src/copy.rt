@@ -1,0 +1,178 @@
+ghost use Rattle.std.specs.Prelude.{◌≡◌, ℕ, ◌+◌, ◌*◌, ◌<◌, ◌≤◌, ◌++◌, List, Bool, nat_lt, sum, length, OnOk, IfOk, IsTrue};
+ghost use Rattle.std.specs.List.{list_all};
+ghost use Rattle.ilk_cnf.specs.Extends.{PartExtends};
+ghost use Rattle.ilk_cnf.specs.Formula.{with_clauses, with_vars};
+ghost use Rattle.ilk_cnf.specs.Part.{with_part, as_clauses};
+ghost use Rattle.ilk_ints.specs.Bits.{bit_count};
+ghost use Rattle.ilk_ints.specs.Named.{lit_var_count};
+ghost use Rattle.ilk_ir.specs.System.{in_ranges};
+ghost use Rattle.ilk_forms.specs.Copy.{numbers_part, columns_part, column_part, copy_part, total_bits, total_lit_var_count, copy_var_count, copy_bits, IsCopy, LiteralsEncode};
+
+use ilk_base::Row;
+use ilk_cnf::{Cnf, Lits};
+use ilk_ints::{
+    Bounded, add_bound_lits, add_number_clauses, add_value_lits, bit_count, reserve_number,
+    reserve_value_lits,
+};
+use ilk_ir::Ranges;
+use std::alloc::{AllocError, Global};
+
+/// The literals of one variable of a copy: one for each of its values, and one for each bound that
+/// has its own.
+#[derive(Drop)]
+pub struct Column {
+    pub values: Lits,
+    pub bounds: Lits,
+}
+
+/// The literals of all variables of a copy.
+pub type Table = Row<Column>;
+
+fn take_numbers(cnf: &mut Cnf, ranges: &[u8]) -> Result<(), AllocError>
+    ensures { OnOk result (cnf.new ≡ with_vars cnf.old (cnf.old.vars + total_bits ranges.now)) }
+{
+    for range in ranges {
+        reserve_number(cnf, *range)?;
+    }
+    Ok(())
+}
+
+fn take_columns(cnf: &mut Cnf, ranges: &[u8]) -> Result<(), AllocError>
+    ensures { OnOk result (cnf.new ≡ with_vars cnf.old
+        (cnf.old.vars + total_lit_var_count ranges.now)) }
+{
+    for range in ranges {
+        reserve_value_lits(cnf, *range)?;
+    }
+    Ok(())
+}
+
+/// Adds the variables of a copy with these `ranges`, and no clause. If memory runs out, `cnf` may
+/// have grown.
+pub fn reserve_copy(cnf: &mut Cnf, ranges: &Ranges) -> Result<(), AllocError>
+    ensures taken { OnOk result
+        (cnf.new ≡ with_vars cnf.old (cnf.old.vars + copy_var_count ranges.now)) }
+
+    // At most two variables for each value of a variable.
+    ensures vars { OnOk result (cnf.new.vars ≤ cnf.old.vars + 2 * sum ranges.now) }
+{
+    take_numbers(cnf, ranges.as_slice())?;
+    take_columns(cnf, ranges.as_slice())?;
+    Ok(())
+}
+
+// Adds the clauses of an integer for each range. Their bits follow the first `used` variables.
+fn add_numbers(
+    alloc: Global,
+    cnf: &mut Cnf,
+    used: &mut u64,
+    ranges: &[u8],
+) -> Result<(), AllocError>
+    requires there { used.old + total_bits ranges.now ≤ cnf.old.vars }
+    ensures vars { OnOk result (cnf.new.vars ≡ cnf.old.vars) }
+    ensures made { OnOk result
+        (with_vars cnf.new used.new
+        ≡ with_part (with_vars cnf.old used.old) (numbers_part ranges.now used.old)) }
+{
+    for range in ranges {
+        let _ = cnf.vars();
+        let n = Bounded {
+            first: *used + 1,
+            range: *range,
+        };
+        add_number_clauses(alloc, cnf, n)?;
+        *used += bit_count(*range);
+    }
+    Ok(())
+}
+
+// Adds the clauses of one variable's literals, which follow the first `used` variables.
+fn add_column(
+    alloc: Global,
+    cnf: &mut Cnf,
+    used: &mut u64,
+    n: Bounded,
+) -> Result<Column, AllocError>
+    requires from_1 { 0 < n.first }
+    requires within { n.first + bit_count n.range ≤ used.old + 1 }
+    requires there { used.old + lit_var_count n.range ≤ cnf.old.vars }
+    ensures column { IfOk result
+        (λ column. column ≡ (column_part n.first n.range used.old).column) }
+    ensures vars { OnOk result (cnf.new.vars ≡ cnf.old.vars) }
+    ensures made { OnOk result
+        (with_vars cnf.new used.new
+        ≡ with_part (with_vars cnf.old used.old) (column_part n.first n.range used.old).part) }
+{
+    let values = add_value_lits(alloc, cnf, used, n)?;
+    let bounds = add_bound_lits(alloc, cnf, used, n, values.as_slice())?;
+    Ok(Column { values, bounds })
+}
+
+// Adds the clauses of the literals of all variables, whose bits begin at `first`.
+fn add_columns(
+    alloc: Global,
+    cnf: &mut Cnf,
+    used: &mut u64,
+    first: u64,
+    ranges: &[u8],
+) -> Result<Table, AllocError>
+    requires from_1 { 0 < first }
+    requires within { first + total_bits ranges.now ≤ used.old + 1 }
+    requires there { used.old + total_lit_var_count ranges.now ≤ cnf.old.vars }
+    ensures table { IfOk result
+        (λ table. table ≡ (columns_part ranges.now first used.old).columns) }
+    ensures vars { OnOk result (cnf.new.vars ≡ cnf.old.vars) }
+    ensures made { OnOk result
+        (with_vars cnf.new used.new
+        ≡ with_part (with_vars cnf.old used.old)
+        (columns_part ranges.now first used.old).part) }
+{
+    let mut table = Table::new(alloc);
+    let mut first = first;
+    for range in ranges {
+        let _ = cnf.vars();
+        let n = Bounded {
+            first,
+            range: *range,
+        };
+        table.push(add_column(alloc, cnf, used, n)?)?;
+        first += bit_count(*range);
+    }
+    Ok(table)
+}
+
+/// Adds the clauses of a copy with these `ranges` and returns its literals. The copy's variables
+/// already exist, after the first `before` ones. The clauses of the bits come first, then those of
+/// each variable's literals. The earlier assignment extends over the copy in exactly one way for
+/// each list of values in range. If memory runs out, `cnf` may have grown.
+pub fn add_copy(
+    alloc: Global,
+    cnf: &mut Cnf,
+    ranges: &Ranges,
+    before: u64,
+) -> Result<Table, AllocError>
+    requires { before + copy_var_count ranges.now ≤ cnf.old.vars }
+    ensures table { IfOk result (λ table. table ≡ (copy_part ranges.now before).columns) }
+    ensures made { OnOk result
+        (cnf.new
+        ≡ with_clauses cnf.old cnf.old.vars
+        (as_clauses (copy_part ranges.now before).part.clauses)) }
+    ensures law { OnOk result
+        ((a : List Bool) → length a ≡ before →
+        IsTrue (list_all (λ range. nat_lt range 256) ranges.now) →
+        PartExtends a (copy_part ranges.now before).part (IsCopy ranges.now)) }
+
+    // The literals of each variable then say its value, regardless of what follows the copy.
+    ensures exact { OnOk result
+        ((a c : List Bool) (ws : List ℕ) → length a ≡ before →
+        IsTrue (list_all (λ range. nat_lt range 256) ranges.now) →
+        IsTrue (in_ranges ws ranges.now) →
+        LiteralsEncode (a ++ (copy_bits ranges.now ws ++ c))
+        (copy_part ranges.now before).columns ranges.now ws) }
+{
+    let _ = cnf.vars();
+    let mut used = before;
+    add_numbers(alloc, cnf, &mut used, ranges.as_slice())?;
+    let table = add_columns(alloc, cnf, &mut used, before + 1, ranges.as_slice())?;
+    Ok(table)
+}

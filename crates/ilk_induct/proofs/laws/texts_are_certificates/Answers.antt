@@ -1,8 +1,0 @@
-use Rattle.ilk_induct.proofs.Certificates.{safe_certifies, spent_certifies}
-use Rattle.ilk_induct.proofs.laws.texts_are_certificates.Goals as goal
-
-pub returns-clause-safe : goal.returns-clause-safe
-returns-clause-safe c = safe_certifies
-
-pub returns-clause-spent : goal.returns-clause-spent
-returns-clause-spent c = spent_certifies

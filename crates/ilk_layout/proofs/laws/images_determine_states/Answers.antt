@@ -1,0 +1,5 @@
+use Rattle.ilk_layout.proofs.Read.{images-tell}
+use Rattle.ilk_layout.proofs.laws.images_determine_states.Goals as goal
+
+pub returns : goal.returns
+returns c = images-tell c.args.plant.now c.is_sound.ensures c.is_from_drafts.ensures.walks

@@ -1,5 +1,0 @@
-use Rattle.ilk_layout.proofs.Read.{images-tell}
-use Rattle.ilk_layout.proofs.laws.images_tell_states.Goals as goal
-
-pub returns : goal.returns
-returns c = images-tell c.args.plant.now c.is_sound.ensures c.is_of_drafts.ensures.walks

@@ -1,0 +1,139 @@
+ghost use Rattle.std.specs.Prelude.{◌≡◌, ◌<◌, length, IfOk};
+ghost use Rattle.ilk_ir.specs.Form.{tree_of};
+ghost use Rattle.ilk_ir.specs.Tree.{negation};
+ghost use Rattle.ilk_plant.specs.Plant.{point_count};
+ghost use Rattle.ilk_layout.specs.Conditions as conditions;
+
+use crate::values::{
+    Occupancy, aspect_value, hold_value, lie_value, mode_value, occupancy_value, position_value,
+};
+use crate::variable_numbers::{
+    board_var, commanded_var, detected_var, lock_var, mode_var, occupancy_var, rel_var, seen_var,
+};
+use ilk_ir::Form;
+use ilk_plant::{Aspect, Hold, Lie, Listed, Mode, Plant, Position, point_number_at};
+use ilk_routes::lie_from_position;
+use std::alloc::{AllocError, Global};
+
+/// Returns the condition that route `r` is in `mode`.
+pub fn mode_is(plant: &Plant, r: u32, mode: Mode) -> Form
+    requires { r < length plant.now.routes }
+    ensures { tree_of result ≡ conditions.mode_is r mode }
+{
+    Form::Is(mode_var(plant, r), mode_value(mode))
+}
+
+/// Returns the condition that `count` path sections of route `r` are seen.
+pub fn seen_is(plant: &Plant, r: u32, count: u8) -> Form
+    requires { r < length plant.now.routes }
+    ensures { tree_of result ≡ conditions.seen_is r count }
+{
+    Form::Is(seen_var(plant, r), count)
+}
+
+/// Returns the condition that `count` path sections of route `r` are released.
+pub fn rel_is(plant: &Plant, r: u32, count: u8) -> Form
+    requires { r < length plant.now.routes }
+    ensures { tree_of result ≡ conditions.rel_is r count }
+{
+    Form::Is(rel_var(plant, r), count)
+}
+
+/// Returns the condition that point `n` is detected in position `lie`.
+pub fn is_point_detected(plant: &Plant, n: u32, lie: Lie) -> Form
+    requires { n < point_count plant.now }
+    ensures { tree_of result ≡ conditions.is_point_detected plant.now n lie }
+{
+    Form::Is(detected_var(plant, n), lie_value(lie))
+}
+
+/// Returns the condition that point `n` is commanded to `position`.
+pub fn is_point_commanded(plant: &Plant, n: u32, position: Position) -> Form
+    requires { n < point_count plant.now }
+    ensures { tree_of result ≡ conditions.is_point_commanded plant.now n position }
+{
+    Form::Is(commanded_var(plant, n), position_value(position))
+}
+
+/// Returns the condition that board `m` shows `aspect`.
+pub fn board_is(plant: &Plant, m: u32, aspect: Aspect) -> Form
+    requires { m < length plant.now.boards }
+    ensures { tree_of result ≡ conditions.board_is plant.now m aspect }
+{
+    Form::Is(board_var(plant, m), aspect_value(aspect))
+}
+
+/// Returns the condition that the lock of section `x` is `hold`.
+pub fn lock_is(plant: &Plant, x: u32, hold: Hold) -> Form
+    requires { x < length plant.now.sections }
+    ensures { tree_of result ≡ conditions.lock_is plant.now x hold }
+{
+    Form::Is(lock_var(plant, x), hold_value(hold))
+}
+
+/// Returns the condition that section `x` has this `occupancy`.
+pub fn occupancy_is(plant: &Plant, x: u32, occupancy: Occupancy) -> Form
+    requires { x < length plant.now.sections }
+    ensures { tree_of result ≡ conditions.occupancy_is plant.now x occupancy }
+{
+    Form::Is(occupancy_var(plant, x), occupancy_value(occupancy))
+}
+
+/// Returns the negation of `form`. Fails only if memory runs out.
+pub fn negated(alloc: Global, form: Form) -> Result<Form, AllocError>
+    ensures { IfOk result (λ made. tree_of made ≡ negation (tree_of form)) }
+{
+    Ok(Form::Not(Box::new(alloc, form)?))
+}
+
+/// Returns the condition that section `x` is vacant.
+pub fn no_train_at(plant: &Plant, x: u32) -> Form
+    requires { x < length plant.now.sections }
+    ensures { tree_of result ≡ conditions.no_train_at plant.now x }
+{
+    occupancy_is(plant, x, Occupancy::Vacant)
+}
+
+/// Returns the condition that section `x` is not vacant. Fails only if memory runs out.
+pub fn train_at(alloc: Global, plant: &Plant, x: u32) -> Result<Form, AllocError>
+    requires { x < length plant.now.sections }
+    ensures { IfOk result (λ made. tree_of made ≡ conditions.train_at plant.now x) }
+{
+    negated(alloc, no_train_at(plant, x))
+}
+
+/// Returns the condition that the point on section `x` is detected in position `lie`. It never
+/// holds if `x` has no point.
+pub fn is_detected(plant: &Plant, x: u32, lie: Lie) -> Form
+    ensures { tree_of result ≡ conditions.is_detected plant.now x lie }
+{
+    match point_number_at(plant, x) {
+        None => Form::No,
+        Some(n) => is_point_detected(plant, n, lie),
+    }
+}
+
+/// Returns the condition that a listed point is detected in its listed position.
+pub fn lies_at_listed(plant: &Plant, listed: &Listed) -> Form
+    ensures { tree_of result ≡ conditions.lies_at_listed plant.now listed.now }
+{
+    is_detected(plant, listed.point, lie_from_position(listed.at))
+}
+
+/// Returns the condition that the point on section `x` is commanded to `position`. It never holds
+/// if `x` has no point.
+pub fn is_commanded(plant: &Plant, x: u32, position: Position) -> Form
+    ensures { tree_of result ≡ conditions.is_commanded plant.now x position }
+{
+    match point_number_at(plant, x) {
+        None => Form::No,
+        Some(n) => is_point_commanded(plant, n, position),
+    }
+}
+
+/// Returns the condition that a listed point is commanded to its listed position.
+pub fn commanded_at_listed(plant: &Plant, listed: &Listed) -> Form
+    ensures { tree_of result ≡ conditions.commanded_at_listed plant.now listed.now }
+{
+    is_commanded(plant, listed.point, listed.at)
+}

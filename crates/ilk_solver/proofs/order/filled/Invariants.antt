@@ -1,9 +1,0 @@
-use Rattle.std.proofs.Common.{◌≤◌, ◌<◌, ℕ}
-use Rattle.ilk_solver.specs.Tree.{IsTree, StandsIn}
-use Rattle.ilk_solver.proofs.order.filled.Given as goal
-
-abbrev pub invariant-loop-v : goal.invariant-loop-v
-invariant-loop-v l = record {
-  tree : IsTree l.weights l.tree.items;
-  each : (v : ℕ) → 0 < v → v ≤ l.v → StandsIn l.weights l.tree.items v;
-}

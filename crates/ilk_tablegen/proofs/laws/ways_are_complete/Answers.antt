@@ -1,0 +1,11 @@
+use Rattle.ilk_tablegen.proofs.AllListed.{exactly-continues_without_end, exactly-ways, in-order}
+use Rattle.ilk_tablegen.proofs.laws.ways_are_complete.Goals as goal
+
+pub returns-clause-each : goal.returns-clause-each
+returns-clause-each c = exactly-ways c.args._plant.now
+
+pub returns-clause-order : goal.returns-clause-order
+returns-clause-order c = in-order c.args._plant.now
+
+pub returns-clause-on : goal.returns-clause-on
+returns-clause-on c = exactly-continues_without_end c.args._plant.now

@@ -1,0 +1,56 @@
+-- The demands of a query, copy by copy, and the parts of a run that it asks for.
+use Rattle.std.proofs.Common.{◌≡◌, ℕ, zero, suc, ◌+◌, ◌≤◌, ◌<◌, Bool, true, ◌&&◌, ◌==◌, List, [], ◌∷◌, length, Some, refl, sym, ◌∙◌, arith}
+use Rattle.std.specs.List.{list_all, range_with_len, flat_map}
+use Rattle.std.proofs.lemmas.Bool.{and_from, and_parts, eqb-true, eq-eqb}
+use Rattle.std.proofs.lemmas.List.Folds.{list_all-append, list_all-map}
+use Rattle.ilk_base.specs.Option.{is_some_and}
+use Rattle.ilk_base.proofs.Options.{some-and}
+use Rattle.ilk_base.proofs.Ranges.{range-at}
+use Rattle.ilk_base.proofs.Tested.{list_all-slice_get}
+use Rattle.ilk_ir.specs.Tree.{Tree}
+use Rattle.ilk_ir.specs.System.{SystemTree, in_ranges}
+use Rattle.ilk_unroll.specs.declared.queries.Wanted.{Wanted}
+use Rattle.ilk_unroll.specs.Goal.{GoalTree, must_hold_in, must_hold_below, step_count, demands_of}
+use Rattle.ilk_unroll.specs.Run.{run_from, is_met_by, is_wanted_run}
+
+pub below-each : (run : List (List ℕ)) (t : Tree) (n j : ℕ) → list_all (is_met_by run) (must_hold_below t n) ≡ true → j < n → is_met_by run (must_hold_in j t) ≡ true
+below-each run t n j h less =
+    list_all-slice_get (λ i. is_met_by run (must_hold_in i t)) (range_with_len 0 n) j j (sym (list_all-map (is_met_by run) (λ i. must_hold_in i t) (range_with_len 0 n)) ∙ h) (range-at n j less)
+
+range-from : (p : ℕ → Bool) (start k : ℕ) → ((j : ℕ) → start ≤ j → j < start + k → p j ≡ true) → list_all p (range_with_len start k) ≡ true
+range-from p start zero h = refl
+range-from p start (suc k) h =
+    and_from _ _ (h start (omega arith) (omega arith)) (range-from p (start + 1) k (λ j low high. h j (omega arith) (omega arith)))
+
+pub below-from : (run : List (List ℕ)) (t : Tree) (n : ℕ) → ((j : ℕ) → j < n → is_met_by run (must_hold_in j t) ≡ true) → list_all (is_met_by run) (must_hold_below t n) ≡ true
+below-from run t n h =
+    list_all-map (is_met_by run) (λ j. must_hold_in j t) (range_with_len 0 n)
+    ∙ range-from (λ j. is_met_by run (must_hold_in j t)) 0 n (λ j low high. h j (omega arith))
+
+pub each-below-from : (run : List (List ℕ)) (ts : List Tree) (n : ℕ) → ((j : ℕ) → j < n → list_all (λ t. is_met_by run (must_hold_in j t)) ts ≡ true) → list_all (is_met_by run) (flat_map (λ t. must_hold_below t n) ts) ≡ true
+each-below-from run [] n h = refl
+each-below-from run (t ∷ ts) n h =
+    let P : ℕ → Bool = λ j. list_all (λ u. is_met_by run (must_hold_in j u)) ts in
+    list_all-append (is_met_by run) (must_hold_below t n) (flat_map (λ u. must_hold_below u n) ts)
+    ∙ and_from _ _
+    (below-from run t n (λ j less. (and_parts (is_met_by run (must_hold_in j t)) (P j) (h j less)).0))
+    (each-below-from run ts n (λ j less. (and_parts (is_met_by run (must_hold_in j t)) (P j) (h j less)).1))
+
+-- The parts of a run that a query asks for.
+pub record IsWanted (s : SystemTree) (g : GoalTree) (q : Wanted) (first rules : List ℕ) : Type 0 where
+  pub in_range : in_ranges first s.ranges ≡ true
+  pub many : length rules ≡ step_count q
+  pub run : List (List ℕ)
+  pub is : run_from s first rules ≡ Some run
+  pub met : list_all (is_met_by run) (demands_of g q) ≡ true
+
+pub wanted-parts : (s : SystemTree) (g : GoalTree) (q : Wanted) (first rules : List ℕ) → is_wanted_run s g q first rules ≡ true → IsWanted s g q first rules
+wanted-parts s g q first rules h =
+    let outer = and_parts (in_ranges first s.ranges && length rules == step_count q) (is_some_and (run_from s first rules) (λ run. list_all (is_met_by run) (demands_of g q))) h in
+    let inner = and_parts (in_ranges first s.ranges) (length rules == step_count q) outer.0 in
+    let run = some-and (run_from s first rules) (λ run. list_all (is_met_by run) (demands_of g q)) outer.1 in
+    record { in_range = inner.0; many = eqb-true (length rules) (step_count q) inner.1; run = run.0; is = run.1; met = run.2 }
+
+pub wanted-from : (s : SystemTree) (g : GoalTree) (q : Wanted) (first rules : List ℕ) → IsWanted s g q first rules → is_wanted_run s g q first rules ≡ true
+wanted-from s g q first rules w =
+    and_from _ _ (and_from _ _ w.in_range (eq-eqb (length rules) (step_count q) w.many)) (rw w.is w.met)

@@ -1,0 +1,9 @@
+-- Used only in proofs: storage of the clauses.
+use Rattle.std.specs.Prelude.{ℕ, ◌≡◌, List}
+use Rattle.ilk_arena.specs.Arena.{ArenaLists}
+use Rattle.ilk_watches.specs.Chained.{IsClauses}
+
+-- Holds if the list has the references by number.
+pub record HoldsClauses (a : ArenaLists) (references : List ℕ) : Type 0 where
+  pub row : references ≡ a.references
+  pub clauses : IsClauses a
