@@ -89,6 +89,7 @@ replay_outcome_reply p (NotARun at) = reply Rejected (not_a_run_line at)
 replay_outcome_reply p NoHazard = reply Rejected no_hazard_line
 replay_outcome_reply p (Hazard at) = reply Good (hazard_line p at)
 
+-- The reply to a run text that was read: its replay, or its first bad line.
 abbrev pub run_text_reply : PlantLists → Tale → Reply
 run_text_reply p (Bad line) = reply Rejected (rejected_line line)
 run_text_reply p (IsTold run) = replay_outcome_reply p (replay_result p run.first run.events)

@@ -10,8 +10,8 @@ use Rattle.ilk_answers.specs.Report.{accepted_line, rejected_line, reply}
 use Rattle.ilk_answers.specs.declared.reply.Reply.{Reply}
 use Rattle.ilk_answers.specs.declared.status.Status.TheVariants.{Good, Rejected}
 
--- Holds if a reply accepts bytes as the certificate for k. They are one, regardless of origin, so
--- the plant is safe for runs of any length.
+-- Holds if a reply accepts bytes that are the certificate for `k`, whoever wrote them, so the plant
+-- is safe for runs of any length.
 pub record Accepts (p : PlantLists) (bytes : List ℕ) (made : Reply) : Type 0 where
   pub k : ℕ
   pub certificate : IsCertificate (system_of p) (goal_of p) k bytes

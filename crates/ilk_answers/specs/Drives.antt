@@ -15,6 +15,7 @@ use Rattle.ilk_answers.specs.declared.reply.Reply.{Reply}
 use Rattle.ilk_answers.specs.declared.status.Status.{Status}
 use Rattle.ilk_answers.specs.declared.status.Status.TheVariants.{Good, Unsafe, Rejected}
 
+-- The text of how a drive ended.
 abbrev pub rest_text : PlantLists → Rest → List ℕ
 rest_text p rest.Driven = codes "driven"
 rest_text p (rest.Stuck at) = codes "stuck at " ++ decimal at
@@ -23,6 +24,7 @@ rest_text p (rest.Hazard at) = codes "hazard " ++ hazard_text p at
 abbrev pub rest_line : PlantLists → Rest → ℕ → List ℕ
 rest_line p rest steps = rest_text p rest ++ (codes " steps=" ++ (decimal steps ++ 10 ∷ []))
 
+-- The status for how a drive ended.
 abbrev pub rest_status : Rest → Status
 rest_status rest.Driven = Good
 rest_status (rest.Stuck at) = Rejected

@@ -7,7 +7,8 @@ use Rattle.ilk_words.specs.declared.command.QueryKind.{QueryKind}
 use Rattle.ilk_answers.specs.Refutations.{formula_of_query}
 use Rattle.ilk_answers.specs.Verdicts.{wanted_query}
 
--- A text without a bad item refutes the formula, so the plant has no run that the query asks for.
+-- Holds if `None` or the first bad item of a text is right. Without a bad item the text refutes the
+-- formula, so the plant has no run that the query asks for.
 abbrev pub IsRupReplyFor : PlantLists → QueryKind → ℕ → List ℕ → Option ℕ → Type 0
 IsRupReplyFor p kind n text None = IsAccepted (formula_of_query p kind n) text × ¬ HasQueriedRun p (wanted_query kind n)
 IsRupReplyFor p kind n text (Some item) = IsFirstBadItem (formula_of_query p kind n) text item

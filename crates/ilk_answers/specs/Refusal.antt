@@ -9,6 +9,7 @@ use Rattle.ilk_plant.specs.declared.broken.Broken.{Broken}
 use Rattle.ilk_answers.specs.declared.refusals.Refusal.{Refusal}
 use Rattle.ilk_answers.specs.declared.refusals.Refusal.TheVariants.{Form as FormRefusal, Rule as RuleRefusal}
 
+-- The name of a rule of form, such as `F1`.
 abbrev pub form_name : Form → List ℕ
 form_name F1 = codes "F1"
 form_name F2 = codes "F2"
@@ -27,6 +28,7 @@ place_text Extra = codes "extra"
 place_text (Section i) = entry_text (codes "sections") i
 place_text (Route i) = entry_text (codes "routes") i
 
+-- The text of the places at which a rule is broken, such as `routes[3]`.
 abbrev pub broken_places : Broken → List ℕ
 broken_places broken = with_second broken.second
   where

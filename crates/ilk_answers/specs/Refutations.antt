@@ -17,7 +17,7 @@ use Rattle.ilk_answers.specs.declared.status.Status.TheVariants.{Good, Rejected}
 abbrev pub formula_of_query : PlantLists → QueryKind → ℕ → Formula
 formula_of_query p kind n = query_formula (system_of p) (goal_of p) (wanted_query kind n)
 
--- Holds if a reply accepts a text: it refutes the formula, so the plant has no run that the query
+-- Holds if a reply accepts a text that refutes the formula, so the plant has no run that the query
 -- asks for.
 pub record Refutes (p : PlantLists) (kind : QueryKind) (n : ℕ) (text : List ℕ) (made : Reply) : Type 0 where
   pub accepted : IsAccepted (formula_of_query p kind n) text

@@ -4,7 +4,8 @@ use Rattle.ilk_words.specs.declared.plan.Plan.{Plan}
 use Rattle.ilk_answers.specs.Status.{is_reply}
 use Rattle.ilk_answers.specs.declared.reply.Reply.{Reply}
 
--- Holds if the status is that of a reply, and there is a certificate only if the plan allows one.
+-- Holds if a reply's status passes `is_reply`, and it has a certificate only if the plan allows
+-- one.
 pub record FitsPlan (plan : Plan) (made : Reply) : Type 0 where
   pub status : IsTrue (is_reply made.status)
   pub uncertified : plan.certifies ≡ false → made.certificate ≡ []

@@ -39,9 +39,11 @@ GivesPlantIfFree conf = IfOk (plant_of (All Free) conf) IsPlant
 abbrev pub deviation_beginnings : List Bytes
 deviation_beginnings = codes "refused C4 " ∷ codes "refused C5 " ∷ codes "refused C6 " ∷ codes "refused C8 " ∷ []
 
+-- Returns whether a line has one of these beginnings.
 abbrev pub has_beginning : List Bytes → Bytes → Bool
 has_beginning beginnings line = list_any (λ beginning. starts_with ◌==◌ line beginning) beginnings
 
+-- Returns whether each line of a report has one of these beginnings.
 abbrev pub lines_have_beginnings : List Bytes → Bytes → Bool
 lines_have_beginnings beginnings report = list_all (has_beginning beginnings) (lines_of report)
 
@@ -62,7 +64,7 @@ pub record SaysSafeAtOne (p : PlantLists) (depth conflicts : ℕ) (made : Reply)
   pub report : made.report ≡ codes "safe k=" ++ decimal 1 ++ 10 ∷ []
   pub certificate : IsCertificateOf p depth conflicts (Safe 1) made.certificate
 
--- Holds if a reply says so, or that all conflicts are spent.
+-- Holds if a reply says `safe k=1` with its certificate, or that all conflicts are spent.
 abbrev pub SaysSafeAtOneOrSpent : PlantLists → ℕ → ℕ → Reply → Type 0
 SaysSafeAtOneOrSpent p depth conflicts made = SaysSafeAtOne p depth conflicts made ⊎ (made.status ≡ Spent)
 

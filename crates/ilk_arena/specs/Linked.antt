@@ -19,6 +19,7 @@ literals_at ws c = map lit_at (places_at ws c)
 abbrev pub cursor_at : List ℕ → ℕ → ℕ
 cursor_at ws c = slice_index ws (c + 6)
 
+-- The references of the clauses that watch the literal with number `l`, from its head on.
 abbrev pub chain_at : List ℕ → List ℕ → ℕ → List ℕ
 chain_at ws hs l = chain ws l (length ws) (slice_index hs l)
 

@@ -25,12 +25,14 @@ other_watch_place ws f c = cond (eqb (slice_index ws (c + 1)) f) (slice_index ws
 abbrev pub reference_of : ℕ → Option ℕ
 reference_of k = cond (eqb k 0) None (Some k)
 
--- The words and the heads after `c` has left the chain of `f`, in which it followed the given
+-- The words after `c` has left the chain of `f`, in which it was first or followed the given
 -- clause.
 abbrev pub words_after_unlink : List ℕ → Option ℕ → ℕ → ℕ → List ℕ
 words_after_unlink ws None f c = ws
 words_after_unlink ws (Some b) f c = slice_set ws (link_index ws f b) (next_reference ws f c)
 
+-- The heads after `c` has left the chain of `f`, in which it was first or followed the given
+-- clause.
 abbrev pub heads_after_unlink : List ℕ → List ℕ → Option ℕ → ℕ → ℕ → List ℕ
 heads_after_unlink hs ws None f c = slice_set hs f (next_reference ws f c)
 heads_after_unlink hs ws (Some b) f c = hs

@@ -18,7 +18,7 @@ pub fn place(l: Lit) -> u32
     if l.positive() { negative + 1 } else { negative }
 }
 
-/// Returns the literal at `place`.
+/// Returns the literal whose number as an index of heads is `place`.
 #[inline(always)]
 pub fn lit_at(place: u32) -> Lit
     requires { 2 ≤ place }

@@ -12,6 +12,6 @@ pub record AuditState : Type 0 where
   pub clauses : List (List Literal)
   pub closed : Bool
 
--- The same after a step that follows.
+-- The state after a step that follows: its clause is added, and `closed` is set if that is empty.
 abbrev pub with_step : AuditState → Step → AuditState
 with_step a s = record { vars = a.vars; clauses = a.clauses ++ s.clause ∷ []; closed = is_empty s.clause }

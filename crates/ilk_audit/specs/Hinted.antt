@@ -26,8 +26,8 @@ clause_status set c = status_from_open set (unfalsified_lits set c)
 abbrev pub clause_status_at : List (List Literal) → List Literal → ℕ → ClauseStatus
 clause_status_at clauses set h = option_map_or (clause_status set) (clause_numbered clauses h) Missing
 
--- Holds if the one unset literal, if it is the result, is of one of the variables 1 to `n`, which
--- is unset.
+-- Holds if the status, if it names one unset literal, names one over an unset variable from 1 to
+-- `n`.
 abbrev pub IsSettable : ℕ → List Literal → ClauseStatus → Type 0
 IsSettable n set Missing = Unit {0}
 IsSettable n set AllFalse = Unit {0}

@@ -24,10 +24,11 @@ pub record IsTableOf (falses : List Bool) (p : PartialList) : Type 0 where
   pub long : length falses ≡ 2 * p.vars + 2
   pub tells : (l : Literal) → IsTrue (is_lit_over p.vars l) → slice_get falses (code_of l) ≡ Some (is_false p.set l)
 
+-- The literals of these numbers.
 abbrev pub literals_of : List ℕ → List Literal
 literals_of codes = map literal_of codes
 
--- The clauses whose literals' numbers are between consecutive bounds.
+-- The clauses into which the bounds split the list of literals' numbers.
 abbrev pub clauses_between : List ℕ → List ℕ → List (List Literal)
 clauses_between [] codes = []
 clauses_between (from ∷ []) codes = []
@@ -38,12 +39,12 @@ abbrev pub is_ascending : ℕ → List ℕ → ℕ → Bool
 is_ascending from [] to = from == to
 is_ascending from (b ∷ bounds) to = nat_le from b && is_ascending b bounds to
 
--- Returns whether they ascend from the first of them, and the last is `to`.
+-- Returns whether the bounds ascend from the first of them, and the last is `to`.
 abbrev pub are_bounds : List ℕ → ℕ → Bool
 are_bounds [] to = false
 are_bounds (from ∷ bounds) to = is_ascending from bounds to
 
--- The invariant of the fields of a block.
+-- Holds if the bounds split the numbers into clauses over the variables 1 to `vars`.
 pub record IsBlock (vars : ℕ) (codes : Codes) (bounds : List ℕ) : Type 0 where
   pub formula : IsFormula (record { vars = vars; clauses = clauses_between bounds (codes_in codes) })
   pub fits : IsTrue (codes_fit vars codes)

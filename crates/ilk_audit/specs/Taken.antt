@@ -36,7 +36,7 @@ abbrev pub fault_of : ℕ → List (List Literal) → Step → Option Why
 fault_of n clauses s =
     if is_clause_over n s.clause && vars_differ s.clause then hints_fault clauses (negated_clause s.clause) s.hints else Some BadLiteral
 
--- The answer to a step with such a reason, or without one.
+-- The answer to a step: the reason why it does not follow, or that it is taken.
 abbrev pub answer_from_fault : Step → Option Why → Taken
 answer_from_fault s (Some why) = Bad why
 answer_from_fault s None = if is_empty s.clause then Closed else Good

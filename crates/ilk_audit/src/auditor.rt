@@ -104,7 +104,7 @@ impl Auditor {
         self.take_parts(step.clause.as_slice(), step.hints.as_slice())
     }
 
-    /// Does the same for a step in two slices.
+    /// Checks the step that two slices give, and takes it if it follows.
     pub fn take_parts(&mut self, clause: &[Lit], hints: &[u64]) -> Result<Taken, AllocError>
         requires open { self.old.closed ≡ false }
         ensures taken { IfOk result

@@ -29,30 +29,35 @@ rules_for (Some x) rules = rules x
 abbrev pub set_var : ℕ → ℕ → Setting
 set_var v value = record { var = v; value = value }
 
--- Sets the mode of route `r`, or its number of seen or of released path sections.
+-- Sets the mode of route `r`.
 abbrev pub set_mode : ℕ → Mode → Setting
 set_mode r mode = set_var (mode_var r) (mode_value mode)
 
+-- Sets the number of seen path sections of route `r`.
 abbrev pub set_seen : ℕ → ℕ → Setting
 set_seen r count = set_var (seen_var r) count
 
+-- Sets the number of released path sections of route `r`.
 abbrev pub set_rel : ℕ → ℕ → Setting
 set_rel r count = set_var (rel_var r) count
 
--- Sets the detected, or the commanded, position of point number `n`.
+-- Sets the detected position of point number `n`.
 abbrev pub set_detected : PlantLists → ℕ → Lie → Setting
 set_detected p n lie = set_var (detected_var p n) (lie_value lie)
 
+-- Sets the commanded position of point number `n`.
 abbrev pub set_commanded : PlantLists → ℕ → Position → Setting
 set_commanded p n position = set_var (commanded_var p n) (position_value position)
 
--- Sets the aspect of board `m`, or the lock or the occupancy of section `x`.
+-- Sets the aspect of board `m`.
 abbrev pub set_board : PlantLists → ℕ → Aspect → Setting
 set_board p m aspect = set_var (board_var p m) (aspect_value aspect)
 
+-- Sets the lock of section `x`.
 abbrev pub set_lock : PlantLists → ℕ → Hold → Setting
 set_lock p x hold = set_var (lock_var p x) (hold_value hold)
 
+-- Sets the occupancy of section `x`.
 abbrev pub set_occupancy : PlantLists → ℕ → Occupancy → Setting
 set_occupancy p x occupancy = set_var (occupancy_var p x) (occupancy_value occupancy)
 

@@ -44,11 +44,12 @@ FollowingLines may_stop s g k (Within m q auditor) lines =
 FollowingLines may_stop s g k (Ended m) lines = (k ≡ m) × (lines ≡ [])
 FollowingLines may_stop s g k (Refused n) lines = ⊥
 
--- Returns whether no line was bad, and the stage is of a certificate for a number from 1 to 16, and
--- of one of its queries.
+-- Returns whether `k` is from 1 to 16.
 abbrev pub is_valid_k : ℕ → Bool
 is_valid_k k = nat_lt 0 k && nat_le k 16
 
+-- Returns whether no line was bad, and the stage is of a certificate for a number from 1 to 16, and
+-- of one of its queries.
 abbrev pub is_valid_stage : Stage → Bool
 is_valid_stage Head = true
 is_valid_stage Told = true
@@ -99,7 +100,8 @@ pub record IsFollowing (line : Bytes) (old new : AuditState) : Type 0 where
   pub derived : IsTrue (is_derived old.vars old.clauses step)
   pub after : new ≡ with_step old step
 
--- Holds if a line among the steps of a query is of this kind.
+-- Holds if a line among the steps of a query is of this kind: a step that follows and doesn't close
+-- the query, one that closes it, or a bad line.
 abbrev pub IsLineOfKind : Bytes → AuditState → AuditState → Line → Type 0
 IsLineOfKind line old new Follows = (f : IsFollowing line old new) × (is_empty f.step.clause ≡ false)
 IsLineOfKind line old new Closes = (f : IsFollowing line old new) × (is_empty f.step.clause ≡ true)

@@ -82,7 +82,7 @@ impl LineAudit {
         }
     }
 
-    /// Takes the next line, if that is bad whatever its last bytes are.
+    /// Refuses the next line, which is bad whatever its last bytes are.
     pub fn refuse(&mut self)
         ensures bad { (s : SystemTree) (g : GoalTree) (lines : List Bytes) (line : Bytes)
             → HasTakenLines s g self.old lines → is_refused self.old.stage ≡ false

@@ -16,16 +16,17 @@ use Rattle.ilk_certificate.specs.CertificateText.{safe_text}
 abbrev pub IsRefuted : SystemTree → GoalTree → Wanted → List LogStep → Type 0
 IsRefuted s g q log = IsTrue (is_refutation (query_formula s g q) log)
 
--- The hazard query and the breach query for each number of steps up to `k`, and the step query for
--- `k`.
+-- The hazard query and the breach query for `n` steps.
 abbrev pub base_queries : ℕ → List Wanted
 base_queries n = Hazard n ∷ Breach n ∷ []
 
+-- The hazard query and the breach query for each number of steps up to `k`, and the step query for
+-- `k`.
 abbrev pub certified_queries : ℕ → List Wanted
 certified_queries k = flat_map base_queries (range_with_len 0 (k + 1)) ++ Step k ∷ []
 
--- Holds if the bytes are the safe text for `k`, from 1 to 16, of these queries, each with a log
--- that refutes it.
+-- Holds if the bytes are the safe text for `k`, from 1 to 16, of the certified queries, each with a
+-- log that refutes it.
 pub record IsCertificate (s : SystemTree) (g : GoalTree) (k : ℕ) (bytes : Bytes) : Type 0 where
   pub asked : List Asked
   pub some : 0 < k

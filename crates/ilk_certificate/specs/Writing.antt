@@ -26,7 +26,7 @@ text_unless_step a = if is_step_query a.query then [] else asked_text a
 abbrev pub kept_text : List Asked → Bytes
 kept_text asked = text_of (flat_map asked_lines (without_early_steps asked))
 
--- The rest of a part.
+-- The bytes of a part that are still to be taken.
 abbrev pub untaken_bytes : Part → Bytes
 untaken_bytes (Lines lines) = lines
 untaken_bytes (Log log) = log

@@ -11,7 +11,8 @@ pub record Extends (a : List Bool) (m : ℕ) (cs : List (List Literal)) (E : Lis
   pub all_satisfy : (b : List Bool) → E b → satisfies (a ++ b) cs ≡ true
   pub only : (b : List Bool) → length (a ++ b) ≡ m → satisfies (a ++ b) cs ≡ true → E b
 
--- The same for a part.
+-- The assignments that begin with a and satisfy a part are exactly those that continue with values
+-- in E.
 abbrev pub PartExtends : List Bool → Part → (List Bool → Type 0) → Type 0
 PartExtends a p E = Extends a p.vars (as_clauses p.clauses) E
 

@@ -7,14 +7,15 @@ pub record Formula : Type 0 where
   pub vars : ℕ
   pub clauses : List (List Literal)
 
--- Returns whether the variable is one of 1 to n. The next two: for each literal of a clause, and of
--- each clause.
+-- Returns whether the variable of a literal is one of 1 to n.
 abbrev pub is_lit_over : ℕ → Literal → Bool
 is_lit_over n l = nat_lt 0 l.var && nat_le l.var n
 
+-- Returns whether each variable of a clause is one of 1 to n.
 abbrev pub is_clause_over : ℕ → List Literal → Bool
 is_clause_over n c = list_all (is_lit_over n) c
 
+-- Returns whether each variable of each clause is one of 1 to n.
 abbrev pub are_clauses_over : ℕ → List (List Literal) → Bool
 are_clauses_over n cs = list_all (is_clause_over n) cs
 

@@ -72,6 +72,7 @@ abbrev pub train_with_tail : PlantLists → State → List Occupancy → ℕ →
 train_with_tail p s occupancies x =
     option_map (λ d. record { dir = d; body = x ∷ follow_steps (length p.sections) (next_in_body p s occupancies) x }) (tail_direction occupancies x)
 
+-- The trains, in ascending order of the sections of their tails.
 abbrev pub trains_by_tails : PlantLists → State → List Occupancy → List Train
 trains_by_tails p s occupancies = filter_map (train_with_tail p s occupancies) (range_with_len 0 (length p.sections))
 

@@ -17,13 +17,13 @@ use Rattle.ilk_model.specs.declared.event.Event.TheVariants.{Mark, Allocate, Loc
 abbrev pub share_section : Route → Route → Bool
 share_section a b = list_any (λ x. has_section x (sections_locked_for b)) (sections_locked_for a)
 
--- Returns whether the source of a is a protecting board of b.
+-- Returns whether the source of the first route is a protecting board of the second.
 abbrev pub starts_at_protecting_board : Route → Route → Bool
 starts_at_protecting_board a b = has_number a.source b.protecting_boards
 
--- Returns whether the state of route number r affects the allocation or locking of another. The
--- other lists it as a conflict, shares a section with it, or one has the other's source as a
--- protecting board.
+-- Returns whether the state of `route`, which has number r, may affect the allocation or locking of
+-- `other`. The other lists r as a conflict, they share a section, or the source of one is a
+-- protecting board of the other.
 abbrev pub may_affect : ℕ → Route → Route → Bool
 may_affect r route other =
     has_number r other.conflicts || (share_section route other || (starts_at_protecting_board route other || starts_at_protecting_board other route))

@@ -9,7 +9,8 @@ use Rattle.ilk_drive.specs.Drive.{automatic_events, first_automatic}
 use Rattle.ilk_drive.specs.declared.automatic.Automatic.{Automatic}
 use Rattle.ilk_base.specs.Numbers.{has_number}
 
--- The index with this distance from the greatest number.
+-- The index of a rank: the greatest number less the rank, so that the lowest index has the highest
+-- rank.
 abbrev pub place_of_rank : ℕ → ℕ
 place_of_rank rank = 18446744073709551615 - rank
 
@@ -25,7 +26,8 @@ HasAllEnabledBy p event places = (j : ℕ) (other : Event) → slice_get (automa
 abbrev pub HasEnabledByEach : PlantLists → List Event → List (List ℕ) → Type 0
 HasEnabledByEach p events woken = (i : ℕ) (event : Event) (places : List ℕ) → slice_get events i ≡ Some event → slice_get woken i ≡ Some places → HasAllEnabledBy p event places
 
--- The automatic events of the plant, each with the indices of those that it may enable.
+-- Holds if these are the automatic events of the plant, each with the indices of those that it may
+-- enable.
 pub record IsAutomaticOf (p : PlantLists) (automatic : Automatic) : Type 0 where
   pub events : automatic.events ≡ automatic_events p
   pub long : length automatic.woken ≡ length automatic.events

@@ -19,7 +19,7 @@ scene_lines p commands = codes "drive 1" ∷ (map (event_line p) commands ++ cod
 abbrev pub scene_text : PlantLists → List Event → Bytes
 scene_text p commands = text_of (scene_lines p commands)
 
--- Commands whose subjects are routes or sections of the plant.
+-- Holds if each of these is a command whose subject is a route or section of the plant.
 pub record IsSceneOf (p : PlantLists) (commands : List Event) : Type 0 where
   pub commanded : AreCommands commands
   pub about : All (HasSubjectOf p) commands

@@ -34,6 +34,7 @@ abbrev pub IsLeastWith : PlantLists → State → List ℕ → Option ℕ → Op
 IsLeastWith p s these found result =
     (sections : List ℕ) → IsLeastHazardous p s sections found → IsLeastHazardous p s (these ++ sections) result
 
--- Holds if `found` is the hazard after an event from any state without one.
+-- Holds if, from any state without a hazard, `found` is the hazard after the event, or `None` if
+-- there is none.
 abbrev pub IsHazardAfter : PlantLists → State → Event → Option HazardAt → Type 0
 IsHazardAfter p t event found = (s : State) → hazard p s ≡ None → next p s event ≡ Some t → found ≡ hazard p t

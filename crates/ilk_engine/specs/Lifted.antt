@@ -11,12 +11,12 @@ use Rattle.ilk_engine.specs.Right.{IsRightVerdict}
 use Rattle.ilk_engine.specs.declared.verdict.Verdict.{Verdict}
 use Rattle.ilk_engine.specs.declared.verdict.Verdict.TheVariants.{Spent}
 
--- The events of the rules that have one.
+-- The events of fired rules, which are given by number. Rules without an event are left out.
 abbrev pub events_fired : PlantLists → List ℕ → List Event
 events_fired p rules = flat_map (λ i. option_to_list (event_of_rule p i)) rules
 
--- Holds if the verdict is right and lasts, and the queries asked for `found` on the system are
--- those asked for it.
+-- Holds if the verdict is right and holds at any length, and the queries asked for `found` on the
+-- system are those asked for it.
 pub record IsLiftedFrom (p : PlantLists) (depth : ℕ) (found : SystemVerdict) (verdict : Verdict) : Type 0 where
   pub right : IsRightVerdict p depth verdict ⊎ (verdict ≡ Spent)
   pub lasts : HoldsAtAnyLength p verdict

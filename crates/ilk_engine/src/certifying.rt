@@ -23,8 +23,8 @@ pub fn certificate(alloc: Global, found: &Found) -> Result<Vec<u8>, AllocError>
     }
 }
 
-/// Returns the text of `certificate`, to be taken in pieces. It owns the logs of `asked`, and is
-/// made from them as it is taken. Fails only if memory runs out.
+/// Returns the text of the certificate of `verdict`, to be taken in pieces. It owns the logs of
+/// `asked`, and is made from them as it is taken. Fails only if memory runs out.
 pub fn certificate_in_pieces(
     alloc: Global,
     verdict: &Verdict,

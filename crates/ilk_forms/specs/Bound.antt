@@ -35,13 +35,15 @@ column_bound column k =
 abbrev pub bound_lit : List Column → ℕ → ℕ → Option Literal
 bound_lit columns v k = option_and_then (λ column. column_bound column k) (slice_get columns v)
 
--- The one literal that represents an Or of these forms, if there is one.
+-- The one literal that represents an Or of these forms, if they say that a variable is at most a
+-- value and the copy has a literal for that.
 abbrev pub or_bound_lit : List Column → Trees → Option Literal
 or_bound_lit columns ts = option_and_then (λ b. bound_lit columns b.var b.most) (bound_of ts)
 
--- Returns whether there is such a literal, by the variable's range alone.
+-- Returns whether a copy of these ranges has a literal that says that variable `v` is at most `k`.
 abbrev pub has_bound_lit : List ℕ → ℕ → ℕ → Bool
 has_bound_lit ranges v k = is_some_and (slice_get ranges v) (λ range. (k + 2 == range) || nat_lt (k - 1) (bound_count range))
 
+-- Returns whether one literal represents an Or of these forms, by the ranges alone.
 abbrev pub has_or_bound_lit : List ℕ → Trees → Bool
 has_or_bound_lit ranges ts = is_some_and (bound_of ts) (λ b. has_bound_lit ranges b.var b.most)

@@ -19,16 +19,17 @@ pub record PartWithColumns : Type 0 where
   pub part : Part
   pub columns : List Column
 
--- The number of bits.
+-- The number of bits of integers with these ranges.
 abbrev pub total_bits : List ℕ → ℕ
 total_bits [] = 0
 total_bits (range ∷ ranges) = bit_count range + total_bits ranges
 
--- The literals of one variable whose bits begin at `first`.
+-- A part, and the literals of its one variable.
 pub record PartWithColumn : Type 0 where
   pub part : Part
   pub column : Column
 
+-- The literals of one variable whose bits begin at `first`, after `n` variables.
 abbrev pub column_part : ℕ → ℕ → ℕ → PartWithColumn
 column_part first range n =
     record {
@@ -45,7 +46,7 @@ columns_part (range ∷ ranges) first n =
       columns = (column_part first range n).column ∷ (columns_part ranges (first + bit_count range) (column_part first range n).part.vars).columns;
     }
 
--- The number of variables that the literals take.
+-- The number of variables for the literals of all values and bounds of a copy.
 abbrev pub total_lit_var_count : List ℕ → ℕ
 total_lit_var_count [] = 0
 total_lit_var_count (range ∷ ranges) = lit_var_count range + total_lit_var_count ranges
@@ -62,18 +63,20 @@ copy_part ranges n =
       columns = (columns_part ranges (n + 1) (numbers_part ranges n).vars).columns;
     }
 
--- The truth values of a copy's variables, if the system's variables have the values `ws`.
+-- The bits of a copy's integers, if these have the values `ws`.
 abbrev pub numbers_bits : List ℕ → List ℕ → List Bool
 numbers_bits [] ws = []
 numbers_bits (range ∷ ranges) [] = []
 numbers_bits (range ∷ ranges) (w ∷ ws) = bits_of (bit_count range) w ++ numbers_bits ranges ws
 
+-- The values of the variables of a copy's literals, if its integers have the values `ws`.
 abbrev pub columns_bits : List ℕ → List ℕ → List Bool
 columns_bits [] ws = []
 columns_bits (range ∷ ranges) [] = []
 columns_bits (range ∷ ranges) (w ∷ ws) =
     value_vars_bits range w ++ (bound_vars_bits range w 1 (bound_count range) ++ columns_bits ranges ws)
 
+-- The truth values of a copy's variables, if the system's variables have the values `ws`.
 abbrev pub copy_bits : List ℕ → List ℕ → List Bool
 copy_bits ranges ws = numbers_bits ranges ws ++ columns_bits ranges ws
 

@@ -45,5 +45,6 @@ abbrev mutual
   demand_each columns first positive (more t ts) n =
       and_then (demand_of columns first positive t n) (demand_each columns first positive ts)
 
+-- The demand that a literal of `first` is true or the form holds, after `n` variables.
 abbrev pub demand_part : List Column → List Literal → Tree → ℕ → Part
 demand_part columns first t n = demand_of columns first true t n

@@ -49,6 +49,7 @@ combined_lit all [] n = record { part = gate_part all [] n; lit = positive_lit (
 combined_lit all (l ∷ []) n = record { part = empty_part n; lit = l }
 combined_lit all (l ∷ m ∷ ls) n = record { part = gate_part all (l ∷ m ∷ ls) n; lit = positive_lit (n + 1) }
 
+-- The one literal in place of the gathered ones, with both parts.
 abbrev pub combined : Bool → PartWithLits → PartWithLit
 combined all g =
     record {

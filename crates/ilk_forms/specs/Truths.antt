@@ -67,5 +67,7 @@ abbrev mutual
   demand_each_bits ranges ws positive none = []
   demand_each_bits ranges ws positive (more t ts) = demand_of_bits ranges ws positive t ++ demand_each_bits ranges ws positive ts
 
+-- The values of the new variables of `demand_part`, if the copy has these ranges and the values
+-- `ws`.
 abbrev pub demand_bits : List ℕ → List ℕ → Tree → List Bool
 demand_bits ranges ws t = demand_of_bits ranges ws true t

@@ -45,7 +45,8 @@ pub fn heaviest(view: &View) -> Lit
     }
 }
 
-/// Picks the same if that variable occurs in a step, or else the literal of `least`.
+/// Picks the negative literal of the heaviest unset variable if it occurs in a step, or else the
+/// literal of `least`.
 pub fn heaviest_in_steps(view: &View) -> Lit
     ensures unset { (v : ℕ) → IsTrue (is_unset view.now v) → IsTrue (is_unset view.now result.var) }
     ensures negative { result.positive ≡ false }

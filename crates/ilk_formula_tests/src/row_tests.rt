@@ -57,7 +57,7 @@ pub fn search_of(
     Ok(text)
 }
 
-/// The same for a search over the first `clauses` clauses.
+/// Returns the answer of a search over the first `clauses` clauses, and the sizes of its steps.
 pub fn search(
     alloc: Global,
     clauses: u8,

@@ -7,6 +7,7 @@ use Rattle.ilk_plant.specs.declared.draft.RouteDraft.{RouteDraft}
 use Rattle.ilk_plant.specs.declared.network.Position.TheVariants.{Plus, Minus}
 use Rattle.ilk_gen.specs.StationRoutes.{down_route_into, down_route_out_of, route_name, up_route_into, up_route_out_of}
 
+-- The names of these routes of station j.
 abbrev pub route_names : ℕ → List ℕ → List Name
 route_names j numbers = map (route_name j) numbers
 

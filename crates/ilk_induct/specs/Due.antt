@@ -28,7 +28,8 @@ use Rattle.ilk_induct.specs.Order.{queries_below}
 use Rattle.ilk_induct.specs.Spent.{IsLogOf, HasPassed}
 use Rattle.ilk_induct.specs.Asked.{AreQueriesOfVerdict}
 
--- The meaning of each answer to a query.
+-- Holds if the response to a query is right: its run is one that the query asks for, its log
+-- refutes the query, or its search was given up.
 abbrev pub IsResponse : SystemTree → GoalTree → Wanted → ℕ → Response → List LogStep → Type 0
 IsResponse s g q budget (Run t) log = IsRunOfQuery s g q t × IsSatisfiable (query_formula s g q)
 IsResponse s g q budget Refuted log = IsRefuted s g q log × ¬ HasRun s g q
@@ -44,11 +45,12 @@ queries_to None (BreachQuery n) = queries_below n ++ Hazard n ∷ BreachQuery n 
 queries_to None (Step n) = queries_below n ++ Hazard n ∷ BreachQuery n ∷ Step n ∷ []
 queries_to (Some b) q = (queries_below b ++ Hazard b ∷ BreachQuery b ∷ []) ++ map Hazard (range_with_len (b + 1) (step_count q - b))
 
--- The query that is due, and the number of steps of the breach that was found.
+-- The query that is due.
 abbrev pub due_query : Due → Wanted
 due_query (Unbroken q) = q
 due_query (Broken n t) = Hazard n
 
+-- The number of steps of the breach that was found, if any.
 abbrev pub breach_length : Due → Option ℕ
 breach_length (Unbroken q) = None
 breach_length (Broken n t) = Some (length t.rules)
@@ -110,7 +112,7 @@ pub record IsDue (s : SystemTree) (g : GoalTree) (depth conflicts : ℕ) (due : 
   pub in_order : IsInOrder s g depth conflicts (breach_length due) (due_query due) asked left
   pub known : IsKnownBefore s g due
 
--- Holds at the end.
+-- Holds if the verdict is right, or all conflicts are spent, after these queries.
 pub record IsEnd (s : SystemTree) (g : GoalTree) (depth conflicts : ℕ) (verdict : Verdict) (asked : List Asked) : Type 0 where
   pub right : IsRightSystemVerdict s g depth verdict ⊎ (verdict ≡ Spent)
   pub lasts : SystemHoldsAtAnyLength s g verdict
@@ -124,7 +126,8 @@ queries_left depth (Unbroken (BreachQuery n)) = 3 * (depth - n) + 1
 queries_left depth (Unbroken (Step n)) = 3 * (depth - n)
 queries_left depth (Broken n t) = 3 * (depth - n) + 2
 
--- Holds for the continuation after a query, if at most `due` queries were still due.
+-- Holds if the continuation after a query is right: a query that is due, with fewer than `due`
+-- queries left, or a verdict.
 abbrev pub IsNext : SystemTree → GoalTree → ℕ → ℕ → ℕ → Next → List Asked → ℕ → Type 0
 IsNext s g depth conflicts due (Ask next) asked left = IsDue s g depth conflicts next asked left × (queries_left depth next < due)
 IsNext s g depth conflicts due (End verdict) asked left = IsEnd s g depth conflicts verdict asked

@@ -8,7 +8,7 @@ abbrev pub disjoint_or_clauses : Literal → Literal → Literal → List (List 
 disjoint_or_clauses s l v =
     (negated_lit l ∷ v ∷ []) ∷ (negated_lit s ∷ v ∷ []) ∷ (negated_lit v ∷ s ∷ l ∷ []) ∷ (negated_lit s ∷ negated_lit l ∷ []) ∷ []
 
--- The same with a new variable for v.
+-- A new variable, after n, that is true if and only if one of two literals is, and not both are.
 abbrev pub disjoint_or_part : Literal → Literal → ℕ → Part
 disjoint_or_part s l n = record { vars = n + 1; clauses = disjoint_or_clauses s l (positive_lit (n + 1)) }
 
@@ -22,11 +22,12 @@ join_pairs k ls n = record { vars = n; clauses = ls ∷ [] }
 abbrev pub one_of_part : List Literal → ℕ → Part
 one_of_part ls n = join_pairs (length ls) ls n
 
--- Returns whether no entry is true. The next: whether exactly one is.
+-- Returns whether no entry is true.
 abbrev pub none_true : List Bool → Bool
 none_true [] = true
 none_true (q ∷ qs) = not q && none_true qs
 
+-- Returns whether exactly one entry is true.
 abbrev pub exactly_one_true : List Bool → Bool
 exactly_one_true [] = false
 exactly_one_true (true ∷ qs) = none_true qs
@@ -38,5 +39,6 @@ abbrev pub joined_bits : ℕ → List Bool → List Bool
 joined_bits (suc k) (p ∷ q ∷ qs) = (p || q) ∷ joined_bits k (qs ++ (p || q) ∷ [])
 joined_bits k qs = []
 
+-- The values of the new variables of `one_of_part`, if the literals have these values.
 abbrev pub one_of_bits : List Bool → List Bool
 one_of_bits qs = joined_bits (length qs) qs

@@ -15,7 +15,7 @@
 //! one literal to another passes few variables, and a search over many literals, such as the rules
 //! of a step, learns short derivations.
 //!
-//! Each call adds a part (`specs/Number`, `specs/AtMost`, `specs/PartWithLits`, `specs/OneOf`),
+//! Each call adds a part (`specs/Number`, `specs/AtMost`, `specs/Named`, `specs/OneOf`),
 //! which depends only on the earlier number of variables and the call's arguments. Its theorem says
 //! in how many ways an earlier assignment extends over the new variables. For `number` it is one
 //! way per value, and for the calls that give literals one way. For `one_of` it is one way if

@@ -221,9 +221,9 @@ fn bounds_of(
 
 /// Returns a literal for each bound k, true if and only if the integer is at most k. The bounds run
 /// from 1 on, with at least two values of the integer on each side and at most two variables per
-/// value. Their variables are the next after the `used` ones, and exist. `add_value_lits` are the
-/// literals that `add_value_lits` returns. If memory runs out, the formula may have grown; its
-/// owner drops it.
+/// value. Their variables are the next after the `used` ones, and exist. `values` are the literals
+/// that `add_value_lits` returns. If memory runs out, the formula may have grown; its owner drops
+/// it.
 pub fn add_bound_lits(
     alloc: Global,
     cnf: &mut Cnf,

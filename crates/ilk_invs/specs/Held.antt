@@ -11,10 +11,11 @@ use Rattle.ilk_routes.specs.Claims.{sections_beside_path}
 use Rattle.ilk_layout.specs.Conditions.{mode_is, rel_is, seen_is}
 use Rattle.ilk_invs.specs.Parts.{each_of, some_of}
 
--- Fewer than `k` path sections of route `r` are seen, or released.
+-- Fewer than `k` path sections of route `r` are seen.
 abbrev pub seen_below : ℕ → ℕ → Tree
 seen_below r k = some_of (map (seen_is r) (range_with_len 0 k))
 
+-- Fewer than `k` path sections of route `r` are released.
 abbrev pub rel_below : ℕ → ℕ → Tree
 rel_below r k = some_of (map (rel_is r) (range_with_len 0 k))
 

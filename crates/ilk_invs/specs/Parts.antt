@@ -5,10 +5,11 @@ use Rattle.ilk_ir.specs.Tree.{Tree, all_of, any_of, negation, trees}
 use Rattle.ilk_plant.specs.Plant.{PlantLists}
 use Rattle.ilk_plant.specs.declared.table.Route.{Route}
 
--- All of these hold; some of these holds.
+-- All of these hold.
 abbrev pub each_of : List Tree → Tree
 each_of conditions = all_of (trees conditions)
 
+-- At least one of these holds.
 abbrev pub some_of : List Tree → Tree
 some_of conditions = any_of (trees conditions)
 

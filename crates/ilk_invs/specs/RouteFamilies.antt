@@ -26,7 +26,7 @@ v1_tree p = each_of (for_each_route p (λ r route. counts_are_consistent r route
 abbrev pub path_vacant : PlantLists → Route → List Tree
 path_vacant p route = map (no_train_at p) route.path
 
--- V4 for route `r`: if it is Allocating, each of its path sections is vacant.
+-- V4: each path section of each Allocating route is vacant.
 abbrev pub v4_tree : PlantLists → Tree
 v4_tree p =
     each_of (for_each_route p (λ r route. implication (mode_is r Allocating) (each_of (path_vacant p route)) ∷ []))
@@ -40,7 +40,7 @@ is_open_for_route p m =
 abbrev pub v5_tree : PlantLists → Tree
 v5_tree p = each_of (map (is_open_for_route p) (range_with_len 0 (length p.boards)))
 
--- V9 for route `r` and a protecting board: if the route is Locked, the board is Closed.
+-- V9: each protecting board of each Locked route is Closed.
 abbrev pub v9_tree : PlantLists → Tree
 v9_tree p =
     each_of (for_each_route p (λ r route. map (λ m. implication (mode_is r Locked) (board_is p m Closed)) route.protecting_boards))

@@ -37,8 +37,8 @@ body_at p Down x = each_of (negation (vacant_or_up p x) ∷ negation (occupancy_
 abbrev pub none_seen_past : ℕ → Route → ℕ → List Tree
 none_seen_past r route i = if nat_lt (i + 1) (length route.path) then seen_below r (i + 2) ∷ [] else []
 
--- Route `r` leads a train with its head at path[`i`]. The route is Occupied, or Locked with its
--- source Closed. No later path section is seen, and all of them are vacant.
+-- Route `r` is set for a train with its head at path[`i`]. The route is Occupied, or Locked with
+-- its source Closed. No later path section is seen, and all of them are vacant.
 abbrev pub route_leads_from : PlantLists → ℕ → Route → ℕ → Tree
 route_leads_from p r route i =
     each_of (some_of (mode_is r Occupied ∷ each_of (mode_is r Locked ∷ board_is p route.source Closed ∷ []) ∷ [])

@@ -9,11 +9,12 @@ use Rattle.ilk_ir.specs.declared.system.Setting.{Setting}
 use Rattle.ilk_ir.specs.declared.system.Rule.{Rule}
 use Rattle.ilk_ir.specs.declared.system.System.{System}
 
--- Rules and systems with trees as guards.
+-- A rule whose guard is a tree.
 pub record RuleTree : Type 0 where
   pub guard : Tree
   pub sets : List Setting
 
+-- A system of rules whose guards are trees.
 pub record SystemTree : Type 0 where
   pub ranges : List ℕ
   pub rules : List RuleTree
@@ -56,6 +57,7 @@ after_settings values (s ∷ ss) = after_settings (set values s.var s.value) ss
 abbrev pub after_rule : RuleTree → List ℕ → Option (List ℕ)
 after_rule r values = only_if (tree_holds values r.guard) (after_settings values r.sets)
 
--- The same for the rule with number n. `None` also if there is no such rule.
+-- The values after the rule with number n fires, or `None` if its guard doesn't hold or there is no
+-- such rule.
 abbrev pub after_rule_number : SystemTree → ℕ → List ℕ → Option (List ℕ)
 after_rule_number s n values = option_and_then (λ r. after_rule r values) (slice_get s.rules n)

@@ -15,6 +15,7 @@ mutual
     none : Trees
     more : Tree → Trees → Trees
 
+-- The trees of a list, as `Trees`.
 abbrev pub trees : List Tree → Trees
 trees [] = none
 trees (t ∷ ts) = more t (trees ts)

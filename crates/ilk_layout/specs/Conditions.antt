@@ -14,30 +14,35 @@ use Rattle.ilk_layout.specs.Variables.{detected_var, board_var, lock_var, mode_v
 use Rattle.ilk_layout.specs.declared.values.Occupancy.{Occupancy}
 use Rattle.ilk_layout.specs.declared.values.Occupancy.TheVariants.{Vacant}
 
--- Route `r` is in `mode`; `count` of its path sections are seen, or released.
+-- Route `r` is in `mode`.
 abbrev pub mode_is : ℕ → Mode → Tree
 mode_is r mode = is (mode_var r) (mode_value mode)
 
+-- `count` path sections of route `r` are seen.
 abbrev pub seen_is : ℕ → ℕ → Tree
 seen_is r count = is (seen_var r) count
 
+-- `count` path sections of route `r` are released.
 abbrev pub rel_is : ℕ → ℕ → Tree
 rel_is r count = is (rel_var r) count
 
--- Point number `n` is detected in position `lie`, or commanded to `position`.
+-- Point number `n` is detected in position `lie`.
 abbrev pub is_point_detected : PlantLists → ℕ → Lie → Tree
 is_point_detected p n lie = is (detected_var p n) (lie_value lie)
 
+-- Point number `n` is commanded to `position`.
 abbrev pub is_point_commanded : PlantLists → ℕ → Position → Tree
 is_point_commanded p n position = is (commanded_var p n) (position_value position)
 
--- Board `m` shows `aspect`; section `x` has this lock, or this occupancy.
+-- Board `m` shows `aspect`.
 abbrev pub board_is : PlantLists → ℕ → Aspect → Tree
 board_is p m aspect = is (board_var p m) (aspect_value aspect)
 
+-- Section `x` has this lock.
 abbrev pub lock_is : PlantLists → ℕ → Hold → Tree
 lock_is p x hold = is (lock_var p x) (hold_value hold)
 
+-- Section `x` has this occupancy.
 abbrev pub occupancy_is : PlantLists → ℕ → Occupancy → Tree
 occupancy_is p x occupancy = is (occupancy_var p x) (occupancy_value occupancy)
 

@@ -1,5 +1,5 @@
--- The trains that well-formed values represent. Used only in proofs, here and in crates that build
--- states from values.
+-- The trains that well-formed values represent. Used only in proofs and private contracts, here and
+-- in crates that build states from values.
 use Rattle.std.specs.Prelude.{ℕ, zero, suc, true, false, Option, Some, None, List, [], ◌∷◌, length, filter_map}
 use Rattle.std.specs.List.{range_with_len}
 use Rattle.ilk_plant.specs.NetworkRules.{opposite_direction}
@@ -10,11 +10,12 @@ use Rattle.ilk_layout.specs.Wellformed.{joined_section, lie_from_values, occupan
 use Rattle.ilk_layout.specs.declared.values.Occupancy.{Occupancy}
 use Rattle.ilk_layout.specs.declared.values.Occupancy.TheVariants.{Vacant, Taken, Crash}
 
--- Up to `k` numbers that follow `x` by repeated steps.
+-- The first number, if there is one, and then the numbers that it determines.
 abbrev pub follow_first : (ℕ → List ℕ) → Option ℕ → List ℕ
 follow_first rest None = []
 follow_first rest (Some y) = y ∷ rest y
 
+-- Up to `k` numbers that follow `x` by repeated steps.
 abbrev pub follow_steps : ℕ → (ℕ → Option ℕ) → ℕ → List ℕ
 follow_steps zero step x = []
 follow_steps (suc k) step x = follow_first (follow_steps k step) (step x)

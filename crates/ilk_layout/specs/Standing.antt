@@ -15,6 +15,7 @@ use Rattle.ilk_layout.specs.Occupancy.{taken_by}
 use Rattle.ilk_layout.specs.declared.values.Occupancy.{Occupancy}
 use Rattle.ilk_layout.specs.declared.values.Occupancy.TheVariants.{Vacant, Taken, Crash}
 
+-- Returns whether the occupancy is `Vacant`.
 abbrev pub has_no_train : Occupancy → Bool
 has_no_train Vacant = true
 has_no_train (Taken d tail head) = false

@@ -15,23 +15,27 @@ seen_var r = 3 * r + 1
 abbrev pub rel_var : ℕ → ℕ
 rel_var r = 3 * r + 2
 
--- The first variables of the points, boards, locks and occupancies.
+-- The number of the first variable of the points.
 abbrev pub points_begin : PlantLists → ℕ
 points_begin p = 3 * length p.routes
 
+-- The number of the first variable of the boards.
 abbrev pub boards_begin : PlantLists → ℕ
 boards_begin p = points_begin p + 2 * point_count p
 
+-- The number of the first variable of the locks.
 abbrev pub locks_begin : PlantLists → ℕ
 locks_begin p = boards_begin p + length p.boards
 
+-- The number of the first variable of the occupancies.
 abbrev pub occupancies_begin : PlantLists → ℕ
 occupancies_begin p = locks_begin p + length p.sections
 
--- The detected and the commanded position of point number `n`.
+-- The variable of the detected position of point number `n`.
 abbrev pub detected_var : PlantLists → ℕ → ℕ
 detected_var p n = points_begin p + 2 * n
 
+-- The variable of the commanded position of point number `n`.
 abbrev pub commanded_var : PlantLists → ℕ → ℕ
 commanded_var p n = points_begin p + 2 * n + 1
 

@@ -42,13 +42,13 @@ joined_section p lie x d = do
   back ← section_ahead p lie y (opposite_direction d)
   only_if (back == x) y
 
--- Returns whether the section has a train in direction `d` that continues behind it, or ahead of
--- it.
+-- Returns whether the section has a train in direction `d` that continues behind it.
 abbrev pub has_more_behind : Dir → Occupancy → Bool
 has_more_behind d Vacant = false
 has_more_behind d (Taken e tail head) = same_direction e d && not tail
 has_more_behind d Crash = false
 
+-- Returns whether the section has a train in direction `d` that continues ahead of it.
 abbrev pub has_more_ahead : Dir → Occupancy → Bool
 has_more_ahead d Vacant = false
 has_more_ahead d (Taken e tail head) = same_direction e d && not head

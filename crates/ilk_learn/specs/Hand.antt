@@ -27,11 +27,12 @@ pub record HoldsClause (t : TrailList) (marks : List Bool) (current : ℕ) (lowe
   pub differ : IsTrue (vars_differ c)
   pub within : IsTrue (is_clause_over t.vars c)
 
--- The same for the fields of `h`.
+-- Holds if the fields of the working clause `h` store clause `c`.
 abbrev pub StoresClause : TrailList → WorkingClause → List Literal → Type 0
 StoresClause t h c = HoldsClause t h.marks.items h.current h.lower.items c
 
--- Holds if the fields store the clause of a step, and its hints in reverse order.
+-- Holds if the fields of the working clause `h` store the clause of a step, and its hints in
+-- reverse order.
 pub record StoresStep (t : TrailList) (h : WorkingClause) (s : Step) : Type 0 where
   pub holds : HoldsClause t h.marks.items h.current h.lower.items s.clause
   pub hinted : s.hints ≡ reverse h.hints.items
@@ -46,7 +47,7 @@ pub record HasWalkedTo (t : TrailList) (clauses : List (List Literal)) (c : ℕ)
   pub set : IsTrue (all_set t h.lower.items)
   pub is : learned_step clauses t.entries c ≡ record { clause = point_clause t.entries point h.lower.items; hints = reverse h.hints.items }
 
--- The start of the walk for the conflict at clause `c`.
+-- The step with clause `c` and its one hint, from which the walk for the conflict at `c` starts.
 abbrev pub conflict_step : List (List Literal) → ℕ → Step
 conflict_step clauses c = record { clause = clause_at clauses c; hints = (c + 1) ∷ [] }
 

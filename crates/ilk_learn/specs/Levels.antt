@@ -10,6 +10,7 @@ use Rattle.ilk_learn.specs.Resolvent.{without_variable}
 abbrev pub level_at : List Entry → Literal → ℕ
 level_at entries l = unwrap_or (option_map (λ (e : Entry). e.level) (entry_of entries l.var)) 0
 
+-- Returns whether the literal was set at the current level.
 abbrev pub is_current : List Entry → Literal → Bool
 is_current entries l = level_at entries l == level_of entries
 

@@ -76,7 +76,7 @@ impl WorkingClause {
         Ok(())
     }
 
-    /// Adds the literals of clause `c` over variables that the clause in hand does not have.
+    /// Adds the literals of clause `c` over variables that the working clause does not have.
     pub fn add_literals_of(
         &mut self,
         clauses: &Clauses,

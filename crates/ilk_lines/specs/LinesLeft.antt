@@ -8,7 +8,7 @@ pub record LinesLeft : Type 0 where
   pub lines : List Bytes
   pub after : Bytes
 
--- The lines of a text, numbered from `n`.
+-- All lines of a text, the first of them numbered `n`.
 abbrev pub lines_from : ℕ → Bytes → LinesLeft
 lines_from n text = record { number = n; lines = lines_of text; after = after_lines text }
 

@@ -27,7 +27,7 @@ impl Model for ShortBytes {
 }
 
 impl ShortBytes {
-    /// Creates an empty token.
+    /// Creates short bytes of length 0.
     pub fn empty() -> ShortBytes
         ensures { result ≡ [] }
     {

@@ -14,15 +14,15 @@ pub fn split_first_word(line: &[u8]) -> Option<(&[u8], &[u8])>
     Some((&line[..i], &line[i + 1..]))
 }
 
-/// Returns the part of `read_line` after `beginning`. Returns `None` if and only if the line
-/// doesn't begin with it.
+/// Returns the part of `line` after `beginning`. Returns `None` if and only if the line doesn't
+/// begin with it.
 pub fn strip_start<'a>(line: &'a [u8], beginning: &[u8]) -> Option<&'a [u8]>
     ensures { option_map (λ rest. rest.now) result ≡ strip_start beginning.now line.now }
 {
     line.strip_prefix(beginning)
 }
 
-/// Returns the part of `read_line` after its first word `word` and the space that ends it. Returns
+/// Returns the part of `line` after its first word `word` and the space that ends it. Returns
 /// `None` if and only if the line doesn't begin so.
 pub fn strip_first_word<'a>(line: &'a [u8], word: &[u8]) -> Option<&'a [u8]>
     ensures { option_map (λ rest. rest.now) result ≡ strip_first_word word.now line.now }

@@ -11,8 +11,8 @@ use Rattle.ilk_log.specs.Derived.{negated_clause, hints_end_in_conflict, is_deri
 abbrev pub other_lits : Literal → List Literal → List Literal
 other_lits l c = filter (λ m. not (same_lit l m)) c
 
--- Holds if `l` stays open: set the other literals of `c` false and take any hints. The variable of
--- `l` is then unset, and no clause has all its literals false.
+-- Holds if hints can't determine `l`. If the other literals of `c` are false, and after any hints
+-- that can be taken, its variable is unset and no clause has all its literals false.
 abbrev pub StaysUndetermined : List (List Literal) → List Literal → Literal → Type 0
 StaysUndetermined clauses c l = (hints : List ℕ) (set : List Literal) → after_hints clauses (negated_clause (other_lits l c)) hints ≡ Some set → (has_var l.var set ≡ false) × (list_any (is_falsified set) clauses ≡ false)
 

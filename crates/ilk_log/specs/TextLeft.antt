@@ -7,11 +7,11 @@ use Rattle.ilk_log.specs.declared.step.Step.{Step}
 use Rattle.ilk_log.specs.declared.steps_left.Place.{Place}
 use Rattle.ilk_log.specs.declared.steps_left.Place.TheVariants.{Between, Literals, Hints}
 
--- Hints, 0, and the line feed.
+-- The text from the hints on: hints, 0 and the line feed.
 abbrev pub hints_left : List ℕ → Bytes
 hints_left hints = flat_map (λ n. 32 ∷ decimal n) hints ++ codes " 0\n"
 
--- Literals and 0, and then the hints.
+-- The text from the literals on: literals and 0, then hints, 0 and the line feed.
 abbrev pub literals_left : Step → Bytes
 literals_left s = flat_map (λ l. 32 ∷ lit_word l) s.clause ++ (codes " 0" ++ hints_left s.hints)
 
@@ -21,7 +21,7 @@ line_left Between s = []
 line_left Literals s = literals_left s
 line_left Hints s = hints_left s.hints
 
--- Holds if no literal is left at the hints.
+-- Holds if the rest of a step fits the place in its line: among the hints no literal is left.
 abbrev pub FitsPlace : Place → Step → Type 0
 FitsPlace Between s = Unit
 FitsPlace Literals s = Unit

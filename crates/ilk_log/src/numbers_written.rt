@@ -32,7 +32,7 @@ fn push_high(bytes: &mut Vec<u8>, high: u64) -> Result<(), AllocError>
 }
 
 #[tactic(auto, using(crate::proofs::Packing::number_told))]
-/// Appends a number that follows `last`.
+/// Appends the packed difference of `number` from `last`.
 pub fn push_number(bytes: &mut Vec<u8>, last: u64, number: u64) -> Result<(), AllocError>
     ensures { OnOk result
         ((numbers : List ℕ) → ContainsNumbers bytes.old.items numbers last 0 →

@@ -8,6 +8,7 @@ use Rattle.ilk_routes.specs.Routes.{after_allocate, after_cancel, after_finish, 
 use Rattle.ilk_model.specs.declared.event.Event.{Event}
 use Rattle.ilk_model.specs.declared.event.Event.TheVariants.{Mark, Allocate, Lock, Sense, Release, Finish, Throw, Settle, Enter, Head, Tail, Leave, Cancel}
 
+-- The state after an event, or `None` if the event isn't enabled.
 abbrev pub next : PlantLists → State → Event → Option State
 next p s (Mark r) = after_mark p s r
 next p s (Allocate r) = after_allocate p s r

@@ -40,7 +40,7 @@ keeps_v2 p s = all_below (length p.routes) (λ r. all_below (length p.routes) (�
 abbrev pub path_section_lock : RouteState → ℕ → Hold
 path_section_lock now i = if nat_lt i now.seen then UsedLock else LockedLock
 
--- Returns whether the sections of a route that holds sections have their locks.
+-- Returns whether the sections of a route that holds sections have the locks that V3 demands.
 abbrev pub has_required_locks : State → Route → RouteState → Bool
 has_required_locks s route now =
     all_path_indices_pass route (λ i x. not (nat_le now.rel i) || has_lock s x (path_section_lock now i))
@@ -63,16 +63,16 @@ keeps_v5 p s = all_below (length p.boards) (λ m.
     then any_route_passes p s (λ route now. (route.source == m) && same_mode now.mode Locked && list_all (is_vacant s) route.path)
     else true)
 
--- Returns whether a listed point is commanded, if it is on the route's path and the route is
--- Allocating.
+-- Returns whether a listed point is commanded to its listed position. True in any case if the route
+-- isn't Allocating, or the point isn't on its path.
 abbrev pub is_commanded_for : PlantLists → State → Route → RouteState → Listed → Bool
 is_commanded_for p s route now listed =
     if same_mode now.mode Allocating && has_section listed.point route.path
     then is_commanded_as_listed p s listed
     else true
 
--- Returns whether a listed point is commanded and detected in position, if the route is Locked or
--- Occupied and holds it on its path.
+-- Returns whether a listed point is commanded to its listed position and detected in it. True in
+-- any case unless the route is Locked or Occupied and holds the point on its path.
 abbrev pub is_detected_for : PlantLists → State → Route → RouteState → Listed → Bool
 is_detected_for p s route now listed =
     if is_locked_or_occupied now && is_unreleased_on_path route now listed.point

@@ -38,6 +38,8 @@ is_wrong_under_train p s x = wrong_on (slice_get p.sections x)
     wrong_on (Some (Linear down up board_down board_up)) = false
     wrong_on (Some (Point stem plus minus faces)) = list_any (λ train. is_wrong_under_body x plus minus (detected_position p s x) train.body) s.trains
 
+-- Returns whether section x has a hazard: two trains, or a point in the wrong position under a
+-- train.
 abbrev pub is_hazardous : PlantLists → State → ℕ → Bool
 is_hazardous p s x = has_two_trains s x || is_wrong_under_train p s x
 

@@ -26,7 +26,7 @@ has_neighbour section d = some_of (neighbours_on section d)
     some_of [] = false
     some_of (y ∷ rest) = true
 
--- Returns whether a train may pass the board: there is none, or it is open.
+-- Returns whether a train may pass: there is no board, or it is open.
 abbrev pub may_pass : State → Option ℕ → Bool
 may_pass s None = true
 may_pass s (Some m) = is_some_and (slice_get s.boards m) is_open

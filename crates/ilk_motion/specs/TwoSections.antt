@@ -8,6 +8,7 @@ use Rattle.ilk_plant.specs.declared.network.Section.TheVariants.{Linear}
 use Rattle.ilk_plant.specs.declared.state.State.{State}
 use Rattle.ilk_motion.specs.Trains.{after_enter, after_head, after_leave, after_tail}
 
+-- Example: a plant of two joined sections, a and b.
 abbrev pub two_sections : PlantLists
 two_sections = record {
   sections = Linear None (Some 1) None None ∷ Linear (Some 0) None None None ∷ [];

@@ -8,7 +8,8 @@ use Rattle.ilk_plant.specs.declared.draft.SectionDraft.{SectionDraft}
 use Rattle.ilk_plant.specs.declared.network.Dir.{Dir}
 use Rattle.ilk_net_read.specs.Member.{has_members, text_member, optional_text_member}
 
--- The direction that a point faces.
+-- The direction in the member `faces` of a point's object, or `None` if it has no such member or
+-- another value.
 abbrev pub faces_of : Data → Option Dir
 faces_of d = text_member (codes "faces") d >>= direction_from_word
 

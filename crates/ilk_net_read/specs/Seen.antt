@@ -7,6 +7,7 @@ use Rattle.ilk_net_read.specs.Document.{DocumentParts, DocumentMembers}
 use Rattle.ilk_net_read.specs.declared.document.Document.{Document}
 use Rattle.ilk_net_read.specs.declared.document.Members.{Members}
 
+-- The members of a document, as the logic sees the `Members` of the code.
 abbrev pub seen_members : Members → DocumentMembers
 seen_members members = record {
   version = members.version;

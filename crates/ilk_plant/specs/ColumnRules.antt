@@ -46,7 +46,7 @@ abbrev pub has_no_board : PlantLists → Dir → ℕ → Bool
 has_no_board p d x = is_none (board_of p x d)
 
 -- Returns whether a path in direction `d` has no board before its last section and ends at the
--- destination.
+-- destination. Without a destination the last section has no neighbour.
 abbrev pub is_between_boards : PlantLists → Dir → Option ℕ → List ℕ → Bool
 is_between_boards p d destination path =
     list_all (has_no_board p d) (all_but_last path) && is_some_and (last_of path) (ends_at_destination p d destination)
@@ -80,7 +80,7 @@ points_are_listed p route =
     source_passes p route (λ source. points_lead_along p route.points source.section route.path)
     && list_all (λ x. not (is_point_section p x) || has_section x (points_of route)) route.overlap
 
--- C4: the overlap continues from the last section of the path.
+-- C4: the overlap continues from the last section of the path, or is empty.
 abbrev pub overlap_is_connected : PlantLists → Route → Bool
 overlap_is_connected p route =
     source_passes p route (λ source. is_some_and (last_of route.path) (λ x. is_connected p source.dir x route.overlap))

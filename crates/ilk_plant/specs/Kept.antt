@@ -8,8 +8,8 @@ use Rattle.ilk_plant.specs.Sound.{IsFromDrafts, NoWalkReturns}
 abbrev pub point_numbers : PlantLists → List (Option ℕ)
 point_numbers p = map (point_number p) (range_with_len 0 (length p.sections))
 
--- The facts about every plant: those of its numbers, no walk that returns, and sound drafts as its
--- origin.
+-- Holds for every plant: `IsPlant`, no walk in one direction visits a section twice, and it comes
+-- from drafts that break no rule.
 pub record IsSound (p : PlantLists) : Type 0 where
   pub plant : IsPlant p
   pub walks : NoWalkReturns p

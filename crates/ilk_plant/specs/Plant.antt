@@ -86,7 +86,8 @@ pub record IsRouteOf (p : PlantLists) (route : Route) : Type 0 where
   pub few_protecting_points : length route.protecting_points ≤ MAX_PROTECTING_POINTS
   pub few_protecting_boards : length route.protecting_boards ≤ MAX_PROTECTING_BOARDS
 
--- The facts about every plant.
+-- Holds for every plant: it is within the limits, its names are allowed and differ, and its numbers
+-- refer to its own sections, boards and routes.
 pub record IsPlant (p : PlantLists) : Type 0 where
   pub some_section : 0 < length p.sections
   pub few_sections : length p.sections ≤ MAX_SECTIONS

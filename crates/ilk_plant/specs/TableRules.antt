@@ -77,7 +77,7 @@ has_protecting_boards_once p route =
 abbrev pub route_fails : PlantLists → (Route → Bool) → ℕ → Bool
 route_fails p test i = is_some_and (slice_get p.routes i) (λ route. not (test route))
 
--- The number of locations of a kind in a plant. Both numbers of a pair are below it too.
+-- The number of locations of a kind in a plant. For pairs of routes it is the number of routes.
 abbrev pub count_in_plant : PlantLists → PlaceKind → ℕ
 count_in_plant p Sections = length p.sections
 count_in_plant p Boards = length p.boards

@@ -45,21 +45,26 @@ mode_word Allocating = codes "allocating"
 mode_word Locked = codes "locked"
 mode_word Occupied = codes "occupied"
 
--- The value with a word, or `None` if there is none.
+-- The direction with a word, or `None` if there is none.
 abbrev pub direction_from_word : Name → Option Dir
 direction_from_word = value_of_word direction_word (Up ∷ Down ∷ [])
 
+-- The position with a word, or `None` if there is none.
 abbrev pub position_from_word : Name → Option Position
 position_from_word = value_of_word position_word (Plus ∷ Minus ∷ [])
 
+-- The detected position with a word, or `None` if there is none.
 abbrev pub lie_from_word : Name → Option Lie
 lie_from_word = value_of_word lie_word (LiesPlus ∷ LiesMinus ∷ Moving ∷ [])
 
+-- The aspect with a word, or `None` if there is none.
 abbrev pub aspect_from_word : Name → Option Aspect
 aspect_from_word = value_of_word aspect_word (Open ∷ Closed ∷ [])
 
+-- The lock with a word, or `None` if there is none.
 abbrev pub hold_from_word : Name → Option Hold
 hold_from_word = value_of_word hold_word (FreeLock ∷ LockedLock ∷ Used ∷ [])
 
+-- The mode with a word, or `None` if there is none.
 abbrev pub mode_from_word : Name → Option Mode
 mode_from_word = value_of_word mode_word (Free ∷ Marked ∷ Allocating ∷ Locked ∷ Occupied ∷ [])

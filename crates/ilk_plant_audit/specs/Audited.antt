@@ -14,7 +14,7 @@ use Rattle.ilk_plant_audit.specs.declared.audit.CertAudit.{CertAudit}
 abbrev pub HasAuditedBytes : CertAudit → Bytes → Type 0
 HasAuditedBytes audit bytes = SystemHasFed (system_of audit.plant.now) (goal_of audit.plant.now) audit.audit bytes
 
--- Holds if `feed_answer` is the answer to a piece after which the text so far is `bytes`.
+-- Holds if this is the answer to a piece, after which the text so far is `bytes`.
 abbrev pub AnswersFeed : PlantLists → Bytes → Fed → Type 0
 AnswersFeed p bytes fed = FedAs (system_of p) (goal_of p) bytes fed
 

@@ -140,7 +140,7 @@ pub fn compare_forms(
     compare_values(alloc, plant, forms, s, &values)
 }
 
-/// Fails unless the families whose forms don't hold are these.
+/// Fails unless `families` are exactly the families whose form doesn't hold of `values`.
 pub fn compare_denied(
     alloc: Global,
     forms: &PlantForms,

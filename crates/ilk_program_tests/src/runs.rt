@@ -71,7 +71,7 @@ fn call_of(object: Object, failing: Object, number: u64) -> u64 {
     if object == failing { number } else { 0 }
 }
 
-/// The number of bytes that each sink takes in a call, besides the first.
+/// The number of bytes, beyond the first, that each sink takes in a call.
 #[derive(Clone, Copy)]
 pub struct PieceSizes {
     pub out: usize,

@@ -6,5 +6,6 @@ use Rattle.ilk_plant.specs.Plant.{PlantLists}
 use Rattle.ilk_plant.specs.Start.{start}
 use Rattle.ilk_layout.specs.Image.{image_of}
 
+-- The form that holds of the image of the initial state alone.
 abbrev pub start_tree : PlantLists → Tree
 start_tree p = all_of (trees (map (λ place. is place.0 place.1) (enumerate_from 0 (image_of p (start p)))))

@@ -7,5 +7,7 @@ use Rattle.ilk_props.specs.StartForm.{start_tree}
 use Rattle.ilk_props.specs.WellformedForm.{wellformed_tree}
 use Rattle.ilk_unroll.specs.Goal.{GoalTree}
 
+-- The goal of a plant: the forms of its start, its hazards, its well-formed states and its
+-- families.
 abbrev pub goal_of : PlantLists → GoalTree
 goal_of p = record { start = start_tree p; hazard = hazard_tree p; wellformed = wellformed_tree p; families = family_trees p }

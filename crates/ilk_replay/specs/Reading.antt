@@ -13,7 +13,8 @@ IsStateRead told left (Ok s) = told ≡ Ok (record { first = s; from_start = fal
 IsStateRead told left (Err (BadLine n)) = told ≡ Err n
 IsStateRead told left (Err OutOfMemory) = Unit {0}
 
--- The same for a result of the first state and whether it is the start.
+-- Holds if a result, the first state and whether it is the start, agrees with the beginning of a
+-- run text, of which these lines are left.
 abbrev pub IsBeginningRead : Result Beginning ℕ → LinesLeft → Result (State × Bool) LineFault → Type 0
 IsBeginningRead told left (Ok begun) = told ≡ Ok (record { first = begun.0; from_start = begun.1; number = left.number; lines = left.lines })
 IsBeginningRead told left (Err (BadLine n)) = told ≡ Err n

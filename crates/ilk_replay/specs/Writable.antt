@@ -23,8 +23,8 @@ HasSubject p (Section x) = x < length p.sections
 abbrev pub HasSubjectOf : PlantLists → Event → Type 0
 HasSubjectOf p event = HasSubject p (subject event)
 
--- A run of the plant that a text can describe. It begins in a state with the plant's shape, which
--- is the initial state if the text says `start`. The plant has the subjects of its events.
+-- Holds if a text can describe this run of the plant. It begins in a state with the plant's shape,
+-- which is the initial state if the text says `start`. The plant has the subjects of its events.
 pub record IsRunOfPlant (p : PlantLists) (told : Told) : Type 0 where
   pub shape : HasShape p told.first
   pub start : told.from_start ≡ true → told.first ≡ start p

@@ -21,12 +21,14 @@ pub record AreLiteralsRead (ls set : List Literal) (both : Bool) : Type 0 where
   pub fewer : both ≡ false → (m : Literal) → has_lit m set ≡ true → has_lit m ls ≡ true
   pub members : both ≡ false → (m : Literal) → has_lit m ls ≡ true → has_lit m set ≡ true
 
--- The kind of an item without the word `d`, and of one with it.
+-- The kind of an item without the word `d`. It is known whether its literals have two opposite
+-- ones, or `None` if they can't be read.
 abbrev pub addition_item : Option Bool → Item
 addition_item None = Malformed
 addition_item (Some true) = Idle
 addition_item (Some false) = Adds
 
+-- The kind of an item with the word `d`.
 abbrev pub deletion_item : Option Bool → Item
 deletion_item None = Malformed
 deletion_item (Some both) = Idle

@@ -16,7 +16,7 @@ pub data NeedsOne (set : List Literal) (l : Literal) (old new : List Literal) : 
   stays : new ≡ old → (has_lit l set ≡ true) ⊎ (has_var l.var old ≡ true) → NeedsOne set l old new
   grows : new ≡ old ++ negated_lit l ∷ [] → has_lit l set ≡ false → has_var l.var old ≡ false → NeedsOne set l old new
 
--- The same after all literals of clause `d`.
+-- Holds if `new` are the needed literals after all literals of clause `d` were examined.
 pub record IsNeeded (set d old new : List Literal) : Type 0 where
   pub kept : (x : Literal) → has_lit x old ≡ true → has_lit x new ≡ true
   pub covered : (m : Literal) → has_lit m d ≡ true → (has_lit m set ≡ true) ⊎ (has_var m.var new ≡ true)
@@ -38,10 +38,11 @@ abbrev pub IsPassed : List (List Literal) → List Entry → List Literal → �
 IsPassed cs es set i needed hints next more = (top : ℕ) → i < top → top ≤ length es → FalsifiesWithNeeded cs (lits_of (take top es)) (lits_of (take (i + 1) es)) set needed hints
     → FalsifiesWithNeeded cs (lits_of (take top es)) (lits_of (take i es)) set next more
 
--- Holds if entry `i` has a reason. The second holds if its reason may be clause `r`.
+-- Holds if entry `i` has a reason.
 abbrev pub IsForced : List (List Literal) → List Entry → ℕ → Type 0
 IsForced cs es i = (e : Entry) → slice_get es i ≡ Some e → IsSomeAnd e.reason (λ c. IsTrue (is_reason cs (lits_of (take i es)) e.lit c))
 
+-- Holds if the reason of entry `i` may be clause `r`.
 abbrev pub IsReasonAt : List (List Literal) → List Entry → ℕ → ℕ → Type 0
 IsReasonAt cs es i r = (e : Entry) → slice_get es i ≡ Some e → IsTrue (is_reason cs (lits_of (take i es)) e.lit r)
 
@@ -90,7 +91,8 @@ pub data AssumesOne (l : Literal) (old new : List Entry) : Type 0 where
   known : new ≡ old → is_set old l.var ≡ true → AssumesOne l old new
   new_one : (e : Entry) → new ≡ old ++ e ∷ [] → e.lit ≡ negated_lit l → e.level ≡ 1 → AssumesOne l old new
 
--- The same for all literals of a set: each new entry is at level 1.
+-- Holds if the opposites of all literals of a set are true, each by an earlier entry or a new one
+-- at level 1.
 pub record IsAssumed (set : List Literal) (old new : List Entry) : Type 0 where
   pub kept : take (length old) new ≡ old
   pub levels : (i : ℕ) (e : Entry) → length old ≤ i → slice_get new i ≡ Some e → (e.level ≡ level_of new) × (e.level ≡ 1) × (has_lit (negated_lit e.lit) set ≡ true)

@@ -25,7 +25,8 @@ pub record IsLogged (f : Formula) (clauses : List (List Literal)) (log : List St
   pub derived : is_derived_log f log ≡ true
   pub unended : list_all (λ (s : Step). not (is_empty s.clause)) log ≡ true
 
--- Holds for the clauses, the literals that they set at level 0, and the steps.
+-- Holds for the data of a base: the trail is what the clauses set at level 0, each entry has a
+-- reason and a unit clause for hints.
 pub record IsBaseInvariant (f : Formula) (clauses : ArenaLists) (trail : TrailList) (queue : Propagator) (units : List ℕ) (named : ℕ) (log : List Step) : Type 0 where
   pub vars : clauses.vars ≡ f.vars
   pub trail_vars : trail.vars ≡ f.vars
@@ -54,7 +55,7 @@ pub record Refutes (k : Base) : Type 0 where
   pub log : is_refutation k.formula.now k.log ≡ true
   pub follows : Follows k.formula.now.vars k.clauses.clauses []
 
--- Holds between two items.
+-- Holds after an item: propagation has ended, or the empty clause was derived.
 pub record IsBetweenItems (k : Base) : Type 0 where
   pub set_vars : k.set.vars ≡ k.formula.now.vars
   pub going : k.refuted ≡ false → IsAfterClosure k
@@ -65,7 +66,8 @@ pub record KeepsConsequences (old new : Base) : Type 0 where
   pub formula : new.formula ≡ old.formula
   pub alike : AreEquivalent old.clauses.clauses new.clauses.clauses
 
--- Holds if, in addition, the same literals are set, and each false clause stays false.
+-- Holds if the clauses have the same consequences, the same literals are set, and each false clause
+-- stays false.
 pub record HasUnitsAdded (old new : Base) : Type 0 where
   pub same : KeepsConsequences old new
   pub refuted : new.refuted ≡ old.refuted
@@ -93,14 +95,15 @@ pub record IsDerivedStep (k : Base) (s : Step) : Type 0 where
   pub has : has_lit unset k.set.lits ≡ true
   pub open_ : is_set k.trail.entries unset.var ≡ false
 
--- Holds if the clause of the current literals follows and was taken. After `false`, no clause of
--- them follows.
+-- Holds if the clause of the current literals follows and was added.
 pub record HasTaken (old new : Base) : Type 0 where
   pub stands : IsBetweenItems new
   pub formula : new.formula ≡ old.formula
   pub follows : (c : List Literal) → IsClauseOf old.formula.now.vars old.set.lits c → Follows old.formula.now.vars old.clauses.clauses c
   pub alike : (c : List Literal) → IsClauseOf old.formula.now.vars old.set.lits c → AreEquivalent (old.clauses.clauses ++ c ∷ []) new.clauses.clauses
 
+-- Holds if the result is right. After `true` the clause of the current literals was added; after
+-- `false` no hints derive it.
 abbrev pub IsTaken : Base → Bool → Base → Type 0
 IsTaken old true new = HasTaken old new
 IsTaken old false new = NoneFollows old

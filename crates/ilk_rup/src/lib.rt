@@ -24,7 +24,7 @@
 //!
 //! The stored clauses differ from those of the text. Their literals have another order, clauses
 //! with a literal that is true at level 0 are left out, and unit clauses are added. The
-//! consequences are the same (`specs/AreEquivalent`).
+//! consequences are the same (`specs/Alike`).
 #![tactic(auto)]
 
 mod assume;

@@ -30,7 +30,8 @@ with_trail s entries = record s { view = with_entries s.view entries }
 abbrev pub AreWeights : List Step → ViewLists → Type 0
 AreWeights log view = (v : ℕ) → IsTrue (is_lit_over view.trail.vars (positive_lit v)) → weight_of view v ≡ count_by (has_var v) (step_clauses log)
 
--- Holds for every search.
+-- Holds for every search: its entries have reasons, its levels are closed, and its weights are
+-- those of its log.
 pub record IsSearch (s : SearchLists) : Type 0 where
   pub vars : s.view.trail.vars ≡ s.formula.vars
   pub reasons : HasReasons (all_clauses s) s.view.trail.entries

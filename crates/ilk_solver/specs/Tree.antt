@@ -30,7 +30,7 @@ pub record IsTreeExceptAt (weights tree : List ℕ) (j : ℕ) : Type 0 where
   pub leaf : (v : ℕ) → v ≤ length weights → (slice_index (leaves_of weights tree) v ≡ 0) ⊎ ((0 < v) × IsAtLeaf weights tree v)
   pub won : (k : ℕ) → 0 < k → k ≤ length weights → k ≢ j → IsWinnerNode tree k
 
--- Holds for a tree in which all nodes are right, because no inner node has the number 0.
+-- Holds for a tree in which all nodes are right. The exception is node 0, which is no inner node.
 abbrev pub IsTree : List ℕ → List ℕ → Type 0
 IsTree weights tree = IsTreeExceptAt weights tree 0
 
@@ -38,7 +38,7 @@ IsTree weights tree = IsTreeExceptAt weights tree 0
 abbrev pub KeepsLeaves : List ℕ → List ℕ → List ℕ → Type 0
 KeepsLeaves weights old new = (v : ℕ) → IsAtLeaf weights old v → IsAtLeaf weights new v
 
--- The same after a weight has changed; in addition, no variable is put in.
+-- Holds if the tree has the same variables at its leaves after a weight has changed.
 pub record KeepsVariables (old_weights old weights new : List ℕ) : Type 0 where
   pub kept : (v : ℕ) → 0 < v → IsAtLeaf old_weights old v → IsAtLeaf weights new v
   pub none : (v : ℕ) → slice_index (leaves_of old_weights old) v ≡ 0 → slice_index (leaves_of weights new) v ≡ 0

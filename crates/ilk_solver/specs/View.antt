@@ -21,7 +21,7 @@ weight_of view v = slice_index view.weights (v - 1)
 abbrev pub with_entries : ViewLists → List Entry → ViewLists
 with_entries view entries = record { trail = record { vars = view.trail.vars; entries = entries }; weights = view.weights }
 
--- Holds for every view.
+-- Holds for every view: it has a trail, and a weight for each variable.
 pub record IsView (view : ViewLists) : Type 0 where
   pub trail : IsTrail view.trail
   pub weighed : length view.weights ≡ view.trail.vars

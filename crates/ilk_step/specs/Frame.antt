@@ -22,7 +22,7 @@ carry_over first (l ∷ ls) [] = []
 carry_over first (l ∷ ls) (m ∷ ms) =
     (first ++ negated_lit l ∷ m ∷ []) ∷ (first ++ l ∷ negated_lit m ∷ []) ∷ carry_over first ls ms
 
--- The literals that are carried over: of two values, the first one's literal says everything.
+-- The literals to carry over: all of a variable. Of two values the first one's literal is enough.
 abbrev pub carried_lits : List Literal → List Literal
 carried_lits values = if length values == 2 then take 1 values else values
 
@@ -37,6 +37,6 @@ frames rs k v [] next = []
 frames rs k v (c ∷ now) [] = []
 frames rs k v (c ∷ now) (d ∷ next) = frame (setter_lits v k rs) c d ++ frames rs k (v + 1) now next
 
--- The frames of all variables, after `n` variables of the formula.
+-- The frame axioms of all variables, after `n` variables of the formula.
 abbrev pub frames_part : List RuleTree → ℕ → List Column → List Column → ℕ → Part
 frames_part rs k now next n = record { vars = n; clauses = frames rs k 0 now next }

@@ -4,7 +4,7 @@ use Rattle.ilk_ir.specs.System.{RuleTree}
 use Rattle.ilk_forms.specs.declared.copy.Column.{Column}
 use Rattle.ilk_forms.specs.Size.{tree_size}
 
--- The constructors of the rules' guards, and the rules' settings.
+-- The number of constructors of the rules' guards, plus the number of their settings.
 abbrev pub guards_size : List RuleTree → ℕ
 guards_size [] = 0
 guards_size (r ∷ rs) = tree_size r.guard + guards_size rs

@@ -120,8 +120,8 @@ fn add_frame(
     Ok(())
 }
 
-/// Demands that each variable is set by a chosen rule or keeps its value. The variables of the
-/// rules begin at `first`.
+/// Demands that each variable is set by a chosen rule or has the same value in `next` as in `now`.
+/// The variables of the rules begin at `first`.
 pub fn add_frames(
     alloc: Global,
     cnf: &mut Cnf,

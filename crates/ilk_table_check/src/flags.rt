@@ -85,7 +85,7 @@ impl Flags {
         }
     }
 
-    /// Sets the flags of these points.
+    /// Sets the flags of the sections of these points.
     pub fn set_points(&mut self, points: &[Listed])
         ensures count { length self.new ≡ length self.old }
         ensures flags { (y : ℕ) → y < length self.old →

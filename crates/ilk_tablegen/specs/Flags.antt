@@ -8,6 +8,7 @@ use Rattle.ilk_plant.specs.declared.table.Route.{Route}
 use Rattle.ilk_tablegen.specs.Routes.{destination_of, points_along}
 use Rattle.ilk_tablegen.specs.declared.ways.Way.{Way}
 
+-- The paths of these ways.
 abbrev pub paths_of : List Way → List (List ℕ)
 paths_of found = map (λ (way : Way). way.path) found
 

@@ -27,5 +27,6 @@ pub record IsSoundWithPlant (p : PlantLists) (routes : TableDraft) : Type 0 wher
   pub columns : column_rules_broken (plant_from_drafts (network_draft p) routes) ≡ column_rule_broken p C7
   pub unprotected : All (λ route. (route.protecting_points ≡ []) × (route.protecting_boards ≡ [])) routes.routes
 
+-- The table without routes.
 abbrev pub no_routes : TableDraft
 no_routes = record { routes = [] }

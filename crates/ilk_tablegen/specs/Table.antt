@@ -22,6 +22,7 @@ name_of names i = slice_index_or names i []
 abbrev pub route_name : ℕ → Name
 route_name n = codes "g" ++ decimal n
 
+-- A listed point, with its name for its number.
 abbrev pub named_point : PlantLists → Listed → ListedDraft
 named_point p listed = record { point = name_of p.section_names listed.point; at = listed.at }
 

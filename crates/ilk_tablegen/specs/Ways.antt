@@ -31,7 +31,7 @@ continues_without_end p d (suc n) x = list_any (λ y. not (way_ends_at p d y) &&
 abbrev pub has_overlong_way : PlantLists → Board → Bool
 has_overlong_way p board = continues_without_end p board.dir MAX_PATH board.section
 
--- The number of the first such board.
+-- The number of the first board with an overlong way.
 abbrev pub first_overlong_board : PlantLists → Option ℕ
 first_overlong_board p = position (has_overlong_way p) p.boards
 

@@ -9,15 +9,15 @@ use Rattle.ilk_answers.specs.declared.status.Status.TheVariants.{ReadFault, Writ
 use Rattle.ilk_words.specs.declared.plan.Plan.{Plan}
 use Rattle.ilk_top.specs.Outside.{ReadByPlan, FaultsRiseOnlyWith}
 
--- For one source, in the stage that reads it: it was read by its plan, and with a fault exactly one
+-- Holds if a source, in the stage that reads it, was read by its plan. With a fault exactly one
 -- call of it failed.
 pub record SourceHandled {S : Type 0} (left : S → Option (List ℕ)) (faults : S → ℕ) (needed : Option Bool) (limit : Option ℕ) (fault : Type 0) (came : Bool) (old new : S) : Type 0 where
   pub read : ReadByPlan left needed limit came old new
   pub failed : fault → CountedOneFault (faults old) (faults new)
   pub rises : FaultsRiseOnlyWith fault (faults old) (faults new)
 
--- For both sources: with a fault exactly one call of one of them failed. The configuration is read
--- first.
+-- Holds if both sources were read by the plan, the configuration first. With a fault exactly one
+-- call of one of them failed.
 pub record SourcesHandled {C D : Type 0} (conf_left : C → Option (List ℕ)) (conf_faults : C → ℕ)
     (extra_left : D → Option (List ℕ)) (extra_faults : D → ℕ) (plan : Plan) (fault : Type 0) (came : Bool)
     (conf_old conf_new : C) (extra_old extra_new : D) : Type 0 where
@@ -27,14 +27,16 @@ pub record SourcesHandled {C D : Type 0} (conf_left : C → Option (List ℕ)) (
   pub conf_read : ReadByPlan conf_left (Some true) (conf_limit plan) came conf_old conf_new
   pub extra_read : ReadByPlan extra_left (reaches_extra plan (conf_left conf_old)) plan.extra came extra_old extra_new
 
--- For both sinks. `none` is the reason why no certificate is written.
+-- Holds if both sinks were written by the status. `none` is the reason why no certificate is
+-- written.
 pub record SinksHandled {O L : Type 0} (out_faults : O → ℕ) (cert_faults : L → ℕ) (none : Type 0) (status : Status) (out_old out_new : O) (cert_old cert_new : L) : Type 0 where
   pub out_rises : FaultsRiseOnlyWith (status ≡ WriteFault) (out_faults out_old) (out_faults out_new)
   pub cert_rises : FaultsRiseOnlyWith (status ≡ WriteFault) (cert_faults cert_old) (cert_faults cert_new)
   pub unwritten : reached_writing status ≡ false → (out_new ≡ out_old) × (cert_new ≡ cert_old)
   pub uncertified : none → cert_new ≡ cert_old
 
--- For all sources and sinks of `run`, by the plan of the command and the final status.
+-- Holds if all sources and sinks of `run` were handled by the plan of the command and the final
+-- status.
 pub record Handled {C D O L : Type 0} (conf_left : C → Option (List ℕ)) (conf_faults : C → ℕ)
     (extra_left : D → Option (List ℕ)) (extra_faults : D → ℕ) (out_faults : O → ℕ) (cert_faults : L → ℕ)
     (plan : Plan) (status : Status) (conf_old conf_new : C) (extra_old extra_new : D) (out_old out_new : O)

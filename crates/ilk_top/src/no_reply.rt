@@ -2,12 +2,16 @@ ghost use Rattle.ilk_top.specs.declared.no_reply.NoReply.TheVariants.{OutOfMemor
 ghost use Rattle.std.specs.Prelude.{◌≡◌};
 
 use std::alloc::AllocError;
+use thiserror::Error;
 
 /// The reason why there is no reply.
-#[derive(Clone, Copy, PartialEq, Eq, Debug)]
+#[derive(Clone, Copy, PartialEq, Eq, Debug, Error)]
 pub enum NoReply {
     /// A source failed.
+    #[error("a read failed")]
     ReadFault,
+    /// Memory ran out.
+    #[error("out of memory")]
     OutOfMemory,
 }
 

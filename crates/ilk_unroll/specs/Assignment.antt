@@ -29,7 +29,7 @@ abbrev pub demands_bits : List ℕ → List (List ℕ) → List CopyDemand → L
 demands_bits ranges run [] = []
 demands_bits ranges run (d ∷ ds) = demanded_bits ranges run d ++ demands_bits ranges run ds
 
--- All variables.
+-- The values of all variables of a query's formula, for a run with these value lists and rules.
 abbrev pub run_bits : SystemTree → GoalTree → Wanted → List (List ℕ) → List ℕ → List Bool
 run_bits s g q run rules = copies_bits s.ranges run ++ (steps_bits s.ranges s.rules run rules ++ demands_bits s.ranges run (demands_of g q))
 

@@ -57,6 +57,6 @@ query_part s g q = after (copies_part s.ranges (suc (step_count q)) 0)
     after : PartWithTables → Part
     after copies = and_then copies.part (λ m. and_then (steps_part s.rules copies.tables m) (demands_part copies.tables (demands_of g q)))
 
--- The formula that has only these.
+-- The formula of a query: its copies, its steps and its demands, and nothing else.
 abbrev pub query_formula : SystemTree → GoalTree → Wanted → Formula
 query_formula s g q = with_part (record { vars = 0; clauses = [] }) (query_part s g q)

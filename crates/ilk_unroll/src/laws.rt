@@ -9,8 +9,9 @@ ghost use Rattle.ilk_unroll.specs.declared.queries.Wanted.{Wanted};
 ghost use Rattle.ilk_unroll.specs.declared.queries.Wanted.TheVariants.{Step};
 ghost use Rattle.ilk_unroll.specs.Evidence.{HasRun, IsSafeForAllRuns, HoldsForNoneUpTo, ReachesHazard, ReachesBreach};
 
-/// No run of any length from the start reaches a hazard or breaks a family. The premises: none of
-/// up to k steps does, and the step query for k steps has no run. Proof only; no run-time effect.
+/// For a valid system, no run of any length from the start through well-formed values reaches a
+/// hazard or breaks a family. The premises: none of up to k steps does, and the step query for k
+/// steps has no run. Proof only; no run-time effect.
 pub fn k_induction_is_sound()
     ensures { (s : SystemTree) (g : GoalTree) (k : ℕ) → IsTrue (system_valid s) →
         HoldsForNoneUpTo k (ReachesHazard (HasRun s g))

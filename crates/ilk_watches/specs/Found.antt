@@ -9,6 +9,8 @@ use Rattle.ilk_watches.specs.Reasons.{is_conflict, is_reason}
 use Rattle.ilk_watches.specs.declared.scan.Found.{Found}
 use Rattle.ilk_watches.specs.declared.scan.Found.TheVariants.{Falsified, Forced, Closed}
 
+-- Holds if the result is what a scan of the clauses finds under the trail: a false clause, a clause
+-- that forces a literal, or neither.
 abbrev pub IsScanResult : List (List Literal) → TrailList → Found → Type 0
 IsScanResult clauses trail (Falsified c) = IsTrue (is_conflict clauses (lits_of trail.entries) c)
 IsScanResult clauses trail (Forced c l) = IsTrue (is_reason clauses (lits_of trail.entries) l c) × IsTrue (is_lit_over trail.vars (positive_lit l.var) && not (is_set trail.entries l.var))

@@ -6,8 +6,8 @@ use Rattle.ilk_trail.specs.Trail.{level_of}
 use Rattle.ilk_trail.specs.Laws.{lits_of}
 use Rattle.ilk_watches.specs.Reasons.{is_reason}
 
--- Holds if the earlier entries and the level are kept, and each new entry is at that level, with a
--- reason that forces its literal under the entries before it.
+-- Holds if `new` extends `old` at the same level, and each new entry has a reason that forces its
+-- literal under the entries before it.
 pub record IsPropagated (clauses : List (List Literal)) (old new : List Entry) : Type 0 where
   pub kept : take (length old) new ≡ old
   pub level : level_of new ≡ level_of old

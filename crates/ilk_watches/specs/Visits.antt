@@ -14,16 +14,15 @@ use Rattle.ilk_watches.specs.Watched.{is_true_at}
 use Rattle.ilk_watches.specs.declared.visit.Visited.{Visited}
 use Rattle.ilk_watches.specs.declared.visit.Visited.TheVariants.{Stays, Moves, Broken}
 
--- Returns whether `l` may be watched besides `other_watch_place`: it is another literal, and isn't
--- false.
+-- Returns whether `l` may be watched besides `other`: it is another literal, and isn't false.
 abbrev pub may_watch : List Literal → Literal → Literal → Bool
 may_watch set other l = not (same_lit other l) && not (is_false set l)
 
--- Holds if literal `i` may be watched. The second holds if no literal from one index on and before
--- another may be watched.
+-- Holds if literal `i` may be watched.
 abbrev pub MayWatchAt : List Literal → Literal → List Literal → ℕ → Type 0
 MayWatchAt set other ls i = IsSomeAnd (slice_get ls i) (λ l. IsTrue (may_watch set other l))
 
+-- Holds if no literal from one index on and before another may be watched.
 abbrev pub NoneMayWatch : List Literal → Literal → List Literal → ℕ → ℕ → Type 0
 NoneMayWatch set other ls from to = (i : ℕ) (l : Literal) → from ≤ i → i < to → slice_get ls i ≡ Some l → may_watch set other l ≡ false
 
@@ -37,7 +36,8 @@ IsReplaced a set b c f other false = (b.chains ≡ a.chains) × IsTrue (is_falsi
 abbrev pub IsOtherWatchTrue : ArenaLists → List Entry → ℕ → Literal → Type 0
 IsOtherWatchTrue a es c f = (l : Literal) → IsTrue (is_listed_in c (chain_of a l)) → l ≢ f → IsTrue (has_lit l (lits_of es))
 
--- The effect of a visit of clause `c` in the chain of `f`.
+-- Holds if the clauses and the trail are those after a visit of clause `c` in the chain of `f` with
+-- this result.
 abbrev pub IsVisitResult : ArenaLists → List Entry → ArenaLists → List Entry → ℕ → Literal → Visited → Type 0
 IsVisitResult a es b fs c f Stays = (b.chains ≡ a.chains) × IsOtherWatchTrue a fs c f
 IsVisitResult a es b fs c f Moves = (t : Literal) × (is_false (lits_of es) t ≡ false) × (b.chains ≡ (with_watch_moved a c f t).chains)
@@ -57,7 +57,7 @@ pub record IsWalk (a : ArenaLists) (es : List Entry) (f : Literal) (passed rest 
   pub split : chain_of a f ≡ passed ++ rest
   pub done : (c : ℕ) → IsTrue (is_listed_in c passed) → IsOtherWatchTrue a es c f
 
--- The same, described by the next clause and the last passed one.
+-- Holds for a walk along the chain of `f`, described by the next clause and the last passed one.
 pub record IsWalkAt (a : ArenaLists) (es : List Entry) (f : Literal) (before next : Option ℕ) : Type 0 where
   pub passed : List ℕ
   pub rest : List ℕ

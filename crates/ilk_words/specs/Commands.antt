@@ -10,6 +10,7 @@ use Rattle.ilk_words.specs.declared.command.Command.{Command}
 use Rattle.ilk_words.specs.declared.command.Command.TheVariants.{Check, Verify, Audit, Replay, Make, Demo, Table, Export, Rup, Drive}
 use Rattle.ilk_words.specs.declared.command.QueryKind.{QueryKind}
 
+-- A command: its name and its options.
 pub record LineCommand : Type 0 where
   pub name : Text
   pub options : List LineOption

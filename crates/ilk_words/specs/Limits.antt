@@ -6,7 +6,7 @@ use Rattle.ilk_words.specs.declared.command.Command.TheVariants.{Verify, Make, D
 use Rattle.ilk_words.specs.declared.command.QueryKind.{QueryKind}
 use Rattle.ilk_words.specs.declared.limits.TheConstants.{MAX_SEARCH_CONFLICTS, MAX_DEPTH, MAX_NUMBER, MAX_STATIONS}
 
--- Returns whether the depth and the conflicts of a verdict are within their limits.
+-- Returns whether the depth and the conflict budget of a verdict are within their limits.
 abbrev pub has_search_limits : ℕ → ℕ → Bool
 has_search_limits depth conflicts =
     nat_le 1 depth && nat_le depth MAX_DEPTH && nat_le conflicts MAX_SEARCH_CONFLICTS
@@ -15,7 +15,7 @@ has_search_limits depth conflicts =
 abbrev pub has_station_limits : ℕ → Bool
 has_station_limits stations = nat_le 1 stations && nat_le stations MAX_STATIONS
 
--- Returns whether the number of a single query is within its limits.
+-- Returns whether the number of events of a single query is within its limits.
 abbrev pub has_query_limits : QueryKind → ℕ → Bool
 has_query_limits query number = nat_le number MAX_NUMBER && query_exists query number
 

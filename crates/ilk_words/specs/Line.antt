@@ -22,6 +22,7 @@ rule_of_option name values = record (new_rule name) {
   parser = Some values;
 }
 
+-- The argument of an option, for `clap`.
 abbrev pub option_rule : LineOption → Rule
 option_rule o = rule_of_option o.name o.values
 

@@ -29,7 +29,7 @@ number_between = parser.Unsigned
 abbrev pub any_text : ValueParser
 any_text = parser.String
 
--- An option, which occurs at most once with one value.
+-- An option: its name, the values it takes and its default. It occurs at most once.
 pub record LineOption : Type 0 where
   pub name : Text
   -- The values that `clap` accepts.
@@ -78,6 +78,7 @@ query_option = record {
   default = None;
 }
 
+-- The option for the number of events of a single query.
 abbrev pub number_option : LineOption
 number_option = record { name = codes "number"; values = number_between 0 MAX_NUMBER; default = None }
 
@@ -96,6 +97,7 @@ value_of_option line o = option_or (line o.name) o.default
 abbrev pub number_of_value : ValueParser → Text → Option ℕ
 number_of_value values value = only_if (accepts false values value) (digits_value 10 (without_leading_plus value))
 
+-- The number in the option's value on the line, or in its default.
 abbrev pub number_of_option : Line → LineOption → Option ℕ
 number_of_option line o = do
   value ← value_of_option line o

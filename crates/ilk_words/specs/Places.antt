@@ -6,11 +6,12 @@ use Rattle.clap.specs.declared.builder.value_parser.ValueParser.{ValueParser}
 use Rattle.clap.specs.declared.builder.value_parser.ValueParser.TheVariants as parser
 use Rattle.ilk_words.specs.Options.{as_reference}
 
--- The same parser, with its texts placed as in the definition of the line.
+-- The same parser, with each text replaced by what `as_reference` makes of it.
 abbrev pub with_held_texts : ValueParser → ValueParser
 with_held_texts (parser.Names names) = parser.Names (as_reference (map (λ (s : Bor Text). as_reference s.now) names.now))
 with_held_texts p = p
 
+-- The same argument, with each text replaced by what `as_reference` makes of it.
 abbrev pub moved_rule : Rule → Rule
 moved_rule a = record a { parser = option_map with_held_texts a.parser }
 

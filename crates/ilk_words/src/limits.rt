@@ -16,5 +16,5 @@ pub const DEFAULT_SEARCH_CONFLICTS: u64 = 100000;
 /// The maximum number of stations of a generated line; the minimum is 1.
 pub const MAX_STATIONS: u64 = 16;
 
-/// The maximum number of events of the runs of a single query.
+/// The maximum number of events of the runs of a single query. The minimum depends on its kind.
 pub const MAX_NUMBER: u64 = 16;

@@ -25,9 +25,9 @@ complaint WriteFault = Some (codes "irv: write fault")
 complaint OutOfMemory = Some (codes "irv: out of memory")
 complaint _ = None
 
--- Holds if a status without a fault is that of an answer to these arguments, as far as that is
--- known without standard input and files. The certificate's sink, if it exposes what was written,
--- gained that of the answer.
+-- Holds if the status, unless it reports a fault, belongs to some answer to these arguments, as far
+-- as that is known without standard input and files. The certificate's sink, if it exposes what was
+-- written, gained the certificate of that answer.
 abbrev pub IsAnswered : Option Command → Option (List ℕ) → Option (List ℕ) → Status → Type 0
 IsAnswered asked cert_old cert_new status =
     IsTrue (is_answer status) → (made : Reply) × IsAnswerTo asked None None made × (status ≡ made.status) × Adds cert_old cert_new made.certificate

@@ -34,7 +34,7 @@ class Function:
 
 
 def module_of(path):
-    """WalkReturns a source file's module: `src/read/step.rt` is `read::step`, and `src/lib.rt` the
+    """Returns a source file's module: `src/read/step.rt` is `read::step`, and `src/lib.rt` the
     root."""
     parts = path.removeprefix("src/").removesuffix(".rt").split("/")
     return "" if parts in (["lib"], ["main"]) else "::".join(parts)
