@@ -3,8 +3,8 @@
 //!
 //! A `Row` is a `Vec` and a `Text` is a `String`. Each has one meaning in definitions: a list of
 //! items, a list of bytes. Definitions therefore speak only of lists, and a contract compares a row
-//! with a list by `≡`. `new` and `push` build a row; `at`, `len` and `as_slice` read it; `at_mut`
-//! and `remove` change it. `has_number` searches a list of numbers. A type whose values are written
+//! with a list by `≡`. `new`, `push` and `push_if` build a row; `at`, `len` and `as_slice` read it;
+//! `at_mut` and `remove` change it. `has_number` searches numbers. A type whose values are written
 //! as words is `Worded`: its one table is used for writing and, by `value_of_word`, for reading.
 //!
 //! `specs/` contains `do` blocks over options (`Option`) and results (`Result`), tests of every

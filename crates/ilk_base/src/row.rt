@@ -1,4 +1,4 @@
-ghost use Rattle.std.specs.Prelude.{◌≡◌, ◌+◌, ◌<◌, ◌∷◌, ◌++◌, [], length, remove as remove_at, slice_get, Some, IfOk, OnOk, OnErr};
+ghost use Rattle.std.specs.Prelude.{◌≡◌, ◌+◌, ◌<◌, ◌∷◌, ◌++◌, [], if◌then◌else◌, IsTrue, length, remove as remove_at, slice_get, Some, IfOk, OnOk, OnErr};
 ghost use Rattle.std.specs.Borrow.{sem};
 ghost use Rattle.ilk_base.specs.Row.{LendsItem};
 
@@ -92,6 +92,18 @@ impl<T: Drop> Row<T> {
         ensures err { OnErr result (self.new ≡ self.old) }
     {
         self.items.push(item)?;
+        Ok(())
+    }
+
+    /// Adds `item` at the end if `is_wanted`. Fails only if it is wanted and memory runs out.
+    pub fn push_if(&mut self, is_wanted: bool, item: T) -> Result<(), AllocError>
+        ensures ok { OnOk result (self.new ≡ self.old ++ (if is_wanted then item ∷ [] else [])) }
+        ensures err { OnErr result (self.new ≡ self.old) }
+        ensures wanted { OnErr result (IsTrue is_wanted) }
+    {
+        if is_wanted {
+            self.push(item)?;
+        }
         Ok(())
     }
 }

@@ -126,8 +126,5 @@ pub fn push_broken_if(
     ensures ok { OnOk result (found.new ≡ found.old ++ (if is_broken then entry ∷ [] else [])) }
     ensures err { OnErr result (found.new ≡ found.old) }
 {
-    if is_broken {
-        found.push(entry)?;
-    }
-    Ok(())
+    found.push_if(is_broken, entry)
 }

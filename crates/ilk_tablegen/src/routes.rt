@@ -1,4 +1,4 @@
-ghost use Rattle.std.specs.Prelude.{◌≡◌, ◌==◌, ◌&&◌, ◌∷◌, ◌++◌, ◌≤◌, [], IfOk, OnOk, if◌then◌else◌, length, map, not};
+ghost use Rattle.std.specs.Prelude.{◌≡◌, ◌==◌, ◌&&◌, ◌≤◌, IfOk, length, map, not};
 ghost use Rattle.ilk_plant.specs.declared.limits.TheConstants.{MAX_ROUTES};
 ghost use Rattle.ilk_tablegen.specs.Flags.{any_flagged, conflicts_flagged, flags_of, paths_of, route_by_flags};
 ghost use Rattle.ilk_tablegen.specs.Routes.{destination_of, network_routes};
@@ -20,15 +20,6 @@ fn path_flags(alloc: Global, count: u32, ways: &Row<Way>) -> Result<Row<Row<bool
     Ok(flags)
 }
 
-fn push_if(numbers: &mut Row<u32>, is_one: bool, number: u32) -> Result<(), AllocError>
-    ensures { OnOk result (numbers.new ≡ numbers.old ++ (if is_one then number ∷ [] else [])) }
-{
-    if is_one {
-        numbers.push(number)?;
-    }
-    Ok(())
-}
-
 // Returns whether list `k` is not list `n`, and flags one of these sections.
 fn is_conflict(n: u32, k: u32, other: &Row<bool>, path: &[u32]) -> bool
     ensures { result ≡ (not (k == n) && any_flagged other.now path.now) }
@@ -48,7 +39,7 @@ fn conflicts_flagged(
     let mut conflicts = Row::new(alloc);
     for (k, other) in flags.as_slice().iter().enumerate() {
         let shares = is_conflict(n, k as u32, other, path);
-        push_if(&mut conflicts, shares, k as u32)?;
+        conflicts.push_if(shares, k as u32)?;
     }
     Ok(conflicts)
 }

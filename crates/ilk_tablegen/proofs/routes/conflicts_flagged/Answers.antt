@@ -9,9 +9,9 @@ loop-k-preserved c =
     passing-more
     (λ k. not (k == c.args.n)
     && any_flagged (get_or c.as_slice-other-items.result.now k []) c.args.path.now) c.loop-k.k
-    c.is_conflict-shares.result c.loop-k.conflicts c.push_if.new.numbers
+    c.is_conflict-shares.result c.loop-k.conflicts c.push_if.new.self
     (c.is_conflict-shares.ensures
     ∙ ap (λ l. not (c.loop-k.k == c.args.n) && any_flagged l c.args.path.now)
     (item_or c.as_slice-other-items.result.now c.loop-k.k c.other-item.result []
     c.loop-k-test.true c.other-item.is))
-    c.loop-k.invariant c.in_ok-push_if.ensures
+    c.loop-k.invariant c.in_ok-push_if.ensures.ok
