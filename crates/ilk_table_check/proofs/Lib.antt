@@ -3,4 +3,4 @@ mod Examples
 pub mod Flagged
 pub mod Last
 pub mod Shared
-pub mod Twice
+pub mod Once

@@ -1,7 +1,5 @@
-ghost use Rattle.std.specs.Prelude.{ℕ, ◌≡◌, ◌==◌, ◌&&◌, ◌||◌, ◌<◌, IfOk, false, length, map, nat_lt, not, slice_index_or, true};
-ghost use Rattle.std.specs.List.{list_all};
+ghost use Rattle.std.specs.Prelude.{ℕ, ◌≡◌, ◌==◌, ◌||◌, ◌<◌, IfOk, false, length, map, slice_index_or};
 ghost use Rattle.ilk_plant.specs.Network.{has_section};
-ghost use Rattle.ilk_plant.specs.Once.{numbers_differ};
 ghost use Rattle.ilk_base.specs.Numbers.{has_number};
 
 use ilk_plant::Listed;
@@ -98,24 +96,4 @@ impl Flags {
             self.set(listed.point);
         }
     }
-}
-
-fn still_once(once: bool, flags: &Flags, x: u32) -> bool
-    ensures { result ≡ (once && not (slice_index_or flags.now x false)) }
-{
-    once && !flags.at(x)
-}
-
-/// Returns whether `numbers` has no duplicates. Each number must be below `count`.
-pub fn numbers_differ_below(alloc: Global, count: u32, numbers: &[u32]) -> Result<bool, AllocError>
-    requires { list_all (λ x. nat_lt x count) numbers.now ≡ true }
-    ensures { IfOk result (λ once. once ≡ numbers_differ numbers.now) }
-{
-    let mut flags = Flags::new(alloc, count)?;
-    let mut once = true;
-    for x in numbers {
-        once = still_once(once, &flags, *x);
-        flags.set(*x);
-    }
-    Ok(once)
 }

@@ -10,9 +10,9 @@ mod asking;
 mod columns;
 mod conflicts;
 mod flags;
-mod listed;
 mod pairs;
 mod table;
+mod twice;
 mod ways;
 
 pub use columns::{check_borders, check_columns};

@@ -1,20 +1,15 @@
-ghost use Rattle.std.specs.Prelude.{◌≡◌, ◌==◌, ◌&&◌, ◌<◌, ◌++◌, IfOk, OnOk, map, not};
+ghost use Rattle.std.specs.Prelude.{◌≡◌, ◌==◌, ◌&&◌, ◌<◌, ◌++◌, IfOk, OnOk, not};
 ghost use Rattle.std.specs.List.{list_all};
 ghost use Rattle.ilk_plant.specs.Broken.{broken_at, places_of};
 ghost use Rattle.ilk_plant.specs.Network.{has_section};
 ghost use Rattle.ilk_plant.specs.Limits.{HasLimits};
 ghost use Rattle.ilk_plant.specs.Plant.{is_point_section};
 ghost use Rattle.ilk_plant.specs.TableRules.{breaks_table, count_in_plant, has_conflicts_once, has_destination_or_none, has_points_once, has_protecting_boards_once, has_protecting_points_once, has_sections_once, is_board, is_other_route, is_section, points_of, protecting_points_of, numbered_rules_broken, sections_of, table_rules_broken};
-ghost use Rattle.ilk_plant.specs.Once.{numbers_differ};
 ghost use Rattle.ilk_base.specs.Numbers.{has_number};
 
-use crate::flags::numbers_differ_below;
-use crate::listed::is_point_listed;
+use crate::twice::none_twice;
 use ilk_base::has_number;
-use ilk_plant::{
-    Broken, Listed, NetDraft, NumberedDrafts, PlaceKind, Route, Row, Rule, TableDraft,
-    push_broken_if,
-};
+use ilk_plant::{Broken, NetDraft, NumberedDrafts, Route, Row, Rule, TableDraft, push_broken_if};
 use std::alloc::{AllocError, Global};
 
 const TABLE_RULES: [Rule; 8] = [
@@ -28,33 +23,16 @@ const TABLE_RULES: [Rule; 8] = [
     Rule::R8,
 ];
 
-fn none_twice(numbers: &[u32]) -> bool
-    ensures { result ≡ numbers_differ numbers.now }
-{
-    for (i, x) in numbers.iter().enumerate() {
-        if has_number(&numbers[i + 1..], *x) {
-            return false;
-        }
-    }
-    true
-}
-
 fn is_among_both(x: u32, first: &[u32], second: &[u32]) -> bool
     ensures { result ≡ has_number x (first.now ++ second.now) }
 {
     has_number(first, x) || has_number(second, x)
 }
 
-// Returns whether the two lists together have no duplicates.
-fn none_twice_in_both(first: &[u32], second: &[u32]) -> bool
-    ensures { result ≡ numbers_differ (first.now ++ second.now) }
+fn share_none(first: &[u32], second: &[u32]) -> bool
+    ensures { result ≡ list_all (λ x. not (has_number x second.now)) first.now }
 {
-    for (i, x) in first.iter().enumerate() {
-        if is_among_both(*x, &first[i + 1..], second) {
-            return false;
-        }
-    }
-    none_twice(second)
+    first.iter().all(|x| !has_number(second, *x))
 }
 
 fn are_sections(plant: &NumberedDrafts, sections: &[u32]) -> bool
@@ -70,12 +48,16 @@ fn both_are_sections(plant: &NumberedDrafts, first: &[u32], second: &[u32]) -> b
 }
 
 // Returns whether path and overlap are sections without duplicates.
+#[tactic(auto, using(crate::proofs::Once::differ_in_both))]
 fn has_sections_once(plant: &NumberedDrafts, route: &Route) -> bool
     ensures { result ≡ has_sections_once plant.now route.now }
 {
     let path = route.path.as_slice();
     let overlap = route.overlap.as_slice();
-    both_are_sections(plant, path, overlap) && none_twice_in_both(path, overlap)
+    both_are_sections(plant, path, overlap)
+        && none_twice(path)
+        && none_twice(overlap)
+        && share_none(path, overlap)
 }
 
 fn is_point_of(plant: &NumberedDrafts, route: &Route, x: u32) -> bool
@@ -96,22 +78,11 @@ fn are_points_of(plant: &NumberedDrafts, route: &Route) -> bool
         .all(|x| is_point_of(plant, route, x))
 }
 
-fn none_listed_twice(points: &[Listed]) -> bool
-    ensures { result ≡ numbers_differ (map (λ listed. listed.point) points.now) }
-{
-    for (i, listed) in points.iter().enumerate() {
-        if is_point_listed(listed.point, &points[i + 1..]) {
-            return false;
-        }
-    }
-    true
-}
-
 // Returns whether each listed point is a point section of path or overlap, and is listed once.
 fn has_points_once(plant: &NumberedDrafts, route: &Route) -> bool
     ensures { result ≡ has_points_once plant.now route.now }
 {
-    are_points_of(plant, route) && none_listed_twice(route.points.as_slice())
+    are_points_of(plant, route) && none_twice(route.points.as_slice())
 }
 
 fn has_destination_or_none(plant: &NumberedDrafts, destination: Option<u32>) -> bool
@@ -133,23 +104,11 @@ fn are_other_routes(plant: &NumberedDrafts, i: u32, routes: &Row<u32>) -> bool
 }
 
 // Returns whether each conflict of route `i` is another route, and is listed once.
-#[tactic(auto, using(crate::proofs::Twice::others_below))]
-fn has_conflicts_once(
-    alloc: Global,
-    plant: &NumberedDrafts,
-    i: u32,
-    route: &Route,
-) -> Result<bool, AllocError>
-    ensures { IfOk result (λ once. once ≡ has_conflicts_once plant.now i route.now) }
+#[tactic(auto, using(crate::proofs::Once::differ_by_number))]
+fn has_conflicts_once(plant: &NumberedDrafts, i: u32, route: &Route) -> bool
+    ensures { result ≡ has_conflicts_once plant.now i route.now }
 {
-    if !are_other_routes(plant, i, &route.conflicts) {
-        return Ok(false);
-    }
-    numbers_differ_below(
-        alloc,
-        plant.count(PlaceKind::Routes),
-        route.conflicts.as_slice(),
-    )
+    are_other_routes(plant, i, &route.conflicts) && none_twice(route.conflicts.as_slice())
 }
 
 fn is_point_apart(plant: &NumberedDrafts, route: &Route, x: u32) -> bool
@@ -177,7 +136,7 @@ fn are_points_apart(plant: &NumberedDrafts, route: &Route) -> bool
 fn has_protecting_points_once(plant: &NumberedDrafts, route: &Route) -> bool
     ensures { result ≡ has_protecting_points_once plant.now route.now }
 {
-    are_points_apart(plant, route) && none_listed_twice(route.protecting_points.as_slice())
+    are_points_apart(plant, route) && none_twice(route.protecting_points.as_slice())
 }
 
 fn is_other_board(plant: &NumberedDrafts, source: u32, m: u32) -> bool
@@ -198,40 +157,31 @@ fn are_other_boards(plant: &NumberedDrafts, route: &Route) -> bool
 }
 
 // Returns whether each protecting board is a board other than the source, and is listed once.
+#[tactic(auto, using(crate::proofs::Once::differ_by_number))]
 fn has_protecting_boards_once(plant: &NumberedDrafts, route: &Route) -> bool
     ensures { result ≡ has_protecting_boards_once plant.now route.now }
 {
     are_other_boards(plant, route) && none_twice(route.protecting_boards.as_slice())
 }
 
-fn breaks_table(
-    alloc: Global,
-    plant: &NumberedDrafts,
-    rule: Rule,
-    i: u32,
-) -> Result<bool, AllocError>
+fn breaks_table(plant: &NumberedDrafts, rule: Rule, i: u32) -> bool
     requires { i < count_in_plant plant.now (places_of rule) }
-    ensures { IfOk result (λ broken. broken ≡ breaks_table plant.now rule i) }
+    ensures { result ≡ breaks_table plant.now rule i }
 {
     match rule {
-        Rule::R1 => Ok(plant.is_duplicate(i)),
-        Rule::R2 => Ok(!plant.is_board(plant.route(i).source)),
-        Rule::R3 => Ok(!has_sections_once(plant, plant.route(i))),
-        Rule::R4 => Ok(!has_points_once(plant, plant.route(i))),
-        Rule::R5 => Ok(!has_destination_or_none(plant, plant.route(i).destination)),
-        Rule::R6 => Ok(!has_conflicts_once(alloc, plant, i, plant.route(i))?),
-        Rule::R7 => Ok(!has_protecting_points_once(plant, plant.route(i))),
-        Rule::R8 => Ok(!has_protecting_boards_once(plant, plant.route(i))),
-        _ => Ok(false),
+        Rule::R1 => plant.is_duplicate(i),
+        Rule::R2 => !plant.is_board(plant.route(i).source),
+        Rule::R3 => !has_sections_once(plant, plant.route(i)),
+        Rule::R4 => !has_points_once(plant, plant.route(i)),
+        Rule::R5 => !has_destination_or_none(plant, plant.route(i).destination),
+        Rule::R6 => !has_conflicts_once(plant, i, plant.route(i)),
+        Rule::R7 => !has_protecting_points_once(plant, plant.route(i)),
+        Rule::R8 => !has_protecting_boards_once(plant, plant.route(i)),
+        _ => false,
     }
 }
 
-fn push_rule(
-    alloc: Global,
-    found: &mut Row<Broken>,
-    plant: &NumberedDrafts,
-    rule: Rule,
-) -> Result<(), AllocError>
+fn push_rule(found: &mut Row<Broken>, plant: &NumberedDrafts, rule: Rule) -> Result<(), AllocError>
     ensures { OnOk result (found.new ≡ found.old
         ++ broken_at rule (count_in_plant plant.now (places_of rule))
         (breaks_table plant.now rule)) }
@@ -242,7 +192,7 @@ fn push_rule(
             first: i,
             second: None,
         };
-        push_broken_if(found, breaks_table(alloc, plant, rule, i)?, entry)?;
+        push_broken_if(found, breaks_table(plant, rule, i), entry)?;
     }
     Ok(())
 }
@@ -271,7 +221,7 @@ pub fn check_numbered_table(
 {
     let mut found = Row::new(alloc);
     for rule in &TABLE_RULES {
-        push_rule(alloc, &mut found, plant, *rule)?;
+        push_rule(&mut found, plant, *rule)?;
     }
     Ok(found)
 }

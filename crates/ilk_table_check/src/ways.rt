@@ -7,7 +7,7 @@ ghost use Rattle.ilk_plant.specs.TableRules.{points_of};
 ghost use Rattle.ilk_plant.specs.Plant.{is_point_section};
 ghost use Rattle.ilk_plant.specs.ColumnRules.{has_no_board, is_between_boards, is_leg, is_listed_towards, overlap_is_connected, path_ends_at_board, path_is_connected, points_are_listed, points_lead_along, ends_at_destination};
 
-use crate::listed::is_point_listed;
+use crate::twice::any_names;
 use ilk_plant::{Board, Dir, Listed, Plant, Position, Route, Row, Section, is_leg};
 
 fn section_at(plant: &Plant, x: u32) -> Option<&Section>
@@ -149,7 +149,7 @@ fn points_lead_along(plant: &Plant, points: &Row<Listed>, start: u32, path: &Row
 fn is_listed_if_point(plant: &Plant, route: &Route, x: u32) -> bool
     ensures { result ≡ (not (is_point_section plant.now x) || has_section x (points_of route.now)) }
 {
-    !is_point_section(plant, x) || is_point_listed(x, route.points.as_slice())
+    !is_point_section(plant, x) || any_names(route.points.as_slice(), x)
 }
 
 fn overlap_points_are_listed(plant: &Plant, route: &Route) -> bool

@@ -6,6 +6,6 @@ use Rattle.ilk_base.proofs.Ranges.{grows_if}
 pub loop-i-preserved : goal.loop-i-preserved
 loop-i-preserved c =
     grows_if (λ i. record { rule = c.args.rule; first = i; second = None })
-    (breaks_table c.args.plant.now c.args.rule) c.loop-i.i c.in_ok-breaks_table.field-0 c.args.found.now
-    c.loop-i.found c.push_broken_if.new.found c.in_ok-breaks_table.ensures c.loop-i.invariant
+    (breaks_table c.args.plant.now c.args.rule) c.loop-i.i c.breaks_table.result c.args.found.now
+    c.loop-i.found c.push_broken_if.new.found c.breaks_table.ensures c.loop-i.invariant
     c.in_ok-push_broken_if.ensures.ok
