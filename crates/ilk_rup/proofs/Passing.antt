@@ -1,6 +1,7 @@
 -- An entry is passed on the walk back.
-use Rattle.std.proofs.Common.{◌≡◌, ◌<◌, ◌≤◌, ◌+◌, ◌++◌, ◌∷◌, [], ℕ, zero, suc, true, false, inl, inr, List, Option, Some, None, length, take, reverse, refl, sym, ap, ◌∙◌, subst, arith, add-one, option_map, get_or}
-use Rattle.std.specs.Prelude.{IsSomeAnd, nat_eq, slice_get, not}
+use Rattle.std.proofs.Common.{◌≡◌, ◌<◌, ◌≤◌, ◌+◌, ◌++◌, ◌∷◌, [], ℕ, zero, suc, true, false, inl, inr, List, Option, Some, None, length, take, reverse, refl, sym, ap, ◌∙◌, subst, arith, add-one, option_map, get_or, append-nil, length-append}
+use Rattle.std.specs.Prelude.{IsSomeAnd, nat_eq, slice_get, not, ◌==◌}
+use Rattle.std.specs.List.{filter}
 use Rattle.std.specs.Option.{IsSome}
 use Rattle.std.proofs.lemmas.Bool.{and_from, and_parts, cases_Bool, not-true, not_from_false, true≢false}
 use Rattle.std.proofs.lemmas.List.{reverse-append}
@@ -116,3 +117,13 @@ units-more units ls i l at = ap (λ (n : ℕ). unit_hints units (take n ls)) (ad
       | inl t ↦ rw t (ap (λ (hs : List ℕ). get_or units x.var 0 ∷ hs) (hints-append xs ys))
       | inr t ↦ rw t (hints-append xs ys)
     ]
+
+-- The number of hints, if the next literal has one, and if it has none.
+pub counted-more : (units : List ℕ) (ls : List Literal) (i : ℕ) (l : Literal) → slice_get ls i ≡ Some l → ¬ (get_or units l.var 0 ≡ 0) → length (unit_hints units (take (i + 1) ls)) ≡ length (unit_hints units (take i ls)) + 1
+counted-more units ls i l at some = ap length (units-more units ls i l at) ∙ length-append (unit_hints units (take i ls)) (unit_hints units (l ∷ [])) ∙ ap (λ (n : ℕ). length (unit_hints units (take i ls)) + n) (one (get_or units l.var 0) some)
+  where
+    one : (u : ℕ) → ¬ (u ≡ 0) → length (filter (λ v. not (v == 0)) (u ∷ [])) ≡ 1
+    one u h = grind arith
+
+pub counted-same : (units : List ℕ) (ls : List Literal) (i : ℕ) (l : Literal) → slice_get ls i ≡ Some l → get_or units l.var 0 ≡ 0 → length (unit_hints units (take (i + 1) ls)) ≡ length (unit_hints units (take i ls))
+counted-same units ls i l at none = ap length (units-more units ls i l at ∙ ap (λ (u : ℕ). unit_hints units (take i ls) ++ filter (λ v. not (v == 0)) (u ∷ [])) none ∙ append-nil (unit_hints units (take i ls)))

@@ -129,11 +129,14 @@ fn unit_of(units: &[u64], l: Lit) -> u64
     }
 }
 
-fn count_units(needed: &LitSet, units: &[u64]) -> u64 {
+// Returns the number of needed literals that have a unit clause.
+fn count_units(needed: &LitSet, units: &[u64]) -> u64
+    ensures { result ≡ length (unit_hints units.now needed.now.lits) }
+{
     let mut count: u64 = 0;
     for i in 0..needed.len() {
         if unit_of(units, needed.at(i)) != 0 {
-            count = count.saturating_add(1);
+            count += 1;
         }
     }
     count
