@@ -4,3 +4,4 @@ pub mod Spent
 pub mod Asked
 pub mod Due
 pub mod Certified
+pub mod Decision

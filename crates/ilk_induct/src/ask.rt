@@ -6,9 +6,10 @@ ghost use Rattle.ilk_unroll.specs.Query.{query_formula};
 ghost use Rattle.ilk_induct.specs.Due.{IsResponse};
 
 use crate::pick::{is_restart_due, pick_decision};
+use crate::searching::search;
 use ilk_ir::System;
 use ilk_log::{Log, refutations_refute};
-use ilk_solver::{Answer, Outcome, Picker, Restart, Solver};
+use ilk_solver::{Answer, Outcome};
 use ilk_unroll::{Goal, Trace, Wanted, query, read_back};
 use std::alloc::{AllocError, Global};
 
@@ -51,12 +52,9 @@ pub fn ask(
 {
     let cnf = query(alloc, system, goal, q)?;
     refutations_refute();
-    let picker = Picker::new(Box::new(alloc, pick_decision)?);
-    let restart = Restart::new(Box::new(alloc, is_restart_due)?);
-    let solver = Solver::new(alloc, &cnf, picker, restart)?;
-    // The solver has its own copy of the clauses, and a formula may be large.
-    drop(cnf);
-    let Outcome { answer, log } = solver.solve(budget)?;
+    let picks = Box::new(alloc, pick_decision)?;
+    let asks = Box::new(alloc, is_restart_due)?;
+    let Outcome { answer, log } = search(alloc, cnf, picks, asks, budget)?;
     match answer {
         Answer::Sat(a) => {
             let trace = read_back(alloc, system, goal, q, &a)?;

@@ -26,6 +26,7 @@ mod deciding;
 mod due;
 mod laws;
 mod pick;
+mod searching;
 mod verdict;
 
 pub use deciding::decide;

@@ -1,6 +1,7 @@
-ghost use Rattle.std.specs.Prelude.{◌≡◌, ◌%◌, ◌==◌, ℕ, false, IsTrue};
-ghost use Rattle.ilk_solver.specs.Heaviest.{IsHeaviest};
+ghost use Rattle.std.specs.Prelude.{◌≡◌, ℕ, false, IsTrue};
+ghost use Rattle.ilk_cnf.specs.Literal.{negative_lit};
 ghost use Rattle.ilk_solver.specs.View.{is_unset};
+ghost use Rattle.ilk_induct.specs.Decision.{IsDecision, is_restart_due};
 
 use ilk_cnf::Lit;
 use ilk_solver::View;
@@ -10,10 +11,8 @@ use ilk_solver::View;
 /// have the variable, similar to the literal counts of Chaff (M. W. Moskewicz, C. F. Madigan, Y.
 /// Zhao, L. Zhang and S. Malik, 2001); it never decreases.
 pub fn pick_decision(view: &View) -> Lit
-    ensures unset { (v : ℕ) → IsTrue (is_unset view.now v) → IsTrue (is_unset view.now result.var) }
-    ensures heaviest { (v : ℕ) → IsTrue (is_unset view.now v) → IsHeaviest view.now result.var }
-    ensures none_unset { ((v : ℕ) → is_unset view.now v ≡ false) → result.var ≡ 1 }
-    ensures negative { result.positive ≡ false }
+    ensures decision { (v : ℕ) → IsTrue (is_unset view.now v) → IsDecision view.now result }
+    ensures none_unset { ((v : ℕ) → is_unset view.now v ≡ false) → result ≡ negative_lit 1 }
 {
     let _ = view.vars();
     match view.heaviest() {
@@ -25,7 +24,7 @@ pub fn pick_decision(view: &View) -> Lit
 /// Returns whether a search restarts after `conflicts` conflicts: at each multiple of 128. The
 /// interval is constant, and nothing is random.
 pub fn is_restart_due(conflicts: u64) -> bool
-    ensures { result ≡ (conflicts % 128 == 0) }
+    ensures { result ≡ is_restart_due conflicts }
 {
     conflicts % 128 == 0
 }
