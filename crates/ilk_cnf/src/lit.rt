@@ -13,12 +13,15 @@ pub struct Lit {
 }
 
 impl Model for Lit {
+    ghost use Rattle.std.specs.Prelude.{◌≤◌, ◌<◌, ◌+◌, ◌^◌};
     ghost use Rattle.ilk_cnf.specs.Literal.{Literal};
     ghost use Rattle.ilk_cnf.specs.Code.{literal_of, code_of, code_of-literal_of};
 
     ghost Value = { Literal };
 
     ghost view = { λ l. literal_of l.code };
+
+    ghost invariant = { λ l. (2 ≤ l.code) × (l.code < 2 ^ 63 + 2) };
 
     ghost inverse = { λ l. record { code = code_of l } };
 
@@ -52,6 +55,14 @@ impl Lit {
         ensures { result ≡ self.var }
     {
         self.code / 2
+    }
+
+    /// Its variable is from 1 to 2^62. Proof only; no run-time effect.
+    pub fn var_is_in_range(self)
+        ensures from_1 { 0 < self.var }
+        ensures numbered { self.var ≤ 2 ^ 62 }
+    {
+        let _ = &self.code;
     }
 
     /// Returns whether it is the positive literal of its variable.

@@ -32,9 +32,8 @@ impl Model for PackedStep {
 }
 
 impl PackedStep {
-    /// Packs a step. Its variables are from 1 to 2^62; its hints are any numbers.
+    /// Packs a step.
     pub(crate) fn pack(alloc: Global, step: &Step) -> Result<PackedStep, AllocError>
-        requires { IsTrue (is_clause_over (2 ^ 62) step.now.clause) }
         ensures { IfOk result (λ packed. packed ≡ step.now) }
     {
         let mut bytes = Vec::new(alloc);
@@ -73,16 +72,6 @@ impl PackedStep {
     }
 }
 
-/// Returns whether the variables of a step are from 1 to 2^62.
-pub(crate) fn is_packable(step: &Step) -> bool
-    ensures { result ≡ is_clause_over (2 ^ 62) step.now.clause }
-{
-    step.clause
-        .as_slice()
-        .iter()
-        .all(|l| 0 < l.var() && l.var() <= 1 << 62)
-}
-
 // Returns the number of a literal, from 0.
 fn number_from_lit(l: Lit) -> u64
     requires { IsTrue (is_lit_over (2 ^ 62) l) }
@@ -91,15 +80,16 @@ fn number_from_lit(l: Lit) -> u64
     2 * (l.var() - 1) + l.positive() as u64
 }
 
-// Appends the numbers of literals and returns the last.
+// Appends the numbers of literals and returns the last. Their variables are from 1 to 2^62.
 fn push_literals(bytes: &mut Vec<u8>, lits: &[Lit]) -> Result<u64, AllocError>
-    requires numbered { IsTrue (is_clause_over (2 ^ 62) lits.now) }
-    requires start { ContainsNumbers bytes.old.items [] 0 0 }
-    ensures { IfOk result (λ last. ContainsNumbers bytes.new.items (map number_from_lit lits.now)
-        last 0) }
+    requires { ContainsNumbers bytes.old.items [] 0 0 }
+    ensures numbers { IfOk result
+        (λ last. ContainsNumbers bytes.new.items (map number_from_lit lits.now) last 0) }
+    ensures numbered { OnOk result (IsTrue (is_clause_over (2 ^ 62) lits.now)) }
 {
     let mut last = 0;
     for lit in lits {
+        lit.var_is_in_range();
         let number = number_from_lit(*lit);
         push_number(bytes, last, number)?;
         last = number;

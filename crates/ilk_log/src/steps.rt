@@ -1,6 +1,6 @@
 ghost use Rattle.std.specs.Prelude.{◌≡◌, ◌<◌, ◌++◌, ◌∷◌, [], length, slice_get, IfOk, OnErr, OnOk, Some};
 
-use crate::packed::{PackedStep, is_packable};
+use crate::packed::PackedStep;
 use crate::step::Step;
 use ilk_base::Row;
 use std::alloc::{AllocError, Global};
@@ -54,10 +54,6 @@ impl Log {
         ensures ok { OnOk result (self.new ≡ self.old ++ step ∷ []) }
         ensures err { OnErr result (self.new ≡ self.old) }
     {
-        // Never happens: `Lit::new` makes no literal of such a variable.
-        if !is_packable(&step) {
-            return Err(AllocError);
-        }
         let packed = PackedStep::pack(self.alloc, &step)?;
         self.steps.push(packed)
     }
