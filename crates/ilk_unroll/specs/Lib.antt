@@ -4,4 +4,5 @@ pub mod Query
 pub mod Satisfied
 pub mod Assignment
 pub mod Tables
+pub mod Represented
 pub mod Evidence

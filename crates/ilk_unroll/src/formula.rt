@@ -1,10 +1,8 @@
-ghost use Rattle.std.specs.Prelude.{◌≡◌, ◌≤◌, ◌*◌, ℕ, suc, List, Bool, length, sum, OnOk, IfOk, IsTrue};
-ghost use Rattle.ilk_cnf.specs.Truth.{satisfies};
+ghost use Rattle.std.specs.Prelude.{◌≡◌, ◌≤◌, ◌*◌, suc, sum, OnOk, IfOk, IsTrue};
 ghost use Rattle.ilk_ir.specs.System.{system_tree, system_valid};
 ghost use Rattle.ilk_unroll.specs.Goal.{goal_tree, goal_valid, wanted_valid, step_count};
-ghost use Rattle.ilk_unroll.specs.Run.{is_wanted_run};
 ghost use Rattle.ilk_unroll.specs.Query.{copies_part, query_formula};
-ghost use Rattle.ilk_unroll.specs.Assignment.{run_assignment, IsWantedRun};
+ghost use Rattle.ilk_unroll.specs.Represented.{IsSatisfiedByEachRun, IsSatisfiedOnlyByRuns};
 
 use crate::demands::add_demands;
 use crate::queries::{Goal, Wanted};
@@ -32,24 +30,11 @@ pub fn query(alloc: Global, system: &System, goal: &Goal, q: Wanted) -> Result<C
 
     // An assignment that satisfies the formula is that of a run that the query asks for.
     ensures sound { OnOk result
-        ((a : List Bool) →
-        length a ≡ (query_formula (system_tree system.now) (goal_tree goal.now) q).vars →
-        IsTrue
-        (satisfies a
-        (query_formula (system_tree system.now) (goal_tree goal.now) q).clauses) →
-        IsWantedRun (system_tree system.now) (goal_tree goal.now) q a) }
+        (IsSatisfiedOnlyByRuns (system_tree system.now) (goal_tree goal.now) q) }
 
     // The assignment of each such run satisfies the formula.
     ensures complete { OnOk result
-        ((first rules : List ℕ) →
-        IsTrue (is_wanted_run (system_tree system.now) (goal_tree goal.now) q first rules) →
-        (length (run_assignment (system_tree system.now) (goal_tree goal.now) q first rules)
-        ≡ (query_formula (system_tree system.now) (goal_tree goal.now) q).vars) ×
-        IsTrue
-        (satisfies
-        (run_assignment (system_tree system.now) (goal_tree goal.now) q first
-        rules)
-        (query_formula (system_tree system.now) (goal_tree goal.now) q).clauses)) }
+        (IsSatisfiedByEachRun (system_tree system.now) (goal_tree goal.now) q) }
 {
     let mut cnf = Cnf::new(alloc);
     let unrolled = unroll(alloc, &mut cnf, system, q.steps())?;

@@ -13,6 +13,7 @@
 //!
 //! `query` returns the formula. Its satisfying assignments are exactly those of the runs that the
 //! query asks for (`specs/Assignment`): each run is one assignment, and no variable is left open.
+//! `specs/Represented` names what its variables represent.
 //! `read_back` reads the run of an assignment: its first values from the bits of the first copy,
 //! and the chosen rule of each step.
 //!

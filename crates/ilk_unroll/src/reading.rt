@@ -1,11 +1,12 @@
 ghost use Rattle.std.specs.Prelude.{◌≡◌, ℕ, ◌+◌, ◌<◌, ◌≤◌, ◌^◌, List, length, IfOk, IsTrue};
 ghost use Rattle.ilk_cnf.specs.Truth.{satisfies};
-ghost use Rattle.ilk_ir.specs.System.{system_tree, system_valid, in_ranges};
-ghost use Rattle.ilk_forms.specs.Copy.{total_bits, HaveBits};
+ghost use Rattle.ilk_ir.specs.System.{system_tree, system_valid};
+ghost use Rattle.ilk_forms.specs.Copy.{total_bits};
 ghost use Rattle.ilk_unroll.specs.Goal.{goal_tree, goal_valid, wanted_valid};
 ghost use Rattle.ilk_unroll.specs.Run.{is_wanted_run};
 ghost use Rattle.ilk_unroll.specs.Query.{query_formula};
 ghost use Rattle.ilk_unroll.specs.Assignment.{run_assignment};
+ghost use Rattle.ilk_unroll.specs.Represented.{RepresentValues};
 ghost use Rattle.ilk_unroll.specs.Tables.{AllChosen, choices_begin_by};
 
 use crate::queries::{Goal, Wanted};
@@ -37,11 +38,10 @@ fn read_values(
     requires from_1 { 0 < from }
     requires numbered { from + total_bits ranges.now ≤ 2 ^ 62 + 1 }
     requires reached { from + total_bits ranges.now ≤ length a.now + 1 }
-    requires told { (values : List ℕ) × IsTrue (in_ranges values ranges.now) ×
-        HaveBits a.now from ranges.now values }
+    requires told { (values : List ℕ) × RepresentValues a.now from ranges.now values }
     ensures { IfOk result
-        (λ read. (values : List ℕ) → IsTrue (in_ranges values ranges.now) →
-        HaveBits a.now from ranges.now values → read ≡ values) }
+        (λ read. (values : List ℕ) → RepresentValues a.now from ranges.now values →
+        read ≡ values) }
 {
     let mut values = Values::new(alloc);
     let mut first = from;

@@ -1,10 +1,11 @@
-ghost use Rattle.std.specs.Prelude.{◌≡◌, ◌+◌, ◌*◌, ◌<◌, ◌≤◌, ◌^◌, suc, [], nat_lt, map, OnOk, IfOk, IsTrue};
+ghost use Rattle.std.specs.Prelude.{◌≡◌, ◌+◌, ◌*◌, ◌<◌, ◌≤◌, ◌^◌, [], nat_lt, map, OnOk, IfOk, IsTrue};
 ghost use Rattle.std.specs.List.{list_all};
 ghost use Rattle.ilk_cnf.specs.Formula.{with_clauses, with_vars};
-ghost use Rattle.ilk_cnf.specs.Part.{with_part, as_clauses, and_then};
+ghost use Rattle.ilk_cnf.specs.Part.{with_part, as_clauses};
 ghost use Rattle.ilk_ir.specs.System.{rule_tree, system_tree, system_valid};
 ghost use Rattle.ilk_forms.specs.Copy.{total_bits, copy_var_count};
 ghost use Rattle.ilk_unroll.specs.Query.{copies_part, steps_part};
+ghost use Rattle.ilk_unroll.specs.Represented.{run_choices, run_copies, run_part};
 ghost use Rattle.ilk_unroll.specs.Tables.{tables_in, HaveRanges, step_choices, choices_begin_by};
 
 use ilk_base::Row;
@@ -112,20 +113,14 @@ pub fn unroll(
     requires steps { steps < 2 ^ 31 }
     requires valid { IsTrue (system_valid (system_tree system.now)) }
     ensures tables { IfOk result
-        (λ unrolled. unrolled.tables ≡ (copies_part system.now.ranges (suc steps) 0).tables) }
+        (λ unrolled. unrolled.tables ≡ (run_copies system.now.ranges steps).tables) }
     ensures first { IfOk result
         (λ unrolled. unrolled.first ≡ (copies_part system.now.ranges steps 0).part.vars + 1) }
     ensures choices { IfOk result
-        (λ unrolled. unrolled.choices
-        ≡ step_choices (map rule_tree system.now.rules)
-        (copies_part system.now.ranges (suc steps) 0).tables
-        (copies_part system.now.ranges (suc steps) 0).part.vars) }
+        (λ unrolled. unrolled.choices ≡ run_choices (system_tree system.now) steps) }
     ensures made { OnOk result
         (cnf.new
-        ≡ with_part (record { vars = 0; clauses = [] })
-        (and_then (copies_part system.now.ranges (suc steps) 0).part
-        (steps_part (map rule_tree system.now.rules)
-        (copies_part system.now.ranges (suc steps) 0).tables))) }
+        ≡ with_part (record { vars = 0; clauses = [] }) (run_part (system_tree system.now) steps)) }
     ensures within { IfOk result (λ unrolled. IsTrue (tables_in cnf.new.vars unrolled.tables)) }
     ensures ranges { IfOk result (λ unrolled. HaveRanges system.now.ranges unrolled.tables) }
     ensures numbered { IfOk result

@@ -25,7 +25,7 @@ read_values-requires-clause-told c =
     (ranges_fit-small s.ranges c.in_ok-unrolled.ensures.bytes) c.requires.goal c.requires.sized
     c.requires.satisfied c.steps.ensures c.in_ok-unrolled.ensures.first c.in_ok-unrolled.ensures.choices
     in
-    (r.first, r.in_range, r.have)
+    (r.first, (r.in_range, r.have))
 
 pub read_rules-requires-clause-chosen : goal.read_rules-requires-clause-chosen
 read_rules-requires-clause-chosen c =
@@ -46,7 +46,7 @@ returns-clause-run c =
     (ranges_fit-small s.ranges c.in_ok-unrolled.ensures.bytes) c.requires.goal c.requires.sized
     c.requires.satisfied c.steps.ensures c.in_ok-unrolled.ensures.first c.in_ok-unrolled.ensures.choices
     in
-    let first = c.in_ok-first.ensures r.first r.in_range r.have in
+    let first = c.in_ok-first.ensures r.first (r.in_range, r.have) in
     let rules = c.in_ok-rules.ensures r.rules r.chosen in
     rw (first, rules) r.wanted
 
@@ -59,7 +59,7 @@ returns-clause-assignment c =
     (ranges_fit-small s.ranges c.in_ok-unrolled.ensures.bytes) c.requires.goal c.requires.sized
     c.requires.satisfied c.steps.ensures c.in_ok-unrolled.ensures.first c.in_ok-unrolled.ensures.choices
     in
-    let first = c.in_ok-first.ensures r.first r.in_range r.have in
+    let first = c.in_ok-first.ensures r.first (r.in_range, r.have) in
     let rules = c.in_ok-rules.ensures r.rules r.chosen in
     rw (first, rules) r.is
 

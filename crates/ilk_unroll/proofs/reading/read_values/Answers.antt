@@ -13,11 +13,11 @@ loop-range-init c =
     record {
       from_1 = c.requires.from_1;
       reached = rw same (omega arith);
-      left = λ values h k. record {
+      left = λ values h. record {
         rest = values;
         whole = ap (λ (us : List ℕ). us ++ values) c.new-values.ensures;
-        in_range = ap (in_ranges values) same ∙ h;
-        have = subst (λ (rs : List ℕ). HaveBits c.args.a.now c.args.from rs values) (sym same) k;
+        in_range = ap (in_ranges values) same ∙ h.0;
+        have = subst (λ (rs : List ℕ). HaveBits c.args.a.now c.args.from rs values) (sym same) h.1;
       };
     }
 
@@ -52,7 +52,7 @@ value_of-requires-clause-satisfied c =
     let i = c.loop-range.range-index in
     let range = get_or all i 0 in
     let values = c.requires.told in
-    let left = c.loop-range.invariant.left values.0 values.1 values.2 in
+    let left = c.loop-range.invariant.left values.0 values.1 in
     let enough : range ≤ 2 ^ bit_count range = subst (λ (k : ℕ). range ≤ 2 ^ k) c.bit_count-count.ensures.count c.bit_count-count.ensures.enough in
     told-passes c.args.a.now c.loop-range.first range (drop (i + 1) all) left.rest enough (told c.args.a.now c.loop-range.first range (drop i all) (drop (i + 1) all) left.rest (drop_more all i 0 c.loop-range-test.true) left.in_range left.have)
 
@@ -68,14 +68,14 @@ loop-range-preserved c =
       from_1 = omega arith;
       reached = (bits_reach c.loop-range.first range c.bit_count-count.result (c.args.from + total_bits c.args.ranges.now) (drop i all) (drop (i + 1) all) split c.bit_count-count.ensures.count c.loop-range.invariant.reached).1;
       left =
-          λ values h k. left-next c.args.a.now c.loop-range.first range c.bit_count-count.result c.value_of.result
+          λ values h. left-next c.args.a.now c.loop-range.first range c.bit_count-count.result c.value_of.result
           (drop i all) (drop (i + 1) all) c.loop-range.values c.push.new.self values split
           c.bit_count-count.ensures.count enough c.value_of.ensures.bits c.value_of.ensures.below
-          c.in_ok-push.ensures.ok (c.loop-range.invariant.left values h k);
+          c.in_ok-push.ensures.ok (c.loop-range.invariant.left values h);
     }
 
 pub returns : goal.returns
 returns c =
     let all = c.as_slice-range-items.result.now in
     let i = c.loop-range.range-index in
-    λ values h k. none-left c.args.a.now c.loop-range.first (drop i all) c.loop-range.values values (drop_all i all c.loop-range-test.false) (c.loop-range.invariant.left values h k)
+    λ values h. none-left c.args.a.now c.loop-range.first (drop i all) c.loop-range.values values (drop_all i all c.loop-range-test.false) (c.loop-range.invariant.left values h)

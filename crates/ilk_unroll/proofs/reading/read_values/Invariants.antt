@@ -1,6 +1,6 @@
-use Rattle.std.proofs.Common.{◌≡◌, ℕ, ◌+◌, ◌<◌, ◌≤◌, true, List, drop}
-use Rattle.ilk_ir.specs.System.{in_ranges}
-use Rattle.ilk_forms.specs.Copy.{total_bits, HaveBits}
+use Rattle.std.proofs.Common.{ℕ, ◌+◌, ◌<◌, ◌≤◌, List, drop}
+use Rattle.ilk_forms.specs.Copy.{total_bits}
+use Rattle.ilk_unroll.specs.Represented.{RepresentValues}
 use Rattle.ilk_unroll.proofs.ReadBack.{Left}
 use Rattle.ilk_unroll.proofs.reading.read_values.Given as goal
 
@@ -9,5 +9,5 @@ invariant-loop-range l =
     record {
       from_1 : 0 < l.first;
       reached : l.first + total_bits (drop l.range-index l.range-items) ≤ l.from + total_bits l.ranges;
-      left : (values : List ℕ) → in_ranges values l.ranges ≡ true → HaveBits l.a l.from l.ranges values → Left l.a l.first (drop l.range-index l.range-items) l.values values;
+      left : (values : List ℕ) → RepresentValues l.a l.from l.ranges values → Left l.a l.first (drop l.range-index l.range-items) l.values values;
     }
