@@ -6,80 +6,80 @@ ghost use Rattle.ilk_model.specs.declared.event.Event.TheVariants as event;
 
 use ilk_plant::Plant;
 
-/// The rules of the event `mark` change images exactly as the event changes their states.
-/// Proof only; no run-time effect.
+/// In a well-formed state without hazard, the rules of the event `mark` change the image exactly as
+/// the event changes the state. Proof only; no run-time effect.
 pub fn mark_steps(plant: &Plant)
     ensures { (r : ℕ) → AlwaysStepLikeEvent plant.now (event.Mark r) }
 {
     plant.is_sound();
 }
 
-/// The rules of the event `cancel` change images exactly as the event changes their states.
-/// Proof only; no run-time effect.
+/// In a well-formed state without hazard, the rules of the event `cancel` change the image exactly
+/// as the event changes the state. Proof only; no run-time effect.
 pub fn cancel_steps(plant: &Plant)
     ensures { (r : ℕ) → AlwaysStepLikeEvent plant.now (event.Cancel r) }
 {
     plant.is_sound();
 }
 
-/// The rules of the event `sense` change images exactly as the event changes their states.
-/// Proof only; no run-time effect.
+/// In a well-formed state without hazard, the rules of the event `sense` change the image exactly
+/// as the event changes the state. Proof only; no run-time effect.
 pub fn sense_steps(plant: &Plant)
     ensures { (r : ℕ) → AlwaysStepLikeEvent plant.now (event.Sense r) }
 {
     plant.is_sound();
 }
 
-/// The rules of the event `release` change images exactly as the event changes their states.
-/// Proof only; no run-time effect.
+/// In a well-formed state without hazard, the rules of the event `release` change the image exactly
+/// as the event changes the state. Proof only; no run-time effect.
 pub fn release_steps(plant: &Plant)
     ensures { (r : ℕ) → AlwaysStepLikeEvent plant.now (event.Release r) }
 {
     plant.is_sound();
 }
 
-/// The rules of the event `finish` change images exactly as the event changes their states.
-/// Proof only; no run-time effect.
+/// In a well-formed state without hazard, the rules of the event `finish` change the image exactly
+/// as the event changes the state. Proof only; no run-time effect.
 pub fn finish_steps(plant: &Plant)
     ensures { (r : ℕ) → AlwaysStepLikeEvent plant.now (event.Finish r) }
 {
     plant.is_sound();
 }
 
-/// The rules of the event `allocate` change images exactly as the event changes their states.
-/// Proof only; no run-time effect.
+/// In a well-formed state without hazard, the rules of the event `allocate` change the image
+/// exactly as the event changes the state. Proof only; no run-time effect.
 pub fn allocate_steps(plant: &Plant)
     ensures { (r : ℕ) → AlwaysStepLikeEvent plant.now (event.Allocate r) }
 {
     plant.is_sound();
 }
 
-/// The rules of the event `lock` change images exactly as the event changes their states.
-/// Proof only; no run-time effect.
+/// In a well-formed state without hazard, the rules of the event `lock` change the image exactly as
+/// the event changes the state. Proof only; no run-time effect.
 pub fn lock_steps(plant: &Plant)
     ensures { (r : ℕ) → AlwaysStepLikeEvent plant.now (event.Lock r) }
 {
     plant.is_sound();
 }
 
-/// The rules of the event `throw` change images exactly as the event changes their states.
-/// Proof only; no run-time effect.
+/// In a well-formed state without hazard, the rules of the event `throw` change the image exactly
+/// as the event changes the state. Proof only; no run-time effect.
 pub fn throw_steps(plant: &Plant)
     ensures { (x : ℕ) → AlwaysStepLikeEvent plant.now (event.Throw x) }
 {
     plant.is_sound();
 }
 
-/// The rules of the event `settle` change images exactly as the event changes their states.
-/// Proof only; no run-time effect.
+/// In a well-formed state without hazard, the rules of the event `settle` change the image exactly
+/// as the event changes the state. Proof only; no run-time effect.
 pub fn settle_steps(plant: &Plant)
     ensures { (x : ℕ) → AlwaysStepLikeEvent plant.now (event.Settle x) }
 {
     plant.is_sound();
 }
 
-/// The rules of the event `enter` change images exactly as the event changes their states.
-/// Proof only; no run-time effect.
+/// In a well-formed state without hazard, the rules of the event `enter` change the image exactly
+/// as the event changes the state. Proof only; no run-time effect.
 pub fn enter_steps(plant: &Plant)
     ensures { (x : ℕ) → AlwaysStepLikeEvent plant.now (event.Enter x) }
 {
@@ -87,8 +87,8 @@ pub fn enter_steps(plant: &Plant)
     plant.is_from_drafts();
 }
 
-/// The rules of the event `head` change images exactly as the event changes their states.
-/// Proof only; no run-time effect.
+/// In a well-formed state without hazard, the rules of the event `head` change the image exactly as
+/// the event changes the state. Proof only; no run-time effect.
 pub fn head_steps(plant: &Plant)
     ensures { (x : ℕ) → AlwaysStepLikeEvent plant.now (event.Head x) }
 {
@@ -96,8 +96,8 @@ pub fn head_steps(plant: &Plant)
     plant.is_from_drafts();
 }
 
-/// The rules of the event `tail` change images exactly as the event changes their states.
-/// Proof only; no run-time effect.
+/// In a well-formed state without hazard, the rules of the event `tail` change the image exactly as
+/// the event changes the state. Proof only; no run-time effect.
 pub fn tail_steps(plant: &Plant)
     ensures { (x : ℕ) → AlwaysStepLikeEvent plant.now (event.Tail x) }
 {
@@ -105,8 +105,8 @@ pub fn tail_steps(plant: &Plant)
     plant.is_from_drafts();
 }
 
-/// The rules of the event `leave` change images exactly as the event changes their states.
-/// Proof only; no run-time effect.
+/// In a well-formed state without hazard, the rules of the event `leave` change the image exactly
+/// as the event changes the state. Proof only; no run-time effect.
 pub fn leave_steps(plant: &Plant)
     ensures { (x : ℕ) → AlwaysStepLikeEvent plant.now (event.Leave x) }
 {

@@ -22,10 +22,10 @@ pub fn highest_bit_decides(range: u8, k: u8) -> bool
     u64::from(k) + 1 == 1u64 << (count - 1)
 }
 
-/// Returns a literal that is true if and only if the integer is at most `k`. It belongs to the next
-/// variable after the `used` ones, which exists, or to the highest bit if this is equivalent.
-/// `below` is true if the integer is below `k`, and `equal` if it is `k`. If memory runs out, the
-/// formula may have grown; its owner drops it.
+/// Returns a literal that is true if and only if the integer `n` is at most `k`. It is the negated
+/// highest bit if that says so, and otherwise of the next variable after the `used` ones, which
+/// exists. `below` is true if the integer is below `k`, and `equal` if it is `k`. If memory runs
+/// out, the formula may have grown; its owner drops it.
 pub fn add_bound_lit(
     alloc: Global,
     cnf: &mut Cnf,

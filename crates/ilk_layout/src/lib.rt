@@ -15,11 +15,11 @@
 //! `proofs/Changes` shows that each change of a state is one write to its image, or two if two
 //! occupancies change. `specs/Decoded` defines the trains that well-formed values represent.
 //!
-//! It also builds atomic conditions on these values. Each tests one value: a route's mode or counts,
-//! a point's detected or commanded position, a board, a lock or an occupancy. `specs/Conditions`
-//! defines each condition as a tree, and the calls here build it. `proofs/ConditionValues` shows its
-//! meaning for a state. Guards of rules (`ilk_behave`) and forms of goals consist of these
-//! conditions.
+//! It also builds atomic conditions on these values. Each tests one value: a route's mode or
+//! counts, a point's detected or commanded position, a board, a lock or an occupancy.
+//! `specs/Conditions` defines each condition as a tree, and the calls here build it.
+//! `proofs/ConditionValues` shows its meaning for a state. Guards of rules (`ilk_behave`) and forms
+//! of goals consist of these conditions.
 #![tactic(auto)]
 
 mod conditions;

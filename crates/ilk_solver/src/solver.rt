@@ -65,8 +65,9 @@ impl Solver {
     }
 
     /// Searches for an assignment that satisfies the formula, with at most `budget` steps that have
-    /// a literal. Each step is the clause learned from a conflict. A budget of 3^n always suffices
-    /// over n variables.
+    /// a literal. Each step is the clause learned from a conflict. Returns an assignment, that
+    /// there is none, or that the budget is spent, each with the log of the steps. A budget of 3^n
+    /// always suffices over n variables.
     ///
     /// After each such step the restart policy decides, from the number of these steps so far,
     /// whether the search goes back to its start.

@@ -1,6 +1,7 @@
 use ilk_cnf::Lit;
 
-/// A literal that is set, with its level and the clause that forced it. A decision has no reason.
+/// A true literal on the trail, with its level and its reason: the number of the clause that forced
+/// it. A decision has no reason.
 #[derive(Clone, Copy)]
 pub struct Entry {
     pub lit: Lit,
