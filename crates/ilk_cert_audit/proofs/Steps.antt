@@ -1,18 +1,12 @@
 -- Reading the line of a step.
-use Rattle.std.proofs.Common.{◌≡◌, Bool, true, false, Some, None, refl, sym, ◌∙◌}
-use Rattle.std.specs.Prelude.{◌↔◌, Option}
+use Rattle.std.proofs.Common.{◌≡◌, Bool, true, false, Some, None, refl}
+use Rattle.std.specs.Prelude.{◌↔◌}
 use Rattle.std.proofs.lemmas.Option.{same_Some}
 use Rattle.ilk_base.specs.Option.{only_if}
 use Rattle.ilk_lines.specs.Lines.{Bytes}
-use Rattle.ilk_lines.specs.Words.{words_of}
 use Rattle.ilk_log.specs.declared.step.Step.{Step}
-use Rattle.ilk_log.specs.StepReading.{step_from_words}
 use Rattle.ilk_log.specs.StepText.{has_writable_numbers, step_text}
-use Rattle.ilk_log.proofs.Words.{step_exactly}
 use Rattle.ilk_cert_audit.specs.Stages.{IsRead}
-
-pub read_back : (told : Option Step) (line : Bytes) → told ≡ step_from_words (words_of line) → (s : Step) → (told ≡ Some s) ↔ ((line ≡ step_text s) × (has_writable_numbers s ≡ true))
-read_back told line e s = (let x = step_exactly line s in ((λ h. x.0 (sym e ∙ h)), (λ is. e ∙ x.1 is)))
 
 pub read-is : (b : Bool) (t : Step) (line : Bytes) → b ≡ true → ((s : Step) → (only_if b t ≡ Some s) ↔ ((line ≡ step_text s) × (has_writable_numbers s ≡ true))) → IsRead line t
 read-is true t line e h = record { own = ((h t).0 refl).0; only = λ u own numbers. same_Some t u ((h u).1 (own, numbers)) }

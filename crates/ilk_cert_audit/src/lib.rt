@@ -18,7 +18,6 @@ mod lines;
 mod next;
 mod queries;
 mod stage;
-mod step_line;
 
 pub use answers::{Ended, Fed};
 pub use audit::CertificateAudit;

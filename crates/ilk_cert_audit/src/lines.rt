@@ -6,8 +6,8 @@ ghost use Rattle.ilk_cert_audit.specs.Stages.{begins_no_step, is_refused, is_val
 use crate::answers::{Ended, Fed};
 use crate::next::next_stage;
 use crate::stage::{MAX_PLAIN_LINE, Stage};
-use crate::step_line::StepLine;
 use ilk_ir::System;
+use ilk_log::StepLine;
 use ilk_unroll::Goal;
 use std::alloc::{AllocError, Global};
 use std::mem;
@@ -57,10 +57,7 @@ impl LineAudit {
             goal,
             stage: Stage::Head,
             line: 1,
-            step: StepLine {
-                clause: Vec::new(alloc),
-                hints: Vec::new(alloc),
-            },
+            step: StepLine::empty(alloc),
         }
     }
 

@@ -9,9 +9,9 @@ ghost use Rattle.ilk_cert_audit.specs.declared.stage.Stage.TheVariants.{Between,
 
 use crate::queries::{is_query_line, query_after, safe_number};
 use crate::stage::Stage;
-use crate::step_line::{StepLine, read_step};
 use ilk_audit::{Auditor, Taken};
 use ilk_ir::System;
+use ilk_log::{StepLine, read_step_into};
 use ilk_unroll::{Goal, Wanted, query};
 use std::alloc::{AllocError, Global};
 
@@ -56,7 +56,7 @@ fn take_step(step: &mut StepLine, auditor: &mut Auditor, line: &[u8]) -> Result<
     ensures { IfOk result (IsLineOfKind line.now auditor.old auditor.new) }
 {
     let _ = auditor.closed();
-    if !read_step(step, line)? {
+    if !read_step_into(step, line)? {
         return Ok(Line::Bad);
     }
     match auditor.take_parts(step.clause.as_slice(), step.hints.as_slice())? {

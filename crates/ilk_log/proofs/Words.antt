@@ -215,6 +215,14 @@ hints_more whole left taken word rest a e h =
     let p = parts_follow 32 rest in
     a.is ∙ ap (λ (ws : List Bytes). option_map (λ (r : List ℕ). taken ++ r) (hints_from_words ws)) (e ∙ ap (λ (ws : List Bytes). word ∷ ws) p.2) ∙ rw h refl
 
-pub told-exactly : {E : Type 0} (r : Result (Option Step) E) (line : Bytes) → IfOk r (λ told. told ≡ step_from_words (words_of line)) → IfOk r (λ told. (s : Step) → (told ≡ Some s) ↔ ((line ≡ step_text s) × (has_writable_numbers s ≡ true)))
-told-exactly (Err e) line h = tt
-told-exactly (Ok told) line h = λ s. (let x = step_exactly line s in ((λ e. x.0 (sym h ∙ e)), (λ is. h ∙ x.1 is)))
+read_back : (told : Option Step) (line : Bytes) → told ≡ step_from_words (words_of line) → (s : Step) → (told ≡ Some s) ↔ ((line ≡ step_text s) × (has_writable_numbers s ≡ true))
+read_back told line e s = (let x = step_exactly line s in ((λ h. x.0 (sym e ∙ h)), (λ is. e ∙ x.1 is)))
+
+pub told-exactly : {E : Type 0} (r : Result Bool E) (t : Step) (line : Bytes) → IfOk r (λ b. only_if b t ≡ step_from_words (words_of line)) → IfOk r (λ b. (s : Step) → (only_if b t ≡ Some s) ↔ ((line ≡ step_text s) × (has_writable_numbers s ≡ true)))
+told-exactly (Err e) t line h = tt
+told-exactly (Ok b) t line h = λ s. read_back (only_if b t) line h s
+
+pub copied-exactly : {E : Type 0} (r : Result (Option Step) E) (o : Option Step) (line : Bytes) → IfOk r (λ told. told ≡ o) →
+    ((s : Step) → (o ≡ Some s) ↔ ((line ≡ step_text s) × (has_writable_numbers s ≡ true))) → IfOk r (λ told. (s : Step) → (told ≡ Some s) ↔ ((line ≡ step_text s) × (has_writable_numbers s ≡ true)))
+copied-exactly (Err e) o line h exactly = tt
+copied-exactly (Ok told) o line h exactly = λ s. ((λ e. (exactly s).0 (sym h ∙ e)), (λ is. h ∙ (exactly s).1 is))

@@ -7,10 +7,10 @@
 //! These definitions use only lists of clauses and numbers.
 //!
 //! `write_step` returns the line of a step, `push_step` appends it to a text, and `read_step`
-//! accepts exactly these lines. `count_from_word` and `lit_from_word` read one word. `LogText` is
-//! the text of a log, produced in pieces. A `Log` is a list of steps: `push` adds one, `at` returns
-//! one. It keeps each packed, in little more than a byte a number. `conflicts_in` counts the steps
-//! with a literal.
+//! accepts exactly these lines. `read_step_into` does the same with memory that is reused from line
+//! to line (`StepLine`). `LogText` is the text of a log, produced in pieces. A `Log` is a list of
+//! steps: `push` adds one, `at` returns one. It keeps each packed, in little more than a byte a
+//! number. `conflicts_in` counts the steps with a literal.
 //!
 //! There are two laws. No assignment satisfies a formula that a log refutes (`refutations_refute`).
 //! Over n variables, fewer than 3^n derived steps with a literal are fresh (`fresh_steps_are_few`).
@@ -26,6 +26,7 @@ mod packed;
 mod read;
 mod reader;
 mod step;
+mod step_line;
 mod steps;
 mod steps_left;
 mod unpack;
@@ -35,7 +36,8 @@ pub use conflicts::conflicts_in;
 pub use hints::Hints;
 pub use laws::{fresh_steps_are_few, refutations_refute};
 pub use log_text::LogText;
-pub use read::{count_from_word, lit_from_word, read_step};
+pub use read::{read_step, read_step_into};
 pub use step::Step;
+pub use step_line::StepLine;
 pub use steps::Log;
 pub use write::{push_step, write_step};

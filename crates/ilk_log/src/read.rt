@@ -1,20 +1,20 @@
 ghost use Rattle.std.specs.Prelude.{◌≡◌, ◌↔◌, IfOk, Some, [], option_map, IsTrue};
 ghost use Rattle.std.specs.Option.{option_map_or};
+ghost use Rattle.ilk_base.specs.Option.{only_if};
 ghost use Rattle.ilk_lines.specs.Words.{words_of};
 ghost use Rattle.ilk_log.specs.StepReading.{hints_from_words, lits_from_words, step_from_words};
 ghost use Rattle.ilk_log.specs.StepText.{has_writable_numbers, step_text};
 ghost use Rattle.ilk_log.specs.declared.step.Step.{Step as StepValue};
 ghost use Rattle.ilk_log.specs.StepWords.{count_from_word, lit_from_word};
 
-use crate::hints::Hints;
 use crate::step::Step;
-use ilk_base::Row;
-use ilk_cnf::{Lit, Lits};
+use crate::step_line::StepLine;
+use ilk_cnf::Lit;
 use ilk_lines::{decimal_up_to, split_next_word};
 use std::alloc::{AllocError, Global};
 
-/// Returns the number from 1 to `limit` that `word` is, or `None` if it is not one.
-pub fn count_from_word(word: &[u8], limit: u64) -> Option<u64>
+// Returns the number from 1 to `limit` that `word` is, or `None` if it is not one.
+fn count_from_word(word: &[u8], limit: u64) -> Option<u64>
     ensures { result ≡ count_from_word limit word.now }
 {
     let n = decimal_up_to(word, limit)?;
@@ -24,9 +24,9 @@ pub fn count_from_word(word: &[u8], limit: u64) -> Option<u64>
 // The greatest variable.
 const MAX_VAR: u64 = 1 << 62;
 
-/// Returns the literal that `word` writes, over a variable from 1 to 2^62, or `None` if it writes
-/// none.
-pub fn lit_from_word(word: &[u8]) -> Option<Lit>
+// Returns the literal that `word` writes, over a variable from 1 to 2^62, or `None` if it writes
+// none.
+fn lit_from_word(word: &[u8]) -> Option<Lit>
     ensures { result ≡ lit_from_word word.now }
 {
     match word {
@@ -35,23 +35,24 @@ pub fn lit_from_word(word: &[u8]) -> Option<Lit>
     }
 }
 
-// Reads the literals before the word 0. Also returns the rest of the line after it.
+// Reads the literals before the word 0, and returns the rest of the line.
 fn read_lits<'a>(
-    alloc: Global,
+    lits: &mut Vec<Lit>,
     line: &'a [u8],
-) -> Result<Option<(Lits, Option<&'a [u8]>)>, AllocError>
+) -> Result<Option<Option<&'a [u8]>>, AllocError>
     ensures { IfOk result
         (λ told.
-        option_map (λ pair. (pair.0, option_map_or (λ rest. words_of rest.now) pair.1 []))
+        option_map
+        (λ after. (lits.new.items, option_map_or (λ rest. words_of rest.now) after []))
         told
         ≡ lits_from_words (words_of line.now)) }
 {
-    let mut lits = Row::new(alloc);
+    lits.clear();
     let mut left = line;
     'words: loop {
         let (word, rest) = split_next_word(left);
         if word == b"0".as_slice() {
-            return Ok(Some((lits, rest)));
+            return Ok(Some(rest));
         }
         let Some(l) = lit_from_word(word) else {
             return Ok(None);
@@ -65,50 +66,65 @@ fn read_lits<'a>(
 }
 
 #[tactic(auto, using(crate::proofs::Words::hints_more))]
-fn read_hints(alloc: Global, line: &[u8]) -> Result<Option<Hints>, AllocError>
-    ensures { IfOk result (λ told. told ≡ hints_from_words (words_of line.now)) }
+fn read_hints(hints: &mut Vec<u64>, line: &[u8]) -> Result<bool, AllocError>
+    ensures { IfOk result (λ told. only_if told hints.new.items
+        ≡ hints_from_words (words_of line.now)) }
 {
-    let mut hints = Hints::new(alloc);
+    hints.clear();
     let mut left = line;
     'words: loop {
         let (word, rest) = split_next_word(left);
         if word == b"0".as_slice() {
             return match rest {
-                Some(_) => Ok(None),
-                None => Ok(Some(hints)),
+                Some(_) => Ok(false),
+                None => Ok(true),
             };
         }
         let Some(h) = count_from_word(word, u64::MAX) else {
-            return Ok(None);
+            return Ok(false);
         };
         let Some(rest) = rest else {
-            return Ok(None);
+            return Ok(false);
         };
         hints.push(h)?;
         left = rest;
     }
 }
 
-fn read_words(alloc: Global, line: &[u8]) -> Result<Option<Step>, AllocError>
-    ensures { IfOk result (λ told. told ≡ step_from_words (words_of line.now)) }
+fn read_words(step: &mut StepLine, line: &[u8]) -> Result<bool, AllocError>
+    ensures { IfOk result
+        (λ told.
+        only_if told
+        (record { clause = step.new.clause.items; hints = step.new.hints.items })
+        ≡ step_from_words (words_of line.now)) }
 {
     let (word, rest) = split_next_word(line);
     if word != b"step".as_slice() {
-        return Ok(None);
+        return Ok(false);
     }
     let Some(rest) = rest else {
-        return Ok(None);
+        return Ok(false);
     };
-    let Some((clause, rest)) = read_lits(alloc, rest)? else {
-        return Ok(None);
+    let Some(rest) = read_lits(&mut step.clause, rest)? else {
+        return Ok(false);
     };
     let Some(rest) = rest else {
-        return Ok(None);
+        return Ok(false);
     };
-    let Some(hints) = read_hints(alloc, rest)? else {
-        return Ok(None);
-    };
-    Ok(Some(Step { clause, hints }))
+    read_hints(&mut step.hints, rest)
+}
+
+/// Reads the step whose line this is into `step`. Returns whether it is the line of a step with
+/// variables from 1 to 2^62 and hints from 1 to the greatest `u64`.
+pub fn read_step_into(step: &mut StepLine, line: &[u8]) -> Result<bool, AllocError>
+    ensures { IfOk result
+        (λ told. (s : StepValue) →
+        (only_if told
+        (record { clause = step.new.clause.items; hints = step.new.hints.items })
+        ≡ Some s) ↔
+        ((line.now ≡ step_text s) × IsTrue (has_writable_numbers s))) }
+{
+    read_words(step, line)
 }
 
 /// Returns the step whose line this is. Its variables are from 1 to 2^62, and its hints from 1 to
@@ -118,5 +134,7 @@ pub fn read_step(alloc: Global, line: &[u8]) -> Result<Option<Step>, AllocError>
         (λ told. (s : StepValue) →
         (told ≡ Some s) ↔ ((line.now ≡ step_text s) × IsTrue (has_writable_numbers s))) }
 {
-    read_words(alloc, line)
+    let mut step = StepLine::empty(alloc);
+    let told = read_step_into(&mut step, line)?;
+    step.copy_if(alloc, told)
 }

@@ -9,17 +9,17 @@ use Rattle.ilk_cert_audit.proofs.next.take_step.Goals as goal
 pub returns-then-not-branch : goal.returns-then-not-branch
 returns-then-not-branch c =
     let a = c.args.auditor.now in
-    let t : LogStep = record { clause = c.read_step.new.step.clause.items; hints = c.read_step.new.step.hints.items } in
+    let t : LogStep = record { clause = c.read_step_into.new.step.clause.items; hints = c.read_step_into.new.step.hints.items } in
     let few : IsFew a = record { vars = c.closed.ensures.formula.numbered; clauses = c.closed.ensures.few } in
-    unread_is a a c.args.line.now few (unread-is c.in_ok-read_step.field-0 t c.args.line.now c.if-not-branch.true (c.in_ok-read_step.ensures {u = tt}))
+    unread_is a a c.args.line.now few (unread-is c.in_ok-read_step_into.field-0 t c.args.line.now c.if-not-branch.true (c.in_ok-read_step_into.ensures {u = tt}))
 
 pub returns-in-Good : goal.returns-in-Good
 returns-in-Good c =
     let a = c.args.auditor.now in
     let line = c.args.line.now in
-    let t : LogStep = record { clause = c.read_step.new.step.clause.items; hints = c.read_step.new.step.hints.items } in
+    let t : LogStep = record { clause = c.read_step_into.new.step.clause.items; hints = c.read_step_into.new.step.hints.items } in
     let few : IsFew a = record { vars = c.closed.ensures.formula.numbered; clauses = c.closed.ensures.few } in
-    let read = read-is c.in_ok-read_step.field-0 t line c.if-not-branch.false (c.in_ok-read_step.ensures {u = tt}) in
+    let read = read-is c.in_ok-read_step_into.field-0 t line c.if-not-branch.false (c.in_ok-read_step_into.ensures {u = tt}) in
     let same :
     (let x : LogStep = record { clause = c.as_slice.result.now; hints = c.as_slice-2.result.now } in x)
     ≡ t =
@@ -29,7 +29,7 @@ returns-in-Good c =
     c.as_slice.ensures.value
     ∙ ap
     (λ (hs : List ℕ).
-    let x : LogStep = record { clause = c.read_step.new.step.clause.items; hints = hs } in x)
+    let x : LogStep = record { clause = c.read_step_into.new.step.clause.items; hints = hs } in x)
     c.as_slice-2.ensures.value in
     let ok = c.in_ok-take_parts.ensures {u = tt} in
     let answer = sym c.in-Good.is ∙ ok.taken ∙ ap (step_answer a) same in
@@ -40,9 +40,9 @@ pub returns-in-Closed : goal.returns-in-Closed
 returns-in-Closed c =
     let a = c.args.auditor.now in
     let line = c.args.line.now in
-    let t : LogStep = record { clause = c.read_step.new.step.clause.items; hints = c.read_step.new.step.hints.items } in
+    let t : LogStep = record { clause = c.read_step_into.new.step.clause.items; hints = c.read_step_into.new.step.hints.items } in
     let few : IsFew a = record { vars = c.closed.ensures.formula.numbered; clauses = c.closed.ensures.few } in
-    let read = read-is c.in_ok-read_step.field-0 t line c.if-not-branch.false (c.in_ok-read_step.ensures {u = tt}) in
+    let read = read-is c.in_ok-read_step_into.field-0 t line c.if-not-branch.false (c.in_ok-read_step_into.ensures {u = tt}) in
     let same :
     (let x : LogStep = record { clause = c.as_slice.result.now; hints = c.as_slice-2.result.now } in x)
     ≡ t =
@@ -52,7 +52,7 @@ returns-in-Closed c =
     c.as_slice.ensures.value
     ∙ ap
     (λ (hs : List ℕ).
-    let x : LogStep = record { clause = c.read_step.new.step.clause.items; hints = hs } in x)
+    let x : LogStep = record { clause = c.read_step_into.new.step.clause.items; hints = hs } in x)
     c.as_slice-2.ensures.value in
     let ok = c.in_ok-take_parts.ensures {u = tt} in
     let answer = sym c.in-Closed.is ∙ ok.taken ∙ ap (step_answer a) same in
@@ -63,9 +63,9 @@ pub returns-in-Bad : goal.returns-in-Bad
 returns-in-Bad c =
     let a = c.args.auditor.now in
     let line = c.args.line.now in
-    let t : LogStep = record { clause = c.read_step.new.step.clause.items; hints = c.read_step.new.step.hints.items } in
+    let t : LogStep = record { clause = c.read_step_into.new.step.clause.items; hints = c.read_step_into.new.step.hints.items } in
     let few : IsFew a = record { vars = c.closed.ensures.formula.numbered; clauses = c.closed.ensures.few } in
-    let read = read-is c.in_ok-read_step.field-0 t line c.if-not-branch.false (c.in_ok-read_step.ensures {u = tt}) in
+    let read = read-is c.in_ok-read_step_into.field-0 t line c.if-not-branch.false (c.in_ok-read_step_into.ensures {u = tt}) in
     let same :
     (let x : LogStep = record { clause = c.as_slice.result.now; hints = c.as_slice-2.result.now } in x)
     ≡ t =
@@ -75,7 +75,7 @@ returns-in-Bad c =
     c.as_slice.ensures.value
     ∙ ap
     (λ (hs : List ℕ).
-    let x : LogStep = record { clause = c.read_step.new.step.clause.items; hints = hs } in x)
+    let x : LogStep = record { clause = c.read_step_into.new.step.clause.items; hints = hs } in x)
     c.as_slice-2.ensures.value in
     let ok = c.in_ok-take_parts.ensures {u = tt} in
     let answer = sym c.in-Bad.is ∙ ok.taken ∙ ap (step_answer a) same in

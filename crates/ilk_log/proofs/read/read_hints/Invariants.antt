@@ -4,7 +4,7 @@ use Rattle.ilk_log.proofs.Words.{AtHints}
 use Rattle.ilk_log.proofs.read.read_hints.Given as goal
 
 abbrev pub invariant-words : goal.invariant-words
-invariant-words l = AtHints (words_of l.fn.line) l.hints (words_of l.left)
+invariant-words l = AtHints (words_of l.fn.line) l.hints.items (words_of l.left)
 
 abbrev pub decreases-words : goal.decreases-words
 decreases-words l = length l.left

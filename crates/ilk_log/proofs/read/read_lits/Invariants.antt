@@ -4,7 +4,7 @@ use Rattle.ilk_log.proofs.Words.{AtLits}
 use Rattle.ilk_log.proofs.read.read_lits.Given as goal
 
 abbrev pub invariant-words : goal.invariant-words
-invariant-words l = AtLits (words_of l.fn.line) l.lits (words_of l.left)
+invariant-words l = AtLits (words_of l.fn.line) l.lits.items (words_of l.left)
 
 abbrev pub decreases-words : goal.decreases-words
 decreases-words l = length l.left
