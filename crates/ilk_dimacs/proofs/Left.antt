@@ -1,5 +1,5 @@
 -- The rest of the text of a formula, word by word.
-use Rattle.std.proofs.Common.{◌≡◌, ℕ, ◌+◌, ◌-◌, ◌≤◌, List, [], ◌∷◌, ◌++◌, Some, length, drop, refl, sym, ap, ◌∙◌, arith, append_assoc, slice_get}
+use Rattle.std.proofs.Common.{◌≡◌, ℕ, ◌+◌, ◌-◌, ◌≤◌, List, [], ◌∷◌, ◌++◌, Some, length, drop, take, take-append-drop, refl, sym, ap, ◌∙◌, arith, append_assoc, slice_get}
 use Rattle.std.specs.Prelude.{codes}
 use Rattle.std.proofs.lemmas.List.{drop_all}
 use Rattle.ilk_cnf.specs.Literal.{Literal}
@@ -52,3 +52,9 @@ pub end-made : (cs : List (List Literal)) (i n : ℕ) (c : List Literal) (before
     clauses_left n (drop i cs) ≡ whole → made ++ clauses_left 0 (drop (i + 1) cs) ≡ whole
 end-made cs i n c before made whole clause past none is left =
     ap (λ (t : Bytes). t ++ clauses_left 0 (drop (i + 1) cs)) (is ∙ ap (λ (t : Bytes). codes "0\n" ++ t) none) ∙ left-end cs i n c clause past ∙ left
+
+pub first-taken : (token new rest into : Bytes) (k : ℕ) → take k into ≡ take k token → new ≡ drop k token → token ++ rest ≡ take k into ++ (new ++ rest)
+first-taken token new rest into k same left =
+    ap (λ (t : Bytes). t ++ rest) (sym (take-append-drop k token))
+    ∙ append_assoc (take k token) (drop k token) rest
+    ∙ (λ i. sym same i ++ (sym left i ++ rest))

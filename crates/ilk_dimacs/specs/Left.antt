@@ -1,10 +1,12 @@
 -- The rest of the text of a formula, for private contracts and proofs.
 use Rattle.std.specs.Prelude.{ℕ, List, [], ◌∷◌, ◌++◌, codes, drop, flat_map}
+use Rattle.ilk_cnf.specs.Formula.{Formula}
 use Rattle.ilk_cnf.specs.Literal.{Literal}
 use Rattle.ilk_lines.specs.Lines.{Bytes}
 use Rattle.ilk_lines.specs.Written.{line_of}
 use Rattle.ilk_log.specs.StepText.{lit_word}
 use Rattle.ilk_dimacs.specs.DimacsText.{clause_words}
+use Rattle.ilk_dimacs.specs.declared.clauses_text.Position.{Position}
 
 -- A line with its line feed.
 abbrev pub line_with_feed : List Bytes → Bytes
@@ -22,3 +24,7 @@ clause_lines_text cs = flat_map (λ c. line_with_feed (clause_words c)) cs
 abbrev pub clauses_left : ℕ → List (List Literal) → Bytes
 clauses_left n [] = []
 clauses_left n (c ∷ cs) = lits_spaced (drop n c) ++ (codes "0\n" ++ clause_lines_text cs)
+
+-- The lines of a formula's clauses from a position on.
+abbrev pub bytes_left : Formula → Position → Bytes
+bytes_left f at = at.token ++ clauses_left at.literals (drop at.made f.clauses)

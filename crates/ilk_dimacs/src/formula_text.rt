@@ -1,7 +1,7 @@
 ghost use Rattle.std.specs.Prelude.{◌≡◌, drop, length, min, take, IfOk};
 ghost use Rattle.ilk_dimacs.specs.DimacsText.{dimacs_text};
 
-use crate::clauses_text::ClausesText;
+use crate::clauses_text::Position;
 use crate::write::push_header;
 use ilk_cnf::Cnf;
 use ilk_lines::RemainingBytes;
@@ -14,15 +14,17 @@ use std::marker::Model;
 #[derive(Drop)]
 pub struct FormulaText {
     header: RemainingBytes,
-    clauses: ClausesText,
+    cnf: Cnf,
+    at: Position,
 }
 
 impl Model for FormulaText {
     ghost use Rattle.std.specs.Prelude.{ℕ, ◌++◌, List};
+    ghost use Rattle.ilk_dimacs.specs.Left.{bytes_left};
 
     ghost Value = { List ℕ };
 
-    ghost view = { λ text. text.header ++ text.clauses };
+    ghost view = { λ text. text.header ++ bytes_left text.cnf text.at };
 }
 
 impl FormulaText {
@@ -36,7 +38,8 @@ impl FormulaText {
         push_header(&mut header, &cnf)?;
         Ok(FormulaText {
             header: RemainingBytes::from_bytes(header.into_bytes()),
-            clauses: ClausesText::of(cnf),
+            cnf,
+            at: Position::start(),
         })
     }
 
@@ -51,6 +54,6 @@ impl FormulaText {
         if count == into.len() {
             return count;
         }
-        count + self.clauses.take(&mut into[count..])
+        count + self.at.take(&self.cnf, &mut into[count..])
     }
 }

@@ -1,11 +1,12 @@
 use Rattle.std.proofs.Common.{◌≡◌, ◌<◌, ◌≤◌, ◌-◌, [], ◌++◌, length, take}
-use Rattle.ilk_dimacs.proofs.clauses_text.ClausesText.take.Given as goal
+use Rattle.ilk_dimacs.specs.Left.{bytes_left}
+use Rattle.ilk_dimacs.proofs.clauses_text.Position.take.Given as goal
 
 abbrev pub invariant-tokens : goal.invariant-tokens
 invariant-tokens l =
-    (l.fn.self ≡ take l.count l.into ++ (l.self-inside.token ++ l.self-inside.clauses))
+    (bytes_left l.cnf l.fn.self ≡ take l.count l.into ++ bytes_left l.cnf l.self)
     × (l.count ≤ length l.into)
-    × (l.count < length l.into → l.self-inside.token ≡ [])
+    × (l.count < length l.into → l.self.token ≡ [])
 
 abbrev pub decreases-tokens : goal.decreases-tokens
 decreases-tokens l = length l.into - l.count
