@@ -4,3 +4,4 @@ pub mod Sink
 pub mod ReadError
 pub mod Plan
 pub mod Memory
+pub mod Adapters

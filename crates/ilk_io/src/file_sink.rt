@@ -6,6 +6,7 @@ use crate::plan::one_more;
 use crate::retry::write_once;
 use crate::{Failed, Sink};
 use std::fs::{File, Files};
+use std::marker::Model;
 
 /// A sink that writes to a file. The first call creates the file through the runtime, or empties an
 /// existing one. Contracts don't see the bytes written. If the sink is never called, the file is
@@ -27,6 +28,14 @@ pub struct FileSink<'a, R: Files> {
     name: String,
     file: Option<R::File>,
     faults: u64,
+}
+
+impl<'a, R: Files> Model for FileSink<'a, R> {
+    ghost use Rattle.ilk_io.specs.Adapters.{NamedFile};
+
+    ghost Value = { NamedFile R.File };
+
+    ghost view = { λ s. record { name = s.name; file = s.file; faults = s.faults } };
 }
 
 impl<'a, R: Files> FileSink<'a, R> {

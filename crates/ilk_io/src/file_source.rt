@@ -6,6 +6,7 @@ use crate::plan::one_more;
 use crate::retry::read_once;
 use crate::{Failed, Source};
 use std::fs::{File, Files};
+use std::marker::Model;
 
 /// A source that reads a file, which the first call opens through the runtime. Contracts don't see
 /// the remaining bytes.
@@ -24,6 +25,14 @@ pub struct FileSource<'a, R: Files> {
     name: String,
     file: Option<R::File>,
     faults: u64,
+}
+
+impl<'a, R: Files> Model for FileSource<'a, R> {
+    ghost use Rattle.ilk_io.specs.Adapters.{NamedFile};
+
+    ghost Value = { NamedFile R.File };
+
+    ghost view = { λ s. record { name = s.name; file = s.file; faults = s.faults } };
 }
 
 impl<'a, R: Files> FileSource<'a, R> {

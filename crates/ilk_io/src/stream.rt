@@ -6,6 +6,7 @@ use crate::plan::one_more;
 use crate::retry::{read_once, write_once};
 use crate::{Failed, Sink, Source};
 use std::io::{Read, Write};
+use std::marker::Model;
 
 /// A source over a reader, such as standard input. As a `Source`, its remaining bytes are unknown
 /// (`left` is `None`); only the contract of its own `read` says what the reader has left.
@@ -16,6 +17,14 @@ use std::io::{Read, Write};
 pub struct StdSource<R: Read> {
     reader: R,
     faults: u64,
+}
+
+impl<R: Read> Model for StdSource<R> {
+    ghost use Rattle.ilk_io.specs.Adapters.{ReaderSource};
+
+    ghost Value = { ReaderSource R };
+
+    ghost view = { λ s. record { reader = s.reader; faults = s.faults } };
 }
 
 impl<R: Read> StdSource<R> {
@@ -56,6 +65,14 @@ impl<R: Read> Source for StdSource<R> {
 pub struct StdSink<W: Write> {
     writer: W,
     faults: u64,
+}
+
+impl<W: Write> Model for StdSink<W> {
+    ghost use Rattle.ilk_io.specs.Adapters.{WriterSink};
+
+    ghost Value = { WriterSink W };
+
+    ghost view = { λ s. record { writer = s.writer; faults = s.faults } };
 }
 
 impl<W: Write> StdSink<W> {
