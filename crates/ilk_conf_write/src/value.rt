@@ -1,15 +1,15 @@
 //! Drafts as JSON.
 
-ghost use Rattle.std.specs.Prelude.{◌≡◌, IfOk};
-ghost use Rattle.serde_json.specs.Data.{string};
-ghost use Rattle.serde_json.specs.View.{view};
+ghost use Rattle.std.specs.Prelude.{◌≡◌, [], IfOk, OnOk};
+ghost use Rattle.serde_json.specs.Data.{object, string, put as with_member};
+ghost use Rattle.serde_json.specs.View.{members_view, view};
 ghost use Rattle.ilk_conf_write.specs.ConfigurationText as written;
 
 use ilk_net_read::Version;
 use ilk_plant::{
     KindDraft, ListedDraft, NetDraft, RouteDraft, Row, SectionDraft, TableDraft, Text, Worded,
 };
-use serde_json::{Value, json};
+use serde_json::{Map, Value, json, put};
 use std::alloc::{AllocError, Global};
 
 fn text_value(alloc: Global, text: &Text) -> Result<Value, AllocError>
@@ -104,50 +104,101 @@ fn points_value(alloc: Global, points: &[ListedDraft]) -> Result<Value, AllocErr
     Ok(Value::Array(values))
 }
 
-// Returns a route of version 1, without protecting points and boards.
-fn first_route_value(alloc: Global, route: &RouteDraft) -> Result<Value, AllocError>
-    ensures { IfOk result (λ value. view value ≡ written.route_value Version.First route.now) }
+// Adds a member that is a text to an object.
+fn put_text(
+    alloc: Global,
+    members: &mut Map<String, Value>,
+    name: &str,
+    text: &Text,
+) -> Result<(), AllocError>
+    ensures { OnOk result
+        (members_view members.new.entries
+        ≡ with_member name.now (string text.now) (members_view members.old.entries)) }
 {
-    let name = route.name.as_str();
-    let source = route.source.as_str();
-    let destination = optional_value(alloc, &route.destination)?;
-    let path = texts_value(alloc, &route.path)?;
-    let overlap = texts_value(alloc, &route.overlap)?;
-    let points = points_value(alloc, route.points.as_slice())?;
-    let conflicts = texts_value(alloc, &route.conflicts)?;
-    json!(in alloc; {
-        "name": name, "source": source, "destination": destination, "path": path,
-        "overlap": overlap, "points": points, "conflicts": conflicts
-    })
+    put(members, alloc, name, text_value(alloc, text)?)
 }
 
-// Returns a route of version 2.
-fn second_route_value(alloc: Global, route: &RouteDraft) -> Result<Value, AllocError>
-    ensures { IfOk result (λ value. view value ≡ written.route_value Version.Second route.now) }
+// Adds a member that is a text, or null if the text is missing.
+fn put_optional(
+    alloc: Global,
+    members: &mut Map<String, Value>,
+    name: &str,
+    text: &Option<Text>,
+) -> Result<(), AllocError>
+    ensures { OnOk result
+        (members_view members.new.entries
+        ≡ with_member name.now (written.optional_value text.now)
+        (members_view members.old.entries)) }
 {
-    let name = route.name.as_str();
-    let source = route.source.as_str();
-    let destination = optional_value(alloc, &route.destination)?;
-    let path = texts_value(alloc, &route.path)?;
-    let overlap = texts_value(alloc, &route.overlap)?;
-    let points = points_value(alloc, route.points.as_slice())?;
-    let conflicts = texts_value(alloc, &route.conflicts)?;
-    let protecting_points = points_value(alloc, route.protecting_points.as_slice())?;
-    let protecting_boards = texts_value(alloc, &route.protecting_boards)?;
-    json!(in alloc; {
-        "name": name, "source": source, "destination": destination, "path": path,
-        "overlap": overlap, "points": points, "conflicts": conflicts,
-        "protecting_points": protecting_points, "protecting_boards": protecting_boards
-    })
+    put(members, alloc, name, optional_value(alloc, text)?)
+}
+
+// Adds a member that is an array of texts.
+fn put_texts(
+    alloc: Global,
+    members: &mut Map<String, Value>,
+    name: &str,
+    texts: &Row<Text>,
+) -> Result<(), AllocError>
+    ensures { OnOk result
+        (members_view members.new.entries
+        ≡ with_member name.now (written.array_of string texts.now)
+        (members_view members.old.entries)) }
+{
+    put(members, alloc, name, texts_value(alloc, texts)?)
+}
+
+// Adds a member that is an array of points, each with its required position.
+fn put_points(
+    alloc: Global,
+    members: &mut Map<String, Value>,
+    name: &str,
+    points: &[ListedDraft],
+) -> Result<(), AllocError>
+    ensures { OnOk result
+        (members_view members.new.entries
+        ≡ with_member name.now (written.array_of written.listed_value points.now)
+        (members_view members.old.entries)) }
+{
+    put(members, alloc, name, points_value(alloc, points)?)
+}
+
+// Adds the members of a route to an empty object. In version 1 it has no protecting points and
+// boards.
+fn put_route(
+    alloc: Global,
+    members: &mut Map<String, Value>,
+    version: Version,
+    route: &RouteDraft,
+) -> Result<(), AllocError>
+    requires empty { members.old.entries ≡ [] }
+    ensures { OnOk result
+        (object (members_view members.new.entries) ≡ written.route_value version route.now) }
+{
+    put_text(alloc, members, "name", &route.name)?;
+    put_text(alloc, members, "source", &route.source)?;
+    put_optional(alloc, members, "destination", &route.destination)?;
+    put_texts(alloc, members, "path", &route.path)?;
+    put_texts(alloc, members, "overlap", &route.overlap)?;
+    put_points(alloc, members, "points", route.points.as_slice())?;
+    put_texts(alloc, members, "conflicts", &route.conflicts)?;
+    match version {
+        Version::First => Ok(()),
+        Version::Second => {
+            let points = route.protecting_points.as_slice();
+            let boards = &route.protecting_boards;
+            put_points(alloc, members, "protecting_points", points)?;
+            put_texts(alloc, members, "protecting_boards", boards)
+        }
+    }
 }
 
 fn route_value(alloc: Global, version: Version, route: &RouteDraft) -> Result<Value, AllocError>
     ensures { IfOk result (λ value. view value ≡ written.route_value version route.now) }
 {
-    match version {
-        Version::First => first_route_value(alloc, route),
-        Version::Second => second_route_value(alloc, route),
-    }
+    let mut members = Map::new(alloc);
+    put_route(alloc, &mut members, version, route)?;
+    Ok(Value::Object(members))
 }
 
 fn routes_value(alloc: Global, version: Version, routes: &[RouteDraft]) -> Result<Value, AllocError>

@@ -1,7 +1,8 @@
 -- The text of a scenario: the line `drive 1`, a line for each command, and the line `end`. Also the
 -- first bad line of a text, defined by the texts of scenarios alone.
-use Rattle.std.specs.Prelude.{ℕ, ◌≡◌, ◌≢◌, ◌≤◌, ◌+◌, ◌-◌, All, List, [], ◌∷◌, ◌++◌, codes, length, map, take}
-use Rattle.ilk_lines.specs.Lines.{Bytes, lines_of}
+use Rattle.std.specs.Prelude.{ℕ, ◌≡◌, ◌≢◌, All, List, [], ◌∷◌, ◌++◌, codes, map}
+use Rattle.ilk_lines.specs.FirstBad.{IsFirstBadLine}
+use Rattle.ilk_lines.specs.Lines.{Bytes}
 use Rattle.ilk_lines.specs.Written.{text_of}
 use Rattle.ilk_plant.specs.Plant.{PlantLists}
 use Rattle.ilk_model.specs.declared.event.Event.{Event}
@@ -36,16 +37,8 @@ HasNoBadLine p text = (n : ℕ) → scene_from_text p text ≢ Bad n
 abbrev pub IsSceneText : PlantLists → Bytes → Type 0
 IsSceneText p text = (commands : List Event) × IsTextOfScene p commands text
 
--- Holds if the text of some scenario over the plant begins with these lines.
-abbrev pub BeginsSomeScene : PlantLists → List Bytes → Type 0
-BeginsSomeScene p lines = (commands : List Event) × (more : List Bytes) × IsSceneOf p commands × (scene_lines p commands ≡ lines ++ more)
-
 -- Holds if line n, from 1, is the first bad line of a text. The text is not the text of a scenario.
 -- The lines before line n begin the text of some scenario. Together with line n, unless it is
 -- missing, they begin none.
-pub record IsFirstBadLineOfScene (p : PlantLists) (text : Bytes) (n : ℕ) : Type 0 where
-  pub none : ¬ (IsSceneText p text)
-  pub from_one : 1 ≤ n
-  pub within : n ≤ length (lines_of text) + 1
-  pub before : BeginsSomeScene p (take (n - 1) (lines_of text))
-  pub bad : n ≤ length (lines_of text) → ¬ (BeginsSomeScene p (take n (lines_of text)))
+abbrev pub IsFirstBadLineOfScene : PlantLists → Bytes → ℕ → Type 0
+IsFirstBadLineOfScene p text n = IsFirstBadLine (IsSceneOf p) (scene_lines p) text n

@@ -9,3 +9,4 @@ pub mod InOrder
 pub mod Leading
 pub mod EachTold
 pub mod ByLine
+pub mod FirstBad

@@ -4,4 +4,5 @@ pub mod Decimal
 pub mod LinesLeft
 pub mod Reading
 pub mod Written
+pub mod FirstBad
 pub mod Answers

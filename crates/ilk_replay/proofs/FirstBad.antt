@@ -16,9 +16,10 @@ use Rattle.ilk_plant.specs.declared.state.RouteState.{RouteState}
 use Rattle.ilk_plant.specs.declared.state.State.{State}
 use Rattle.ilk_model.specs.declared.event.Event.{Event}
 use Rattle.ilk_replay.specs.EventLine.{event_from_line}
-use Rattle.ilk_replay.specs.FirstBad.{BeginsSomeRun, IsFirstBadLineOfRun}
+use Rattle.ilk_replay.specs.FirstBad.{IsFirstBadLineOfRun}
 use Rattle.ilk_lines.specs.Lines.{Bytes, after_lines, lines_of}
 use Rattle.ilk_lines.specs.Reading.{LinesPart, lines_after, expect_end, values_from_lines, leading_part, numbers_of}
+use Rattle.ilk_lines.proofs.FirstBad.{ReadsWritten, end_by_line, end_then, first_exactly, from_text}
 use Rattle.ilk_lines.proofs.ByLine.{FailsAt, Fills, HasLine, IsByLine, Reader, after_by_line, each_by_line, each_then, fails_first, fails_next, leading_by_line, leading_then}
 use Rattle.ilk_base.proofs.Results.{bind-assoc, err_is, ok_no_err}
 use Rattle.ilk_base.proofs.Lists.{item_at}
@@ -27,45 +28,34 @@ use Rattle.ilk_replay.specs.RunText.{board_line, point_line, route_line, run_lin
 use Rattle.ilk_replay.specs.StateLine.{board_from_line, lock_from_line, point_from_line, route_from_line, train_from_line}
 use Rattle.ilk_replay.specs.StateTold.{Beginning, point_sections, state_from_lines}
 use Rattle.ilk_replay.specs.Told.{beginning_from_lines, events_from_lines, run_from_text, run_from_lines}
-use Rattle.ilk_replay.specs.Writable.{IsRunOfPlant, IsRunText}
+use Rattle.ilk_replay.specs.Writable.{IsRunOfPlant}
 use Rattle.ilk_replay.specs.declared.told.Tale.{Tale}
 use Rattle.ilk_replay.specs.declared.told.Tale.TheVariants.{Told as IsTold, Bad}
 use Rattle.ilk_replay.specs.declared.told.Told.{Told}
-use Rattle.ilk_replay.proofs.OfPlant.{run_from_lines-of_plant, told_exactly, written-run_from_lines}
+use Rattle.ilk_replay.proofs.OfPlant.{run_from_lines-of_plant, written-run_from_lines}
 use Rattle.ilk_replay.proofs.StateBack.{board_back, lock_back, point_back, route_back}
 use Rattle.ilk_replay.proofs.WrittenRun.{answered, made, run_from_lines-lines}
 use Rattle.ilk_replay.proofs.StateTexts.{point_known}
 
+abbrev told_of : State → Bool → List Event → Told
+told_of first from_start events = record { first = first; from_start = from_start; events = events }
+
 abbrev run_of : State → Bool → List Event → Result Told ℕ
-run_of first from_start events = Ok (record { first = first; from_start = from_start; events = events })
+run_of first from_start events = Ok (told_of first from_start events)
 
 -- The readers of parts of a text, from the end to the beginning
-abbrev end_read : State → Bool → List Event → ℕ → Reader Told
-end_read first from_start events n lines bytes = expect_end n lines bytes >>= (λ none. run_of first from_start events)
-
-end_by_line : (first : State) (from_start : Bool) (events : List Event) (n : ℕ) → IsByLine n (end_read first from_start events n)
-end_by_line first from_start events n = record { fills = fills; fails = fails }
-  where
-    fills : Fills (end_read first from_start events n)
-    fills = ([], record { first = first; from_start = from_start; events = events }, refl)
-
-    fails : (lines : List Bytes) (bytes : Bytes) (m : ℕ) → end_read first from_start events n lines bytes ≡ Err m → FailsAt n (end_read first from_start events n) lines m
-    fails [] [] m e = ok_no_err e
-    fails [] (b ∷ bytes) m e = fails_first n m (end_read first from_start events n) [] (sym (err_is e)) (λ some. absurd (omega arith)) fills
-    fails (line ∷ lines) bytes m e = fails_first n m (end_read first from_start events n) (line ∷ lines) (sym (err_is e)) (λ some more others. ap (λ k. Err k) (err_is e)) fills
-
 abbrev events_read : PlantLists → State → Bool → ℕ → Reader Told
 events_read p first from_start n lines bytes = events_from_lines p n lines bytes >>= run_of first from_start
 
 events_by_line : (p : PlantLists) (first : State) (from_start : Bool) (n : ℕ) → IsByLine n (events_read p first from_start n)
 events_by_line p first from_start n =
-    let next : List Event → ℕ → Reader Told = end_read first from_start in
+    let next : List Event → ℕ → Reader Told = λ events. end_then (told_of first from_start events) in
     let read : Reader Told = leading_then (event_from_line p) (codes "end") n next in
     let same : (lines : List Bytes) (bytes : Bytes) → read lines bytes ≡ events_read p first from_start n lines bytes =
     λ lines bytes. (let events = leading_part (event_from_line p) n lines in
     sym (bind-assoc (lines_after (codes "end") events.number events.lines) (λ more. expect_end (events.number + 1) more bytes >>= (λ none. Ok events.values)) (run_of first from_start)
     ∙ (λ i. lines_after (codes "end") events.number events.lines >>= (λ more. bind-assoc (expect_end (events.number + 1) more bytes) (λ none. Ok events.values) (run_of first from_start) i)))) in
-    subst (IsByLine n) (λ i lines bytes. same lines bytes i) (leading_by_line (event_from_line p) (codes "end") n next refl (end_by_line first from_start))
+    subst (IsByLine n) (λ i lines bytes. same lines bytes i) (leading_by_line (event_from_line p) (codes "end") n next refl (λ events. end_by_line (told_of first from_start events)))
 
 abbrev with_events : PlantLists → Bytes → Beginning → Result Told ℕ
 with_events p bytes b = events_from_lines p b.number b.lines bytes >>= run_of b.first b.from_start
@@ -200,77 +190,23 @@ begin_by_line p plant = record { fills = fills; fails = fails }
 told_by_line : (p : PlantLists) → IsPlant p → IsByLine 1 (run_from_lines p)
 told_by_line p plant = after_by_line (codes "run 1") 1 (begin_read p) (begin_by_line p plant)
 
-lines_told : (p : PlantLists) → IsPlant p → (t : Told) → IsRunOfPlant p t → run_from_lines p (run_lines p t) [] ≡ Ok t
-lines_told p plant t is = by_answer (run_from_lines p (lines_of (run_text p t)) (after_lines (run_text p t))) refl (written-run_from_lines p plant t is)
-  where
-    by_answer : (r : Result Told ℕ) → run_from_lines p (lines_of (run_text p t)) (after_lines (run_text p t)) ≡ r → answered r ≡ IsTold t → run_from_lines p (run_lines p t) [] ≡ Ok t
-    by_answer (Ok u) this that =
-        let same : u ≡ t = cc in
-        let whole = run_from_lines-lines p plant (lines_of (run_text p t)) (after_lines (run_text p t)) u this in
-        (λ i. run_from_lines p (run_lines p (sym same i)) []) ∙ (λ i. run_from_lines p (sym whole.0 i) (sym whole.1 i)) ∙ this ∙ ap (λ (x : Told). Ok x) same
-    by_answer (Err n) this that = cc
+answered_ok : (r : Result Told ℕ) (t : Told) → answered r ≡ IsTold t → r ≡ Ok t
+answered_ok (Ok u) t e = (let same : u ≡ t = cc in ap (λ (x : Told). Ok x) same)
+answered_ok (Err n) t e = cc
 
-pub prefix : (n k : ℕ) (lines : List Bytes) → n ≤ k → (rest : List Bytes) × (take k lines ≡ take n lines ++ rest)
-prefix zero k lines h = (take k lines, refl)
-prefix (suc n) zero lines h = absurd (omega arith)
-prefix (suc n) (suc k) [] h = ([], refl)
-prefix (suc n) (suc k) (line ∷ lines) h = let rest = prefix n k lines (omega arith) in (rest.0, ap (λ ls. line ∷ ls) rest.1)
+answered_bad : (r : Result Told ℕ) (n : ℕ) → answered r ≡ Bad n → r ≡ Err n
+answered_bad (Ok u) n e = cc
+answered_bad (Err m) n e = (let same : m ≡ n = cc in ap (λ k. Err k) same)
 
-begins_less : (p : PlantLists) (n k : ℕ) (lines : List Bytes) → n ≤ k → BeginsSomeRun p (take k lines) → BeginsSomeRun p (take n lines)
-begins_less p n k lines h (t, more, is, whole) =
-    let rest = prefix n k lines h in
-    (t, rest.0 ++ more, is, whole ∙ ap (λ ls. ls ++ more) rest.1 ∙ append_assoc (take n lines) rest.0 more)
-
-named_first : (p : PlantLists) → IsPlant p → (text : Bytes) (n : ℕ) → run_from_text p text ≡ Bad n → IsFirstBadLineOfRun p text n
-named_first p plant text n e = by_answer (run_from_lines p (lines_of text) (after_lines text)) refl e
-  where
-    none : ¬ (IsRunText p text)
-    none some = let tells = (told_exactly p plant text some.0).1 some.1 in cc
-
-    at_line : FailsAt 1 (run_from_lines p) (lines_of text) n → IsFirstBadLineOfRun p text n
-    at_line fails =
-        let one : n - 1 ≡ fails.passed = omega (arith, fails.at) in
-        let first : n ≡ suc fails.passed = omega (arith, fails.at) in
-        let written = run_from_lines-lines p plant (take fails.passed (lines_of text) ++ fails.before.0) [] fails.before.1 fails.before.2 in
-        let here : BeginsSomeRun p (take fails.passed (lines_of text)) =
-        (fails.before.1, fails.before.0, run_from_lines-of_plant p plant (take fails.passed (lines_of text) ++ fails.before.0) [] fails.before.1 fails.before.2, sym written.0) in
-        let P : ℕ → Type 0 = λ k. BeginsSomeRun p (take k (lines_of text)) in
-        record {
-          none = none;
-          from_one = omega (arith, fails.at);
-          within = omega (arith, fails.at, fails.within);
-          before = subst P (sym one) here;
-          bad = λ there begun.
-              (let Q : ℕ → Type 0 = λ k. BeginsSomeRun p (take k (lines_of text)) in
-              let some : BeginsSomeRun p (take (suc fails.passed) (lines_of text)) = subst Q first begun in
-              let refused = fails.seen (omega (arith, fails.at)) some.1 [] in
-              let tells = lines_told p plant some.0 some.2 in
-              ok_no_err (sym tells ∙ (λ i. run_from_lines p (some.3 i) []) ∙ refused));
-        }
-
-    by_answer : (r : Result Told ℕ) → run_from_lines p (lines_of text) (after_lines text) ≡ r → answered r ≡ Bad n → IsFirstBadLineOfRun p text n
-    by_answer (Ok u) this that = cc
-    by_answer (Err m) this that =
-        let same : m ≡ n = cc in
-        at_line ((told_by_line p plant).fails (lines_of text) (after_lines text) n (this ∙ ap (λ k. Err k) same))
-
--- The first bad line is unique.
-one_first : (p : PlantLists) (text : Bytes) (m n : ℕ) → IsFirstBadLineOfRun p text m → IsFirstBadLineOfRun p text n → m ≡ n
-one_first p text m n a b = by_order (nat_lt m n) (nat_lt n m) refl refl
-  where
-    later : (j k : ℕ) → j < k → IsFirstBadLineOfRun p text j → IsFirstBadLineOfRun p text k → ⊥
-    later j k less x y =
-        let within = y.within in
-        x.bad (omega arith) (begins_less p j (k - 1) (lines_of text) (omega arith) y.before)
-
-    by_order : (c d : Bool) → nat_lt m n ≡ c → nat_lt n m ≡ d → m ≡ n
-    by_order true d first second = absurd (later m n (grind (arith, nat_tests)) a b)
-    by_order false true first second = absurd (later n m (grind (arith, nat_tests)) b a)
-    by_order false false first second = grind (arith, nat_tests)
+reads_runs : (p : PlantLists) → IsPlant p → ReadsWritten (IsRunOfPlant p) (run_lines p) (run_from_lines p)
+reads_runs p plant = record {
+  back = λ t is. answered_ok (from_text (run_from_lines p) (run_text p t)) t (written-run_from_lines p plant t is);
+  has = run_from_lines-of_plant p plant;
+  lines_are = λ lines bytes t e. (run_from_lines-lines p plant lines bytes t e).0;
+  none_after = λ lines bytes t e. (run_from_lines-lines p plant lines bytes t e).1;
+}
 
 pub bad_exactly : (p : PlantLists) → IsPlant p → (text : Bytes) (n : ℕ) → (run_from_text p text ≡ Bad n) ↔ IsFirstBadLineOfRun p text n
-bad_exactly p plant text n = (named_first p plant text n, λ first. by_tale (run_from_text p text) refl first)
-  where
-    by_tale : (tale : Tale) → run_from_text p text ≡ tale → IsFirstBadLineOfRun p text n → run_from_text p text ≡ Bad n
-    by_tale (IsTold t) e first = absurd (first.none (t, (told_exactly p plant text t).0 e))
-    by_tale (Bad m) e first = e ∙ ap (λ k. Bad k) (one_first p text m n (named_first p plant text m e) first)
+bad_exactly p plant text n =
+    let law = first_exactly (IsRunOfPlant p) (run_lines p) (run_from_lines p) (reads_runs p plant) (told_by_line p plant) text n in
+    (λ e. law.0 (answered_bad (from_text (run_from_lines p) text) n e), λ first. ap answered (law.1 first))
