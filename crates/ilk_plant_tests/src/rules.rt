@@ -58,8 +58,8 @@ fn compare_rule(
     }
 }
 
-// Returns the events of the rules that fire, each compared with its rule.
-fn compare_rules(
+/// Returns the events of the rules that fire, each compared with its rule.
+pub fn compare_rules(
     alloc: Global,
     plant: &Plant,
     system: &System,
