@@ -1,6 +1,6 @@
 //! Makes the literals of a set false, and builds its clause.
 
-ghost use Rattle.std.specs.Prelude.{◌≡◌, ◌≤◌, ◌++◌, ◌∷◌, [], if◌then◌else◌, not, IfOk, OnOk, IsTrue};
+ghost use Rattle.std.specs.Prelude.{◌≡◌, ◌≤◌, ◌++◌, not, IfOk, OnOk, IsTrue};
 ghost use Rattle.std.specs.List.{filter};
 ghost use Rattle.ilk_cnf.specs.Formula.{is_lit_over};
 ghost use Rattle.ilk_trail.specs.Trail.{level_of};
@@ -67,16 +67,6 @@ pub fn assume_negations(trail: &mut Trail, set: &LitSet)
     }
 }
 
-// Adds `l` to `clause`, if it is `wanted`.
-fn push_if(clause: &mut Lits, l: Lit, wanted: bool) -> Result<(), AllocError>
-    ensures { OnOk result (clause.new ≡ clause.old ++ (if wanted then l ∷ [] else [])) }
-{
-    if wanted {
-        clause.push(l)?;
-    }
-    Ok(())
-}
-
 // Adds the literals whose variables are set. `push_unset` adds those whose variables are unset.
 fn push_where(clause: &mut Lits, trail: &Trail, set: &LitSet) -> Result<(), AllocError>
     requires { set.now.vars ≡ trail.now.vars }
@@ -85,7 +75,7 @@ fn push_where(clause: &mut Lits, trail: &Trail, set: &LitSet) -> Result<(), Allo
 {
     for i in 0..set.len() {
         let l = set.at(i);
-        push_if(clause, l, is_set(trail, l))?;
+        clause.push_if(is_set(trail, l), l)?;
     }
     Ok(())
 }
@@ -98,7 +88,7 @@ fn push_unset(clause: &mut Lits, trail: &Trail, set: &LitSet) -> Result<(), Allo
 {
     for i in 0..set.len() {
         let l = set.at(i);
-        push_if(clause, l, !is_set(trail, l))?;
+        clause.push_if(!is_set(trail, l), l)?;
     }
     Ok(())
 }

@@ -19,7 +19,7 @@ loop-i-preserved c =
     let start = c.args.clause.now in
     let some = filter p (take c.loop-i.i c.args.set.now.lits) in
     let one : Bool → List Literal = λ b. cond b (l ∷ []) [] in
-    c.in_ok-push_if.ensures
+    c.in_ok-push_if.ensures.ok
     ∙ ap (λ (b : Bool). c.loop-i.clause ++ one b) (c.is_set.ensures)
     ∙ ap (λ (ls : List Literal). ls ++ one (p l)) c.loop-i.invariant
     ∙ append_assoc start some (one (p l))
