@@ -1,4 +1,4 @@
-ghost use Rattle.std.specs.Prelude.{◌≡◌, ◌<◌, ◌+◌, ◌++◌, ◌∷◌, [], All, if◌then◌else◌, length, map, flat_map, IfOk, OnOk};
+ghost use Rattle.std.specs.Prelude.{◌≡◌, ◌<◌, ◌+◌, ◌++◌, ◌∷◌, [], All, length, map, flat_map, IfOk, OnOk};
 ghost use Rattle.ilk_ir.specs.Form.{tree_of};
 ghost use Rattle.ilk_ir.specs.Tree.{negation};
 ghost use Rattle.ilk_invs.specs.Held as held;
@@ -8,7 +8,7 @@ use crate::held::{holding_section, is_beside_path};
 use crate::parts::implication;
 use ilk_ir::Form;
 use ilk_layout::negated;
-use ilk_plant::{Plant, has_section};
+use ilk_plant::{Plant, Row, has_section};
 use std::alloc::{AllocError, Global};
 
 /// The maximum number of possible holders of a section that are compared in order; larger lists are
@@ -25,25 +25,15 @@ fn may_hold(plant: &Plant, x: u32, r: u32) -> bool
     has_section(&route.path, x) || is_beside_path(route, x)
 }
 
-fn push_if(routes: &mut Vec<u32>, r: u32, is_asked: bool) -> Result<(), AllocError>
-    ensures { OnOk result
-        (routes.new.items ≡ routes.old.items ++ (if is_asked then r ∷ [] else [])) }
-{
-    if is_asked {
-        routes.push(r)?;
-    }
-    Ok(())
-}
-
 // Returns the routes that may hold section `x`, in order.
 #[tactic(auto, using(crate::proofs::Pushed::all_passing))]
-fn holders(alloc: Global, plant: &Plant, x: u32) -> Result<Vec<u32>, AllocError>
-    ensures holders { IfOk result (λ routes. routes.items ≡ definitions.holders plant.now x) }
-    ensures known { IfOk result (λ routes. All (λ r. r < length plant.now.routes) routes.items) }
+fn holders(alloc: Global, plant: &Plant, x: u32) -> Result<Row<u32>, AllocError>
+    ensures holders { IfOk result (λ routes. routes ≡ definitions.holders plant.now x) }
+    ensures known { IfOk result (λ routes. All (λ r. r < length plant.now.routes) routes) }
 {
-    let mut routes = Vec::new(alloc);
+    let mut routes = Row::new(alloc);
     for r in 0..plant.routes() {
-        push_if(&mut routes, r, may_hold(plant, x, r))?;
+        routes.push_if(may_hold(plant, x, r), r)?;
     }
     Ok(routes)
 }

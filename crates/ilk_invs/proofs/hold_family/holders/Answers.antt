@@ -4,4 +4,4 @@ use Rattle.ilk_invs.proofs.hold_family.holders.Goals as goal
 
 pub loop-r-preserved : goal.loop-r-preserved
 loop-r-preserved c =
-    passing_more (may_hold c.args.plant.now c.args.x) c.loop-r.r _ c.loop-r.routes.items c.push_if.new.routes.items c.may_hold.ensures c.loop-r.invariant c.in_ok-push_if.ensures
+    passing_more (may_hold c.args.plant.now c.args.x) c.loop-r.r _ c.loop-r.routes c.push_if.new.self c.may_hold.ensures c.loop-r.invariant c.in_ok-push_if.ensures.ok

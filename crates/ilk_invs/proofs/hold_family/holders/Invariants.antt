@@ -5,4 +5,4 @@ use Rattle.ilk_invs.proofs.hold_family.holders.Given as goal
 
 abbrev pub invariant-loop-r : goal.invariant-loop-r
 invariant-loop-r l =
-    l.routes.items ≡ filter (may_hold l.plant l.x) (range_with_len 0 l.r)
+    l.routes ≡ filter (may_hold l.plant l.x) (range_with_len 0 l.r)
