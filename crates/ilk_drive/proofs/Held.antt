@@ -1,14 +1,16 @@
 -- Indices in a heap, by their distance from the greatest number; growing lists of indices.
-use Rattle.std.proofs.Common.{◌≡◌, ℕ, ◌+◌, ◌-◌, ◌<◌, ◌≤◌, Bool, true, false, ◌||◌, ◌==◌, All, Some, List, ◌∷◌, map, slice_get, inl, inr, refl, sym, ap, ◌∙◌, arith}
+use Rattle.std.proofs.Common.{◌≡◌, ℕ, ◌+◌, ◌-◌, ◌<◌, ◌≤◌, Bool, true, false, ◌||◌, ◌==◌, All, Some, List, [], ◌∷◌, ◌++◌, cond, map, slice_get, inl, inr, refl, sym, ap, ◌∙◌, arith}
 use Rattle.std.specs.List.{list_any}
 use Rattle.std.specs.List.Sorted.{IsPermutation}
 use Rattle.std.proofs.lemmas.Bool.{eqb-true, eq-eqb}
 use Rattle.std.proofs.lemmas.Option.{same_Some}
+use Rattle.std.proofs.lemmas.List.Folds.{list_any-append}
 use Rattle.std.proofs.lemmas.List.Sorted.{list_any-IsPermutation}
 use Rattle.ilk_base.proofs.ListTests.{all-at}
 use Rattle.ilk_base.proofs.Tested.{list_any-at, list_any-map}
 use Rattle.ilk_base.specs.Numbers.{has_number}
 use Rattle.ilk_base.proofs.Ranges.{below_or_at}
+use Rattle.ilk_base.proofs.Truth.{or-true}
 use Rattle.ilk_plant.specs.Plant.{PlantLists}
 use Rattle.ilk_model.specs.declared.event.Event.{Event}
 use Rattle.ilk_drive.specs.Awakening.{may_enable}
@@ -37,6 +39,17 @@ held-least rank j ranks most h =
     let is : 18446744073709551615 - found.1 ≡ j = eqb-true (place_of_rank found.1) j found.3 in
     omega (arith, least, is)
 
+pub pushed-kept : (wanted : Bool) (place : ℕ) (old new : List ℕ) → new ≡ old ++ cond wanted (place ∷ []) [] → (j : ℕ) → has_number j old ≡ true → has_number j new ≡ true
+pushed-kept wanted place old new grown j h =
+    let more : List ℕ = cond wanted (place ∷ []) [] in
+    ap (λ (ns : List ℕ). has_number j ns) grown ∙ list_any-append (λ m. m == j) old more ∙ ap (λ (b : Bool). b || has_number j more) h
+
+pub pushed-added : (wanted : Bool) (place : ℕ) (old new : List ℕ) → new ≡ old ++ cond wanted (place ∷ []) [] → wanted ≡ true → has_number place new ≡ true
+pushed-added wanted place old new grown is =
+    ap (λ (ns : List ℕ). has_number place ns) (grown ∙ ap (λ (b : Bool). old ++ cond b (place ∷ []) []) is) ∙ list_any-append (λ m. m == place) old (place ∷ [])
+    ∙ ap (λ (b : Bool). has_number place old || (b || false)) (eq-eqb place place refl)
+    ∙ or-true (has_number place old)
+
 pub woken-more :
     (p : PlantLists) (event at_place : Event) (automatic : List Event) (i : ℕ) (wanted : Bool)
     (old new : List ℕ) →
@@ -55,10 +68,6 @@ woken-more p event at_place automatic i wanted old new here is before keeps adds
 
 pub kept-on : (place : ℕ) (old new : List ℕ) → ((j : ℕ) → has_number j new ≡ (place == j || has_number j old)) → (j : ℕ) → has_number j old ≡ true → has_number j new ≡ true
 kept-on place old new grows j h = grows j ∙ ap (λ (b : Bool). place == j || b) h ∙ or-true (place == j)
-  where
-    or-true : (b : Bool) → (b || true) ≡ true
-    or-true true = refl
-    or-true false = refl
 
 pub added-on : (place : ℕ) (old new : List ℕ) → ((j : ℕ) → has_number j new ≡ (place == j || has_number j old)) → has_number place new ≡ true
 added-on place old new grows = grows place ∙ ap (λ (b : Bool). b || has_number place old) (eq-eqb place place refl)

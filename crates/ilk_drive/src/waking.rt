@@ -1,10 +1,9 @@
 //! The automatic events that an event may enable. A drive needn't try the others again after it.
-ghost use Rattle.std.specs.Prelude.{ℕ, ◌≡◌, ◌==◌, true, IsTrue, IfOk, OnOk};
+ghost use Rattle.std.specs.Prelude.{◌≡◌, IfOk};
 ghost use Rattle.ilk_model.specs.declared.event.Event.TheVariants.{Mark, Allocate, Lock, Sense, Release, Finish, Throw, Settle, Enter, Head, Tail, Leave, Cancel};
 ghost use Rattle.ilk_drive.specs.Drive.{automatic_events};
 ghost use Rattle.ilk_drive.specs.Places.{HasAllEnabledBy};
 ghost use Rattle.ilk_drive.specs.Awakening.{has_source_at, depends_on_section, may_affect_route, may_enable, wants_point};
-ghost use Rattle.ilk_base.specs.Numbers.{has_number};
 
 use crate::concerns::{
     depends_on_neighbour, depends_on_section, has_source_at, is_neighbour, may_affect_route,
@@ -192,18 +191,6 @@ fn may_enable(plant: &Plant, event: Event, other: Event) -> bool
     }
 }
 
-// Adds the index if `wanted`.
-fn push_if(places: &mut Row<u64>, wanted: bool, place: u64) -> Result<(), AllocError>
-    ensures kept { OnOk result
-        ((j : ℕ) → has_number j places.old ≡ true → has_number j places.new ≡ true) }
-    ensures added { OnOk result (IsTrue wanted → has_number place places.new ≡ true) }
-{
-    if wanted {
-        places.push(place)?;
-    }
-    Ok(())
-}
-
 /// Returns the indices of the automatic events that `event` may enable.
 pub(crate) fn indices_enabled_by(
     alloc: Global,
@@ -216,7 +203,7 @@ pub(crate) fn indices_enabled_by(
 {
     let mut places = Row::new(alloc);
     for (place, other) in automatic.as_slice().iter().enumerate() {
-        push_if(&mut places, may_enable(plant, event, *other), place as u64)?;
+        places.push_if(may_enable(plant, event, *other), place as u64)?;
     }
     Ok(places)
 }
