@@ -415,7 +415,7 @@ class Tables:
 
     def __init__(self, root):
         self.root = root
-        folder = self.file_of("options : List LineOption").parent
+        folder = self.file_of("options : List OptionSpec").parent
         self.text = "\n".join(read(path) for path in sorted(folder.glob("*.antt")))
         self.limits = dict(re.findall(r"pub const (\w+): \w+ = (\d+);",
                                       read(folder.parent / "src/limits.rt")))
@@ -599,7 +599,7 @@ CHANGES = {
         see_spans, "CONTRIBUTING.md", r"`ilk_model/src/event\.rt`", "`ilk_model/src/events.rt`",
         "`ilk_model/src/events.rt` isn't there"),
     "a definition renamed": (
-        see_links, "crates/ilk_plant/specs/NetworkRules.antt", r"\bis_isolated\b", "has_no_neighbour",
+        see_links, "crates/ilk_plant/specs/NetworkRules.antt", r"\bis_isolated\b", "is_linear_without_neighbours",
         "NetworkRules.antt: is_isolated isn't declared there"),
     "a definition renamed that no link leads to": (
         see_spans, "crates/ilk_answers/specs/Strict.antt", r"\bSaysSafeAtOneOrSpent\b", "SaysSafeOrSpent",

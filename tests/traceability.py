@@ -113,7 +113,7 @@ CHANGES = {
     ),
     "a requirement with another definition": (
         DATA,
-        r"^(N2 \| ilk_plant/specs/Draft\.antt:)is_duplicate",
+        r"^(N2 \| ilk_plant/specs/Draft\.antt:)repeats_earlier_name",
         r"\1numbered",
         "N2: the model has other definitions",
     ),

@@ -3,13 +3,13 @@ use Rattle.std.proofs.Common.{◌≡◌, ℕ, ◌+◌, ◌<◌, ◌≤◌, Bool,
 use Rattle.std.proofs.Math.ListN.{replicate}
 use Rattle.std.proofs.lemmas.Bool.{le-leb, lt-leb}
 use Rattle.std.proofs.lemmas.List.{length-replicate}
-use Rattle.ilk_net_read.specs.Fault.{form_fault}
+use Rattle.ilk_net_read.specs.Fault.{fault_for_rule}
 use Rattle.ilk_net_read.specs.declared.fault.Form.TheVariants.{F1}
 use Rattle.ilk_net_read.specs.declared.fault.Place.TheVariants.{Extra}
 use Rattle.ilk_plant.specs.Plant.{PlantLists}
 use Rattle.ilk_words.specs.Plan.{plan_of}
 use Rattle.ilk_words.specs.declared.command.Command.{Command}
-use Rattle.ilk_answers.specs.Answer.{Answers, AnswersOutcome, AnswersPlant, AnswersWithin, refused, refused_by}
+use Rattle.ilk_answers.specs.Answer.{Answers, AnswersOutcome, AnswersPlant, AnswersOrRefusesTooLong, refused, refused_by}
 use Rattle.ilk_answers.specs.Besides.{AnswersSomeExtra}
 use Rattle.ilk_answers.specs.declared.refusals.Refusal.TheVariants.{Form as FormRefusal}
 use Rattle.ilk_answers.specs.declared.refusals.Refusals.{Refusals}
@@ -31,16 +31,16 @@ some-unread command p extra made none is = record {
 }
 
 module _ (command : Command) (p : PlantLists) (limit : ℕ) (made : Reply) (planned : (plan_of command).extra ≡ Some limit) where
-  within-limit : (b : Bool) (text : List ℕ) → nat_le (length text) limit ≡ b → AnswersWithin b command p text made → AnswersOutcome command (Ok p) (Some text) made
+  within-limit : (b : Bool) (text : List ℕ) → nat_le (length text) limit ≡ b → AnswersOrRefusesTooLong b command p text made → AnswersOutcome command (Ok p) (Some text) made
   within-limit b text same is =
       let Told : Option ℕ → Type 0 = λ o. AnswersPlant o command p (Some text) made in
-      subst Told (sym planned) (subst (λ c. AnswersWithin c command p text made) (sym same) is)
+      subst Told (sym planned) (subst (λ c. AnswersOrRefusesTooLong c command p text made) (sym same) is)
 
   pub some-within : (extra : Option (List ℕ)) (text : List ℕ) → IfSome extra (λ bytes. text ≡ bytes) → length text ≤ limit → Answers command p text made → AnswersSomeExtra command (Ok p) extra made
   some-within extra text whole short is =
       record { text = text; whole = whole; answer = within-limit true text (le-leb (length text) limit short) is }
 
-  pub some-too_long : (extra : Option (List ℕ)) → IfSome extra (λ bytes. limit < length bytes) → made ≡ refused (FormRefusal (form_fault F1 Extra)) → AnswersSomeExtra command (Ok p) extra made
+  pub some-too_long : (extra : Option (List ℕ)) → IfSome extra (λ bytes. limit < length bytes) → made ≡ refused (FormRefusal (fault_for_rule F1 Extra)) → AnswersSomeExtra command (Ok p) extra made
   some-too_long None long is =
       let text : List ℕ = replicate (limit + 1) 0 in
       let longer : limit < length text = omega (arith, length-replicate {A = ℕ} (limit + 1) 0) in
@@ -55,4 +55,4 @@ some-answer command (Ok p) extra made some = of_limit (plan_of command).extra ex
     of_limit : (limit : Option ℕ) (left : Option (List ℕ)) → IfSome left (λ bytes. some.text ≡ bytes) → AnswersPlant limit command p (Some some.text) made → AnswersPlant limit command p left made
     of_limit None left whole is = is
     of_limit (Some limit) None whole is = tt
-    of_limit (Some limit) (Some bytes) whole is = subst (λ text. AnswersWithin (nat_le (length text) limit) command p text made) whole is
+    of_limit (Some limit) (Some bytes) whole is = subst (λ text. AnswersOrRefusesTooLong (nat_le (length text) limit) command p text made) whole is

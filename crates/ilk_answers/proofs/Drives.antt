@@ -11,15 +11,15 @@ use Rattle.ilk_drive.specs.declared.outcome.Rest.{Rest}
 use Rattle.ilk_drive.specs.declared.outcome.Rest.TheVariants as rest
 use Rattle.ilk_drive.specs.declared.scene.Scene.{Scene}
 use Rattle.ilk_drive.specs.declared.scene.Scene.TheVariants as scene
-use Rattle.ilk_words.specs.declared.command.Columns.TheVariants.{Strict}
+use Rattle.ilk_words.specs.declared.command.ColumnRuleMode.TheVariants.{Strict}
 use Rattle.ilk_words.specs.declared.command.Command.TheVariants.{Drive}
-use Rattle.ilk_words.specs.declared.lengths.TheConstants.{MAX_SCENARIO}
-use Rattle.ilk_answers.specs.Answer.{AnswersPlant, AnswersWithin}
-use Rattle.ilk_answers.specs.Drives.{AnswersScene, rest_status}
+use Rattle.ilk_words.specs.declared.lengths.TheConstants.{MAX_SCENARIO_BYTES}
+use Rattle.ilk_answers.specs.Answer.{AnswersPlant, AnswersOrRefusesTooLong}
+use Rattle.ilk_answers.specs.Drives.{AnswersScene, drive_end_status}
 use Rattle.ilk_answers.specs.declared.reply.Reply.{Reply}
 use Rattle.ilk_answers.specs.declared.status.Status.TheVariants.{Rejected, Refused as IsRefused, Unsafe}
 
-safe-status : (r : Rest) → EndsWithoutHazard r → rest_status r ≢ Unsafe
+safe-status : (r : Rest) → EndsWithoutHazard r → drive_end_status r ≢ Unsafe
 safe-status rest.Driven safe e = absurd (cc)
 safe-status (rest.Stuck at) safe e = absurd (cc)
 safe-status (rest.Hazard at) safe e = absurd (safe at refl)
@@ -30,10 +30,10 @@ scene-safe p (scene.Bad line) made plant none is e =
 scene-safe p (scene.Scene commands) made plant none is e =
     safe-status is.0.rest (drive-safe p plant (strict_from_list p none) commands is.0 is.1) (ap (λ (r : Reply). r.status) (sym is.2) ∙ e)
 
-within-safe : (b : Bool) (p : PlantLists) (run text : List ℕ) (made : Reply) → IsPlant p → column_rules_broken p ≡ [] → AnswersWithin b (Drive Strict run) p text made → made.status ≢ Unsafe
+within-safe : (b : Bool) (p : PlantLists) (run text : List ℕ) (made : Reply) → IsPlant p → column_rules_broken p ≡ [] → AnswersOrRefusesTooLong b (Drive Strict run) p text made → made.status ≢ Unsafe
 within-safe false p run text made plant none is e =
     let refused : IsRefused ≡ Unsafe = ap (λ (r : Reply). r.status) (sym is) ∙ e in absurd (cc)
 within-safe true p run text made plant none is e = scene-safe p (scene_from_text p text) made plant none is e
 
-pub drive-right : (p : PlantLists) (run text : List ℕ) (made : Reply) → IsPlant p → column_rules_broken p ≡ [] → AnswersPlant (Some MAX_SCENARIO) (Drive Strict run) p (Some text) made → made.status ≢ Unsafe
-drive-right p run text made plant none is = within-safe (nat_le (length text) MAX_SCENARIO) p run text made plant none is
+pub drive-right : (p : PlantLists) (run text : List ℕ) (made : Reply) → IsPlant p → column_rules_broken p ≡ [] → AnswersPlant (Some MAX_SCENARIO_BYTES) (Drive Strict run) p (Some text) made → made.status ≢ Unsafe
+drive-right p run text made plant none is = within-safe (nat_le (length text) MAX_SCENARIO_BYTES) p run text made plant none is

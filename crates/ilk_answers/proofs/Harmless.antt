@@ -5,8 +5,8 @@ use Rattle.std.proofs.lemmas.Bool.{and_parts, eqb-true}
 use Rattle.std.proofs.lemmas.List.Folds.{list_all-append}
 use Rattle.ilk_base.specs.Option.{is_some_and}
 use Rattle.ilk_lines.specs.Lines.{Bytes}
-use Rattle.ilk_plant.specs.Broken.{broken_at, broken_rules_at, places_of, rule_word}
-use Rattle.ilk_plant.specs.ColumnRules.{breaks_columns, column_rule_broken, column_rules, column_rules_broken, ends_at_destination, has_no_board, is_between_boards, path_ends_at_board, points_are_listed}
+use Rattle.ilk_plant.specs.Broken.{broken_below, broken_for_rules, place_kind_of, rule_word}
+use Rattle.ilk_plant.specs.ColumnRules.{breaks_columns, broken_for_column_rule, column_rules, column_rules_broken, ends_at_destination, has_no_board, ends_at_first_board, path_ends_at_first_board, route_points_are_listed}
 use Rattle.ilk_plant.specs.Draft.{plant_from_drafts}
 use Rattle.ilk_plant.specs.NetworkRules.{breaks_network, count_in_network, network_rules, network_rules_broken}
 use Rattle.ilk_plant.specs.Network.{last_of}
@@ -21,9 +21,9 @@ use Rattle.ilk_plant.specs.declared.draft.TableDraft.{TableDraft}
 use Rattle.ilk_plant.specs.declared.network.Dir.{Dir}
 use Rattle.ilk_plant.specs.declared.table.Route.{Route}
 use Rattle.ilk_plant.proofs.Rules.{rule-kept}
-use Rattle.ilk_model.specs.Holding.{is_plain_for_direction}
-use Rattle.ilk_strict.specs.IsStrict.{KeepsPathRules, ends_at_board_or_limit, path_points_are_listed}
-use Rattle.ilk_answers.specs.Strict.{has_beginning, deviation_beginnings}
+use Rattle.ilk_model.specs.Holding.{continues_without_board}
+use Rattle.ilk_strict.specs.IsStrict.{KeepsPathRules, ends_at_board_or_border, path_points_are_listed}
+use Rattle.ilk_answers.specs.Strict.{has_beginning, harmless_refusal_beginnings}
 
 abbrev pub is_harmless : Rule → Bool
 is_harmless C4 = true
@@ -32,7 +32,7 @@ is_harmless C6 = true
 is_harmless C8 = true
 is_harmless _ = false
 
-pub harmless-begins : (rule : Rule) (place : Bytes) → has_beginning deviation_beginnings (codes "refused " ++ (rule_word rule ++ (codes " " ++ place))) ≡ true → is_harmless rule ≡ true
+pub harmless-begins : (rule : Rule) (place : Bytes) → has_beginning harmless_refusal_beginnings (codes "refused " ++ (rule_word rule ++ (codes " " ++ place))) ≡ true → is_harmless rule ≡ true
 harmless-begins N1 place h = h
 harmless-begins N2 place h = h
 harmless-begins N3 place h = h
@@ -61,7 +61,7 @@ harmless-begins C8 place h = refl
 abbrev pub are_harmless : List Broken → Bool
 are_harmless broken = list_all (λ b. is_harmless b.rule) broken
 
-none-at : (rule : Rule) (n : ℕ) (test : ℕ → Bool) → is_harmless rule ≡ false → are_harmless (broken_at rule n test) ≡ true → broken_at rule n test ≡ []
+none-at : (rule : Rule) (n : ℕ) (test : ℕ → Bool) → is_harmless rule ≡ false → are_harmless (broken_below rule n test) ≡ true → broken_below rule n test ≡ []
 none-at rule n test harms all = of_places (filter test (range_with_len 0 n)) all
   where
     made : ℕ → Broken
@@ -71,17 +71,17 @@ none-at rule n test harms all = of_places (filter test (range_with_len 0 n)) all
     of_places [] h = refl
     of_places (i ∷ places) h = let here : is_harmless rule ≡ true = (and_parts (is_harmless rule) (are_harmless (map made places)) h).0 in cc
 
-kept-at : (rule : Rule) (n : ℕ) (test : ℕ → Bool) → is_harmless rule ≡ false → are_harmless (broken_at rule n test) ≡ true → (i : ℕ) → i < n → test i ≡ false
+kept-at : (rule : Rule) (n : ℕ) (test : ℕ → Bool) → is_harmless rule ≡ false → are_harmless (broken_below rule n test) ≡ true → (i : ℕ) → i < n → test i ≡ false
 kept-at rule n test harms all = rule-kept rule n test (none-at rule n test harms all)
 
-pub none-each : (rules : List Rule) (count : PlaceKind → ℕ) (breaks : Rule → ℕ → Bool) → list_all (λ rule. not (is_harmless rule)) rules ≡ true → are_harmless (broken_rules_at rules count breaks) ≡ true → broken_rules_at rules count breaks ≡ []
+pub none-each : (rules : List Rule) (count : PlaceKind → ℕ) (breaks : Rule → ℕ → Bool) → list_all (λ rule. not (is_harmless rule)) rules ≡ true → are_harmless (broken_for_rules rules count breaks) ≡ true → broken_for_rules rules count breaks ≡ []
 none-each [] count breaks harm all = refl
 none-each (rule ∷ rules) count breaks harm all =
-    let first : List Broken = broken_at rule (count (places_of rule)) (breaks rule) in
+    let first : List Broken = broken_below rule (count (place_kind_of rule)) (breaks rule) in
     let harms = and_parts (not (is_harmless rule)) (list_all (λ r. not (is_harmless r)) rules) harm in
-    let parts = and_parts (are_harmless first) (are_harmless (broken_rules_at rules count breaks)) (sym (list_all-append (λ b. is_harmless b.rule) first (broken_rules_at rules count breaks)) ∙ all) in
-    let none : first ≡ [] = none-at rule (count (places_of rule)) (breaks rule) (isnt (is_harmless rule) harms.0) parts.0 in
-    ap (λ found. found ++ broken_rules_at rules count breaks) none ∙ none-each rules count breaks harms.1 parts.1
+    let parts = and_parts (are_harmless first) (are_harmless (broken_for_rules rules count breaks)) (sym (list_all-append (λ b. is_harmless b.rule) first (broken_for_rules rules count breaks)) ∙ all) in
+    let none : first ≡ [] = none-at rule (count (place_kind_of rule)) (breaks rule) (isnt (is_harmless rule) harms.0) parts.0 in
+    ap (λ found. found ++ broken_for_rules rules count breaks) none ∙ none-each rules count breaks harms.1 parts.1
   where
     isnt : (b : Bool) → not b ≡ true → b ≡ false
     isnt true h = sym h
@@ -112,7 +112,7 @@ passes-less : {A : Type 0} (o : Option A) (more test : A → Bool) → ((x : A) 
 passes-less None more test leads h = h
 passes-less (Some x) more test leads h = leads x h
 
-ends-not_plain : (p : PlantLists) (d : Dir) (destination : Option ℕ) (x : ℕ) → ends_at_destination p d destination x ≡ true → not (is_plain_for_direction p d x) ≡ true
+ends-not_plain : (p : PlantLists) (d : Dir) (destination : Option ℕ) (x : ℕ) → ends_at_destination p d destination x ≡ true → not (continues_without_board p d x) ≡ true
 ends-not_plain p d (Some m) x h = boarded (board_of p x d) (nat_lt 0 (length (next_to p x d))) h
   where
     boarded : (o : Option ℕ) (c : Bool) → is_some_and o (λ n. n == m) ≡ true → not (is_none o && c) ≡ true
@@ -127,23 +127,23 @@ ends-not_plain p d None x h = alone (has_no_board p d x) (length (next_to p x d)
 pub harmless-keeps : (p : PlantLists) → are_harmless (column_rules_broken p) ≡ true → KeepsPathRules p
 harmless-keeps p all = record {
   c1 = kept-at C1 (length p.routes) (breaks_columns p C1) refl (of_rule 0 C1 refl);
-  c2 = λ i less. fails-more p (ends_at_board_or_limit p) (path_ends_at_board p) i ends (kept-at C2 (length p.routes) (breaks_columns p C2) refl (of_rule 1 C2 refl) i less);
-  c3 = λ i less. fails-more p (path_points_are_listed p) (points_are_listed p) i (λ route h. (and_parts (path_points_are_listed p route) _ h).0) (kept-at C3 (length p.routes) (breaks_columns p C3) refl (of_rule 2 C3 refl) i less);
+  c2 = λ i less. fails-more p (ends_at_board_or_border p) (path_ends_at_first_board p) i ends (kept-at C2 (length p.routes) (breaks_columns p C2) refl (of_rule 1 C2 refl) i less);
+  c3 = λ i less. fails-more p (path_points_are_listed p) (route_points_are_listed p) i (λ route h. (and_parts (path_points_are_listed p route) _ h).0) (kept-at C3 (length p.routes) (breaks_columns p C3) refl (of_rule 2 C3 refl) i less);
   c7 = kept-at C7 (length p.sections) (breaks_columns p C7) refl (of_rule 6 C7 refl);
 }
   where
-    of_rule : (k : ℕ) (rule : Rule) → slice_get column_rules k ≡ Some rule → are_harmless (column_rule_broken p rule) ≡ true
-    of_rule k rule at = part-harmless (column_rule_broken p) column_rules k rule at all
+    of_rule : (k : ℕ) (rule : Rule) → slice_get column_rules k ≡ Some rule → are_harmless (broken_for_column_rule p rule) ≡ true
+    of_rule k rule at = part-harmless (broken_for_column_rule p) column_rules k rule at all
 
-    of_end : (d : Dir) (destination : Option ℕ) (path : List ℕ) → is_between_boards p d destination path ≡ true → is_some_and (last_of path) (λ x. not (is_plain_for_direction p d x)) ≡ true
+    of_end : (d : Dir) (destination : Option ℕ) (path : List ℕ) → ends_at_first_board p d destination path ≡ true → is_some_and (last_of path) (λ x. not (continues_without_board p d x)) ≡ true
     of_end d destination path between =
         let end = (and_parts _ (is_some_and (last_of path) (ends_at_destination p d destination)) between).1 in
-        passes-less (last_of path) (ends_at_destination p d destination) (λ x. not (is_plain_for_direction p d x)) (ends-not_plain p d destination) end
+        passes-less (last_of path) (ends_at_destination p d destination) (λ x. not (continues_without_board p d x)) (ends-not_plain p d destination) end
 
-    ends : (route : Route) → path_ends_at_board p route ≡ true → ends_at_board_or_limit p route ≡ true
+    ends : (route : Route) → path_ends_at_first_board p route ≡ true → ends_at_board_or_border p route ≡ true
     ends route h =
-        passes-less (slice_get p.boards route.source) (λ b. is_between_boards p b.dir route.destination route.path)
-        (λ b. is_some_and (last_of route.path) (λ x. not (is_plain_for_direction p b.dir x)))
+        passes-less (slice_get p.boards route.source) (λ b. ends_at_first_board p b.dir route.destination route.path)
+        (λ b. is_some_and (last_of route.path) (λ x. not (continues_without_board p b.dir x)))
         (λ b between. of_end b.dir route.destination route.path between) h
 
 pub network-harmless : (net : NetDraft) → are_harmless (network_rules_broken net) ≡ true → network_rules_broken net ≡ []

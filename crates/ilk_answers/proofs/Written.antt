@@ -11,29 +11,29 @@ use Rattle.ilk_model.specs.Event.{next}
 use Rattle.ilk_model.specs.Hazard.{hazard}
 use Rattle.ilk_model.specs.Run.{run}
 use Rattle.ilk_model.specs.declared.event.Event.{Event}
-use Rattle.ilk_replay.specs.Writable.{HasSubjectOf}
+use Rattle.ilk_replay.specs.Writable.{IsEventSubjectOfPlant}
 use Rattle.ilk_replay.proofs.Enabled.{enabled-about, run-about}
 use Rattle.ilk_queries.specs.Asked.{leaves_invariant_at}
 use Rattle.ilk_queries.specs.Walk.{states_from}
 use Rattle.ilk_engine.specs.CertificateOf.{IsCertificateOf}
-use Rattle.ilk_engine.specs.Forever.{HoldsAtAnyLength}
+use Rattle.ilk_engine.specs.Forever.{SafeVerdictMeansAlwaysSafe}
 use Rattle.ilk_engine.specs.Right.{IsRightVerdict}
 use Rattle.ilk_engine.specs.declared.verdict.Verdict.{Verdict}
 use Rattle.ilk_engine.specs.declared.verdict.Verdict.TheVariants.{Safe, Unsafe, Breach, NotInductive, Spent}
 use Rattle.ilk_engine.proofs.Strict.{clean-verdict}
-use Rattle.ilk_answers.specs.Made.{AnswersDemo, demo_line, stations_plant}
+use Rattle.ilk_answers.specs.Made.{AnswersDemo, demo_verdict_line, stations_plant}
 use Rattle.ilk_answers.specs.Verdicts.{AnswersVerdict, verdict_line, verdict_run_text, verdict_status}
-use Rattle.ilk_answers.specs.Writable.{HasWritableRun}
+use Rattle.ilk_answers.specs.Writable.{HasRunOverPlant}
 use Rattle.ilk_answers.specs.declared.reply.Reply.{Reply}
 
-states-about : (p : PlantLists) (s : State) (events : List Event) (states : List State) → states_from p s events ≡ Some states → All (HasSubjectOf p) events
-states-about p s [] states e = All-nil (HasSubjectOf p)
+states-about : (p : PlantLists) (s : State) (events : List Event) (states : List State) → states_from p s events ≡ Some states → All (IsEventSubjectOfPlant p) events
+states-about p s [] states e = All-nil (IsEventSubjectOfPlant p)
 states-about p s (event ∷ rest) states e =
     let more = mapped-Some (λ left. s ∷ left) (option_and_then (λ t. states_from p t rest) (next p s event)) states e in
     let led = bind_some (next p s event) (λ t. states_from p t rest) more.0 more.1 in
-    All-cons (HasSubjectOf p) event rest (enabled-about p s led.0 event led.1) (states-about p led.0 rest more.0 led.2)
+    All-cons (IsEventSubjectOfPlant p) event rest (enabled-about p s led.0 event led.1) (states-about p led.0 rest more.0 led.2)
 
-pub verdict-written : (p : PlantLists) (depth : ℕ) (verdict : Verdict) → IsRightVerdict p depth verdict ⊎ (verdict ≡ Spent) → HasWritableRun p verdict
+pub verdict-written : (p : PlantLists) (depth : ℕ) (verdict : Verdict) → IsRightVerdict p depth verdict ⊎ (verdict ≡ Spent) → HasRunOverPlant p verdict
 verdict-written p depth (Safe k) right = tt
 verdict-written p depth (Unsafe events at) (inl right) =
     let ends = some-and (run p (start p) events) (λ t. is_some (hazard p t)) right.1.2 in
@@ -52,7 +52,7 @@ verdict-written p depth Spent right = tt
 pub verdict-told :
     {E : Type 0} (p : PlantLists) (depth conflicts : ℕ) (verdict : Verdict) (text wanted : List ℕ)
     (made : Result Reply E) →
-    IsRightVerdict p depth verdict ⊎ (verdict ≡ Spent) → HoldsAtAnyLength p verdict →
+    IsRightVerdict p depth verdict ⊎ (verdict ≡ Spent) → SafeVerdictMeansAlwaysSafe p verdict →
     IsCertificateOf p depth conflicts verdict wanted → text ≡ wanted →
     IfOk made (λ r. r.status ≡ verdict_status verdict) →
     IfOk made (λ r. r.report ≡ verdict_line p conflicts verdict ++ verdict_run_text p verdict) →
@@ -70,14 +70,14 @@ verdict-told p depth conflicts verdict text wanted (Ok r) right lasts certified 
 pub demo-told :
     (n depth conflicts : ℕ) (p : PlantLists) (verdict : Verdict) (text wanted : List ℕ) (made : Reply) →
     p ≡ stations_plant n → IsPlant p → column_rules_broken (stations_plant n) ≡ [] → 0 < depth →
-    IsRightVerdict p depth verdict ⊎ (verdict ≡ Spent) → HoldsAtAnyLength p verdict →
+    IsRightVerdict p depth verdict ⊎ (verdict ≡ Spent) → SafeVerdictMeansAlwaysSafe p verdict →
     IsCertificateOf p depth conflicts verdict wanted → text ≡ wanted → made.status ≡ verdict_status verdict →
-    made.certificate ≡ text → made.report ≡ demo_line n conflicts verdict → AnswersDemo n depth conflicts made
+    made.certificate ≡ text → made.report ≡ demo_verdict_line n conflicts verdict → AnswersDemo n depth conflicts made
 demo-told n depth conflicts p verdict text wanted made is plant kept some right lasts certified same status certificate report = record {
   verdict = verdict;
   safe = clean-verdict p depth verdict plant (ap column_rules_broken is ∙ kept) some right;
   right = subst (λ q. IsRightVerdict q depth verdict ⊎ (verdict ≡ Spent)) is right;
-  lasts = subst (λ q. HoldsAtAnyLength q verdict) is lasts;
+  lasts = subst (λ q. SafeVerdictMeansAlwaysSafe q verdict) is lasts;
   certificate = subst (λ q. IsCertificateOf q depth conflicts verdict made.certificate) is (subst (IsCertificateOf p depth conflicts verdict) (sym (certificate ∙ same)) certified);
   status = status;
   report = report;

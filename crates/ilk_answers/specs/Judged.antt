@@ -9,6 +9,6 @@ use Rattle.ilk_answers.specs.Verdicts.{wanted_query}
 
 -- Holds if `None` or the first bad item of a text is right. Without a bad item the text refutes the
 -- formula, so the plant has no run that the query asks for.
-abbrev pub IsRupReplyFor : PlantLists → QueryKind → ℕ → List ℕ → Option ℕ → Type 0
-IsRupReplyFor p kind n text None = IsAccepted (formula_of_query p kind n) text × ¬ HasQueriedRun p (wanted_query kind n)
-IsRupReplyFor p kind n text (Some item) = IsFirstBadItem (formula_of_query p kind n) text item
+abbrev pub RefutesIfNoBadItem : PlantLists → QueryKind → ℕ → List ℕ → Option ℕ → Type 0
+RefutesIfNoBadItem p kind n text None = IsAccepted (formula_of_query p kind n) text × ¬ HasQueriedRun p (wanted_query kind n)
+RefutesIfNoBadItem p kind n text (Some item) = IsFirstBadItem (formula_of_query p kind n) text item

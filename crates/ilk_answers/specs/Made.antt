@@ -3,7 +3,7 @@ use Rattle.std.specs.Prelude.{ℕ, ◌≡◌, ◌⊎◌, ◌++◌, List, [], ◌
 use Rattle.ilk_plant.specs.Draft.{plant_from_drafts}
 use Rattle.ilk_plant.specs.Plant.{PlantLists}
 use Rattle.ilk_engine.specs.CertificateOf.{IsCertificateOf}
-use Rattle.ilk_engine.specs.Forever.{HoldsAtAnyLength}
+use Rattle.ilk_engine.specs.Forever.{SafeVerdictMeansAlwaysSafe}
 use Rattle.ilk_engine.specs.Right.{IsRightVerdict}
 use Rattle.ilk_engine.specs.declared.verdict.Verdict.{Verdict}
 use Rattle.ilk_engine.specs.declared.verdict.Verdict.TheVariants.{Safe, Spent}
@@ -16,15 +16,15 @@ use Rattle.ilk_answers.specs.declared.reply.Reply.{Reply}
 use Rattle.ilk_answers.specs.declared.status.Status.TheVariants.{Good}
 
 -- The reply with the configuration of n stations.
-abbrev pub make_reply : ℕ → Reply
-make_reply n = reply Good (stations_text n ++ 10 ∷ [])
+abbrev pub stations_conf_reply : ℕ → Reply
+stations_conf_reply n = reply Good (stations_text n ++ 10 ∷ [])
 
 abbrev pub stations_plant : ℕ → PlantLists
 stations_plant n = plant_from_drafts (stations_net n) (stations_table n)
 
 -- The line with the verdict on the plant of n stations.
-abbrev pub demo_line : ℕ → ℕ → Verdict → List ℕ
-demo_line n conflicts verdict =
+abbrev pub demo_verdict_line : ℕ → ℕ → Verdict → List ℕ
+demo_verdict_line n conflicts verdict =
     codes "stations=" ++ (decimal n
     ++ (codes " sections=" ++ (decimal (length (stations_plant n).sections)
     ++ (codes " routes=" ++ (decimal (length (stations_plant n).routes)
@@ -37,7 +37,7 @@ pub record AnswersDemo (n depth conflicts : ℕ) (made : Reply) : Type 0 where
   pub verdict : Verdict
   pub safe : (verdict ≡ Safe 1) ⊎ (verdict ≡ Spent)
   pub right : IsRightVerdict (stations_plant n) depth verdict ⊎ (verdict ≡ Spent)
-  pub lasts : HoldsAtAnyLength (stations_plant n) verdict
+  pub lasts : SafeVerdictMeansAlwaysSafe (stations_plant n) verdict
   pub certificate : IsCertificateOf (stations_plant n) depth conflicts verdict made.certificate
   pub status : made.status ≡ verdict_status verdict
-  pub report : made.report ≡ demo_line n conflicts verdict
+  pub report : made.report ≡ demo_verdict_line n conflicts verdict

@@ -4,8 +4,8 @@ use Rattle.ilk_plant.specs.Plant.{PlantLists}
 use Rattle.ilk_plant_audit.specs.Audited as audit
 use Rattle.ilk_words.specs.declared.command.Command.{Command}
 use Rattle.ilk_words.specs.declared.command.Command.TheVariants.{Audit}
-use Rattle.ilk_answers.specs.declared.reader.Reader.{Reader}
-use Rattle.ilk_answers.specs.declared.reader.Reader.TheVariants.{Text, Certificate}
+use Rattle.ilk_answers.specs.declared.reader.ExtraReader.{ExtraReader}
+use Rattle.ilk_answers.specs.declared.reader.ExtraReader.TheVariants.{Text, Certificate}
 
 -- Returns whether a command checks its input piece by piece, as a certificate, and keeps no text.
 abbrev pub is_audit : Command → Bool
@@ -13,11 +13,11 @@ is_audit (Audit columns cert) = true
 is_audit _ = false
 
 -- Holds if the reader of a command over a plant has read these bytes, in one piece or more.
-abbrev pub ReaderHasRead : Command → PlantLists → Reader → List ℕ → Type 0
-ReaderHasRead command p (Text text) bytes = (is_audit command ≡ false) × (text.items ≡ bytes)
-ReaderHasRead command p (Certificate reader) bytes =
+abbrev pub ExtraReaderHasRead : Command → PlantLists → ExtraReader → List ℕ → Type 0
+ExtraReaderHasRead command p (Text text) bytes = (is_audit command ≡ false) × (text.items ≡ bytes)
+ExtraReaderHasRead command p (Certificate reader) bytes =
     (is_audit command ≡ true) × (reader.plant.now ≡ p) × audit.HasAuditedBytes reader bytes
 
 -- Holds if the reader was fed these bytes between `before` and `after`.
-abbrev pub WasFed : Reader → Reader → List ℕ → Type 0
-WasFed before after bytes = (command : Command) (p : PlantLists) (read : List ℕ) → ReaderHasRead command p before read → ReaderHasRead command p after (read ++ bytes)
+abbrev pub WasFed : ExtraReader → ExtraReader → List ℕ → Type 0
+WasFed before after bytes = (command : Command) (p : PlantLists) (read : List ℕ) → ExtraReaderHasRead command p before read → ExtraReaderHasRead command p after (read ++ bytes)

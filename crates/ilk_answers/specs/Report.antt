@@ -30,12 +30,12 @@ abbrev pub clean_line : List ℕ
 clean_line = codes "clean" ++ 10 ∷ []
 
 -- Lines count from 1.
-abbrev pub rejected_line : ℕ → List ℕ
-rejected_line line = codes "rejected line " ++ decimal line ++ 10 ∷ []
+abbrev pub rejection_at_line : ℕ → List ℕ
+rejection_at_line line = codes "rejected line " ++ decimal line ++ 10 ∷ []
 
 -- Events count from 1.
-abbrev pub not_a_run_line : ℕ → List ℕ
-not_a_run_line at = codes "not a run at " ++ decimal at ++ 10 ∷ []
+abbrev pub not_a_run_at_event : ℕ → List ℕ
+not_a_run_at_event at = codes "not a run at " ++ decimal at ++ 10 ∷ []
 
 abbrev pub unsafe_line : PlantLists → ℕ → HazardAt → List ℕ
 unsafe_line p steps at = codes "unsafe steps=" ++ (decimal steps ++ (codes " hazard=" ++ (hazard_text p at ++ 10 ∷ [])))
@@ -44,9 +44,9 @@ abbrev pub accepted_line : ℕ → List ℕ
 accepted_line k = codes "accepted k=" ++ decimal k ++ 10 ∷ []
 
 -- The query has no run.
-abbrev pub refuted_line : QueryKind → ℕ → List ℕ
-refuted_line kind n = codes "refuted " ++ (query_word kind ++ (codes " " ++ (decimal n ++ 10 ∷ [])))
+abbrev pub query_has_no_run_line : QueryKind → ℕ → List ℕ
+query_has_no_run_line kind n = codes "refuted " ++ (query_word kind ++ (codes " " ++ (decimal n ++ 10 ∷ [])))
 
 -- Items count from 1.
-abbrev pub rejected_item_line : ℕ → List ℕ
-rejected_item_line item = codes "rejected item " ++ decimal item ++ 10 ∷ []
+abbrev pub rejection_at_item : ℕ → List ℕ
+rejection_at_item item = codes "rejected item " ++ decimal item ++ 10 ∷ []

@@ -18,19 +18,19 @@ code OutOfMemory = 10
 
 -- Returns whether a command replies with this status: the arguments were right, no fault came and
 -- memory sufficed.
-abbrev pub is_reply : Status → Bool
-is_reply Usage = false
-is_reply ReadFault = false
-is_reply WriteFault = false
-is_reply OutOfMemory = false
-is_reply _ = true
+abbrev pub is_reply_status : Status → Bool
+is_reply_status Usage = false
+is_reply_status ReadFault = false
+is_reply_status WriteFault = false
+is_reply_status OutOfMemory = false
+is_reply_status _ = true
 
 -- Returns whether the status is an answer: no fault came and memory sufficed.
-abbrev pub is_answer : Status → Bool
-is_answer Usage = true
-is_answer status = is_reply status
+abbrev pub is_answer_status : Status → Bool
+is_answer_status Usage = true
+is_answer_status status = is_reply_status status
 
 -- Returns whether the call came to writing: all was read, and there was a reply to write.
 abbrev pub reached_writing : Status → Bool
 reached_writing WriteFault = true
-reached_writing status = is_reply status
+reached_writing status = is_reply_status status

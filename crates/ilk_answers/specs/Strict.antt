@@ -7,37 +7,37 @@ use Rattle.ilk_plant.specs.Plant.{IsPlant, PlantLists}
 use Rattle.ilk_engine.specs.CertificateOf.{IsCertificateOf}
 use Rattle.ilk_forever.specs.Forever.{IsAlwaysSafe}
 use Rattle.ilk_engine.specs.declared.verdict.Verdict.TheVariants.{Safe}
-use Rattle.ilk_words.specs.declared.command.Columns.TheVariants.{Strict, Free}
+use Rattle.ilk_words.specs.declared.command.ColumnRuleMode.TheVariants.{Strict, Free}
 use Rattle.ilk_words.specs.declared.command.Command.{Command}
-use Rattle.ilk_words.specs.declared.command.Columns.{Columns}
+use Rattle.ilk_words.specs.declared.command.ColumnRuleMode.{ColumnRuleMode}
 use Rattle.ilk_words.specs.declared.command.Command.TheVariants.{Check, Verify, Table, Drive}
-use Rattle.ilk_words.specs.declared.plan.Stages.TheVariants.{All}
+use Rattle.ilk_words.specs.declared.plan.CheckedRuleStages.TheVariants.{All}
 use Rattle.ilk_plant.specs.declared.draft.NetDraft.{NetDraft}
 use Rattle.ilk_plant.specs.declared.draft.TableDraft.{TableDraft}
-use Rattle.ilk_table_read.specs.Table.{drafts_of}
-use Rattle.ilk_answers.specs.Answer.{IsAnswerTo, plant_of}
-use Rattle.ilk_answers.specs.Tables.{HasTable}
+use Rattle.ilk_table_read.specs.Table.{net_and_table_drafts}
+use Rattle.ilk_answers.specs.Answer.{IsAnswerTo, plant_of_conf}
+use Rattle.ilk_answers.specs.Tables.{HasValidTable}
 use Rattle.ilk_answers.specs.declared.reply.Reply.{Reply}
 use Rattle.ilk_answers.specs.declared.status.Status.TheVariants.{Good, Refused, Spent, Unsafe}
 
 -- Holds if a configuration breaks no rule, including those of the columns, and `p` is its plant.
-abbrev pub IsCleanFor : List ℕ → PlantLists → Type 0
-IsCleanFor conf p = plant_of (All Strict) conf ≡ Ok p
+abbrev pub IsCleanConfOfPlant : List ℕ → PlantLists → Type 0
+IsCleanConfOfPlant conf p = plant_of_conf (All Strict) conf ≡ Ok p
 
 -- Holds if a configuration breaks no rule, and each run of its plant from the initial state, of any
 -- length, ends in a state that meets the invariant.
 pub record IsCleanAndSafe (conf : List ℕ) : Type 0 where
   pub plant : PlantLists
-  pub clean : IsCleanFor conf plant
+  pub clean : IsCleanConfOfPlant conf plant
   pub safe : IsAlwaysSafe plant
 
 -- Holds if a configuration that breaks at most column rules gives a valid plant.
-abbrev pub GivesPlantIfFree : List ℕ → Type 0
-GivesPlantIfFree conf = IfOk (plant_of (All Free) conf) IsPlant
+abbrev pub GivesPlantDespiteColumns : List ℕ → Type 0
+GivesPlantDespiteColumns conf = IfOk (plant_of_conf (All Free) conf) IsPlant
 
 -- The beginnings of the lines that refuse by a rule which safety doesn't need: C4, C5, C6 and C8.
-abbrev pub deviation_beginnings : List Bytes
-deviation_beginnings = codes "refused C4 " ∷ codes "refused C5 " ∷ codes "refused C6 " ∷ codes "refused C8 " ∷ []
+abbrev pub harmless_refusal_beginnings : List Bytes
+harmless_refusal_beginnings = codes "refused C4 " ∷ codes "refused C5 " ∷ codes "refused C6 " ∷ codes "refused C8 " ∷ []
 
 -- Returns whether a line has one of these beginnings.
 abbrev pub has_beginning : List Bytes → Bytes → Bool
@@ -55,7 +55,7 @@ pub record HasOnlyLines (beginnings : List Bytes) (report : Bytes) : Type 0 wher
 -- length.
 pub record HasSafePlant (conf : List ℕ) : Type 0 where
   pub plant : PlantLists
-  pub read : plant_of (All Free) conf ≡ Ok plant
+  pub read : plant_of_conf (All Free) conf ≡ Ok plant
   pub safe : IsAlwaysSafe plant
 
 -- Holds if a reply says `safe k=1` of a plant, with the certificate for that.
@@ -77,25 +77,25 @@ pub record ReportsNoHazard (run conf : List ℕ) (extra : Option (List ℕ)) (ma
   pub safe : made.status ≢ Unsafe
 
 -- Holds if the configuration has a network, and a reply has the table of its routes.
-pub record HasTableOf (columns : Columns) (conf : List ℕ) (made : Reply) : Type 0 where
+pub record HasTableOf (columns : ColumnRuleMode) (conf : List ℕ) (made : Reply) : Type 0 where
   pub net : NetDraft
   pub other : TableDraft
-  pub read : drafts_of conf ≡ Ok (net, other)
-  pub table : HasTable columns net made
+  pub read : net_and_table_drafts conf ≡ Ok (net, other)
+  pub table : HasValidTable columns net made
 
 -- Holds if a reply has the properties below, most of them with strict columns. They speak of a
 -- configuration whose source exposes its bytes (`conf` is `Some bytes`).
-pub record HasStrictGuarantees (asked : Option Command) (conf extra : Option (List ℕ)) (made : Reply) : Type 0 where
+pub record ReplyHasStrictGuarantees (asked : Option Command) (conf extra : Option (List ℕ)) (made : Reply) : Type 0 where
   -- `check` returns `Good` only if the configuration is safe for runs of any length.
   pub check : asked ≡ Some (Check Strict) → made.status ≡ Good → IfSome conf IsCleanAndSafe
   -- A configuration that `check` refuses only by C4, C5, C6 and C8 has a plant that is safe for
   -- runs of any length.
-  pub deviations : asked ≡ Some (Check Strict) → made.status ≡ Refused → HasOnlyLines deviation_beginnings made.report → IfSome conf HasSafePlant
+  pub deviations : asked ≡ Some (Check Strict) → made.status ≡ Refused → HasOnlyLines harmless_refusal_beginnings made.report → IfSome conf HasSafePlant
   -- `verify` says of one that breaks no rule that it is safe with k = 1, or that all conflicts are
   -- spent.
-  pub verify : (depth conflicts : ℕ) (cert : List ℕ) → asked ≡ Some (Verify Strict depth conflicts cert) → (bytes : List ℕ) (p : PlantLists) → conf ≡ Some bytes → IsCleanFor bytes p → SaysSafeAtOneOrSpent p depth conflicts made
+  pub verify : (depth conflicts : ℕ) (cert : List ℕ) → asked ≡ Some (Verify Strict depth conflicts cert) → (bytes : List ℕ) (p : PlantLists) → conf ≡ Some bytes → IsCleanConfOfPlant bytes p → SaysSafeAtOneOrSpent p depth conflicts made
   -- `table` returns `Good` only with a table that breaks no rule but C7. With strict columns it
   -- breaks none, and is safe for runs of any length.
-  pub table : (columns : Columns) → asked ≡ Some (Table columns) → made.status ≡ Good → IfSome conf (λ bytes. HasTableOf columns bytes made)
+  pub table : (columns : ColumnRuleMode) → asked ≡ Some (Table columns) → made.status ≡ Good → IfSome conf (λ bytes. HasTableOf columns bytes made)
   -- With strict columns no drive comes to a hazard.
   pub drive : (run bytes : List ℕ) → asked ≡ Some (Drive Strict run) → conf ≡ Some bytes → ReportsNoHazard run bytes extra made

@@ -1,6 +1,6 @@
 -- The answer to `table`, which lists the routes of a network.
 use Rattle.std.specs.Prelude.{ℕ, ◌≡◌, ◌++◌, Ok, List, [], ◌∷◌, codes}
-use Rattle.ilk_plant.specs.ColumnRules.{column_rule_broken, column_rules_broken}
+use Rattle.ilk_plant.specs.ColumnRules.{broken_for_column_rule, column_rules_broken}
 use Rattle.ilk_plant.specs.Draft.{plant_from_drafts}
 use Rattle.ilk_plant.specs.NetworkRules.{network_rules_broken}
 use Rattle.ilk_plant.specs.Plant.{PlantLists}
@@ -9,60 +9,60 @@ use Rattle.ilk_plant.specs.declared.broken.Rule.TheVariants.{C7}
 use Rattle.ilk_plant.specs.declared.draft.NetDraft.{NetDraft}
 use Rattle.ilk_plant.specs.declared.draft.TableDraft.{TableDraft}
 use Rattle.ilk_net_read.specs.declared.version.Version.TheVariants.{Second}
-use Rattle.ilk_table_read.specs.Table.{drafts_of}
+use Rattle.ilk_table_read.specs.Table.{net_and_table_drafts}
 use Rattle.ilk_conf_write.specs.ConfigurationText.{configuration_text}
 use Rattle.ilk_forever.specs.Forever.{IsAlwaysSafe}
 use Rattle.ilk_tablegen.specs.NetworkDraft.{network_draft}
 use Rattle.ilk_tablegen.specs.Rules.{no_routes}
-use Rattle.ilk_tablegen.specs.Table.{walks}
+use Rattle.ilk_tablegen.specs.Table.{generation_result}
 use Rattle.ilk_tablegen.specs.declared.walks.Walks.{Walks}
 use Rattle.ilk_tablegen.specs.declared.walks.Walks.TheVariants.{Routes, TooLong, TooMany}
-use Rattle.ilk_words.specs.declared.command.Columns.{Columns}
-use Rattle.ilk_words.specs.declared.command.Columns.TheVariants.{Strict}
-use Rattle.ilk_answers.specs.Refusal.{entry_text, refusal_line_at}
+use Rattle.ilk_words.specs.declared.command.ColumnRuleMode.{ColumnRuleMode}
+use Rattle.ilk_words.specs.declared.command.ColumnRuleMode.TheVariants.{Strict}
+use Rattle.ilk_answers.specs.Refusal.{indexed_entry_text, refusal_line_for_rule}
 use Rattle.ilk_answers.specs.Report.{reply}
 use Rattle.ilk_answers.specs.declared.reply.Reply.{Reply}
 use Rattle.ilk_answers.specs.declared.status.Status.TheVariants.{Good, Refused}
 
 -- The configuration of the plant's network with this table, in version 2.
-abbrev pub table_text : PlantLists → TableDraft → List ℕ
-table_text p table = configuration_text Second (network_draft p) table
+abbrev pub conf_text_with_table : PlantLists → TableDraft → List ℕ
+conf_text_with_table p table = configuration_text Second (network_draft p) table
 
 -- G1: from board m no way ends within the longest allowed path.
 abbrev pub overlong_way_line : ℕ → List ℕ
-overlong_way_line m = refusal_line_at (codes "G1") (entry_text (codes "boards") m)
+overlong_way_line m = refusal_line_for_rule (codes "G1") (indexed_entry_text (codes "boards") m)
 
 -- G2: there are more ways than a table may have routes.
 abbrev pub too_many_line : List ℕ
-too_many_line = refusal_line_at (codes "G2") (codes "document")
+too_many_line = refusal_line_for_rule (codes "G2") (codes "document")
 
 -- The reply with the routes of the network, or its refusal.
 abbrev pub routes_reply : PlantLists → Walks → Reply
-routes_reply p (Routes table) = reply Good (table_text p table ++ 10 ∷ [])
+routes_reply p (Routes table) = reply Good (conf_text_with_table p table ++ 10 ∷ [])
 routes_reply p (TooLong m) = reply Refused (overlong_way_line m)
 routes_reply p TooMany = reply Refused too_many_line
 
 -- Holds if the text of this table is read as the plant's network with it.
 abbrev pub IsReadBack : PlantLists → TableDraft → Type 0
-IsReadBack p table = drafts_of (table_text p table) ≡ Ok (network_draft p, table)
+IsReadBack p table = net_and_table_drafts (conf_text_with_table p table) ≡ Ok (network_draft p, table)
 
 -- Holds if a reply has the routes of the plant's network, or says why it has no such table.
 pub record AnswersTable (p : PlantLists) (made : Reply) : Type 0 where
-  pub reply : made ≡ routes_reply p (walks p)
-  pub read : (table : TableDraft) → walks p ≡ Routes table → IsReadBack p table
+  pub reply : made ≡ routes_reply p (generation_result p)
+  pub read : (table : TableDraft) → generation_result p ≡ Routes table → IsReadBack p table
 
 -- Holds if a reply is a text and a line feed, and the text is read as this network with the table
 -- of its routes. They break no rule of the network or the table, and of the columns only C7, at the
 -- same sections as the network. With strict columns they break none, and the plant is safe for runs
 -- of any length.
-pub record HasTable (columns : Columns) (net : NetDraft) (made : Reply) : Type 0 where
+pub record HasValidTable (columns : ColumnRuleMode) (net : NetDraft) (made : Reply) : Type 0 where
   pub table : TableDraft
-  pub routes : walks (plant_from_drafts net no_routes) ≡ Routes table
+  pub routes : generation_result (plant_from_drafts net no_routes) ≡ Routes table
   pub text : List ℕ
   pub report : made.report ≡ text ++ 10 ∷ []
-  pub read : drafts_of text ≡ Ok (net, table)
+  pub read : net_and_table_drafts text ≡ Ok (net, table)
   pub network_kept : network_rules_broken net ≡ []
   pub table_kept : table_rules_broken net table ≡ []
-  pub columns_kept : column_rules_broken (plant_from_drafts net table) ≡ column_rule_broken (plant_from_drafts net no_routes) C7
+  pub columns_kept : column_rules_broken (plant_from_drafts net table) ≡ broken_for_column_rule (plant_from_drafts net no_routes) C7
   pub strict : columns ≡ Strict → column_rules_broken (plant_from_drafts net table) ≡ []
   pub safe : columns ≡ Strict → IsAlwaysSafe (plant_from_drafts net table)

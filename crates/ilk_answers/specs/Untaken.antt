@@ -4,7 +4,7 @@ use Rattle.ilk_answers.specs.declared.content.Source.{Source}
 use Rattle.ilk_answers.specs.declared.content.Source.TheVariants.{Bytes, Certificate, Formula}
 
 -- The bytes of a source that are not read yet.
-abbrev pub bytes_left : Source → List ℕ
-bytes_left (Bytes bytes) = bytes
-bytes_left (Certificate text) = text
-bytes_left (Formula text) = text
+abbrev pub unread_bytes : Source → List ℕ
+unread_bytes (Bytes bytes) = bytes
+unread_bytes (Certificate text) = text
+unread_bytes (Formula text) = text

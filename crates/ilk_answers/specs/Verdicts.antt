@@ -6,12 +6,12 @@ use Rattle.ilk_replay.specs.Told.{run_from_start}
 use Rattle.ilk_unroll.specs.Query.{query_formula}
 use Rattle.ilk_unroll.specs.declared.queries.Wanted.{Wanted}
 use Rattle.ilk_unroll.specs.declared.queries.Wanted.TheVariants.{Hazard, Breach as BreachQuery, Step}
-use Rattle.ilk_behave.specs.Behaviour.{system_of}
+use Rattle.ilk_behave.specs.Behaviour.{system_of_plant}
 use Rattle.ilk_queries.specs.Asked.{HasQueriedRun}
-use Rattle.ilk_queries.specs.Goal.{goal_of}
+use Rattle.ilk_queries.specs.Goal.{goal_of_plant}
 use Rattle.ilk_unroll.specs.Satisfied.{IsSatisfiable}
 use Rattle.ilk_engine.specs.CertificateOf.{IsCertificateOf}
-use Rattle.ilk_engine.specs.Forever.{HoldsAtAnyLength}
+use Rattle.ilk_engine.specs.Forever.{SafeVerdictMeansAlwaysSafe}
 use Rattle.ilk_engine.specs.Right.{IsRightVerdict}
 use Rattle.ilk_engine.specs.declared.verdict.Verdict.{Verdict}
 use Rattle.ilk_engine.specs.declared.verdict.Verdict.TheVariants.{Safe, Unsafe, Breach, NotInductive, Spent}
@@ -51,7 +51,7 @@ verdict_status Spent = status.Spent
 pub record AnswersVerdict (p : PlantLists) (depth conflicts : ℕ) (made : Reply) : Type 0 where
   pub verdict : Verdict
   pub right : IsRightVerdict p depth verdict ⊎ (verdict ≡ Spent)
-  pub lasts : HoldsAtAnyLength p verdict
+  pub lasts : SafeVerdictMeansAlwaysSafe p verdict
   pub certificate : IsCertificateOf p depth conflicts verdict made.certificate
   pub status : made.status ≡ verdict_status verdict
   pub report : made.report ≡ verdict_line p conflicts verdict ++ verdict_run_text p verdict
@@ -66,6 +66,6 @@ wanted_query kind.Step n = Step n
 -- has the run that the query asks for.
 pub record AnswersFormula (p : PlantLists) (q : Wanted) (made : Reply) : Type 0 where
   pub status : made.status ≡ status.Good
-  pub report : made.report ≡ dimacs_text (query_formula (system_of p) (goal_of p) q)
-  pub satisfiable : IsSatisfiable (query_formula (system_of p) (goal_of p) q) ↔ HasQueriedRun p q
+  pub report : made.report ≡ dimacs_text (query_formula (system_of_plant p) (goal_of_plant p) q)
+  pub satisfiable : IsSatisfiable (query_formula (system_of_plant p) (goal_of_plant p) q) ↔ HasQueriedRun p q
   pub certificate : made.certificate ≡ []

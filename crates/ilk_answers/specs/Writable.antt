@@ -2,14 +2,14 @@
 use Rattle.std.specs.Prelude.{All}
 use Rattle.ilk_plant.specs.Plant.{PlantLists}
 use Rattle.ilk_plant.specs.Shape.{HasShape}
-use Rattle.ilk_replay.specs.Writable.{HasSubjectOf}
+use Rattle.ilk_replay.specs.Writable.{IsEventSubjectOfPlant}
 use Rattle.ilk_engine.specs.declared.verdict.Verdict.{Verdict}
 use Rattle.ilk_engine.specs.declared.verdict.Verdict.TheVariants.{Unsafe, Breach, NotInductive}
 
 -- Holds if the events of a verdict's run are about items of the plant, and its first state has the
 -- shape.
-abbrev pub HasWritableRun : PlantLists → Verdict → Type 0
-HasWritableRun p (Unsafe events at) = All (HasSubjectOf p) events
-HasWritableRun p (Breach events family) = All (HasSubjectOf p) events
-HasWritableRun p (NotInductive first events) = HasShape p first × All (HasSubjectOf p) events
-HasWritableRun p _ = Unit {0}
+abbrev pub HasRunOverPlant : PlantLists → Verdict → Type 0
+HasRunOverPlant p (Unsafe events at) = All (IsEventSubjectOfPlant p) events
+HasRunOverPlant p (Breach events family) = All (IsEventSubjectOfPlant p) events
+HasRunOverPlant p (NotInductive first events) = HasShape p first × All (IsEventSubjectOfPlant p) events
+HasRunOverPlant p _ = Unit {0}

@@ -1,19 +1,19 @@
 ghost use Rattle.std.specs.Prelude.{◌≡◌, ◌^◌, ◌<◌, ℕ, List, [], None, true, false, IfOk, IsTrue, is_some, length};
 ghost use Rattle.ilk_answers.specs.Answer.{Answers, AnswersWithoutConf};
-ghost use Rattle.ilk_answers.specs.Reader.{ReaderHasRead, is_audit};
-ghost use Rattle.ilk_answers.specs.Reply.{FitsPlan};
-ghost use Rattle.ilk_words.specs.Limits.{has_option_limits};
+ghost use Rattle.ilk_answers.specs.Reader.{ExtraReaderHasRead, is_audit};
+ghost use Rattle.ilk_answers.specs.Reply.{FitsIoPlan};
+ghost use Rattle.ilk_words.specs.Limits.{within_option_limits};
 ghost use Rattle.ilk_words.specs.Plan.{plan_of};
 
 use crate::audit::audit_reply;
 use crate::drive::drive_reply;
 use crate::export::export_reply;
-use crate::made::{demo_reply, make_reply};
+use crate::made::{demo_verdict_reply, stations_conf_reply};
 use crate::replay::replay_reply;
-use crate::rup::rup_reply;
+use crate::rup::query_rup_reply;
 use crate::table::table_reply;
 use crate::verify::verify_reply;
-use crate::{Reader, Reply, Status};
+use crate::{ExtraReader, Reply, Status};
 use ilk_plant::Plant;
 use ilk_words::Command;
 use std::alloc::{AllocError, Global};
@@ -26,11 +26,11 @@ fn text_reply(
     plant: &Plant,
     text: &[u8],
 ) -> Result<Reply, AllocError>
-    requires options { IsTrue (has_option_limits command.now) }
+    requires options { IsTrue (within_option_limits command.now) }
     requires over { is_some (plan_of command.now).stages ≡ true }
     requires text { is_audit command.now ≡ false }
     ensures reply { IfOk result (Answers command.now plant.now text.now) }
-    ensures planned { IfOk result (FitsPlan (plan_of command.now)) }
+    ensures planned { IfOk result (FitsIoPlan (plan_of command.now)) }
 {
     match command {
         Command::Check { .. } => {
@@ -45,7 +45,7 @@ fn text_reply(
         Command::Replay { .. } => replay_reply(alloc, plant, text),
         Command::Table { .. } => table_reply(alloc, plant),
         Command::Export { query, number, .. } => export_reply(alloc, plant, *query, *number),
-        Command::Rup { query, number, .. } => rup_reply(alloc, plant, *query, *number, text),
+        Command::Rup { query, number, .. } => query_rup_reply(alloc, plant, *query, *number, text),
         Command::Drive { .. } => drive_reply(alloc, plant, text),
         Command::Audit { .. } | Command::Make { .. } | Command::Demo { .. } => unreachable!(),
     }
@@ -53,12 +53,16 @@ fn text_reply(
 
 /// Returns the reply to a plant of a command without extra input.
 #[tactic(auto, using(crate::proofs::Readers::reads_no_certificate))]
-pub fn answer_plant(alloc: Global, command: &Command, plant: &Plant) -> Result<Reply, AllocError>
-    requires options { IsTrue (has_option_limits command.now) }
+pub fn answer_without_extra(
+    alloc: Global,
+    command: &Command,
+    plant: &Plant,
+) -> Result<Reply, AllocError>
+    requires options { IsTrue (within_option_limits command.now) }
     requires over { is_some (plan_of command.now).stages ≡ true }
     requires no_more { (plan_of command.now).extra ≡ None }
     ensures reply { IfOk result (Answers command.now plant.now []) }
-    ensures planned { IfOk result (FitsPlan (plan_of command.now)) }
+    ensures planned { IfOk result (FitsIoPlan (plan_of command.now)) }
 {
     text_reply(alloc, command, plant, &[])
 }
@@ -68,37 +72,37 @@ pub fn answer(
     alloc: Global,
     command: &Command,
     plant: &Plant,
-    reader: Reader<'_>,
+    reader: ExtraReader<'_>,
 ) -> Result<Reply, AllocError>
-    requires options { IsTrue (has_option_limits command.now) }
+    requires options { IsTrue (within_option_limits command.now) }
     requires over { is_some (plan_of command.now).stages ≡ true }
-    requires read { (bytes : List ℕ) × ReaderHasRead command.now plant.now reader bytes }
+    requires read { (bytes : List ℕ) × ExtraReaderHasRead command.now plant.now reader bytes }
     ensures reply { IfOk result
-        (λ made. (bytes : List ℕ) → ReaderHasRead command.now plant.now reader.entry bytes →
+        (λ made. (bytes : List ℕ) → ExtraReaderHasRead command.now plant.now reader.entry bytes →
         length bytes < 2 ^ 40 → Answers command.now plant.now bytes made) }
-    ensures planned { IfOk result (FitsPlan (plan_of command.now)) }
+    ensures planned { IfOk result (FitsIoPlan (plan_of command.now)) }
 {
     match reader {
-        Reader::Text(text) => text_reply(alloc, command, plant, text.as_slice()),
-        Reader::Certificate(audit) => audit_reply(alloc, plant, audit),
+        ExtraReader::Text(text) => text_reply(alloc, command, plant, text.as_slice()),
+        ExtraReader::Certificate(audit) => audit_reply(alloc, plant, audit),
     }
 }
 
 /// Returns the reply of a command that reads no configuration.
-pub fn answer_alone(alloc: Global, command: &Command) -> Result<Reply, AllocError>
-    requires options { IsTrue (has_option_limits command.now) }
+pub fn answer_without_conf(alloc: Global, command: &Command) -> Result<Reply, AllocError>
+    requires options { IsTrue (within_option_limits command.now) }
     requires alone { (plan_of command.now).stages ≡ None }
     ensures reply { IfOk result (AnswersWithoutConf command.now) }
-    ensures planned { IfOk result (FitsPlan (plan_of command.now)) }
+    ensures planned { IfOk result (FitsIoPlan (plan_of command.now)) }
 {
     match command {
-        Command::Make { stations } => make_reply(alloc, *stations),
+        Command::Make { stations } => stations_conf_reply(alloc, *stations),
         Command::Demo {
             stations,
             depth,
             conflicts,
             ..
-        } => demo_reply(alloc, *stations, *depth, *conflicts),
+        } => demo_verdict_reply(alloc, *stations, *depth, *conflicts),
         _ => unreachable!(),
     }
 }

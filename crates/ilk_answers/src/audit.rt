@@ -1,9 +1,9 @@
 ghost use Rattle.std.specs.Prelude.{◌≡◌, ◌^◌, ◌<◌, ℕ, List, [], IfOk, IsTrue, length};
 ghost use Rattle.ilk_plant_audit.specs.Audited.{HasAuditedBytes};
 ghost use Rattle.ilk_answers.specs.Audits.{AnswersAudit};
-ghost use Rattle.ilk_answers.specs.Status.{is_reply};
+ghost use Rattle.ilk_answers.specs.Status.{is_reply_status};
 
-use crate::report::{accepted_line, rejected_line};
+use crate::report::{accepted_line, rejection_at_line};
 use crate::{Reply, Status};
 use ilk_cert_audit::line_numbers_fit;
 use ilk_forever::certificates_imply_safety;
@@ -18,7 +18,7 @@ pub fn audit_reply(alloc: Global, plant: &Plant, audit: CertAudit<'_>) -> Result
         HasAuditedBytes audit.entry bytes → length bytes < 2 ^ 40
         → AnswersAudit plant.now bytes made) }
     ensures planned { IfOk result
-        (λ made. IsTrue (is_reply made.status) × (made.certificate ≡ [])) }
+        (λ made. IsTrue (is_reply_status made.status) × (made.certificate ≡ [])) }
 {
     certificates_imply_safety(plant);
     line_numbers_fit();
@@ -28,7 +28,7 @@ pub fn audit_reply(alloc: Global, plant: &Plant, audit: CertAudit<'_>) -> Result
             Ok(Reply::with_report(alloc, Status::Good, text))
         }
         Ended::Rejected { line } => {
-            let text = rejected_line(alloc, line)?;
+            let text = rejection_at_line(alloc, line)?;
             Ok(Reply::with_report(alloc, Status::Rejected, text))
         }
     }

@@ -1,28 +1,32 @@
 ghost use Rattle.std.specs.Prelude.{◌≡◌, [], Err, IfErr, IfOk, Ok};
 ghost use Rattle.ilk_plant.specs.Draft.{plant_from_drafts};
-ghost use Rattle.ilk_plant.specs.Limits.{HasLimits, NetworkHasLimits};
+ghost use Rattle.ilk_plant.specs.Limits.{WithinLimits, NetworkWithinLimits};
 ghost use Rattle.ilk_plant.specs.NetNames.{HasNamesOf};
 ghost use Rattle.ilk_plant.specs.NetworkRules.{network_rules_broken};
 ghost use Rattle.ilk_plant.specs.TableRules.{table_rules_broken};
-ghost use Rattle.ilk_answers.specs.Answer.{unless_refused, refusals_of};
-ghost use Rattle.ilk_answers.specs.Stages.{checked_table, borders_broken, columns_broken, first_broken, rules_broken};
+ghost use Rattle.ilk_answers.specs.Answer.{unless_refused, refusals_from_broken_rules};
+ghost use Rattle.ilk_answers.specs.Stages.{table_to_check, borders_broken, columns_broken, first_nonempty_broken, rules_broken};
 ghost use Rattle.ilk_tablegen.specs.Rules.{no_routes};
 
 use crate::Refusals;
-use ilk_net_check::check_named_network;
-use ilk_plant::{Broken, NetDraft, NetNames, NumberedDrafts, Plant, Row, TableDraft};
+use ilk_net_check::check_network_with_names;
+use ilk_plant::{Broken, NetDraft, NetNames, NumberedNetAndTable, Plant, Row, TableDraft};
 use ilk_table_check::{check_borders, check_columns, check_numbered_table};
 use ilk_tablegen::bare_network_is_sound;
-use ilk_words::{Columns, Stages};
+use ilk_words::{CheckedRuleStages, ColumnRuleMode};
 use std::alloc::{AllocError, Global};
 
 // Returns the broken column rules; none if the columns are free.
-fn broken_columns(alloc: Global, columns: Columns, plant: &Plant) -> Result<Row<Broken>, AllocError>
+fn broken_columns(
+    alloc: Global,
+    columns: ColumnRuleMode,
+    plant: &Plant,
+) -> Result<Row<Broken>, AllocError>
     ensures { IfOk result (λ found. found ≡ columns_broken columns plant.now) }
 {
     match columns {
-        Columns::Strict => check_columns(alloc, plant),
-        Columns::Free => Ok(Row::new(alloc)),
+        ColumnRuleMode::Strict => check_columns(alloc, plant),
+        ColumnRuleMode::Free => Ok(Row::new(alloc)),
     }
 }
 
@@ -32,7 +36,7 @@ fn unless_broken<T: Drop>(
     asked: T,
 ) -> Result<Result<T, Refusals>, AllocError>
     ensures answered { IfOk found (λ broken. result
-        ≡ Ok (unless_refused (refusals_of broken) asked)) }
+        ≡ Ok (unless_refused (refusals_from_broken_rules broken) asked)) }
     ensures wanting { IfErr found (λ error. result ≡ Err error) }
 {
     match Refusals::from_broken_rules(found?) {
@@ -44,11 +48,12 @@ fn unless_broken<T: Drop>(
 // Checks the column rules if the columns are strict.
 fn check_plant(
     alloc: Global,
-    columns: Columns,
+    columns: ColumnRuleMode,
     plant: Plant,
 ) -> Result<Result<Plant, Refusals>, AllocError>
     ensures { IfOk result
-        (λ found. found ≡ unless_refused (refusals_of (columns_broken columns plant)) plant) }
+        (λ found. found ≡ unless_refused
+        (refusals_from_broken_rules (columns_broken columns plant)) plant) }
 {
     let found = broken_columns(alloc, columns, &plant);
     unless_broken(found, plant)
@@ -58,21 +63,21 @@ fn check_plant(
 // names that the network was checked with.
 fn check_routes(
     alloc: Global,
-    columns: Columns,
+    columns: ColumnRuleMode,
     names: NetNames,
     net: &NetDraft,
     table: &TableDraft,
 ) -> Result<Result<Plant, Refusals>, AllocError>
-    requires limits { HasLimits net.now table.now }
+    requires limits { WithinLimits net.now table.now }
     requires named { HasNamesOf names net.now }
     requires network { network_rules_broken net.now ≡ [] }
     ensures { IfOk result (λ found. found ≡ unless_refused
-        (refusals_of
-        (first_broken (table_rules_broken net.now table.now)
+        (refusals_from_broken_rules
+        (first_nonempty_broken (table_rules_broken net.now table.now)
         (columns_broken columns (plant_from_drafts net.now table.now))))
         (plant_from_drafts net.now table.now)) }
 {
-    let drafts = NumberedDrafts::from_net_names(alloc, names, net, table)?;
+    let drafts = NumberedNetAndTable::from_drafts_with_names(alloc, names, net, table)?;
     let found = check_numbered_table(alloc, &drafts);
     match unless_broken(found, drafts)? {
         Ok(drafts) => check_plant(alloc, columns, Plant::from_numbered(alloc, drafts)?),
@@ -84,18 +89,19 @@ fn check_routes(
 // of the columns.
 fn check_all(
     alloc: Global,
-    columns: Columns,
+    columns: ColumnRuleMode,
     net: &NetDraft,
     table: &TableDraft,
 ) -> Result<Result<Plant, Refusals>, AllocError>
-    requires { HasLimits net.now table.now }
+    requires { WithinLimits net.now table.now }
     ensures { IfOk result
         (λ found. found
-        ≡ unless_refused (refusals_of (rules_broken (Stages.All columns) net.now table.now))
+        ≡ unless_refused (refusals_from_broken_rules
+        (rules_broken (CheckedRuleStages.All columns) net.now table.now))
         (plant_from_drafts net.now table.now)) }
 {
     let names = NetNames::from_network(alloc, net)?;
-    let found = check_named_network(alloc, net, &names);
+    let found = check_network_with_names(alloc, net, &names);
     match unless_broken(found, names)? {
         Ok(names) => check_routes(alloc, columns, names, net, table),
         Err(refusals) => Ok(Err(refusals)),
@@ -103,23 +109,28 @@ fn check_all(
 }
 
 // Returns the borders without their board; none if the columns are free.
-fn broken_borders(alloc: Global, columns: Columns, plant: &Plant) -> Result<Row<Broken>, AllocError>
+fn broken_borders(
+    alloc: Global,
+    columns: ColumnRuleMode,
+    plant: &Plant,
+) -> Result<Row<Broken>, AllocError>
     ensures { IfOk result (λ found. found ≡ borders_broken columns plant.now) }
 {
     match columns {
-        Columns::Strict => check_borders(alloc, plant),
-        Columns::Free => Ok(Row::new(alloc)),
+        ColumnRuleMode::Strict => check_borders(alloc, plant),
+        ColumnRuleMode::Free => Ok(Row::new(alloc)),
     }
 }
 
 // Checks the borders of a plant if the columns are strict.
 fn check_plant_borders(
     alloc: Global,
-    columns: Columns,
+    columns: ColumnRuleMode,
     plant: Plant,
 ) -> Result<Result<Plant, Refusals>, AllocError>
     ensures { IfOk result
-        (λ found. found ≡ unless_refused (refusals_of (borders_broken columns plant)) plant) }
+        (λ found. found ≡ unless_refused
+        (refusals_from_broken_rules (borders_broken columns plant)) plant) }
 {
     let found = broken_borders(alloc, columns, &plant);
     unless_broken(found, plant)
@@ -128,16 +139,16 @@ fn check_plant_borders(
 // Checks the borders of a network, over its plant without routes, if the columns are strict.
 fn check_bare(
     alloc: Global,
-    columns: Columns,
+    columns: ColumnRuleMode,
     names: NetNames,
     net: &NetDraft,
 ) -> Result<Result<Plant, Refusals>, AllocError>
-    requires limits { NetworkHasLimits net.now }
+    requires limits { NetworkWithinLimits net.now }
     requires named { HasNamesOf names net.now }
     requires network { network_rules_broken net.now ≡ [] }
     ensures { IfOk result
         (λ found. found
-        ≡ unless_refused (refusals_of (borders_broken columns
+        ≡ unless_refused (refusals_from_broken_rules (borders_broken columns
         (plant_from_drafts net.now no_routes)))
         (plant_from_drafts net.now no_routes)) }
 {
@@ -145,25 +156,25 @@ fn check_bare(
     let table = TableDraft {
         routes: Row::new(alloc),
     };
-    let drafts = NumberedDrafts::from_net_names(alloc, names, net, &table)?;
+    let drafts = NumberedNetAndTable::from_drafts_with_names(alloc, names, net, &table)?;
     check_plant_borders(alloc, columns, Plant::from_numbered(alloc, drafts)?)
 }
 
 // Checks the rules of the network only, then its borders if the columns are strict.
 fn check_network(
     alloc: Global,
-    columns: Columns,
+    columns: ColumnRuleMode,
     net: &NetDraft,
 ) -> Result<Result<Plant, Refusals>, AllocError>
-    requires { NetworkHasLimits net.now }
+    requires { NetworkWithinLimits net.now }
     ensures { IfOk result (λ found. found ≡ unless_refused
-        (refusals_of
-        (first_broken (network_rules_broken net.now)
+        (refusals_from_broken_rules
+        (first_nonempty_broken (network_rules_broken net.now)
         (borders_broken columns (plant_from_drafts net.now no_routes))))
         (plant_from_drafts net.now no_routes)) }
 {
     let names = NetNames::from_network(alloc, net)?;
-    let found = check_named_network(alloc, net, &names);
+    let found = check_network_with_names(alloc, net, &names);
     match unless_broken(found, names)? {
         Ok(names) => check_bare(alloc, columns, names, net),
         Err(refusals) => Ok(Err(refusals)),
@@ -175,18 +186,18 @@ fn check_network(
 /// only the network is checked.
 pub fn check_drafts(
     alloc: Global,
-    stages: Stages,
+    stages: CheckedRuleStages,
     net: &NetDraft,
     table: &TableDraft,
 ) -> Result<Result<Plant, Refusals>, AllocError>
-    requires { HasLimits net.now table.now }
+    requires { WithinLimits net.now table.now }
     ensures { IfOk result
         (λ found. found
-        ≡ unless_refused (refusals_of (rules_broken stages net.now table.now))
-        (plant_from_drafts net.now (checked_table stages table.now))) }
+        ≡ unless_refused (refusals_from_broken_rules (rules_broken stages net.now table.now))
+        (plant_from_drafts net.now (table_to_check stages table.now))) }
 {
     match stages {
-        Stages::All(columns) => check_all(alloc, columns, net, table),
-        Stages::Network(columns) => check_network(alloc, columns, net),
+        CheckedRuleStages::All(columns) => check_all(alloc, columns, net, table),
+        CheckedRuleStages::Network(columns) => check_network(alloc, columns, net),
     }
 }

@@ -30,9 +30,9 @@ impl Model for Content {
 
     ghost Value = { List ℕ };
 
-    ghost use Rattle.ilk_answers.specs.Untaken.{bytes_left};
+    ghost use Rattle.ilk_answers.specs.Untaken.{unread_bytes};
 
-    ghost view = { λ content. bytes_left content.source };
+    ghost view = { λ content. unread_bytes content.source };
 }
 
 impl Content {

@@ -1,5 +1,5 @@
 ghost use Rattle.std.specs.Prelude.{◌≡◌, IfOk, IsTrue};
-ghost use Rattle.ilk_unroll.specs.Goal.{wanted_valid};
+ghost use Rattle.ilk_unroll.specs.Goal.{step_count_is_allowed};
 ghost use Rattle.ilk_answers.specs.Verdicts.{AnswersFormula, wanted_query};
 
 use crate::{Content, Reply, Status};
@@ -29,7 +29,7 @@ pub fn export_reply(
     kind: QueryKind,
     number: u32,
 ) -> Result<Reply, AllocError>
-    requires { IsTrue (wanted_valid (wanted_query kind number)) }
+    requires { IsTrue (step_count_is_allowed (wanted_query kind number)) }
     ensures { IfOk result (AnswersFormula plant.now (wanted_query kind number)) }
 {
     let cnf = formula(alloc, plant, wanted_query(kind, number))?;

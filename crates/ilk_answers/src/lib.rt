@@ -2,17 +2,17 @@
 //! reads besides. A call here fails only if memory runs out; `ilk_top` reads, writes and counts
 //! faults.
 //!
-//! `plant_of` turns a configuration into a plant, or into all its refusals (`checks`, `refusals`).
-//! `refuse` is the reply to refusals.
+//! `plant_of_conf` turns a configuration into a plant, or into all its refusals (`checks`,
+//! `refusals`). `refuse` is the reply to refusals.
 //!
-//! `answer_plant` is the reply of a command without extra input: the verdict (`verify`), the table
-//! of routes (`table`) or a formula (`export`). `answer` is the reply to a certificate (`audit`), a
-//! run (`replay`), another solver's refutation (`rup`) or a scenario (`drive`). `answer_alone` is
-//! the reply of a command that reads no configuration (`made`).
+//! `answer_without_extra` is the reply of a command without extra input: the verdict (`verify`),
+//! the table of routes (`table`) or a formula (`export`). `answer` is the reply to a certificate
+//! (`audit`), a run (`replay`), another solver's refutation (`rup`) or a scenario (`drive`).
+//! `answer_without_conf` is the reply of a command that reads no configuration (`made`).
 //!
 //! The extra input is fed in pieces (`reader`), and a reply is taken in pieces (`content`).
 //! `specs/Answer.antt` defines which replies are answers; `specs/Verdicts.antt`, `Audits`,
-//! `Refutations`, `IsDriveFrom`, `Tables` and `Made` define it for single commands.
+//! `Refutations`, `IsDriveFrom`, `RunLits` and `Made` define it for single commands.
 #![tactic(auto)]
 
 mod answering;
@@ -36,10 +36,10 @@ mod status;
 mod table;
 mod verify;
 
-pub use answering::{answer, answer_alone, answer_plant};
-pub use configuration::plant_of;
+pub use answering::{answer, answer_without_conf, answer_without_extra};
+pub use configuration::plant_of_conf;
 pub use content::Content;
-pub use reader::Reader;
+pub use reader::ExtraReader;
 pub use refusals::{Refusal, Refusals};
 pub use refused_reply::refuse;
 pub use reply::Reply;

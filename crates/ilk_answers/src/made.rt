@@ -1,30 +1,30 @@
 ghost use Rattle.std.specs.Prelude.{◌≡◌, ◌<◌, ◌≤◌, [], IfOk, IsTrue, string_bytes};
 ghost use Rattle.ilk_gen.specs.declared.making.TheConstants.{MAX_STATIONS};
-ghost use Rattle.ilk_answers.specs.Made.{AnswersDemo, demo_line, make_reply, stations_plant};
-ghost use Rattle.ilk_answers.specs.Status.{is_reply};
+ghost use Rattle.ilk_answers.specs.Made.{AnswersDemo, demo_verdict_line, stations_conf_reply, stations_plant};
+ghost use Rattle.ilk_answers.specs.Status.{is_reply_status};
 
 use crate::report::verdict_line;
 use crate::verify::verdict_status;
 use crate::{Content, Reply, Status};
-use ilk_engine::{Found, Verdict, certificate_in_pieces, decide};
+use ilk_engine::{Found, Verdict, decide, lazy_certificate_text};
 use ilk_gen::{stations, stations_break_no_rule, stations_plant};
 use ilk_plant::Plant;
 use std::alloc::{AllocError, Global};
 
 /// Returns the reply with the configuration of `n` generated stations, from 1 to 16.
-pub fn make_reply(alloc: Global, n: u32) -> Result<Reply, AllocError>
+pub fn stations_conf_reply(alloc: Global, n: u32) -> Result<Reply, AllocError>
     requires some { 1 ≤ n }
     requires few { n ≤ MAX_STATIONS }
-    ensures reply { IfOk result (λ made. made ≡ make_reply n) }
+    ensures reply { IfOk result (λ made. made ≡ stations_conf_reply n) }
     ensures planned { IfOk result
-        (λ made. IsTrue (is_reply made.status) × (made.certificate ≡ [])) }
+        (λ made. IsTrue (is_reply_status made.status) × (made.certificate ≡ [])) }
 {
     let mut text = stations(alloc, n)?;
     text.push(b'\n')?;
     Ok(Reply::with_report_bytes(alloc, Status::Good, text))
 }
 
-fn demo_line(
+fn demo_verdict_line(
     alloc: Global,
     plant: &Plant,
     n: u32,
@@ -32,7 +32,7 @@ fn demo_line(
     verdict: &Verdict,
 ) -> Result<String, AllocError>
     requires { plant.now ≡ stations_plant n }
-    ensures { IfOk result (λ line. string_bytes line ≡ demo_line n conflicts verdict.now) }
+    ensures { IfOk result (λ line. string_bytes line ≡ demo_verdict_line n conflicts verdict.now) }
 {
     let sections = plant.sections();
     let routes = plant.routes();
@@ -55,12 +55,12 @@ fn verdict_reply(
     requires plant { plant.now ≡ stations_plant n }
     ensures { IfOk result (AnswersDemo n depth conflicts) }
 {
-    plant.is_sound();
+    plant.prove_is_plant();
     stations_break_no_rule(n);
     let found = decide(alloc, plant, depth, conflicts)?;
     let Found { verdict, asked } = found;
-    let text = certificate_in_pieces(alloc, &verdict, asked)?;
-    let line = demo_line(alloc, plant, n, conflicts, &verdict)?;
+    let text = lazy_certificate_text(alloc, &verdict, asked)?;
+    let line = demo_verdict_line(alloc, plant, n, conflicts, &verdict)?;
     Ok(Reply {
         status: verdict_status(&verdict),
         report: Content::from_bytes(line.into_bytes()),
@@ -71,7 +71,12 @@ fn verdict_reply(
 /// Returns the reply with the verdict on the plant of `n` generated stations, from 1 to 16. The
 /// runs have at most `depth` events, from 1 to 16, and the searches take at most `conflicts`
 /// conflicts.
-pub fn demo_reply(alloc: Global, n: u32, depth: u32, conflicts: u64) -> Result<Reply, AllocError>
+pub fn demo_verdict_reply(
+    alloc: Global,
+    n: u32,
+    depth: u32,
+    conflicts: u64,
+) -> Result<Reply, AllocError>
     requires some { 1 ≤ n }
     requires few { n ≤ MAX_STATIONS }
     requires some_depth { 0 < depth }

@@ -1,5 +1,5 @@
 ghost use Rattle.std.specs.Prelude.{[], IfOk, OnOk};
-ghost use Rattle.ilk_answers.specs.Reader.{ReaderHasRead, WasFed};
+ghost use Rattle.ilk_answers.specs.Reader.{ExtraReaderHasRead, WasFed};
 
 use ilk_plant::Plant;
 use ilk_plant_audit::CertAudit;
@@ -8,21 +8,25 @@ use std::alloc::{AllocError, Global};
 
 /// The part of the extra input that a command keeps; the input comes in pieces.
 #[derive(Drop)]
-pub enum Reader<'a> {
+pub enum ExtraReader<'a> {
     /// The whole text.
     Text(Vec<u8>),
     /// The state of an audit of a certificate.
     Certificate(CertAudit<'a>),
 }
 
-impl<'a> Reader<'a> {
+impl<'a> ExtraReader<'a> {
     /// Creates the reader of a command over a plant, which was fed nothing yet.
-    pub fn new(alloc: Global, command: &Command, plant: &'a Plant) -> Result<Reader<'a>, AllocError>
-        ensures { IfOk result (λ reader. ReaderHasRead command.now plant.now reader []) }
+    pub fn new(
+        alloc: Global,
+        command: &Command,
+        plant: &'a Plant,
+    ) -> Result<ExtraReader<'a>, AllocError>
+        ensures { IfOk result (λ reader. ExtraReaderHasRead command.now plant.now reader []) }
     {
         match command {
-            Command::Audit { .. } => Ok(Reader::Certificate(CertAudit::new(alloc, plant)?)),
-            _ => Ok(Reader::Text(Vec::new(alloc))),
+            Command::Audit { .. } => Ok(ExtraReader::Certificate(CertAudit::new(alloc, plant)?)),
+            _ => Ok(ExtraReader::Text(Vec::new(alloc))),
         }
     }
 
@@ -34,8 +38,8 @@ impl<'a> Reader<'a> {
         ensures { OnOk result (WasFed self.old self.new piece.now) }
     {
         match self {
-            Reader::Text(text) => text.extend_from_slice(piece),
-            Reader::Certificate(audit) => {
+            ExtraReader::Text(text) => text.extend_from_slice(piece),
+            ExtraReader::Certificate(audit) => {
                 audit.feed(piece)?;
                 Ok(())
             }

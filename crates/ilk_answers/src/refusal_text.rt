@@ -1,15 +1,15 @@
 //! The line that a refusal prints, and its parts.
 
 ghost use Rattle.std.specs.Prelude.{◌≡◌, ◌++◌, IfOk, codes, string_bytes};
-ghost use Rattle.ilk_answers.specs.Refusal.{form_name, place_text, broken_places, entry_text, refusal_line, refusal_line_at};
+ghost use Rattle.ilk_answers.specs.Refusal.{form_rule_name, place_text, broken_places_text, indexed_entry_text, refusal_line, refusal_line_for_rule};
 
 use crate::Refusal;
 use ilk_net_read::{Form, Place};
-use ilk_plant::{Broken, Worded};
+use ilk_plant::{Broken, HasWord};
 use std::alloc::{AllocError, Global};
 
-fn form_name(form: Form) -> &'static str
-    ensures { result.now ≡ form_name form }
+fn form_rule_name(form: Form) -> &'static str
+    ensures { result.now ≡ form_rule_name form }
 {
     match form {
         Form::F1 => "F1",
@@ -27,28 +27,28 @@ fn place_text(alloc: Global, place: Place) -> Result<String, AllocError>
     match place {
         Place::Document => String::from_str(alloc, "document"),
         Place::Extra => String::from_str(alloc, "extra"),
-        Place::Section(i) => entry_text(alloc, "sections", i),
-        Place::Route(i) => entry_text(alloc, "routes", i),
+        Place::Section(i) => indexed_entry_text(alloc, "sections", i),
+        Place::Route(i) => indexed_entry_text(alloc, "routes", i),
     }
 }
 
 /// Returns the text of entry `i` of these places, such as `routes[3]`.
-pub fn entry_text(alloc: Global, places: &str, i: u32) -> Result<String, AllocError>
-    ensures { IfOk result (λ text. string_bytes text ≡ entry_text places.now i) }
+pub fn indexed_entry_text(alloc: Global, places: &str, i: u32) -> Result<String, AllocError>
+    ensures { IfOk result (λ text. string_bytes text ≡ indexed_entry_text places.now i) }
 {
     format!(in alloc; "{places}[{i}]")
 }
 
 // Returns the text of the one or two places of a broken rule.
 fn broken_text(alloc: Global, broken: Broken) -> Result<String, AllocError>
-    ensures { IfOk result (λ text. string_bytes text ≡ broken_places broken) }
+    ensures { IfOk result (λ text. string_bytes text ≡ broken_places_text broken) }
 {
     let places = broken.rule.places().word();
-    let first = entry_text(alloc, places, broken.first)?;
+    let first = indexed_entry_text(alloc, places, broken.first)?;
     match broken.second {
         None => Ok(first),
         Some(second) => {
-            let second = entry_text(alloc, places, second)?;
+            let second = indexed_entry_text(alloc, places, second)?;
             joined(alloc, first.as_str(), second.as_str())
         }
     }
@@ -61,8 +61,8 @@ fn joined(alloc: Global, first: &str, second: &str) -> Result<String, AllocError
 }
 
 /// Returns the line of a refusal by `rule`, broken at `place`.
-pub fn refusal_line_at(alloc: Global, rule: &str, place: &str) -> Result<String, AllocError>
-    ensures { IfOk result (λ line. string_bytes line ≡ refusal_line_at rule.now place.now) }
+pub fn refusal_line_for_rule(alloc: Global, rule: &str, place: &str) -> Result<String, AllocError>
+    ensures { IfOk result (λ line. string_bytes line ≡ refusal_line_for_rule rule.now place.now) }
 {
     format!(in alloc; "refused {rule} {place}\n")
 }
@@ -72,8 +72,8 @@ pub fn refusal_line(alloc: Global, refusal: Refusal) -> Result<String, AllocErro
     ensures { IfOk result (λ line. string_bytes line ≡ refusal_line refusal) }
 {
     let (rule, place) = match refusal {
-        Refusal::Form(fault) => (form_name(fault.rule), place_text(alloc, fault.place)?),
+        Refusal::Form(fault) => (form_rule_name(fault.rule), place_text(alloc, fault.place)?),
         Refusal::Rule(broken) => (broken.rule.word(), broken_text(alloc, broken)?),
     };
-    refusal_line_at(alloc, rule, place.as_str())
+    refusal_line_for_rule(alloc, rule, place.as_str())
 }

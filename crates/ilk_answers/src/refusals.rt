@@ -1,8 +1,8 @@
 //! The reasons why a configuration is refused, as values.
 
 ghost use Rattle.std.specs.Prelude.{◌≡◌};
-ghost use Rattle.ilk_answers.specs.Answer.{form_refusals, refusals_of};
-ghost use Rattle.ilk_net_read.specs.Fault.{form_fault};
+ghost use Rattle.ilk_answers.specs.Answer.{refusals_from_form_fault, refusals_from_broken_rules};
+ghost use Rattle.ilk_net_read.specs.Fault.{fault_for_rule};
 
 use ilk_net_read::{Form, FormFault, Place};
 use ilk_plant::{Broken, Row};
@@ -29,7 +29,7 @@ pub struct Refusals {
 impl Refusals {
     /// Returns a fault of the form as the only refusal.
     pub fn from_form_fault(alloc: Global, fault: FormFault) -> Refusals
-        ensures { result ≡ form_refusals fault }
+        ensures { result ≡ refusals_from_form_fault fault }
     {
         Refusals {
             first: Refusal::Form(fault),
@@ -39,7 +39,7 @@ impl Refusals {
 
     /// Returns the refusal of a configuration with too many bytes.
     pub fn too_long(alloc: Global) -> Refusals
-        ensures { result ≡ form_refusals (form_fault Form.F1 Place.Document) }
+        ensures { result ≡ refusals_from_form_fault (fault_for_rule Form.F1 Place.Document) }
     {
         Refusals::from_form_fault(
             alloc,
@@ -52,7 +52,7 @@ impl Refusals {
 
     /// Returns these broken rules as refusals, or `None` if there are none.
     pub fn from_broken_rules(found: Row<Broken>) -> Option<Refusals>
-        ensures { result ≡ refusals_of found }
+        ensures { result ≡ refusals_from_broken_rules found }
     {
         let mut rest = found;
         if rest.as_slice().is_empty() {

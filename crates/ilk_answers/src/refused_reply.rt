@@ -3,7 +3,7 @@
 ghost use Rattle.std.specs.Prelude.{◌≡◌, ◌++◌, IfOk, string_bytes};
 ghost use Rattle.ilk_answers.specs.Answer.{broken_lines, refused_by};
 ghost use Rattle.ilk_answers.specs.Refusal.{refusal_line};
-ghost use Rattle.ilk_answers.specs.Reply.{FitsPlan};
+ghost use Rattle.ilk_answers.specs.Reply.{FitsIoPlan};
 ghost use Rattle.ilk_words.specs.Plan.{plan_of};
 
 use crate::refusal_text::refusal_line;
@@ -28,7 +28,7 @@ fn refusal_lines(alloc: Global, refusals: &Refusals) -> Result<String, AllocErro
 /// other command the first.
 pub fn refuse(alloc: Global, command: &Command, refusals: &Refusals) -> Result<Reply, AllocError>
     ensures reply { IfOk result (λ made. made ≡ refused_by command.now refusals.now) }
-    ensures planned { IfOk result (FitsPlan (plan_of command.now)) }
+    ensures planned { IfOk result (FitsIoPlan (plan_of command.now)) }
 {
     match command {
         Command::Check { .. } => {

@@ -2,7 +2,7 @@ ghost use Rattle.std.specs.Prelude.{◌≡◌, IfOk, string_bytes};
 ghost use Rattle.ilk_answers.specs.Answer.{refused};
 ghost use Rattle.ilk_answers.specs.Report.{reply};
 ghost use Rattle.ilk_answers.specs.declared.refusals.Refusal.TheVariants as refusal;
-ghost use Rattle.ilk_net_read.specs.Fault.{form_fault};
+ghost use Rattle.ilk_net_read.specs.Fault.{fault_for_rule};
 
 use crate::refusal_text::refusal_line;
 use crate::{Content, Refusal, Status};
@@ -49,7 +49,7 @@ impl Reply {
     /// Returns the reply that refuses an extra input with too many bytes.
     pub fn too_long(alloc: Global) -> Result<Reply, AllocError>
         ensures { IfOk result (λ made. made
-            ≡ refused (refusal.Form (form_fault Form.F1 Place.Extra))) }
+            ≡ refused (refusal.Form (fault_for_rule Form.F1 Place.Extra))) }
     {
         Reply::refused(
             alloc,

@@ -1,13 +1,13 @@
 ghost use Rattle.std.specs.Prelude.{◌≡◌, IfOk, string_bytes};
-ghost use Rattle.ilk_answers.specs.Drives.{rest_line, rest_text};
-ghost use Rattle.ilk_answers.specs.Report.{accepted_line, hazard_line, hazard_text, not_a_run_line, refuted_line};
-ghost use Rattle.ilk_answers.specs.Report.{rejected_item_line, rejected_line, section_name, unsafe_line};
+ghost use Rattle.ilk_answers.specs.Drives.{drive_end_line, drive_end_text};
+ghost use Rattle.ilk_answers.specs.Report.{accepted_line, hazard_line, hazard_text, not_a_run_at_event, query_has_no_run_line};
+ghost use Rattle.ilk_answers.specs.Report.{rejection_at_item, rejection_at_line, section_name, unsafe_line};
 ghost use Rattle.ilk_answers.specs.Verdicts.{verdict_line};
 
 use ilk_drive::Rest;
 use ilk_engine::Verdict;
 use ilk_model::HazardAt;
-use ilk_plant::{Plant, Worded};
+use ilk_plant::{HasWord, Plant};
 use ilk_words::QueryKind;
 use std::alloc::{AllocError, Global};
 
@@ -15,7 +15,7 @@ use std::alloc::{AllocError, Global};
 fn section_name(plant: &Plant, x: u32) -> &str
     ensures { result.now ≡ section_name plant.now x }
 {
-    plant.is_sound();
+    plant.prove_is_plant();
     if x < plant.sections() {
         plant.section_name(x)
     } else {
@@ -84,15 +84,15 @@ pub fn verdict_line(
 }
 
 /// Returns the line that names the first bad line of a text.
-pub fn rejected_line(alloc: Global, line: u64) -> Result<String, AllocError>
-    ensures { IfOk result (λ text. string_bytes text ≡ rejected_line line) }
+pub fn rejection_at_line(alloc: Global, line: u64) -> Result<String, AllocError>
+    ensures { IfOk result (λ text. string_bytes text ≡ rejection_at_line line) }
 {
     format!(in alloc; "rejected line {line}\n")
 }
 
 /// Returns the line that names the first event that is not a step of a run.
-pub fn not_a_run_line(alloc: Global, at: u64) -> Result<String, AllocError>
-    ensures { IfOk result (λ text. string_bytes text ≡ not_a_run_line at) }
+pub fn not_a_run_at_event(alloc: Global, at: u64) -> Result<String, AllocError>
+    ensures { IfOk result (λ text. string_bytes text ≡ not_a_run_at_event at) }
 {
     format!(in alloc; "not a run at {at}\n")
 }
@@ -105,22 +105,26 @@ pub fn accepted_line(alloc: Global, k: u32) -> Result<String, AllocError>
 }
 
 /// Returns the line that says that this query has no run.
-pub fn refuted_line(alloc: Global, kind: QueryKind, number: u32) -> Result<String, AllocError>
-    ensures { IfOk result (λ text. string_bytes text ≡ refuted_line kind number) }
+pub fn query_has_no_run_line(
+    alloc: Global,
+    kind: QueryKind,
+    number: u32,
+) -> Result<String, AllocError>
+    ensures { IfOk result (λ text. string_bytes text ≡ query_has_no_run_line kind number) }
 {
     let query = kind.word();
     format!(in alloc; "refuted {query} {number}\n")
 }
 
 /// Returns the line that names the first bad item of a text.
-pub fn rejected_item_line(alloc: Global, item: u64) -> Result<String, AllocError>
-    ensures { IfOk result (λ text. string_bytes text ≡ rejected_item_line item) }
+pub fn rejection_at_item(alloc: Global, item: u64) -> Result<String, AllocError>
+    ensures { IfOk result (λ text. string_bytes text ≡ rejection_at_item item) }
 {
     format!(in alloc; "rejected item {item}\n")
 }
 
-fn rest_text(alloc: Global, plant: &Plant, rest: Rest) -> Result<String, AllocError>
-    ensures { IfOk result (λ text. string_bytes text ≡ rest_text plant.now rest) }
+fn drive_end_text(alloc: Global, plant: &Plant, rest: Rest) -> Result<String, AllocError>
+    ensures { IfOk result (λ text. string_bytes text ≡ drive_end_text plant.now rest) }
 {
     match rest {
         Rest::Driven => String::from_str(alloc, "driven"),
@@ -133,9 +137,14 @@ fn rest_text(alloc: Global, plant: &Plant, rest: Rest) -> Result<String, AllocEr
 }
 
 /// Returns the line with the end of a drive and its number of events.
-pub fn rest_line(alloc: Global, plant: &Plant, rest: Rest, steps: u64) -> Result<String, AllocError>
-    ensures { IfOk result (λ line. string_bytes line ≡ rest_line plant.now rest steps) }
+pub fn drive_end_line(
+    alloc: Global,
+    plant: &Plant,
+    rest: Rest,
+    steps: u64,
+) -> Result<String, AllocError>
+    ensures { IfOk result (λ line. string_bytes line ≡ drive_end_line plant.now rest steps) }
 {
-    let text = rest_text(alloc, plant, rest)?;
+    let text = drive_end_text(alloc, plant, rest)?;
     format!(in alloc; "{text} steps={steps}\n")
 }

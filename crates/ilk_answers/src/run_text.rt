@@ -1,6 +1,6 @@
 ghost use Rattle.std.specs.Prelude.{◌≡◌, All, IfOk};
 ghost use Rattle.ilk_replay.specs.RunText.{run_text};
-ghost use Rattle.ilk_replay.specs.Writable.{HasSubjectOf};
+ghost use Rattle.ilk_replay.specs.Writable.{IsEventSubjectOfPlant};
 ghost use Rattle.ilk_replay.specs.Told.{run_from_start};
 
 use ilk_model::{Event, start};
@@ -14,7 +14,7 @@ pub fn run_text_from_start(
     plant: &Plant,
     events: Row<Event>,
 ) -> Result<Vec<u8>, AllocError>
-    requires { All (HasSubjectOf plant.now) events }
+    requires { All (IsEventSubjectOfPlant plant.now) events }
     ensures { IfOk result (λ text. text.items
         ≡ run_text plant.now (run_from_start plant.now events)) }
 {

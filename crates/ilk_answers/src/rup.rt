@@ -1,12 +1,12 @@
 ghost use Rattle.std.specs.Prelude.{◌≡◌, [], Option, Some, None, IfOk, IsTrue};
-ghost use Rattle.ilk_unroll.specs.Goal.{wanted_valid};
-ghost use Rattle.ilk_answers.specs.Judged.{IsRupReplyFor};
-ghost use Rattle.ilk_answers.specs.Refutations.{AnswersRefutation};
-ghost use Rattle.ilk_answers.specs.Status.{is_reply};
+ghost use Rattle.ilk_unroll.specs.Goal.{step_count_is_allowed};
+ghost use Rattle.ilk_answers.specs.Judged.{RefutesIfNoBadItem};
+ghost use Rattle.ilk_answers.specs.Refutations.{AnswersRefutationText};
+ghost use Rattle.ilk_answers.specs.Status.{is_reply_status};
 ghost use Rattle.ilk_answers.specs.Verdicts.{wanted_query};
 
 use crate::export::wanted_query;
-use crate::report::{refuted_line, rejected_item_line};
+use crate::report::{query_has_no_run_line, rejection_at_item};
 use crate::{Reply, Status};
 use ilk_log::refutations_refute;
 use ilk_plant::Plant;
@@ -24,8 +24,8 @@ fn first_bad_item(
     number: u32,
     text: &[u8],
 ) -> Result<Option<u64>, AllocError>
-    requires { IsTrue (wanted_valid (wanted_query kind number)) }
-    ensures { IfOk result (IsRupReplyFor plant.now kind number text.now) }
+    requires { IsTrue (step_count_is_allowed (wanted_query kind number)) }
+    ensures { IfOk result (RefutesIfNoBadItem plant.now kind number text.now) }
 {
     refutations_refute();
     let cnf = formula(alloc, plant, wanted_query(kind, number))?;
@@ -37,25 +37,25 @@ fn first_bad_item(
 
 /// Returns the reply to another solver's text that is to refute the formula of a query. `number` is
 /// at most 16, and at least 1 for a step query.
-pub fn rup_reply(
+pub fn query_rup_reply(
     alloc: Global,
     plant: &Plant,
     kind: QueryKind,
     number: u32,
     text: &[u8],
 ) -> Result<Reply, AllocError>
-    requires { IsTrue (wanted_valid (wanted_query kind number)) }
-    ensures reply { IfOk result (AnswersRefutation plant.now kind number text.now) }
+    requires { IsTrue (step_count_is_allowed (wanted_query kind number)) }
+    ensures reply { IfOk result (AnswersRefutationText plant.now kind number text.now) }
     ensures planned { IfOk result
-        (λ made. IsTrue (is_reply made.status) × (made.certificate ≡ [])) }
+        (λ made. IsTrue (is_reply_status made.status) × (made.certificate ≡ [])) }
 {
     match first_bad_item(alloc, plant, kind, number, text)? {
         None => {
-            let line = refuted_line(alloc, kind, number)?;
+            let line = query_has_no_run_line(alloc, kind, number)?;
             Ok(Reply::with_report(alloc, Status::Good, line))
         }
         Some(item) => {
-            let line = rejected_item_line(alloc, item)?;
+            let line = rejection_at_item(alloc, item)?;
             Ok(Reply::with_report(alloc, Status::Rejected, line))
         }
     }

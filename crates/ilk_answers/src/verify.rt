@@ -1,18 +1,18 @@
 ghost use Rattle.std.specs.Prelude.{◌≡◌, ◌<◌, ◌≤◌, ◌++◌, IfOk};
 ghost use Rattle.ilk_answers.specs.Verdicts.{AnswersVerdict, verdict_line, verdict_run_text, verdict_status};
-ghost use Rattle.ilk_answers.specs.Writable.{HasWritableRun};
+ghost use Rattle.ilk_answers.specs.Writable.{HasRunOverPlant};
 
 use crate::report::verdict_line;
 use crate::run_text::run_text_from_start;
 use crate::{Content, Reply, Status};
-use ilk_engine::{CertificateText, Found, Verdict, certificate_in_pieces, decide};
+use ilk_engine::{CertificateText, Found, Verdict, decide, lazy_certificate_text};
 use ilk_plant::Plant;
 use ilk_replay::{Told, write_run};
 use std::alloc::{AllocError, Global};
 
 // Returns the text of a verdict's run; empty if it has none.
 fn verdict_run_text(alloc: Global, plant: &Plant, verdict: Verdict) -> Result<Vec<u8>, AllocError>
-    requires { HasWritableRun plant.now verdict }
+    requires { HasRunOverPlant plant.now verdict }
     ensures { IfOk result (λ text. text.items ≡ verdict_run_text plant.now verdict) }
 {
     match verdict {
@@ -50,7 +50,7 @@ fn verdict_reply(
     verdict: Verdict,
     certificate: CertificateText,
 ) -> Result<Reply, AllocError>
-    requires { HasWritableRun plant.now verdict }
+    requires { HasRunOverPlant plant.now verdict }
     ensures status { IfOk result (λ made. made.status ≡ verdict_status verdict) }
     ensures report { IfOk result
         (λ made. made.report
@@ -82,6 +82,6 @@ pub fn verify_reply(
 {
     let found = decide(alloc, plant, depth, conflicts)?;
     let Found { verdict, asked } = found;
-    let text = certificate_in_pieces(alloc, &verdict, asked)?;
+    let text = lazy_certificate_text(alloc, &verdict, asked)?;
     verdict_reply(alloc, plant, conflicts, verdict, text)
 }

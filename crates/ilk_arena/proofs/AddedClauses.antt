@@ -4,21 +4,21 @@ use Rattle.std.specs.List.{slice_get}
 use Rattle.std.proofs.lemmas.Bool.{cases_Bool, and_parts, leb-true, eqb-false, or_parts, not-true}
 use Rattle.std.proofs.lemmas.List.{map-append, length-map}
 use Rattle.ilk_base.proofs.Lists.{slice_get-push_cases}
-use Rattle.ilk_cnf.specs.Literal.{Literal, has_var, vars_differ}
+use Rattle.ilk_cnf.specs.Literal.{Literal, has_var, has_distinct_vars}
 use Rattle.ilk_cnf.specs.Formula.{is_lit_over, is_clause_over}
 use Rattle.ilk_arena.specs.Arena.{ArenaLists, place, is_listed_in, chains_with_first, chains_with_clause, with_clause_added}
 use Rattle.ilk_arena.specs.declared.place.TheConstants.{WORD_LIMIT}
 use Rattle.ilk_arena.specs.Words.{IsMemberOf, with_chain_replaced}
-use Rattle.ilk_arena.specs.Linked.{lit_at, literals_at, cursor_at, chain_at, references_in, lists_of, HasWatchChains, HasClausesInOrder, HoldsArena}
+use Rattle.ilk_arena.specs.Linked.{lit_from_place, literals_at, cursor_at, chain_for_place, references_in, lists_of, HasWatchChains, HasClausesInOrder, HoldsArena}
 use Rattle.ilk_arena.proofs.Blocks.{references-are, blocks-push, stands-at}
 use Rattle.ilk_arena.proofs.Seen.{stands-from, lit-at-place, place-within, references-seen}
 use Rattle.ilk_arena.proofs.Adding.{Joins, linked-push, added-long, added-short}
 use Rattle.ilk_arena.proofs.Appending.{block, appended, stands-push, places-new}
 use Rattle.ilk_arena.proofs.Updates.{arena-ext, Gives, gives-set, gives-one, gives-seen, gives-as, map-same}
 
-pub round : (ls : List Literal) → map lit_at (map place ls) ≡ ls
+pub round : (ls : List Literal) → map lit_from_place (map place ls) ≡ ls
 round [] = refl
-round (l ∷ ls) = ap (λ (m : Literal). m ∷ map lit_at (map place ls)) (lit-at-place l) ∙ ap (λ (ms : List Literal). l ∷ ms) (round ls)
+round (l ∷ ls) = ap (λ (m : Literal). m ∷ map lit_from_place (map place ls)) (lit-at-place l) ∙ ap (λ (ms : List Literal). l ∷ ms) (round ls)
 
 place-of-some : (ls : List Literal) (i : ℕ) (l : Literal) → slice_get ls i ≡ Some l → IsMemberOf (map place ls) (place l)
 place-of-some [] i l h = absurd (cc)
@@ -35,7 +35,7 @@ places-within n p (l ∷ ls) h s =
     ]
 
 laid-push : (ws hs refs ls : List ℕ) (a x b y k : ℕ) (clause : List Literal) → HasWatchChains ws hs refs →
-    HasClausesInOrder ws refs → k ≡ length refs + 1 → ls ≡ map place clause → vars_differ clause ≡ true →
+    HasClausesInOrder ws refs → k ≡ length refs + 1 → ls ≡ map place clause → has_distinct_vars clause ≡ true →
     HasClausesInOrder (ws ++ block (length ls) a x b y k ls) (refs ++ (length ws ∷ []))
 laid-push ws hs refs ls a x b y k clause li la ke le vd =
     let c = length ws in
@@ -53,9 +53,9 @@ laid-push ws hs refs ls a x b y k clause li la ke le vd =
         | inr q ↦ (let P : ℕ → Type 0 = λ j. get_or us (j + 6) 0 ≤ get_or us j 0 in subst P q (omega (arith, ap1.new_cursor)))
       ];
       apart = λ d s. elim (stands-push refs c d s) [
-        | inl q ↦ ap (λ (ps : List ℕ). vars_differ (map lit_at ps)) (ap1.kept_places d q) ∙ la.apart d q
-        | inr q ↦ (let P : ℕ → Type 0 = λ j. vars_differ (literals_at us j) ≡ true in
-            subst P q (ap (λ (ps : List ℕ). vars_differ (map lit_at ps)) (places-new ws ls a x b y k ∙ le) ∙ ap vars_differ (round clause) ∙ vd))
+        | inl q ↦ ap (λ (ps : List ℕ). has_distinct_vars (map lit_from_place ps)) (ap1.kept_places d q) ∙ la.apart d q
+        | inr q ↦ (let P : ℕ → Type 0 = λ j. has_distinct_vars (literals_at us j) ≡ true in
+            subst P q (ap (λ (ps : List ℕ). has_distinct_vars (map lit_from_place ps)) (places-new ws ls a x b y k ∙ le) ∙ ap has_distinct_vars (round clause) ∙ vd))
       ];
     }
 
@@ -66,7 +66,7 @@ pub record Grown (vars spare count : ℕ) (us ks : List ℕ) (a : ArenaLists) (l
 grown-by :
     (vars spare old count : ℕ) (ws hs ks : List ℕ) (x : ArenaLists) (ls : List Literal) (a al b bl : ℕ)
     (cs : ℕ → List ℕ) →
-    HoldsArena ws hs vars count → lists_of vars old ws hs (references_in ws) ≡ x → vars_differ ls ≡ true →
+    HoldsArena ws hs vars count → lists_of vars old ws hs (references_in ws) ≡ x → has_distinct_vars ls ≡ true →
     Joins ws hs (references_in ws) (map place ls) ks a al b bl (count + 1) cs →
     Gives (chains_with_clause (length ws) ls (lists_of vars old ws hs (references_in ws)).chains) (length hs) cs →
     length ws + length ls + 7 ≤ WORD_LIMIT →
@@ -88,17 +88,17 @@ grown-by vars spare old count ws hs ks x ls a al b bl cs h e vd j g fits =
     let Q : List ℕ → Type 0 = λ rs. HasClausesInOrder us rs in
     let size : length all ≡ length refs + 1 = length-append refs (c ∷ []) in
     let new0 = gives-seen vars spare us ks all in
-    let new1 : Gives (lists_of vars spare us ks all).chains (length hs) (chain_at us ks) = record { size = new0.size ∙ j.heads; item = λ q l. new0.item q (omega (arith, j.heads)) } in
-    let new2 = gives-as (lists_of vars spare us ks all).chains (length hs) (chain_at us ks) cs new1 r.1 in
+    let new1 : Gives (lists_of vars spare us ks all).chains (length hs) (chain_for_place us ks) = record { size = new0.size ∙ j.heads; item = λ q l. new0.item q (omega (arith, j.heads)) } in
+    let new2 = gives-as (lists_of vars spare us ks all).chains (length hs) (chain_for_place us ks) cs new1 r.1 in
     let chains : (lists_of vars spare us ks all).chains ≡ chains_with_clause c ls (lists_of vars old ws hs refs).chains =
     gives-one (lists_of vars spare us ks all).chains (chains_with_clause c ls (lists_of vars old ws hs refs).chains) (length hs) cs new2 g in
     let clauses : map (literals_at us) all ≡ map (literals_at ws) refs ++ (ls ∷ []) =
     map-append (literals_at us) refs (c ∷ [])
     ∙ ap (λ (cl : List (List Literal)). cl ++ (literals_at us c ∷ []))
     (map-same (literals_at us) (literals_at ws) refs
-    (λ d s. ap (λ (qs : List ℕ). map lit_at qs) (ap1.kept_places d s)))
+    (λ d s. ap (λ (qs : List ℕ). map lit_from_place qs) (ap1.kept_places d s)))
     ∙ ap (λ (l : List Literal). map (literals_at ws) refs ++ (l ∷ []))
-    (ap (λ (qs : List ℕ). map lit_at qs) (places-new ws ps a al b bl (count + 1)) ∙ round ls) in
+    (ap (λ (qs : List ℕ). map lit_from_place qs) (places-new ws ps a al b bl (count + 1)) ∙ round ls) in
     let cursors : map (cursor_at us) all ≡ map (cursor_at ws) refs ++ (0 ∷ []) =
     map-append (cursor_at us) refs (c ∷ [])
     ∙ ap (λ (cu : List ℕ). cu ++ (cursor_at us c ∷ []))
@@ -125,13 +125,13 @@ front-two (x ∷ (y ∷ rest)) l m a b =
     let f : y ≡ m = cc in
     (rest, ap (λ (z : Literal). z ∷ (y ∷ rest)) e ∙ ap (λ (z : Literal). l ∷ (z ∷ rest)) f)
 
-places-differ : (ls : List Literal) (l m : Literal) → slice_get ls 0 ≡ Some l → slice_get ls 1 ≡ Some m → vars_differ ls ≡ true → place l ≢ place m
+places-differ : (ls : List Literal) (l m : Literal) → slice_get ls 0 ≡ Some l → slice_get ls 1 ≡ Some m → has_distinct_vars ls ≡ true → place l ≢ place m
 places-differ ls l m a b vd q =
     let r = front-two ls l m a b in
-    let w : vars_differ (l ∷ (m ∷ r.0)) ≡ true = ap vars_differ (sym r.1) ∙ vd in
+    let w : has_distinct_vars (l ∷ (m ∷ r.0)) ≡ true = ap has_distinct_vars (sym r.1) ∙ vd in
     let p = and_parts _ _ w in
     let n = or_parts _ _ (not-true (has_var l.var (m ∷ r.0)) p.0) in
-    let e : l ≡ m = sym (lit-at-place l) ∙ ap lit_at q ∙ lit-at-place m in
+    let e : l ≡ m = sym (lit-at-place l) ∙ ap lit_from_place q ∙ lit-at-place m in
     eqb-false m.var l.var n.0 (sym (ap (λ (z : Literal). z.var) e))
 
 abbrev pub words_long : List ℕ → List ℕ → List Literal → Literal → Literal → ℕ → List ℕ
@@ -143,14 +143,14 @@ heads_long ws hs l m = set (set hs (place l) (length ws)) (place m) (length ws)
 pub long-law :
     (vars spare old count : ℕ) (ws hs : List ℕ) (x : ArenaLists) (ls : List Literal) (l m : Literal) →
     HoldsArena ws hs vars count → lists_of vars old ws hs (references_in ws) ≡ x → is_clause_over vars ls ≡ true →
-    vars_differ ls ≡ true → slice_get ls 0 ≡ Some l → slice_get ls 1 ≡ Some m →
+    has_distinct_vars ls ≡ true → slice_get ls 0 ≡ Some l → slice_get ls 1 ≡ Some m →
     length ws + length ls + 7 ≤ WORD_LIMIT →
     Grown vars spare count (words_long ws hs ls l m (count + 1)) (heads_long ws hs l m) x ls (length ws)
 long-law vars spare old count ws hs x ls l m h e ci vd a b fits =
     let refs = references_in ws in
     let ps = map place ls in
     let c = length ws in
-    let F = chain_at ws hs in
+    let F = chain_for_place ws hs in
     let L = lists_of vars old ws hs refs in
     let r = front-two ls l m a b in
     let ne = places-differ ls l m a b vd in
@@ -176,7 +176,7 @@ words_short ws ls k = ws ++ block (length (map place ls)) 0 0 1 0 k (map place l
 
 pub short-law : (vars spare old count : ℕ) (ws hs : List ℕ) (x : ArenaLists) (ls : List Literal) →
     HoldsArena ws hs vars count → lists_of vars old ws hs (references_in ws) ≡ x → is_clause_over vars ls ≡ true →
-    vars_differ ls ≡ true → length ls < 2 → length ws + length ls + 7 ≤ WORD_LIMIT →
+    has_distinct_vars ls ≡ true → length ls < 2 → length ws + length ls + 7 ≤ WORD_LIMIT →
     Grown vars spare count (words_short ws ls (count + 1)) hs x ls (length ws)
 short-law vars spare old count ws hs x ls h e ci vd n fits =
     let refs = references_in ws in
@@ -184,8 +184,8 @@ short-law vars spare old count ws hs x ls h e ci vd n fits =
     let within : (p : ℕ) → IsMemberOf ps p → (2 ≤ p) × (p < 2 * vars + 2) = λ p s. places-within vars p ls ci s in
     let j = added-short ws hs refs ps (count + 1) h.linked (omega (arith, length-map ls place)) (λ p s. (within p s).0) (λ p s. omega (arith, (within p s).1, h.heads)) in
     let L = lists_of vars old ws hs refs in
-    let G : List (List ℕ) → Type 0 = λ ch. Gives ch (length hs) (chain_at ws hs) in
-    grown-by vars spare old count ws hs hs x ls 0 0 1 0 (chain_at ws hs) h e vd j (subst G (same ls L.chains n) (gives-seen vars old ws hs refs)) fits
+    let G : List (List ℕ) → Type 0 = λ ch. Gives ch (length hs) (chain_for_place ws hs) in
+    grown-by vars spare old count ws hs hs x ls 0 0 1 0 (chain_for_place ws hs) h e vd j (subst G (same ls L.chains n) (gives-seen vars old ws hs refs)) fits
   where
     same : (ls : List Literal) (ch : List (List ℕ)) → length ls < 2 → ch ≡ chains_with_clause (length ws) ls ch
     same [] ch n = refl

@@ -5,8 +5,8 @@ use Rattle.std.proofs.Math.Seq.{drop-append-add}
 use Rattle.std.proofs.Math.ListN.{length-set}
 use Rattle.std.proofs.lemmas.Bool.Decides.{eqb_tells}
 use Rattle.std.proofs.lemmas.Grind.{common_steps}
-use Rattle.ilk_arena.specs.Words.{link_index, next_reference, IsChainPath, AllMembers, IsMemberOf, Watches, left, right, Distinct, AreChains, AreHeadersApart, with_chain_replaced}
-use Rattle.ilk_arena.specs.Linked.{places_at, chain_at, HasWatchChains}
+use Rattle.ilk_arena.specs.Words.{link_index, next_reference, IsChainPath, AllSatisfy, IsMemberOf, HasWatch, left, right, Distinct, AreChains, AreHeadersApart, with_chain_replaced}
+use Rattle.ilk_arena.specs.Linked.{literal_places_at, chain_for_place, HasWatchChains}
 use Rattle.ilk_arena.proofs.Paths.{frame}
 use Rattle.ilk_arena.proofs.HeaderWrites.{link_index-in}
 use Rattle.ilk_arena.proofs.ChainMoves.{each-map, by-pick}
@@ -22,23 +22,23 @@ next-append ws xs l c h =
     let f = get_or_append_left ws xs 0 (link_index ws l c) (grind (arith, link_index-in ws l c)) in
     rw e f
 
-watch-append : (ws xs : List ℕ) (c l : ℕ) → c + 7 ≤ length ws → Watches ws c l → Watches (ws ++ xs) c l
+watch-append : (ws xs : List ℕ) (c l : ℕ) → c + 7 ≤ length ws → HasWatch ws c l → HasWatch (ws ++ xs) c l
 watch-append ws xs c l h (left p) = left (get_or_append_left ws xs 0 (c + 1) (omega arith) ∙ p)
 watch-append ws xs c l h (right p) = right (get_or_append_left ws xs 0 (c + 3) (omega arith) ∙ p)
 
-pub watch-shrink : (ws xs : List ℕ) (c l : ℕ) → c + 7 ≤ length ws → Watches (ws ++ xs) c l → Watches ws c l
+pub watch-shrink : (ws xs : List ℕ) (c l : ℕ) → c + 7 ≤ length ws → HasWatch (ws ++ xs) c l → HasWatch ws c l
 watch-shrink ws xs c l h (left p) = left (sym (get_or_append_left ws xs 0 (c + 1) (omega arith)) ∙ p)
 watch-shrink ws xs c l h (right p) = right (sym (get_or_append_left ws xs 0 (c + 3) (omega arith)) ∙ p)
 
 pub grown : (ws xs hs : List ℕ) (R S : ℕ → Type 0) (cs : ℕ → List ℕ) → AreHeadersApart ws R → ((c : ℕ) → R c → S c) → AreChains ws hs R cs → AreChains (ws ++ xs) hs S cs
 grown ws xs hs R S cs hd f k = record {
-  path = λ l h. frame ws (ws ++ xs) l (get_or hs l 0) (cs l) (each-map (λ c. R c × Watches ws c l) (λ c. next_reference (ws ++ xs) l c ≡ next_reference ws l c) (cs l) (λ c r. next-append ws xs l c (hd.room c r.0).1) (k.held l h)) (k.path l h);
-  held = λ l h. each-map (λ c. R c × Watches ws c l) (λ c. S c × Watches (ws ++ xs) c l) (cs l) (λ c r. (f c r.0, watch-append ws xs c l (hd.room c r.0).1 r.1)) (k.held l h);
+  path = λ l h. frame ws (ws ++ xs) l (get_or hs l 0) (cs l) (each-map (λ c. R c × HasWatch ws c l) (λ c. next_reference (ws ++ xs) l c ≡ next_reference ws l c) (cs l) (λ c r. next-append ws xs l c (hd.room c r.0).1) (k.held l h)) (k.path l h);
+  held = λ l h. each-map (λ c. R c × HasWatch ws c l) (λ c. S c × HasWatch (ws ++ xs) c l) (cs l) (λ c r. (f c r.0, watch-append ws xs c l (hd.room c r.0).1 r.1)) (k.held l h);
   once = k.once;
 }
 
 pub push-head : (ws hs : List ℕ) (R : ℕ → Type 0) (cs : ℕ → List ℕ) (t c : ℕ) → t < length hs → R c → 0 < c →
-    Watches ws c t → next_reference ws t c ≡ get_or hs t 0 → AllMembers (λ d. d ≢ c) (cs t) → AreChains ws hs R cs →
+    HasWatch ws c t → next_reference ws t c ≡ get_or hs t 0 → AllSatisfy (λ d. d ≢ c) (cs t) → AreChains ws hs R cs →
     AreChains ws (set hs t c) R (with_chain_replaced cs t (c ∷ cs t))
 push-head ws hs R cs t c h rc pos w e gone k =
     let n : length (set hs t c) ≡ length hs = simp length-set in
@@ -46,7 +46,7 @@ push-head ws hs R cs t c h rc pos w e gone k =
     let P : ℕ → Type 0 = λ j. IsChainPath ws t j (cs t) in
     record {
       path = λ l i. by-pick cs t (c ∷ cs t) (length hs) (λ l ys. IsChainPath ws l (get_or (set hs t c) l 0) ys) (at, pos, subst P (sym e) (k.path t h)) (λ l m j. rw (get_or-set_other hs t l c 0 m) (k.path l j)) l (omega (arith, n));
-      held = λ l i. by-pick cs t (c ∷ cs t) (length hs) (λ l ys. AllMembers (λ d. R d × Watches ws d l) ys) ((rc, w), k.held t h) (λ l m j. k.held l j) l (omega (arith, n));
+      held = λ l i. by-pick cs t (c ∷ cs t) (length hs) (λ l ys. AllSatisfy (λ d. R d × HasWatch ws d l) ys) ((rc, w), k.held t h) (λ l m j. k.held l j) l (omega (arith, n));
       once = λ l i. by-pick cs t (c ∷ cs t) (length hs) (λ l ys. Distinct ys) (gone, k.once t h) (λ l m j. k.once l j) l (omega (arith, n));
     }
 
@@ -65,16 +65,16 @@ stands-last (x ∷ xs) c = inr (stands-last xs c)
 abbrev pub block : ℕ → ℕ → ℕ → ℕ → ℕ → ℕ → List ℕ → List ℕ
 block n a x b y k ps = n ∷ (a ∷ (x ∷ (b ∷ (y ∷ (k ∷ (0 ∷ ps))))))
 
-pub places-append : (ws xs : List ℕ) (c : ℕ) → c + 7 + get_or ws c 0 ≤ length ws → places_at (ws ++ xs) c ≡ places_at ws c
-unfolding places_at
+pub places-append : (ws xs : List ℕ) (c : ℕ) → c + 7 + get_or ws c 0 ≤ length ws → literal_places_at (ws ++ xs) c ≡ literal_places_at ws c
+unfolding literal_places_at
 places-append ws xs c h =
     let e = get_or_append_left ws xs 0 c (omega arith) in
     let d = drop-append-le (c + 7) ws xs (omega arith) in
     let q : get_or ws c 0 ≤ length (drop (c + 7) ws) = grind (arith, common_steps) in
     rw (e, d) (take-append-le (get_or ws c 0) (drop (c + 7) ws) xs q)
 
-pub places-new : (ws ps : List ℕ) (a x b y k : ℕ) → places_at (ws ++ block (length ps) a x b y k ps) (length ws) ≡ ps
-unfolding places_at
+pub places-new : (ws ps : List ℕ) (a x b y k : ℕ) → literal_places_at (ws ++ block (length ps) a x b y k ps) (length ws) ≡ ps
+unfolding literal_places_at
 places-new ws ps a x b y k =
     let n = length ws in
     let blk = block (length ps) a x b y k ps in
@@ -89,7 +89,7 @@ stands-one cs t c d l s =
       | inr e ↦ rw e.0 (elim s [ inl q ↦ q | inr q ↦ absurd (e.1 q.1) ])
     ]
 
-pub which : (us : List ℕ) (c a b l : ℕ) → get_or us (c + 1) 0 ≡ a → get_or us (c + 3) 0 ≡ b → Watches us c l → (l ≡ a) ⊎ (l ≡ b)
+pub which : (us : List ℕ) (c a b l : ℕ) → get_or us (c + 1) 0 ≡ a → get_or us (c + 3) 0 ≡ b → HasWatch us c l → (l ≡ a) ⊎ (l ≡ b)
 which us c a b l p q (left e) = inl (sym e ∙ p)
 which us c a b l p q (right e) = inr (sym e ∙ q)
 
@@ -105,10 +105,10 @@ pub record Appended (ws hs refs ps : List ℕ) (a x b y k : ℕ) : Type 0 where
   pub old : (d : ℕ) → IsMemberOf refs d → d < length ws
   pub kept : (d i : ℕ) → IsMemberOf refs d → i < 7 → get_or (ws ++ block (length ps) a x b y k ps) (d + i) 0 ≡ get_or ws (d + i) 0
   pub kept_len : (d : ℕ) → IsMemberOf refs d → get_or (ws ++ block (length ps) a x b y k ps) d 0 ≡ get_or ws d 0
-  pub kept_places : (d : ℕ) → IsMemberOf refs d → places_at (ws ++ block (length ps) a x b y k ps) d ≡ places_at ws d
+  pub kept_places : (d : ℕ) → IsMemberOf refs d → literal_places_at (ws ++ block (length ps) a x b y k ps) d ≡ literal_places_at ws d
   pub headers : AreHeadersApart (ws ++ block (length ps) a x b y k ps) (IsMemberOf (refs ++ (length ws ∷ [])))
-  pub chains : AreChains (ws ++ block (length ps) a x b y k ps) hs (IsMemberOf (refs ++ (length ws ∷ []))) (chain_at ws hs)
-  pub absent : (l : ℕ) → l < length hs → AllMembers (λ d. d ≢ length ws) (chain_at ws hs l)
+  pub chains : AreChains (ws ++ block (length ps) a x b y k ps) hs (IsMemberOf (refs ++ (length ws ∷ []))) (chain_for_place ws hs)
+  pub absent : (l : ℕ) → l < length hs → AllSatisfy (λ d. d ≢ length ws) (chain_for_place ws hs l)
 
 pub appended : (ws hs refs ps : List ℕ) (a x b y k : ℕ) → HasWatchChains ws hs refs → Appended ws hs refs ps a x b y k
 appended ws hs refs ps a x b y k li =
@@ -150,6 +150,6 @@ appended ws hs refs ps a x b y k li =
       kept_len = λ d s. get_or_append_left ws blk 0 d (old d s);
       kept_places = λ d s. places-append ws blk d (li.whole d s);
       headers = hd2;
-      chains = grown ws blk hs (IsMemberOf refs) (IsMemberOf all) (chain_at ws hs) hd (λ d s. stands-more refs c d s) li.chains;
-      absent = λ l h. each-map (λ d. IsMemberOf refs d × Watches ws d l) (λ d. d ≢ c) (chain_at ws hs l) (λ d r e. omega (arith, e, old d r.0)) (li.chains.held l h);
+      chains = grown ws blk hs (IsMemberOf refs) (IsMemberOf all) (chain_for_place ws hs) hd (λ d s. stands-more refs c d s) li.chains;
+      absent = λ l h. each-map (λ d. IsMemberOf refs d × HasWatch ws d l) (λ d. d ≢ c) (chain_for_place ws hs l) (λ d r e. omega (arith, e, old d r.0)) (li.chains.held l h);
     }

@@ -3,14 +3,14 @@ use Rattle.std.proofs.Common.{◌≡◌, ◌≢◌, ℕ, ◌+◌, ◌-◌, ◌*�
 use Rattle.std.proofs.lemmas.Bool.Decides.{eqb_tells}
 use Rattle.std.proofs.lemmas.Bool.{cases_eq, cases_order}
 use Rattle.std.proofs.lemmas.List.{get_or-set_same, get_or-set_other, drop-set-lt, drop-set-add, take-set-le, get_or-replicate, length-replicate, length-set}
-use Rattle.ilk_cnf.specs.Literal.{vars_differ}
+use Rattle.ilk_cnf.specs.Literal.{has_distinct_vars}
 use Rattle.ilk_arena.specs.Arena.{ArenaLists, set_for_reference}
 use Rattle.ilk_arena.specs.declared.place.TheConstants.{WORD_LIMIT}
-use Rattle.ilk_arena.specs.Words.{IsChainPath, chain, AllMembers, IsMemberOf, Watches, left, right, Distinct, AreChains, AreHeadersApart, next_reference}
-use Rattle.ilk_arena.specs.Linked.{lit_at, places_at, literals_at, cursor_at, chain_at, IsGaplessFrom, references_in, lists_of, HasWatchChains, HasClausesInOrder, HoldsArena}
+use Rattle.ilk_arena.specs.Words.{IsChainPath, chain, AllSatisfy, IsMemberOf, HasWatch, left, right, Distinct, AreChains, AreHeadersApart, next_reference}
+use Rattle.ilk_arena.specs.Linked.{lit_from_place, literal_places_at, literals_at, cursor_at, chain_for_place, IsGaplessFrom, references_in, lists_of, HasWatchChains, HasClausesInOrder, HoldsArena}
 use Rattle.ilk_arena.proofs.Blocks.{references-are, blocks-same, stands-at}
 use Rattle.ilk_arena.proofs.Unlinking.{each-at}
-use Rattle.ilk_arena.proofs.LinkedChains.{headers-of, chain_at-is, same-chains}
+use Rattle.ilk_arena.proofs.LinkedChains.{headers-of, chain_for_place-is, same-chains}
 use Rattle.ilk_arena.proofs.HeaderWrites.{next-far, watches-far}
 use Rattle.ilk_arena.proofs.Paths.{frame}
 use Rattle.ilk_arena.proofs.ChainMoves.{each-map}
@@ -29,8 +29,8 @@ cursor-read ws hs refs c d j v k r s h = get_or-set_other ws (c + 6) (d + j) v 0
 cursor-len : (ws hs refs : List ℕ) (c d v : ℕ) → HasWatchChains ws hs refs → IsMemberOf refs c → IsMemberOf refs d → get_or (set ws (c + 6) v) d 0 ≡ get_or ws d 0
 cursor-len ws hs refs c d v k r s = (let z : d + 0 ≡ d = omega arith in let P : ℕ → Type 0 = λ i. get_or (set ws (c + 6) v) i 0 ≡ get_or ws i 0 in subst P z (cursor-read ws hs refs c d 0 v k r s (omega arith)))
 
-cursor-places : (ws hs refs : List ℕ) (c d v : ℕ) → HasWatchChains ws hs refs → IsMemberOf refs c → IsMemberOf refs d → places_at (set ws (c + 6) v) d ≡ places_at ws d
-unfolding places_at
+cursor-places : (ws hs refs : List ℕ) (c d v : ℕ) → HasWatchChains ws hs refs → IsMemberOf refs c → IsMemberOf refs d → literal_places_at (set ws (c + 6) v) d ≡ literal_places_at ws d
+unfolding literal_places_at
 cursor-places ws hs refs c d v k r s =
     let i = c + 6 in
     let e = cursor-len ws hs refs c d v k r s in
@@ -49,13 +49,13 @@ cursor-places ws hs refs c d v k r s =
           rw (q, take-set-le (get_or ws d 0) (drop (d + 7) ws) j v (omega arith)) refl)
     ])
 
-watch-back : (ws vs : List ℕ) (d l : ℕ) → get_or vs (d + 1) 0 ≡ get_or ws (d + 1) 0 → get_or vs (d + 3) 0 ≡ get_or ws (d + 3) 0 → Watches vs d l → Watches ws d l
+watch-back : (ws vs : List ℕ) (d l : ℕ) → get_or vs (d + 1) 0 ≡ get_or ws (d + 1) 0 → get_or vs (d + 3) 0 ≡ get_or ws (d + 3) 0 → HasWatch vs d l → HasWatch ws d l
 watch-back ws vs d l a b (left p) = left (sym a ∙ p)
 watch-back ws vs d l a b (right p) = right (sym b ∙ p)
 
 pub record Turned (ws hs refs : List ℕ) (c v : ℕ) : Type 0 where
   pub linked : HasWatchChains (set ws (c + 6) v) hs refs
-  pub chains : (l : ℕ) → l < length hs → chain_at (set ws (c + 6) v) hs l ≡ chain_at ws hs l
+  pub chains : (l : ℕ) → l < length hs → chain_for_place (set ws (c + 6) v) hs l ≡ chain_for_place ws hs l
 
 turned : (ws hs refs : List ℕ) (c v : ℕ) → HasWatchChains ws hs refs → IsMemberOf refs c → Turned ws hs refs c v
 turned ws hs refs c v k r =
@@ -65,22 +65,22 @@ turned ws hs refs c v k r =
     let len : (d : ℕ) → IsMemberOf refs d → get_or us d 0 ≡ get_or ws d 0 = λ d s. cursor-len ws hs refs c d v k r s in
     let w1 : (d : ℕ) → IsMemberOf refs d → get_or us (d + 1) 0 ≡ get_or ws (d + 1) 0 = λ d s. cursor-read ws hs refs c d 1 v k r s (omega arith) in
     let w3 : (d : ℕ) → IsMemberOf refs d → get_or us (d + 3) 0 ≡ get_or ws (d + 3) 0 = λ d s. cursor-read ws hs refs c d 3 v k r s (omega arith) in
-    let pl : (d : ℕ) → IsMemberOf refs d → places_at us d ≡ places_at ws d = λ d s. cursor-places ws hs refs c d v k r s in
+    let pl : (d : ℕ) → IsMemberOf refs d → literal_places_at us d ≡ literal_places_at ws d = λ d s. cursor-places ws hs refs c d v k r s in
     let step : (l d : ℕ) → IsMemberOf refs d → next_reference us l d ≡ next_reference ws l d = λ l d s. next-far ws l d (c + 6) v (far d 1 s (omega arith)) (far d 2 s (omega arith)) (far d 4 s (omega arith)) in
-    let ch : AreChains us hs (IsMemberOf refs) (chain_at ws hs) = record {
+    let ch : AreChains us hs (IsMemberOf refs) (chain_for_place ws hs) = record {
       path =
-          λ l h. frame ws us l (get_or hs l 0) (chain_at ws hs l)
-          (each-map (λ d. IsMemberOf refs d × Watches ws d l)
-          (λ d. next_reference us l d ≡ next_reference ws l d) (chain_at ws hs l)
+          λ l h. frame ws us l (get_or hs l 0) (chain_for_place ws hs l)
+          (each-map (λ d. IsMemberOf refs d × HasWatch ws d l)
+          (λ d. next_reference us l d ≡ next_reference ws l d) (chain_for_place ws hs l)
           (λ d s. step l d s.0) (k.chains.held l h))
           (k.chains.path l h);
-      held = λ l h. each-map (λ d. IsMemberOf refs d × Watches ws d l) (λ d. IsMemberOf refs d × Watches us d l) (chain_at ws hs l) (λ d s. (s.0, watches-far ws d l (c + 6) v (far d 1 s.0 (omega arith)) (far d 3 s.0 (omega arith)) s.1))
+      held = λ l h. each-map (λ d. IsMemberOf refs d × HasWatch ws d l) (λ d. IsMemberOf refs d × HasWatch us d l) (chain_for_place ws hs l) (λ d s. (s.0, watches-far ws d l (c + 6) v (far d 1 s.0 (omega arith)) (far d 3 s.0 (omega arith)) s.1))
           (k.chains.held l h);
       once = k.chains.once;
     } in
     let hd = headers-of ws hs refs k in
     let hd2 : AreHeadersApart us (IsMemberOf refs) = record { room = λ d s. (k.positive d s, omega (arith, size, k.whole d s)); apart = hd.apart } in
-    let fam : (l : ℕ) → l < length hs → chain_at us hs l ≡ chain_at ws hs l = λ l h. chain_at-is us hs (IsMemberOf refs) (chain_at ws hs) hd2 ch l h in
+    let fam : (l : ℕ) → l < length hs → chain_for_place us hs l ≡ chain_for_place ws hs l = λ l h. chain_for_place-is us hs (IsMemberOf refs) (chain_for_place ws hs) hd2 ch l h in
     let P : (p : ℕ) → List ℕ → Type 0 = λ p ys. IsMemberOf ys p in
     record {
       chains = fam;
@@ -97,13 +97,13 @@ turned ws hs refs c v k r =
         right_own = λ d s h. (let lg : 2 ≤ get_or ws d 0 = omega (arith, len d s, h) in rw (pl d s, w3 d s) (k.right_own d s lg));
         left_none = λ d s h. (let sh : get_or ws d 0 < 2 = omega (arith, len d s, h) in omega (arith, w1 d s, k.left_none d s sh));
         right_none = λ d s h. (let sh : get_or ws d 0 < 2 = omega (arith, len d s, h) in omega (arith, w3 d s, k.right_none d s sh));
-        chains = same-chains us hs (IsMemberOf refs) (chain_at ws hs) (chain_at us hs) fam ch;
+        chains = same-chains us hs (IsMemberOf refs) (chain_for_place ws hs) (chain_for_place us hs) fam ch;
         empty = λ l h. fam l (omega (arith, k.wide)) ∙ k.empty l h;
         standing = λ d l s l2 h w. subst (P d) (sym (fam l h)) (k.standing d l s l2 h (watch-back ws us d l (w1 d s) (w3 d s) w));
       };
     }
 
-rising : (ws : List ℕ) (k : ℕ) (cs : List ℕ) → IsGaplessFrom ws k cs → AllMembers (λ d. k ≤ d) cs × Distinct cs
+rising : (ws : List ℕ) (k : ℕ) (cs : List ℕ) → IsGaplessFrom ws k cs → AllSatisfy (λ d. k ≤ d) cs × Distinct cs
 rising ws k [] b = (tt, tt)
 rising ws k (c ∷ cs) b =
     let r = rising ws (c + 7 + get_or ws c 0) cs b.2 in (
@@ -143,18 +143,18 @@ cursor-law vars spare count ws hs a c v h e s le =
         | inl p ↦ (let P : ℕ → Type 0 = λ j. get_or us (j + 6) 0 ≤ get_or us j 0 in subst P (sym p) (omega (arith, at, cursor-len ws hs refs c c v k s s)))
         | inr p ↦ omega (arith, away x p, cursor-len ws hs refs c x v k s q, h.laid.cursor x q)
       ];
-      apart = λ x q. ap (λ (ps : List ℕ). vars_differ (map lit_at ps)) (cursor-places ws hs refs c x v k s q) ∙ h.laid.apart x q;
+      apart = λ x q. ap (λ (ps : List ℕ). has_distinct_vars (map lit_from_place ps)) (cursor-places ws hs refs c x v k s q) ∙ h.laid.apart x q;
     } in
     let re : references_in us ≡ refs = references-are us refs d.blocks in
     let P : List ℕ → Type 0 = λ rs. HasWatchChains us hs rs in
     let Q : List ℕ → Type 0 = λ rs. HasClausesInOrder us rs in
     let L = lists_of vars spare ws hs refs in
     let chains : (lists_of vars spare us hs refs).chains ≡ L.chains = gives-one
-    (lists_of vars spare us hs refs).chains L.chains (length hs) (chain_at ws hs)
-    (gives-as (lists_of vars spare us hs refs).chains (length hs) (chain_at us hs) (chain_at ws hs)
+    (lists_of vars spare us hs refs).chains L.chains (length hs) (chain_for_place ws hs)
+    (gives-as (lists_of vars spare us hs refs).chains (length hs) (chain_for_place us hs) (chain_for_place ws hs)
     (gives-seen vars spare us hs refs) t.chains)
     (gives-seen vars spare ws hs refs) in
-    let clauses : map (literals_at us) refs ≡ map (literals_at ws) refs = map-same (literals_at us) (literals_at ws) refs (λ x q. ap (λ (ps : List ℕ). map lit_at ps) (cursor-places ws hs refs c x v k s q)) in
+    let clauses : map (literals_at us) refs ≡ map (literals_at ws) refs = map-same (literals_at us) (literals_at ws) refs (λ x q. ap (λ (ps : List ℕ). map lit_from_place ps) (cursor-places ws hs refs c x v k s q)) in
     let cursors : map (cursor_at us) refs ≡ set_for_reference c refs (map (cursor_at ws) refs) v = cursors-set (cursor_at ws) (cursor_at us) refs c v (rising ws 1 refs h.laid.blocks).1 at (λ x q n. away x n) in
     record {
       holds = record {
@@ -178,7 +178,7 @@ empty-holds vars few =
     let hs : List ℕ = replicate (2 * vars + 2) 0 in
     let n : length hs ≡ 2 * vars + 2 = length-replicate (2 * vars + 2) 0 in
     let head : (l : ℕ) → l < length hs → get_or hs l 0 ≡ 0 = λ l h. get_or-replicate (2 * vars + 2) l 0 0 (omega (arith, n)) in
-    let none : (l : ℕ) → l < length hs → chain_at ws hs l ≡ [] = λ l h. ap (λ (k : ℕ). chain ws l 1 k) (head l h) in
+    let none : (l : ℕ) → l < length hs → chain_for_place ws hs l ≡ [] = λ l h. ap (λ (k : ℕ). chain ws l 1 k) (head l h) in
     record {
       few = few;
       addressed = omega arith;
@@ -199,7 +199,7 @@ empty-holds vars few =
         right_none = λ c s h. absurd s;
         chains = record {
           path = λ l h. (let Q : List ℕ → Type 0 = λ ys. IsChainPath ws l (get_or hs l 0) ys in subst Q (sym (none l h)) (head l h));
-          held = λ l h. (let Q : List ℕ → Type 0 = λ ys. AllMembers (λ c. IsMemberOf [] c × Watches ws c l) ys in subst Q (sym (none l h)) tt);
+          held = λ l h. (let Q : List ℕ → Type 0 = λ ys. AllSatisfy (λ c. IsMemberOf [] c × HasWatch ws c l) ys in subst Q (sym (none l h)) tt);
           once = λ l h. (let Q : List ℕ → Type 0 = λ ys. Distinct ys in subst Q (sym (none l h)) tt);
         };
         empty = λ l h. none l (omega (arith, n));
@@ -221,7 +221,7 @@ empty-lists vars spare =
     let n : length hs ≡ 2 * vars + 2 = length-replicate (2 * vars + 2) 0 in
     let e : List (List ℕ) = replicate (2 * vars + 2) [] in
     let m : length e ≡ 2 * vars + 2 = length-replicate (2 * vars + 2) [] in
-    let none : (l : ℕ) → l < length hs → chain_at ws hs l ≡ [] = λ l h. (let z : get_or hs l 0 ≡ 0 = get_or-replicate (2 * vars + 2) l 0 0 (omega (arith, n)) in ap (λ (k : ℕ). chain ws l 1 k) z) in
-    let g = gives-as (lists_of vars spare ws hs []).chains (length hs) (chain_at ws hs) (λ l. []) (gives-seen vars spare ws hs []) none in
+    let none : (l : ℕ) → l < length hs → chain_for_place ws hs l ≡ [] = λ l h. (let z : get_or hs l 0 ≡ 0 = get_or-replicate (2 * vars + 2) l 0 0 (omega (arith, n)) in ap (λ (k : ℕ). chain ws l 1 k) z) in
+    let g = gives-as (lists_of vars spare ws hs []).chains (length hs) (chain_for_place ws hs) (λ l. []) (gives-seen vars spare ws hs []) none in
     let r : Gives e (length hs) (λ l. []) = record { size = m ∙ sym n; item = λ p l. get_or-replicate (2 * vars + 2) p [] [] (omega (arith, n)) } in
     arena-ext (lists_of vars spare ws hs []) (record { vars = vars; spare = spare; references = []; clauses = []; cursors = []; chains = e }) refl refl refl refl refl (gives-one (lists_of vars spare ws hs []).chains e (length hs) (λ l. []) g r)

@@ -4,7 +4,7 @@ use Rattle.std.proofs.lemmas.Bool.Decides.{nat_tests}
 use Rattle.std.proofs.lemmas.Bool.{cases_eq}
 use Rattle.std.proofs.lemmas.Grind.{get_or-set_at}
 use Rattle.std.proofs.Math.ListN.{length-set}
-use Rattle.ilk_arena.specs.Words.{link_index, next_reference, watch_moved, Watches, left, right}
+use Rattle.ilk_arena.specs.Words.{link_index, next_reference, watch_moved, HasWatch, left, right}
 
 -- Writes to headers, and the words that they leave unchanged.
 pub link_index-far : (ws : List ℕ) (l c i v : ℕ) → i ≢ c + 1 → link_index (set ws i v) l c ≡ link_index ws l c
@@ -23,14 +23,14 @@ next-far ws l c i v a b d =
     let f : get_or (set ws i v) (link_index ws l c) 0 ≡ get_or ws (link_index ws l c) 0 = get_or-set_other ws i (link_index ws l c) v 0 (grind (arith, link_index-in ws l c)) in
     rw e f
 
-pub slots-apart : (ws : List ℕ) (c l m : ℕ) → l ≢ m → Watches ws c l → Watches ws c m → link_index ws l c ≢ link_index ws m c
+pub slots-apart : (ws : List ℕ) (c l m : ℕ) → l ≢ m → HasWatch ws c l → HasWatch ws c m → link_index ws l c ≢ link_index ws m c
 unfolding link_index
 slots-apart ws c l m n (left p) (left q) = absurd (n (sym p ∙ q))
 slots-apart ws c l m n (right p) (right q) = absurd (n (sym p ∙ q))
 slots-apart ws c l m n (left p) (right q) = grind (arith, nat_tests)
 slots-apart ws c l m n (right p) (left q) = grind (arith, nat_tests)
 
-pub next-other : (ws : List ℕ) (c l m v : ℕ) → l ≢ m → Watches ws c l → Watches ws c m → next_reference (set ws (link_index ws m c) v) l c ≡ next_reference ws l c
+pub next-other : (ws : List ℕ) (c l m v : ℕ) → l ≢ m → HasWatch ws c l → HasWatch ws c m → next_reference (set ws (link_index ws m c) v) l c ≡ next_reference ws l c
 next-other ws c l m v n p q =
     let e : link_index (set ws (link_index ws m c) v) l c ≡ link_index ws l c = link_index-far ws l c (link_index ws m c) v (grind (arith, link_index-in ws m c)) in
     let f : get_or (set ws (link_index ws m c) v) (link_index ws l c) 0 ≡ get_or ws (link_index ws l c) 0 = get_or-set_other ws (link_index ws m c) (link_index ws l c) v 0 (slots-apart ws c l m n p q) in
@@ -42,7 +42,7 @@ next-same ws c l v h =
     let b : link_index ws l c < length ws = grind (arith, link_index-in ws l c) in
     rw e (get_or-set_same ws (link_index ws l c) v 0 b)
 
-pub watches-far : (ws : List ℕ) (c l i v : ℕ) → i ≢ c + 1 → i ≢ c + 3 → Watches ws c l → Watches (set ws i v) c l
+pub watches-far : (ws : List ℕ) (c l i v : ℕ) → i ≢ c + 1 → i ≢ c + 3 → HasWatch ws c l → HasWatch (set ws i v) c l
 watches-far ws c l i v a b (left p) = left (get_or-set_other ws i (c + 1) v 0 (λ q. a (sym q)) ∙ p)
 watches-far ws c l i v a b (right p) = right (get_or-set_other ws i (c + 3) v 0 (λ q. b (sym q)) ∙ p)
 
@@ -53,7 +53,7 @@ moved-far ws f c t v l d h =
     let b = next-far ws l d (link_index ws f c - 1) t (grind (arith, link_index-in ws f c)) (grind (arith, link_index-in ws f c)) (grind (arith, link_index-in ws f c)) in
     a ∙ b
 
-pub moved-watch-far : (ws : List ℕ) (f c t v l d : ℕ) → (c + 7 ≤ d) ⊎ (d + 7 ≤ c) → Watches ws d l → Watches (watch_moved ws f c t v) d l
+pub moved-watch-far : (ws : List ℕ) (f c t v l d : ℕ) → (c + 7 ≤ d) ⊎ (d + 7 ≤ c) → HasWatch ws d l → HasWatch (watch_moved ws f c t v) d l
 moved-watch-far ws f c t v l d h w =
     let us = set ws (link_index ws f c - 1) t in
     watches-far us d l (link_index ws f c) v (grind (arith, link_index-in ws f c)) (grind (arith, link_index-in ws f c)) (watches-far ws d l (link_index ws f c - 1) t (grind (arith, link_index-in ws f c)) (grind (arith, link_index-in ws f c)) w)
@@ -97,7 +97,7 @@ moved-next ws f c t v h n =
       | inr p ↦ (let r = moved-reads-right ws f c t v h p in let e : eqb (get_or (watch_moved ws f c t v) (c + 1) 0) t ≡ false = grind (arith, nat_tests) in rw e r.4)
     ]
 
-pub moved-other : (ws : List ℕ) (f c t v l : ℕ) → c + 7 ≤ length ws → l ≢ f → l ≢ t → Watches ws c f → Watches ws c l → next_reference (watch_moved ws f c t v) l c ≡ next_reference ws l c
+pub moved-other : (ws : List ℕ) (f c t v l : ℕ) → c + 7 ≤ length ws → l ≢ f → l ≢ t → HasWatch ws c f → HasWatch ws c l → next_reference (watch_moved ws f c t v) l c ≡ next_reference ws l c
 unfolding link_index
 moved-other ws f c t v l h n m wf wl =
     elim (cases_eq (get_or ws (c + 1) 0) f) [
@@ -112,30 +112,30 @@ moved-other ws f c t v l h n m wf wl =
           rw (e, g) r.2)
     ]
   where
-    second : (ws : List ℕ) (c f l : ℕ) → l ≢ f → get_or ws (c + 1) 0 ≢ f → Watches ws c f → Watches ws c l → get_or ws (c + 1) 0 ≡ l
+    second : (ws : List ℕ) (c f l : ℕ) → l ≢ f → get_or ws (c + 1) 0 ≢ f → HasWatch ws c f → HasWatch ws c l → get_or ws (c + 1) 0 ≡ l
     second ws c f l n p (left a) w = absurd (p a)
     second ws c f l n p (right a) (left b) = b
     second ws c f l n p (right a) (right b) = absurd (n (sym b ∙ a))
 
-pub moved-watch : (ws : List ℕ) (f c t v : ℕ) → c + 7 ≤ length ws → Watches (watch_moved ws f c t v) c t
+pub moved-watch : (ws : List ℕ) (f c t v : ℕ) → c + 7 ≤ length ws → HasWatch (watch_moved ws f c t v) c t
 moved-watch ws f c t v h =
     elim (cases_eq (get_or ws (c + 1) 0) f) [
       | inl p ↦ left (moved-reads-left ws f c t v h p).1
       | inr p ↦ right (moved-reads-right ws f c t v h p).3
     ]
 
-pub moved-watch-other : (ws : List ℕ) (f c t v l : ℕ) → c + 7 ≤ length ws → l ≢ f → Watches ws c f → Watches ws c l → Watches (watch_moved ws f c t v) c l
+pub moved-watch-other : (ws : List ℕ) (f c t v l : ℕ) → c + 7 ≤ length ws → l ≢ f → HasWatch ws c f → HasWatch ws c l → HasWatch (watch_moved ws f c t v) c l
 moved-watch-other ws f c t v l h n wf w =
     elim (cases_eq (get_or ws (c + 1) 0) f) [
       | inl p ↦ (let r = moved-reads-left ws f c t v h p in pick1 ws (watch_moved ws f c t v) c f l n p r.3 w)
       | inr p ↦ (let r = moved-reads-right ws f c t v h p in pick2 ws (watch_moved ws f c t v) c f l n p r.1 wf w)
     ]
   where
-    pick1 : (ws vs : List ℕ) (c f l : ℕ) → l ≢ f → get_or ws (c + 1) 0 ≡ f → get_or vs (c + 3) 0 ≡ get_or ws (c + 3) 0 → Watches ws c l → Watches vs c l
+    pick1 : (ws vs : List ℕ) (c f l : ℕ) → l ≢ f → get_or ws (c + 1) 0 ≡ f → get_or vs (c + 3) 0 ≡ get_or ws (c + 3) 0 → HasWatch ws c l → HasWatch vs c l
     pick1 ws vs c f l n p r (left a) = absurd (n (sym a ∙ p))
     pick1 ws vs c f l n p r (right a) = right (r ∙ a)
 
-    pick2 : (ws vs : List ℕ) (c f l : ℕ) → l ≢ f → get_or ws (c + 1) 0 ≢ f → get_or vs (c + 1) 0 ≡ get_or ws (c + 1) 0 → Watches ws c f → Watches ws c l → Watches vs c l
+    pick2 : (ws vs : List ℕ) (c f l : ℕ) → l ≢ f → get_or ws (c + 1) 0 ≢ f → get_or vs (c + 1) 0 ≡ get_or ws (c + 1) 0 → HasWatch ws c f → HasWatch ws c l → HasWatch vs c l
     pick2 ws vs c f l n p r w (left a) = left (r ∙ a)
     pick2 ws vs c f l n p r (left b) (right a) = absurd (p b)
     pick2 ws vs c f l n p r (right b) (right a) = absurd (n (sym a ∙ b))

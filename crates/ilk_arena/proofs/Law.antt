@@ -7,42 +7,42 @@ use Rattle.std.proofs.lemmas.List.{get_or_past, length-map}
 use Rattle.ilk_cnf.specs.Literal.{Literal, same_lit, has_lit}
 use Rattle.ilk_arena.specs.Arena.{place, chain_of, is_listed_in, literals_of}
 use Rattle.ilk_arena.specs.Chains.{IsArena, WatchesTwo}
-use Rattle.ilk_arena.specs.Words.{IsMemberOf, Watches, left, right}
-use Rattle.ilk_arena.specs.Linked.{lit_at, places_at, chain_at, lists_of, HasWatchChains}
+use Rattle.ilk_arena.specs.Words.{IsMemberOf, HasWatch, left, right}
+use Rattle.ilk_arena.specs.Linked.{lit_from_place, literal_places_at, chain_for_place, lists_of, HasWatchChains}
 use Rattle.ilk_arena.proofs.Seen.{stands-from, stands-to, lit-at-place, chain-seen, chains-count, clause-seen, references-seen, places-length}
 use Rattle.ilk_arena.proofs.Unlinking.{each-at}
 use Rattle.ilk_arena.proofs.LinkedChains.{distinct-std}
 use Rattle.ilk_cnf.proofs.SameLiterals.{same-lit}
 
-pub place-of-lit : (p : ℕ) → place (lit_at p) ≡ p
+pub place-of-lit : (p : ℕ) → place (lit_from_place p) ≡ p
 place-of-lit p = go (p / 2) (p % 2) (omega arith) (omega arith)
   where
     go : (q r : ℕ) → r < 2 → 2 * q + r ≡ p → cond (eqb r 1) (2 * q + 1) (2 * q) ≡ p
     go q r h e = elim (eqb_tells r 1) [ inl t ↦ rw t.0 (omega (arith, t.1)) | inr t ↦ rw t.0 (omega (arith, t.1)) ]
 
-pub has-lit : (p : ℕ) (ps : List ℕ) → IsMemberOf ps p → has_lit (lit_at p) (map lit_at ps) ≡ true
+pub has-lit : (p : ℕ) (ps : List ℕ) → IsMemberOf ps p → has_lit (lit_from_place p) (map lit_from_place ps) ≡ true
 has-lit p [] s = absurd s
 has-lit p (q ∷ ps) s = elim s [
-  | inl e ↦ or_left _ _ (ap (λ (x : ℕ). same_lit (lit_at p) (lit_at x)) e ∙ same-lit (lit_at p))
+  | inl e ↦ or_left _ _ (ap (λ (x : ℕ). same_lit (lit_from_place p) (lit_from_place x)) e ∙ same-lit (lit_from_place p))
   | inr r ↦ or_right _ _ (has-lit p ps r)
 ]
 
-pub in-chain : (ws hs refs : List ℕ) (p c : ℕ) → HasWatchChains ws hs refs → p < length hs → IsMemberOf (chain_at ws hs p) c → IsMemberOf refs c × Watches ws c p
-in-chain ws hs refs p c k h s = each-at (λ d. IsMemberOf refs d × Watches ws d p) (chain_at ws hs p) c s (k.chains.held p h)
+pub in-chain : (ws hs refs : List ℕ) (p c : ℕ) → HasWatchChains ws hs refs → p < length hs → IsMemberOf (chain_for_place ws hs p) c → IsMemberOf refs c × HasWatch ws c p
+in-chain ws hs refs p c k h s = each-at (λ d. IsMemberOf refs d × HasWatch ws d p) (chain_for_place ws hs p) c s (k.chains.held p h)
 
 pub record InChain (ws hs refs : List ℕ) (l : Literal) (c : ℕ) : Type 0 where
   pub below : place l < length hs
-  pub stands : IsMemberOf (chain_at ws hs (place l)) c
+  pub stands : IsMemberOf (chain_for_place ws hs (place l)) c
   pub known : IsMemberOf refs c
-  pub watches : Watches ws c (place l)
+  pub watches : HasWatch ws c (place l)
   pub least : 2 ≤ place l
 
 pub chain-has : (vars spare : ℕ) (ws hs refs : List ℕ) (l : Literal) (c : ℕ) → HasWatchChains ws hs refs → is_listed_in c (chain_of (lists_of vars spare ws hs refs) l) ≡ true → InChain ws hs refs l c
 chain-has vars spare ws hs refs l c k h =
     elim (cases_lt (place l) (length hs)) [
       | inl b ↦ (let S : List ℕ → Type 0 = λ ys. is_listed_in c ys ≡ true in
-          let t : is_listed_in c (chain_at ws hs (place l)) ≡ true = subst S (chain-seen vars spare ws hs refs (place l) b) h in
-          let s = stands-from c (chain_at ws hs (place l)) t in
+          let t : is_listed_in c (chain_for_place ws hs (place l)) ≡ true = subst S (chain-seen vars spare ws hs refs (place l) b) h in
+          let s = stands-from c (chain_for_place ws hs (place l)) t in
           let r = in-chain ws hs refs (place l) c k b s in
           record {
             below = b;
@@ -62,40 +62,41 @@ chain-has vars spare ws hs refs l c k h =
           cc)
     ]
 
-pub chain-gets : (vars spare : ℕ) (ws hs refs : List ℕ) (l : Literal) (c : ℕ) → place l < length hs → IsMemberOf (chain_at ws hs (place l)) c → is_listed_in c (chain_of (lists_of vars spare ws hs refs) l) ≡ true
+pub chain-gets : (vars spare : ℕ) (ws hs refs : List ℕ) (l : Literal) (c : ℕ) → place l < length hs → IsMemberOf (chain_for_place ws hs (place l)) c → is_listed_in c (chain_of (lists_of vars spare ws hs refs) l) ≡ true
 chain-gets vars spare ws hs refs l c b s =
     let S : List ℕ → Type 0 = λ ys. is_listed_in c ys ≡ true in
-    subst S (sym (chain-seen vars spare ws hs refs (place l) b)) (stands-to c (chain_at ws hs (place l)) s)
+    subst S (sym (chain-seen vars spare ws hs refs (place l) b)) (stands-to c (chain_for_place ws hs (place l)) s)
 
 pub clause-length : (vars spare : ℕ) (ws hs refs : List ℕ) (c : ℕ) → HasWatchChains ws hs refs → IsMemberOf refs c → length (literals_of (lists_of vars spare ws hs refs) c) ≡ get_or ws c 0
 clause-length vars spare ws hs refs c k s =
-    ap (λ (ls : List Literal). length ls) (clause-seen vars spare ws hs refs c s) ∙ length-map (places_at ws c) lit_at ∙ places-length ws c (k.whole c s)
+    ap (λ (ls : List Literal). length ls) (clause-seen vars spare ws hs refs c s) ∙ length-map (literal_places_at ws c) lit_from_place ∙ places-length ws c (k.whole c s)
 
-pub watch-gets : (vars spare : ℕ) (ws hs refs : List ℕ) (c p : ℕ) (l : Literal) → HasWatchChains ws hs refs → IsMemberOf refs c → IsMemberOf (places_at ws c) p → Watches ws c p → l ≡ lit_at p
+pub watch-gets : (vars spare : ℕ) (ws hs refs : List ℕ) (c p : ℕ) (l : Literal) → HasWatchChains ws hs refs → IsMemberOf refs c → IsMemberOf (literal_places_at ws c) p → HasWatch ws c p → l ≡ lit_from_place p
     → is_listed_in c (chain_of (lists_of vars spare ws hs refs) l) ≡ true
 watch-gets vars spare ws hs refs c p l k s o w e =
     let q : place l ≡ p = ap place e ∙ place-of-lit p in
     let h : p < length hs = k.small c p s o in
-    let S : ℕ → Type 0 = λ j. IsMemberOf (chain_at ws hs j) c in
+    let S : ℕ → Type 0 = λ j. IsMemberOf (chain_for_place ws hs j) c in
     chain-gets vars spare ws hs refs l c (omega (arith, q)) (subst S (sym q) (k.standing c p s (k.least c p s o) h w))
 
-pub lit-of : (p : ℕ) (l : Literal) → p ≡ place l → l ≡ lit_at p
-lit-of p l e = sym (lit-at-place l) ∙ ap lit_at (sym e)
+pub lit-of : (p : ℕ) (l : Literal) → p ≡ place l → l ≡ lit_from_place p
+lit-of p l e = sym (lit-at-place l) ∙ ap lit_from_place (sym e)
 
-pub watches-two : (vars spare : ℕ) (ws hs refs : List ℕ) (c : ℕ) → HasWatchChains ws hs refs → IsMemberOf refs c → 2 ≤ get_or ws c 0 → WatchesTwo (lists_of vars spare ws hs refs) c (lit_at (get_or ws (c + 1) 0)) (lit_at (get_or ws (c + 3) 0))
+pub watches-two : (vars spare : ℕ) (ws hs refs : List ℕ) (c : ℕ) → HasWatchChains ws hs refs → IsMemberOf refs c → 2 ≤ get_or ws c 0 →
+    WatchesTwo (lists_of vars spare ws hs refs) c (lit_from_place (get_or ws (c + 1) 0)) (lit_from_place (get_or ws (c + 3) 0))
 watches-two vars spare ws hs refs c k s h =
     let p = get_or ws (c + 1) 0 in
     let q = get_or ws (c + 3) 0 in
     let a = lists_of vars spare ws hs refs in
     let own = k.left_own c s h in
     let own2 = k.right_own c s h in
-    let H : List Literal → Type 0 = λ ls. has_lit (lit_at p) ls ≡ true in
-    let H2 : List Literal → Type 0 = λ ls. has_lit (lit_at q) ls ≡ true in
+    let H : List Literal → Type 0 = λ ls. has_lit (lit_from_place p) ls ≡ true in
+    let H2 : List Literal → Type 0 = λ ls. has_lit (lit_from_place q) ls ≡ true in
     let seen = clause-seen vars spare ws hs refs c s in
     record {
       differ = λ e. k.differ c s (sym (place-of-lit p) ∙ ap place e ∙ place-of-lit q);
-      first = subst H (sym seen) (has-lit p (places_at ws c) own);
-      second = subst H2 (sym seen) (has-lit q (places_at ws c) own2);
+      first = subst H (sym seen) (has-lit p (literal_places_at ws c) own);
+      second = subst H2 (sym seen) (has-lit q (literal_places_at ws c) own2);
       exactly = λ l. (
         (λ t. to l (chain-has vars spare ws hs refs l c k t).watches),
         (λ t. elim t [
@@ -105,7 +106,7 @@ watches-two vars spare ws hs refs c k s h =
       );
     }
   where
-    to : (l : Literal) → Watches ws c (place l) → (l ≡ lit_at (get_or ws (c + 1) 0)) ⊎ (l ≡ lit_at (get_or ws (c + 3) 0))
+    to : (l : Literal) → HasWatch ws c (place l) → (l ≡ lit_from_place (get_or ws (c + 1) 0)) ⊎ (l ≡ lit_from_place (get_or ws (c + 3) 0))
     to l (left e) = inl (lit-of (get_or ws (c + 1) 0) l e)
     to l (right e) = inr (lit-of (get_or ws (c + 3) 0) l e)
 
@@ -116,7 +117,7 @@ arena-law vars spare ws hs refs k =
     record {
       long = λ c t n. (let s = from c t in
           let m = clause-length vars spare ws hs refs c k s in
-          (lit_at (get_or ws (c + 1) 0), lit_at (get_or ws (c + 3) 0), watches-two vars spare ws hs refs c k s (omega (arith, m, n))));
+          (lit_from_place (get_or ws (c + 1) 0), lit_from_place (get_or ws (c + 3) 0), watches-two vars spare ws hs refs c k s (omega (arith, m, n))));
       short = λ c t n l. elim (cases_Bool (is_listed_in c (chain_of a l))) [
         | inl b ↦ absurd (let s = from c t in
             let m = clause-length vars spare ws hs refs c k s in
@@ -127,7 +128,7 @@ arena-law vars spare ws hs refs k =
       ];
       once = λ l. elim (cases_lt (place l) (length hs)) [
         | inl b ↦ (let D : List ℕ → Type 0 = λ ys. IsDistinct eqb ys in
-            subst D (sym (chain-seen vars spare ws hs refs (place l) b)) (distinct-std (chain_at ws hs (place l)) (k.chains.once (place l) b)))
+            subst D (sym (chain-seen vars spare ws hs refs (place l) b)) (distinct-std (chain_for_place ws hs (place l)) (k.chains.once (place l) b)))
         | inr b ↦ (let D : List ℕ → Type 0 = λ ys. IsDistinct eqb ys in
             let n = chains-count vars spare ws hs refs in
             subst D (sym (get_or_past a.chains (place l) [] (omega (arith, n)))) (distinct-std [] tt))
@@ -137,6 +138,6 @@ arena-law vars spare ws hs refs k =
           subst S (sym (references-seen vars spare ws hs refs)) (stands-to c refs i.known));
     }
   where
-    no : (c p : ℕ) → 2 ≤ p → get_or ws (c + 1) 0 < 2 → get_or ws (c + 3) 0 < 2 → Watches ws c p → ⊥
+    no : (c p : ℕ) → 2 ≤ p → get_or ws (c + 1) 0 < 2 → get_or ws (c + 3) 0 < 2 → HasWatch ws c p → ⊥
     no c p h a b (left e) = omega arith
     no c p h a b (right e) = omega arith

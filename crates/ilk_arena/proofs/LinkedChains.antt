@@ -3,12 +3,12 @@ use Rattle.std.specs.List.{list_any, IsDistinct, AllByRecursion}
 use Rattle.std.proofs.lemmas.Bool.Decides.{eqb_tells}
 use Rattle.std.proofs.lemmas.Bool.{cases_order, or_cases, ne_eqb}
 use Rattle.std.proofs.lemmas.Map.Steps.{length-le_from_distinct_below}
-use Rattle.ilk_arena.specs.Words.{IsChainPath, AllMembers, IsMemberOf, Watches, Distinct, AreChains, AreHeadersApart}
-use Rattle.ilk_arena.specs.Linked.{chain_at, HasWatchChains}
+use Rattle.ilk_arena.specs.Words.{IsChainPath, AllSatisfy, IsMemberOf, HasWatch, Distinct, AreChains, AreHeadersApart}
+use Rattle.ilk_arena.specs.Linked.{chain_for_place, HasWatchChains}
 use Rattle.ilk_arena.proofs.Paths.{chain-is}
 use Rattle.ilk_arena.proofs.ChainMoves.{each-map}
 
-all-from : (P Q : ℕ → Type 0) (xs : List ℕ) → ((y : ℕ) → P y → Q y) → AllMembers P xs → AllByRecursion Q xs
+all-from : (P Q : ℕ → Type 0) (xs : List ℕ) → ((y : ℕ) → P y → Q y) → AllSatisfy P xs → AllByRecursion Q xs
 all-from P Q [] f e = tt
 all-from P Q (x ∷ xs) f e = (f x e.0, all-from P Q xs f e.1)
 
@@ -17,7 +17,7 @@ unfolding IsDistinct
 distinct-std [] d = tt
 distinct-std (x ∷ xs) d = (all-from (λ y. y ≢ x) (λ y. eqb x y ≡ false) xs (λ y n. ne_eqb x y (λ e. n (sym e))) d.0, distinct-std xs d.1)
 
-any-below : (n q : ℕ) (xs : List ℕ) → AllMembers (λ c. c < n) xs → list_any (eqb q) xs ≡ true → q < n
+any-below : (n q : ℕ) (xs : List ℕ) → AllSatisfy (λ c. c < n) xs → list_any (eqb q) xs ≡ true → q < n
 any-below n q [] e h = absurd (cc)
 any-below n q (x ∷ xs) e h =
     elim (or_cases (eqb q x) (list_any (eqb q) xs) h) [
@@ -26,7 +26,7 @@ any-below n q (x ∷ xs) e h =
     ]
 
 -- Chains are determined by the words.
-pub short : (n : ℕ) (xs : List ℕ) → Distinct xs → AllMembers (λ c. c < n) xs → length xs ≤ n
+pub short : (n : ℕ) (xs : List ℕ) → Distinct xs → AllSatisfy (λ c. c < n) xs → length xs ≤ n
 short n xs d e = length-le_from_distinct_below xs n (distinct-std xs d) (λ q h. any-below n q xs e h)
 
 pub headers-of : (ws hs refs : List ℕ) → HasWatchChains ws hs refs → AreHeadersApart ws (IsMemberOf refs)
@@ -38,14 +38,14 @@ headers-of ws hs refs k = record {
   ];
 }
 
-pub chain_at-is : (ws hs : List ℕ) (R : ℕ → Type 0) (cs : ℕ → List ℕ) → AreHeadersApart ws R → AreChains ws hs R cs → (l : ℕ) → l < length hs → chain_at ws hs l ≡ cs l
-chain_at-is ws hs R cs hd k l h =
-    let below : AllMembers (λ c. c < length ws) (cs l) = each-map (λ c. R c × Watches ws c l) (λ c. c < length ws) (cs l) (λ c r. omega (arith, hd.room c r.0)) (k.held l h) in
+pub chain_for_place-is : (ws hs : List ℕ) (R : ℕ → Type 0) (cs : ℕ → List ℕ) → AreHeadersApart ws R → AreChains ws hs R cs → (l : ℕ) → l < length hs → chain_for_place ws hs l ≡ cs l
+chain_for_place-is ws hs R cs hd k l h =
+    let below : AllSatisfy (λ c. c < length ws) (cs l) = each-map (λ c. R c × HasWatch ws c l) (λ c. c < length ws) (cs l) (λ c r. omega (arith, hd.room c r.0)) (k.held l h) in
     chain-is ws l (length ws) (get_or hs l 0) (cs l) (short (length ws) (cs l) (k.once l h) below) (k.path l h)
 
 pub same-chains : (ws hs : List ℕ) (R : ℕ → Type 0) (cs ds : ℕ → List ℕ) → ((l : ℕ) → l < length hs → ds l ≡ cs l) → AreChains ws hs R cs → AreChains ws hs R ds
 same-chains ws hs R cs ds e k = record {
   path = λ l h. (let P : List ℕ → Type 0 = λ ys. IsChainPath ws l (get_or hs l 0) ys in subst P (sym (e l h)) (k.path l h));
-  held = λ l h. (let P : List ℕ → Type 0 = λ ys. AllMembers (λ c. R c × Watches ws c l) ys in subst P (sym (e l h)) (k.held l h));
+  held = λ l h. (let P : List ℕ → Type 0 = λ ys. AllSatisfy (λ c. R c × HasWatch ws c l) ys in subst P (sym (e l h)) (k.held l h));
   once = λ l h. (let P : List ℕ → Type 0 = λ ys. Distinct ys in subst P (sym (e l h)) (k.once l h));
 }

@@ -3,7 +3,7 @@ use Rattle.std.proofs.Common.{◌≡◌, ℕ, ◌+◌, ◌*◌, ◌<◌, ◌≤�
 use Rattle.std.specs.List.{slice_get}
 use Rattle.std.proofs.lemmas.List.{get_or_read, length-map}
 use Rattle.std.proofs.lemmas.Option.{slice_get_read}
-use Rattle.ilk_cnf.specs.Literal.{Literal, vars_differ}
+use Rattle.ilk_cnf.specs.Literal.{Literal, has_distinct_vars}
 use Rattle.ilk_cnf.specs.Formula.{is_clause_over}
 use Rattle.ilk_arena.specs.Arena.{ArenaLists, place}
 use Rattle.ilk_arena.specs.declared.place.TheConstants.{WORD_LIMIT}
@@ -49,7 +49,7 @@ pub record LongWritten (ws hs us ks : List ℕ) (count reference : ℕ) (ls : Li
 pub long-grown :
     {vars count reference : ℕ} {ws hs us ks : List ℕ} {ls : List Literal} {x : ArenaLists} (spare old : ℕ) →
     HoldsArena ws hs vars count → lists_of vars old ws hs (references_in ws) ≡ x →
-    is_clause_over x.vars ls ≡ true → vars_differ ls ≡ true → 2 ≤ length ls → length ls + 8 ≤ x.spare →
+    is_clause_over x.vars ls ≡ true → has_distinct_vars ls ≡ true → 2 ≤ length ls → length ls + 8 ≤ x.spare →
     old + length ws ≤ WORD_LIMIT → LongWritten ws hs us ks count reference ls →
     Grown vars spare count us ks x ls reference
 long-grown {vars} {count} {reference} {ws} {hs} {us} {ks} {ls} {x} spare old h e within differ long room below w =

@@ -1,9 +1,9 @@
 use Rattle.std.proofs.Common.{◌≡◌, ℕ, zero, suc, ◌<◌, ◌≤◌, false, eqb, List, [], ◌∷◌, ◌++◌, length, refl, sym, subst, arith}
 use Rattle.std.proofs.lemmas.Bool.Decides.{nat_tests}
-use Rattle.ilk_arena.specs.Words.{next_reference, IsChainPath, chain, AllMembers}
+use Rattle.ilk_arena.specs.Words.{next_reference, IsChainPath, chain, AllSatisfy}
 
 -- A write that keeps the links of a path keeps the path.
-pub frame : (ws vs : List ℕ) (l k : ℕ) (cs : List ℕ) → AllMembers (λ c. next_reference vs l c ≡ next_reference ws l c) cs → IsChainPath ws l k cs → IsChainPath vs l k cs
+pub frame : (ws vs : List ℕ) (l k : ℕ) (cs : List ℕ) → AllSatisfy (λ c. next_reference vs l c ≡ next_reference ws l c) cs → IsChainPath ws l k cs → IsChainPath vs l k cs
 frame ws vs l k [] e p = p
 frame ws vs l k (c ∷ cs) e p =
     let P : ℕ → Type 0 = λ j. IsChainPath vs l j cs in
@@ -25,9 +25,9 @@ split ws l k [] c post p = (refl, p.1, p.2)
 split ws l k (d ∷ pre) c post p = split ws l (next_reference ws l d) pre c post p.2
 
 pub unlink : (ws vs : List ℕ) (l k b c : ℕ) (pre post : List ℕ) →
-    AllMembers (λ d. next_reference vs l d ≡ next_reference ws l d) pre →
+    AllSatisfy (λ d. next_reference vs l d ≡ next_reference ws l d) pre →
     next_reference vs l b ≡ next_reference ws l c →
-    AllMembers (λ d. next_reference vs l d ≡ next_reference ws l d) post → IsChainPath ws l k (pre ++ (b ∷ (c ∷ post))) →
+    AllSatisfy (λ d. next_reference vs l d ≡ next_reference ws l d) post → IsChainPath ws l k (pre ++ (b ∷ (c ∷ post))) →
     IsChainPath vs l k (pre ++ (b ∷ post))
 unlink ws vs l k b c [] post e x f p =
     let P : ℕ → Type 0 = λ j. IsChainPath vs l j post in

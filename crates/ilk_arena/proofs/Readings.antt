@@ -7,8 +7,8 @@ use Rattle.ilk_cnf.specs.Literal.{Literal, same_lit}
 use Rattle.ilk_cnf.specs.Formula.{is_lit_over}
 use Rattle.ilk_arena.specs.Arena.{ArenaLists, place, chain_of, is_listed_in, literals_of, cursor_of, number_of_clause, first_of, reference_after, other_watch_of}
 use Rattle.ilk_arena.specs.declared.place.TheConstants.{WORD_LIMIT}
-use Rattle.ilk_arena.specs.Words.{IsMemberOf, Watches, left, right, next_reference, other_watch_place, reference_of}
-use Rattle.ilk_arena.specs.Linked.{lit_at, places_at, chain_at, references_in, lists_of, HasWatchChains, HoldsArena}
+use Rattle.ilk_arena.specs.Words.{IsMemberOf, HasWatch, left, right, next_reference, other_watch_place, reference_of}
+use Rattle.ilk_arena.specs.Linked.{lit_from_place, literal_places_at, chain_for_place, references_in, lists_of, HasWatchChains, HoldsArena}
 use Rattle.ilk_base.proofs.Lists.{find-only}
 use Rattle.ilk_arena.proofs.Blocks.{few-clauses}
 use Rattle.ilk_arena.proofs.Seen.{stands-from, lit-at-place, place-within, chain-seen, clause-seen, cursor-seen, references-seen, vars-seen, first-is, reference_after-is}
@@ -60,7 +60,7 @@ known vars spare count ws hs a c h e t =
 pub record Within (ws hs : List ℕ) (a : ArenaLists) (l : Literal) : Type 0 where
   pub few : 2 * l.var + 1 < WORD_LIMIT
   pub below : place l < length hs
-  pub chain : chain_of a l ≡ chain_at ws hs (place l)
+  pub chain : chain_of a l ≡ chain_for_place ws hs (place l)
 
 pub within : (vars spare count : ℕ) (ws hs : List ℕ) (a : ArenaLists) (l : Literal) → HoldsArena ws hs vars count → lists_of vars spare ws hs (references_in ws) ≡ a → is_lit_over a.vars l ≡ true → Within ws hs a l
 within vars spare count ws hs a l h e t =
@@ -77,7 +77,7 @@ within vars spare count ws hs a l h e t =
     }
 
 pub first-seen : (vars spare count : ℕ) (ws hs : List ℕ) (a : ArenaLists) (l : Literal) → HoldsArena ws hs vars count → Within ws hs a l → reference_of (get_or hs (place l) 0) ≡ first_of (chain_of a l)
-first-seen vars spare count ws hs a l h w = first-is ws (place l) (get_or hs (place l) 0) (chain_at ws hs (place l)) (h.linked.chains.path (place l) w.below) ∙ ap first_of (sym w.chain)
+first-seen vars spare count ws hs a l h w = first-is ws (place l) (get_or hs (place l) 0) (chain_for_place ws hs (place l)) (h.linked.chains.path (place l) w.below) ∙ ap first_of (sym w.chain)
 
 pub watching : (vars spare : ℕ) (ws hs : List ℕ) (a : ArenaLists) (l : Literal) (c : ℕ) → HasWatchChains ws hs (references_in ws) → lists_of vars spare ws hs (references_in ws) ≡ a → is_listed_in c (chain_of a l) ≡ true
     → InChain ws hs (references_in ws) l c
@@ -85,40 +85,40 @@ watching vars spare ws hs a l c k e t = chain-has vars spare ws hs (references_i
 
 pub reference_after-seen : (vars count : ℕ) (ws hs : List ℕ) (a : ArenaLists) (l : Literal) (c : ℕ) → HoldsArena ws hs vars count → Within ws hs a l → InChain ws hs (references_in ws) l c
     → reference_of (next_reference ws (place l) c) ≡ reference_after c (chain_of a l)
-reference_after-seen vars count ws hs a l c h w i = reference_after-is ws (place l) (get_or hs (place l) 0) c (chain_at ws hs (place l)) (h.linked.chains.path (place l) w.below) i.stands ∙ ap (reference_after c) (sym w.chain)
+reference_after-seen vars count ws hs a l c h w i = reference_after-is ws (place l) (get_or hs (place l) 0) c (chain_for_place ws hs (place l)) (h.linked.chains.path (place l) w.below) i.stands ∙ ap (reference_after c) (sym w.chain)
 
 pub record OtherWatch (ws : List ℕ) (a : ArenaLists) (c : ℕ) (l : Literal) : Type 0 where
   pub low : 2 ≤ other_watch_place ws (place l) c
-  pub is : other_watch_of a c l ≡ Some (lit_at (other_watch_place ws (place l) c))
+  pub is : other_watch_of a c l ≡ Some (lit_from_place (other_watch_place ws (place l) c))
 
 record Other (ws : List ℕ) (c f q : ℕ) : Type 0 where
-  watches : Watches ws c q
+  watches : HasWatch ws c q
   differs : q ≢ f
-  only : (p : ℕ) → Watches ws c p → p ≢ f → p ≡ q
+  only : (p : ℕ) → HasWatch ws c p → p ≢ f → p ≡ q
 
-other_watch_place-is : (ws : List ℕ) (c f : ℕ) → get_or ws (c + 1) 0 ≢ get_or ws (c + 3) 0 → Watches ws c f → Other ws c f (other_watch_place ws f c)
+other_watch_place-is : (ws : List ℕ) (c f : ℕ) → get_or ws (c + 1) 0 ≢ get_or ws (c + 3) 0 → HasWatch ws c f → Other ws c f (other_watch_place ws f c)
 other_watch_place-is ws c f n w =
     elim (eqb_tells (get_or ws (c + 1) 0) f) [
       | inl t ↦ rw t.0 (record { watches = right refl; differs = λ e. n (t.1 ∙ sym e); only = λ p v m. lefts p v m t.1 })
       | inr t ↦ rw t.0 (record { watches = left refl; differs = t.1; only = λ p v m. rights p v m t.1 w })
     ]
   where
-    lefts : (p : ℕ) → Watches ws c p → p ≢ f → get_or ws (c + 1) 0 ≡ f → p ≡ get_or ws (c + 3) 0
+    lefts : (p : ℕ) → HasWatch ws c p → p ≢ f → get_or ws (c + 1) 0 ≡ f → p ≡ get_or ws (c + 3) 0
     lefts p (left e) m t = absurd (m (sym e ∙ t))
     lefts p (right e) m t = sym e
 
-    rights : (p : ℕ) → Watches ws c p → p ≢ f → get_or ws (c + 1) 0 ≢ f → Watches ws c f → p ≡ get_or ws (c + 1) 0
+    rights : (p : ℕ) → HasWatch ws c p → p ≢ f → get_or ws (c + 1) 0 ≢ f → HasWatch ws c f → p ≡ get_or ws (c + 1) 0
     rights p v m t (left e) = absurd (t e)
     rights p (left e) m t (right g) = sym e
     rights p (right e) m t (right g) = absurd (m (sym e ∙ g))
 
-watch-place : (ws hs refs : List ℕ) (c p : ℕ) → HasWatchChains ws hs refs → IsMemberOf refs c → 2 ≤ get_or ws c 0 → Watches ws c p → IsMemberOf (places_at ws c) p
-watch-place ws hs refs c p k s h (left e) = (let S : ℕ → Type 0 = λ j. IsMemberOf (places_at ws c) j in subst S e (k.left_own c s h))
-watch-place ws hs refs c p k s h (right e) = (let S : ℕ → Type 0 = λ j. IsMemberOf (places_at ws c) j in subst S e (k.right_own c s h))
+watch-place : (ws hs refs : List ℕ) (c p : ℕ) → HasWatchChains ws hs refs → IsMemberOf refs c → 2 ≤ get_or ws c 0 → HasWatch ws c p → IsMemberOf (literal_places_at ws c) p
+watch-place ws hs refs c p k s h (left e) = (let S : ℕ → Type 0 = λ j. IsMemberOf (literal_places_at ws c) j in subst S e (k.left_own c s h))
+watch-place ws hs refs c p k s h (right e) = (let S : ℕ → Type 0 = λ j. IsMemberOf (literal_places_at ws c) j in subst S e (k.right_own c s h))
 
-index-of : (ps : List ℕ) (q : ℕ) → IsMemberOf ps q → (i : ℕ) × (slice_get (map lit_at ps) i ≡ Some (lit_at q))
+index-of : (ps : List ℕ) (q : ℕ) → IsMemberOf ps q → (i : ℕ) × (slice_get (map lit_from_place ps) i ≡ Some (lit_from_place q))
 index-of [] q s = absurd s
-index-of (p ∷ ps) q s = elim s [ inl e ↦ (0, ap (λ (x : ℕ). Some (lit_at x)) e) | inr r ↦ (let t = index-of ps q r in (suc t.0, t.1)) ]
+index-of (p ∷ ps) q s = elim s [ inl e ↦ (0, ap (λ (x : ℕ). Some (lit_from_place x)) e) | inr r ↦ (let t = index-of ps q r in (suc t.0, t.1)) ]
 
 pub other_watch_place-seen : (vars spare count : ℕ) (ws hs : List ℕ) (a : ArenaLists) (l : Literal) (c : ℕ) → HoldsArena ws hs vars count → lists_of vars spare ws hs (references_in ws) ≡ a → is_listed_in c (chain_of a l) ≡ true → OtherWatch ws a c l
 other_watch_place-seen vars spare count ws hs a l c h e t =
@@ -132,8 +132,8 @@ other_watch_place-seen vars spare count ws hs a l c h e t =
     let lg : 2 ≤ get_or ws c 0 = long-of ws hs refs c f k s i.least i.watches in
     let o = other_watch_place-is ws c f (k.differ c s) i.watches in
     let own = watch-place ws hs refs c q k s lg o.watches in
-    let x = lit_at q in
-    let n = index-of (places_at ws c) q own in
+    let x = lit_from_place q in
+    let n = index-of (literal_places_at ws c) q own in
     let p : Literal → Bool = λ m. is_listed_in c (chain_of L m) && not (same_lit l m) in
     let in-list : slice_get (literals_of L c) n.0 ≡ Some x = ap (λ (ls : List Literal). slice_get ls n.0) (clause-seen vars spare ws hs refs c s) ∙ n.1 in
     let chained : is_listed_in c (chain_of L x) ≡ true = watch-gets vars spare ws hs refs c q x k s own o.watches refl in
@@ -146,7 +146,7 @@ other_watch_place-seen vars spare count ws hs a l c h e t =
     let parts = and_parts (is_listed_in c (chain_of L y)) (not (same_lit l y)) py in
     let w = chain-has vars spare ws hs refs y c k parts.0 in
     let differs : place y ≢ f = λ g. (
-    let same : y ≡ l = sym (lit-at-place y) ∙ ap lit_at g ∙ lit-at-place l in
+    let same : y ≡ l = sym (lit-at-place y) ∙ ap lit_from_place g ∙ lit-at-place l in
     let no : same_lit l y ≡ false = not-true (same_lit l y) parts.1 in
     let yes : same_lit l y ≡ true = ap (same_lit l) same ∙ same-lit l in
     absurd (cc)) in

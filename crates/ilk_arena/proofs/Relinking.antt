@@ -3,12 +3,12 @@ use Rattle.std.proofs.lemmas.List.{get_or-set_other}
 use Rattle.std.proofs.lemmas.Bool.Decides.{nat_tests, eqb_tells}
 use Rattle.std.proofs.lemmas.Bool.{cases_eq, cases_lt}
 use Rattle.std.proofs.Math.ListN.{length-set}
-use Rattle.ilk_arena.specs.Words.{link_index, watch_moved, AllMembers, IsMemberOf, Watches, left, right, AreChains, AreHeadersApart, with_chain_replaced}
-use Rattle.ilk_arena.specs.Linked.{places_at, chain_at, HasWatchChains}
+use Rattle.ilk_arena.specs.Words.{link_index, watch_moved, AllSatisfy, IsMemberOf, HasWatch, left, right, AreChains, AreHeadersApart, with_chain_replaced}
+use Rattle.ilk_arena.specs.Linked.{literal_places_at, chain_for_place, HasWatchChains}
 use Rattle.ilk_arena.specs.Arena.{without_reference}
 use Rattle.ilk_arena.proofs.HeaderWrites.{link_index-in, moved-reads-left, moved-reads-right}
 use Rattle.ilk_arena.proofs.ChainMoves.{push-moved}
-use Rattle.ilk_arena.proofs.LinkedChains.{headers-of, chain_at-is, same-chains}
+use Rattle.ilk_arena.proofs.LinkedChains.{headers-of, chain_for_place-is, same-chains}
 use Rattle.ilk_arena.proofs.Unlinking.{Alike, SameWatches, same-after, watches-to, watch-back, without-gone, stands-without}
 
 abbrev pub Clear : List ℕ → List ℕ → Type 0
@@ -49,7 +49,7 @@ moved-same ws f c t v d h = (
   moved-read-far ws f c t v (d + 3) (grind (arith, link_index-in ws f c)) (grind (arith, link_index-in ws f c)),
 )
 
-moved-differ : (ws : List ℕ) (f c t v : ℕ) → c + 7 ≤ length ws → (Watches ws c t → ⊥) → get_or (watch_moved ws f c t v) (c + 1) 0 ≢ get_or (watch_moved ws f c t v) (c + 3) 0
+moved-differ : (ws : List ℕ) (f c t v : ℕ) → c + 7 ≤ length ws → (HasWatch ws c t → ⊥) → get_or (watch_moved ws f c t v) (c + 1) 0 ≢ get_or (watch_moved ws f c t v) (c + 3) 0
 moved-differ ws f c t v h n e =
     elim (cases_eq (get_or ws (c + 1) 0) f) [
       | inl p ↦ (let r = moved-reads-left ws f c t v h p in n (right (sym r.3 ∙ sym e ∙ r.1)))
@@ -72,14 +72,14 @@ stands-two cs f t c d l n (inr s) =
       | inr e ↦ rw e.0 one
     ]
 
-pub long-of : (ws hs refs : List ℕ) (c f : ℕ) → HasWatchChains ws hs refs → IsMemberOf refs c → 2 ≤ f → Watches ws c f → 2 ≤ get_or ws c 0
+pub long-of : (ws hs refs : List ℕ) (c f : ℕ) → HasWatchChains ws hs refs → IsMemberOf refs c → 2 ≤ f → HasWatch ws c f → 2 ≤ get_or ws c 0
 long-of ws hs refs c f k r h w =
     elim (cases_lt (get_or ws c 0) 2) [
       | inl s ↦ absurd (go (k.left_none c r s) (k.right_none c r s) w)
       | inr s ↦ s
     ]
   where
-    go : get_or ws (c + 1) 0 < 2 → get_or ws (c + 3) 0 < 2 → Watches ws c f → ⊥
+    go : get_or ws (c + 1) 0 < 2 → get_or ws (c + 3) 0 < 2 → HasWatch ws c f → ⊥
     go a b (left p) = omega arith
     go a b (right p) = omega arith
 
@@ -93,14 +93,15 @@ watch-words ws f c t v P h pt pl pr =
 pub record Relinked (ws hs refs us ks : List ℕ) (f t c : ℕ) : Type 0 where
   pub linked : HasWatchChains us ks refs
   pub alike : Alike ws us refs
-  pub seen : (l : ℕ) → l < length hs → chain_at us ks l ≡ with_chain_replaced (with_chain_replaced (chain_at ws hs) f (without_reference c (chain_at ws hs f))) t (c ∷ with_chain_replaced (chain_at ws hs) f (without_reference c (chain_at ws hs f)) t)
+  pub seen : (l : ℕ) → l < length hs → chain_for_place us ks l
+      ≡ with_chain_replaced (with_chain_replaced (chain_for_place ws hs) f (without_reference c (chain_for_place ws hs f))) t (c ∷ with_chain_replaced (chain_for_place ws hs) f (without_reference c (chain_for_place ws hs f)) t)
       l
 
 pub relinked : (ws hs refs vs gs : List ℕ) (f t c : ℕ) → HasWatchChains ws hs refs → Alike ws vs refs →
     SameWatches ws vs refs → length gs ≡ length hs →
-    AreChains vs gs (IsMemberOf refs) (with_chain_replaced (chain_at ws hs) f (without_reference c (chain_at ws hs f))) → 2 ≤ f →
-    f < length hs → IsMemberOf (places_at ws c) t → IsMemberOf refs c → Watches ws c f → f ≢ t →
-    (Watches ws c t → ⊥) → Relinked ws hs refs (watch_moved vs f c t (get_or gs t 0)) (set gs t c) f t c
+    AreChains vs gs (IsMemberOf refs) (with_chain_replaced (chain_for_place ws hs) f (without_reference c (chain_for_place ws hs f))) → 2 ≤ f →
+    f < length hs → IsMemberOf (literal_places_at ws c) t → IsMemberOf refs c → HasWatch ws c f → f ≢ t →
+    (HasWatch ws c t → ⊥) → Relinked ws hs refs (watch_moved vs f c t (get_or gs t 0)) (set gs t c) f t c
 relinked ws hs refs vs gs f t c k a w g ch lf hf own rc wf ne nw =
     let v = get_or gs t 0 in
     let us = watch_moved vs f c t v in
@@ -108,18 +109,18 @@ relinked ws hs refs vs gs f t c k a w g ch lf hf own rc wf ne nw =
     let lt : 2 ≤ t = k.least c t rc own in
     let ht : t < length hs = k.small c t rc own in
     let long : 2 ≤ get_or ws c 0 = long-of ws hs refs c f k rc lf wf in
-    let one = with_chain_replaced (chain_at ws hs) f (without_reference c (chain_at ws hs f)) in
+    let one = with_chain_replaced (chain_for_place ws hs) f (without_reference c (chain_for_place ws hs f)) in
     let two = with_chain_replaced one t (c ∷ one t) in
     let clear1 : Clear vs refs = clear-of ws vs refs a k.clear in
     let hd : AreHeadersApart vs (IsMemberOf refs) = record {
       room = λ d s. (k.positive d s, omega (arith, a.size, k.whole d s));
       apart = λ d e s r n. (headers-of ws hs refs k).apart d e s r n;
     } in
-    let wv : Watches vs c f = watches-to ws vs c f (w.left_same c rc) (w.right_same c rc) wf in
-    let nv : Watches vs c t → ⊥ = λ x. nw (watches-to vs ws c t (sym (w.left_same c rc)) (sym (w.right_same c rc)) x) in
+    let wv : HasWatch vs c f = watches-to ws vs c f (w.left_same c rc) (w.right_same c rc) wf in
+    let nv : HasWatch vs c t → ⊥ = λ x. nw (watches-to vs ws c t (sym (w.left_same c rc)) (sym (w.right_same c rc)) x) in
     let hf2 : f < length gs = omega (arith, g) in
     let ht2 : t < length gs = omega (arith, g) in
-    let gone : AllMembers (λ d. d ≢ c) (one f) = (let e : eqb f f ≡ true = grind (arith, nat_tests) in rw e (without-gone c (chain_at ws hs f))) in
+    let gone : AllSatisfy (λ d. d ≢ c) (one f) = (let e : eqb f f ≡ true = grind (arith, nat_tests) in rw e (without-gone c (chain_for_place ws hs f))) in
     let pushed : AreChains us ks (IsMemberOf refs) two = push-moved vs gs (IsMemberOf refs) one f t c hf2 ht2 ne rc wv (λ e. nv (left e)) nv gone hd ch in
     let room = hd.room c rc in
     let am : Alike vs us refs = alike-moved vs refs f c t v clear1 rc in
@@ -129,16 +130,16 @@ relinked ws hs refs vs gs f t c k a w g ch lf hf own rc wf ne nw =
       apart = hd.apart;
     } in
     let n : length ks ≡ length hs = (simp length-set g) in
-    let fam : (l : ℕ) → l < length hs → chain_at us ks l ≡ two l = λ l h. chain_at-is us ks (IsMemberOf refs) two hd2 pushed l (omega (arith, n)) in
-    let owns : (d : ℕ) → IsMemberOf refs d → 2 ≤ get_or us d 0 → IsMemberOf (places_at us d) (get_or us (d + 1) 0) × IsMemberOf (places_at us d) (get_or us (d + 3) 0) = λ d s h.
+    let fam : (l : ℕ) → l < length hs → chain_for_place us ks l ≡ two l = λ l h. chain_for_place-is us ks (IsMemberOf refs) two hd2 pushed l (omega (arith, n)) in
+    let owns : (d : ℕ) → IsMemberOf refs d → 2 ≤ get_or us d 0 → IsMemberOf (literal_places_at us d) (get_or us (d + 1) 0) × IsMemberOf (literal_places_at us d) (get_or us (d + 3) 0) = λ d s h.
     (let sm = both.same d s in
     let lg : 2 ≤ get_or ws d 0 = omega (arith, sm.len, h) in
     let L = k.left_own d s lg in
     let R = k.right_own d s lg in
-    let S : ℕ → Type 0 = λ p. IsMemberOf (places_at ws d) p in
+    let S : ℕ → Type 0 = λ p. IsMemberOf (literal_places_at ws d) p in
     rw sm.places (elim (cases_eq d c) [
-      | inl e ↦ (let Q : ℕ → Type 0 = λ j. IsMemberOf (places_at ws j) (get_or us (j + 1) 0) × IsMemberOf (places_at ws j) (get_or us (j + 3) 0) in
-          subst Q (sym e) (watch-words vs f c t v (λ p. IsMemberOf (places_at ws c) p) room.1 own (rw (w.left_same c rc) (k.left_own c rc long)) (rw (w.right_same c rc) (k.right_own c rc long))))
+      | inl e ↦ (let Q : ℕ → Type 0 = λ j. IsMemberOf (literal_places_at ws j) (get_or us (j + 1) 0) × IsMemberOf (literal_places_at ws j) (get_or us (j + 3) 0) in
+          subst Q (sym e) (watch-words vs f c t v (λ p. IsMemberOf (literal_places_at ws c) p) room.1 own (rw (w.left_same c rc) (k.left_own c rc long)) (rw (w.right_same c rc) (k.right_own c rc long))))
       | inr m ↦ (let q = moved-same vs f c t v d (hd.apart c d rc s (λ e. m (sym e))) in
           (subst S (sym (q.0 ∙ w.left_same d s)) L, subst S (sym (q.1 ∙ w.right_same d s)) R))
     ])) in
@@ -166,18 +167,18 @@ relinked ws hs refs vs gs f t c k a w g ch lf hf own rc wf ne nw =
         right_own = λ d s h. (owns d s h).1;
         left_none = λ d s h. (nones d s h).0;
         right_none = λ d s h. (nones d s h).1;
-        chains = same-chains us ks (IsMemberOf refs) two (chain_at us ks) (λ l h. fam l (omega (arith, n))) pushed;
+        chains = same-chains us ks (IsMemberOf refs) two (chain_for_place us ks) (λ l h. fam l (omega (arith, n))) pushed;
         empty = λ l h. (
             let a1 : eqb l t ≡ false = grind (arith, nat_tests) in
             let a2 : eqb l f ≡ false = grind (arith, nat_tests) in
             (rw (a1, a2) at (fam l (omega (arith, k.wide)))) ∙ k.empty l h);
         standing = λ d l s l2 h x. (let hl : l < length hs = omega (arith, n) in
             let P : List ℕ → Type 0 = λ ys. IsMemberOf ys d in
-            subst P (sym (fam l hl)) (stands-two (chain_at ws hs) f t c d l ne (elim (cases_eq d c) [
-              | inl e ↦ (let W : ℕ → Type 0 = λ j. Watches us j l in
+            subst P (sym (fam l hl)) (stands-two (chain_for_place ws hs) f t c d l ne (elim (cases_eq d c) [
+              | inl e ↦ (let W : ℕ → Type 0 = λ j. HasWatch us j l in
                   elim (watch-back vs f c t v l room.1 (λ q. k.differ c rc (sym (w.left_same c rc) ∙ q ∙ w.right_same c rc)) wv (subst W e x)) [
                     | inl q ↦ inl (e, q)
-                    | inr q ↦ (let S : ℕ → Type 0 = λ j. IsMemberOf (chain_at ws hs l) j in
+                    | inr q ↦ (let S : ℕ → Type 0 = λ j. IsMemberOf (chain_for_place ws hs l) j in
                         inr (subst S (sym e) (k.standing c l rc l2 hl (watches-to vs ws c l (sym (w.left_same c rc)) (sym (w.right_same c rc)) q.0)), inr q.1))
                   ])
               | inr m ↦ (let q = moved-same vs f c t v d (hd.apart c d rc s (λ e. m (sym e))) in

@@ -8,7 +8,7 @@ use Rattle.ilk_cnf.specs.Literal.{Literal}
 use Rattle.ilk_cnf.specs.Formula.{is_lit_over}
 use Rattle.ilk_arena.specs.Arena.{place, is_listed_in, item_for_reference, literals_of, cursor_of, first_of, reference_after, directly_follows}
 use Rattle.ilk_arena.specs.Words.{IsChainPath, IsMemberOf, DirectlyFollows, next_reference, reference_of}
-use Rattle.ilk_arena.specs.Linked.{lit_at, places_at, literals_at, cursor_at, chain_at, lists_of}
+use Rattle.ilk_arena.specs.Linked.{lit_from_place, literal_places_at, literals_at, cursor_at, chain_for_place, lists_of}
 
 pub stands-from : (c : ℕ) (cs : List ℕ) → is_listed_in c cs ≡ true → IsMemberOf cs c
 stands-from c [] h = absurd (cc)
@@ -18,10 +18,10 @@ pub stands-to : (c : ℕ) (cs : List ℕ) → IsMemberOf cs c → is_listed_in c
 stands-to c [] s = absurd s
 stands-to c (x ∷ cs) s = elim s [ inl e ↦ or_left (eqb x c) (is_listed_in c cs) (eq-eqb x c e) | inr r ↦ or_right (eqb x c) (is_listed_in c cs) (stands-to c cs r) ]
 
-pub lit-at-place : (l : Literal) → lit_at (place l) ≡ l
+pub lit-at-place : (l : Literal) → lit_from_place (place l) ≡ l
 lit-at-place l = go l.var l.positive
   where
-    go : (v : ℕ) (b : Bool) → lit_at (place (record { var = v; positive = b })) ≡ record { var = v; positive = b }
+    go : (v : ℕ) (b : Bool) → lit_from_place (place (record { var = v; positive = b })) ≡ record { var = v; positive = b }
     go v true =
         let d : (2 * v + 1) / 2 ≡ v = omega arith in
         let m : (2 * v + 1) % 2 ≡ 1 = omega arith in
@@ -46,13 +46,13 @@ beside-map f d (r ∷ rs) c s =
       | inr e ↦ rw e.0 (elim s [ inl q ↦ absurd (e.1 q) | inr q ↦ beside-map f d rs c q ])
     ]
 
-pub chain-seen : (vars spare : ℕ) (ws hs refs : List ℕ) (p : ℕ) → p < length hs → get_or (lists_of vars spare ws hs refs).chains p [] ≡ chain_at ws hs p
+pub chain-seen : (vars spare : ℕ) (ws hs refs : List ℕ) (p : ℕ) → p < length hs → get_or (lists_of vars spare ws hs refs).chains p [] ≡ chain_for_place ws hs p
 unfolding lists_of
-chain-seen vars spare ws hs refs p h = get_or-map-range_with_len (chain_at ws hs) 0 (length hs) p p [] h (omega arith)
+chain-seen vars spare ws hs refs p h = get_or-map-range_with_len (chain_for_place ws hs) 0 (length hs) p p [] h (omega arith)
 
 pub chains-count : (vars spare : ℕ) (ws hs refs : List ℕ) → length (lists_of vars spare ws hs refs).chains ≡ length hs
 unfolding lists_of
-chains-count vars spare ws hs refs = length-map-range_with_len (chain_at ws hs) 0 (length hs)
+chains-count vars spare ws hs refs = length-map-range_with_len (chain_for_place ws hs) 0 (length hs)
 
 pub clause-seen : (vars spare : ℕ) (ws hs refs : List ℕ) (c : ℕ) → IsMemberOf refs c → literals_of (lists_of vars spare ws hs refs) c ≡ literals_at ws c
 unfolding lists_of
@@ -70,12 +70,12 @@ pub vars-seen : (vars spare : ℕ) (ws hs refs : List ℕ) → (lists_of vars sp
 unfolding lists_of
 vars-seen vars spare ws hs refs = refl
 
-pub places-length : (ws : List ℕ) (c : ℕ) → c + 7 + get_or ws c 0 ≤ length ws → length (places_at ws c) ≡ get_or ws c 0
-unfolding places_at
+pub places-length : (ws : List ℕ) (c : ℕ) → c + 7 + get_or ws c 0 ≤ length ws → length (literal_places_at ws c) ≡ get_or ws c 0
+unfolding literal_places_at
 places-length ws c h = grind (arith, common_steps)
 
-pub places-get : (ws : List ℕ) (c i : ℕ) → c + 7 + get_or ws c 0 ≤ length ws → i < get_or ws c 0 → get_or (places_at ws c) i 0 ≡ get_or ws (c + 7 + i) 0
-unfolding places_at
+pub places-get : (ws : List ℕ) (c i : ℕ) → c + 7 + get_or ws c 0 ≤ length ws → i < get_or ws c 0 → get_or (literal_places_at ws c) i 0 ≡ get_or ws (c + 7 + i) 0
+unfolding literal_places_at
 places-get ws c i h l = grind (arith, common_steps)
 
 pub first-is : (ws : List ℕ) (l k : ℕ) (cs : List ℕ) → IsChainPath ws l k cs → reference_of k ≡ first_of cs

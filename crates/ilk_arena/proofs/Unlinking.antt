@@ -3,21 +3,21 @@ use Rattle.std.proofs.lemmas.List.{get_or-set_other, drop-set-lt, drop-set-add, 
 use Rattle.std.proofs.lemmas.Bool.Decides.{nat_tests, eqb_tells}
 use Rattle.std.proofs.lemmas.Bool.{cases_eq, cases_order}
 use Rattle.std.proofs.Math.ListN.{length-set}
-use Rattle.ilk_arena.specs.Words.{link_index, watch_moved, words_after_unlink, heads_after_unlink, AllMembers, IsMemberOf, DirectlyFollows, Watches, left, right, Distinct, AreChains, with_chain_replaced}
-use Rattle.ilk_arena.specs.Linked.{places_at, chain_at, HasWatchChains}
+use Rattle.ilk_arena.specs.Words.{link_index, watch_moved, words_after_unlink, heads_after_unlink, AllSatisfy, IsMemberOf, DirectlyFollows, HasWatch, left, right, Distinct, AreChains, with_chain_replaced}
+use Rattle.ilk_arena.specs.Linked.{literal_places_at, chain_for_place, HasWatchChains}
 use Rattle.ilk_arena.specs.Arena.{without_reference}
 use Rattle.ilk_arena.proofs.HeaderWrites.{link_index-in, moved-reads-left, moved-reads-right}
 use Rattle.ilk_arena.proofs.ChainMoves.{each-back, drop-first, drop-later}
 use Rattle.ilk_arena.proofs.LinkedChains.{headers-of}
 
-without-none : (c : ℕ) (xs : List ℕ) → AllMembers (λ d. d ≢ c) xs → without_reference c xs ≡ xs
+without-none : (c : ℕ) (xs : List ℕ) → AllSatisfy (λ d. d ≢ c) xs → without_reference c xs ≡ xs
 without-none c [] e = refl
 without-none c (x ∷ xs) e =
     let n : x ≢ c = e.0 in
     let q : eqb x c ≡ false = grind (arith, nat_tests) in
     rw q (ap (λ ys. x ∷ ys) (without-none c xs e.1))
 
-pub without-first : (c : ℕ) (post : List ℕ) → AllMembers (λ d. d ≢ c) post → without_reference c (c ∷ post) ≡ post
+pub without-first : (c : ℕ) (post : List ℕ) → AllSatisfy (λ d. d ≢ c) post → without_reference c (c ∷ post) ≡ post
 without-first c post n = (let e : eqb c c ≡ true = grind (arith, nat_tests) in rw e (without-none c post n))
 
 without-later : (pre : List ℕ) (b c : ℕ) (post : List ℕ) → Distinct (pre ++ (b ∷ (c ∷ post))) → without_reference c (pre ++ (b ∷ (c ∷ post))) ≡ pre ++ (b ∷ post)
@@ -30,7 +30,7 @@ without-later (p ∷ pre) b c post d =
     let e : eqb p c ≡ false = grind (arith, nat_tests) in
     rw (e, without-later pre b c post d.1) refl
 
-pub without-gone : (c : ℕ) (xs : List ℕ) → AllMembers (λ d. d ≢ c) (without_reference c xs)
+pub without-gone : (c : ℕ) (xs : List ℕ) → AllSatisfy (λ d. d ≢ c) (without_reference c xs)
 without-gone c [] = tt
 without-gone c (x ∷ xs) =
     elim (eqb_tells x c) [ inl p ↦ rw p.0 (without-gone c xs) | inr p ↦ rw p.0 (p.1, without-gone c xs) ]
@@ -47,19 +47,19 @@ pub stands-in : (pre : List ℕ) (c : ℕ) (post : List ℕ) → IsMemberOf (pre
 stands-in [] c post = inl refl
 stands-in (p ∷ pre) c post = inr (stands-in pre c post)
 
-pub each-at : (P : ℕ → Type 0) (xs : List ℕ) (c : ℕ) → IsMemberOf xs c → AllMembers P xs → P c
+pub each-at : (P : ℕ → Type 0) (xs : List ℕ) (c : ℕ) → IsMemberOf xs c → AllSatisfy P xs → P c
 each-at P [] c s e = absurd s
 each-at P (x ∷ xs) c s e = elim s [ inl q ↦ subst P q e.0 | inr r ↦ each-at P xs c r e.1 ]
 
 -- A clause after a write to a watch or a link.
 pub record Same (ws vs : List ℕ) (d : ℕ) : Type 0 where
   pub len : get_or vs d 0 ≡ get_or ws d 0
-  pub places : places_at vs d ≡ places_at ws d
+  pub places : literal_places_at vs d ≡ literal_places_at ws d
   pub number : get_or vs (d + 5) 0 ≡ get_or ws (d + 5) 0
   pub cursor : get_or vs (d + 6) 0 ≡ get_or ws (d + 6) 0
 
 pub same-after : (ws : List ℕ) (R : ℕ → Type 0) (c d i v : ℕ) → ((x y : ℕ) → R x → R y → x < y → x + 7 + get_or ws x 0 ≤ y) → R c → R d → c < i → i < c + 5 → Same ws (set ws i v) d
-unfolding places_at
+unfolding literal_places_at
 same-after ws R c d i v clear rc rd lo hi =
     let apart : (i ≢ d) × (i ≢ d + 5) × (i ≢ d + 6) × ((i < d + 7) ⊎ (d + 7 + get_or ws d 0 ≤ i)) = elim (cases_order c d) [
       | inl e ↦ (omega arith, omega arith, omega arith, inl (omega arith))
@@ -112,38 +112,38 @@ same-set ws hs refs f b v k r = record {
   ];
 }
 
-pub watches-to : (ws vs : List ℕ) (c l : ℕ) → get_or vs (c + 1) 0 ≡ get_or ws (c + 1) 0 → get_or vs (c + 3) 0 ≡ get_or ws (c + 3) 0 → Watches ws c l → Watches vs c l
+pub watches-to : (ws vs : List ℕ) (c l : ℕ) → get_or vs (c + 1) 0 ≡ get_or ws (c + 1) 0 → get_or vs (c + 3) 0 ≡ get_or ws (c + 3) 0 → HasWatch ws c l → HasWatch vs c l
 watches-to ws vs c l a b (left p) = left (a ∙ p)
 watches-to ws vs c l a b (right p) = right (b ∙ p)
 
 -- After the move `c` watches `t`, and its earlier watches other than `f`.
-pub watch-back : (ws : List ℕ) (f c t v l : ℕ) → c + 7 ≤ length ws → get_or ws (c + 1) 0 ≢ get_or ws (c + 3) 0 → Watches ws c f → Watches (watch_moved ws f c t v) c l → (l ≡ t) ⊎ (Watches ws c l × (l ≢ f))
+pub watch-back : (ws : List ℕ) (f c t v l : ℕ) → c + 7 ≤ length ws → get_or ws (c + 1) 0 ≢ get_or ws (c + 3) 0 → HasWatch ws c f → HasWatch (watch_moved ws f c t v) c l → (l ≡ t) ⊎ (HasWatch ws c l × (l ≢ f))
 watch-back ws f c t v l h n wf w =
     elim (cases_eq (get_or ws (c + 1) 0) f) [
       | inl p ↦ (let r = moved-reads-left ws f c t v h p in pick1 ws (watch_moved ws f c t v) c f t l p n r.1 r.3 w)
       | inr p ↦ (let r = moved-reads-right ws f c t v h p in pick2 ws (watch_moved ws f c t v) c f t l p n r.1 r.3 wf w)
     ]
   where
-    pick1 : (ws vs : List ℕ) (c f t l : ℕ) → get_or ws (c + 1) 0 ≡ f → get_or ws (c + 1) 0 ≢ get_or ws (c + 3) 0 → get_or vs (c + 1) 0 ≡ t → get_or vs (c + 3) 0 ≡ get_or ws (c + 3) 0 → Watches vs c l → (l ≡ t) ⊎ (Watches ws c l × (l ≢ f))
+    pick1 : (ws vs : List ℕ) (c f t l : ℕ) → get_or ws (c + 1) 0 ≡ f → get_or ws (c + 1) 0 ≢ get_or ws (c + 3) 0 → get_or vs (c + 1) 0 ≡ t → get_or vs (c + 3) 0 ≡ get_or ws (c + 3) 0 → HasWatch vs c l → (l ≡ t) ⊎ (HasWatch ws c l × (l ≢ f))
     pick1 ws vs c f t l p n a b (left q) = inl (sym q ∙ a)
     pick1 ws vs c f t l p n a b (right q) = inr (right (sym b ∙ q), λ e. n (p ∙ sym e ∙ sym q ∙ b))
 
     pick2 : (ws vs : List ℕ) (c f t l : ℕ) → get_or ws (c + 1) 0 ≢ f →
         get_or ws (c + 1) 0 ≢ get_or ws (c + 3) 0 → get_or vs (c + 1) 0 ≡ get_or ws (c + 1) 0 →
-        get_or vs (c + 3) 0 ≡ t → Watches ws c f → Watches vs c l → (l ≡ t) ⊎ (Watches ws c l × (l ≢ f))
+        get_or vs (c + 3) 0 ≡ t → HasWatch ws c f → HasWatch vs c l → (l ≡ t) ⊎ (HasWatch ws c l × (l ≢ f))
     pick2 ws vs c f t l p n a b (left x) w = absurd (p x)
     pick2 ws vs c f t l p n a b (right x) (left q) = inr (left (sym a ∙ q), λ e. p (sym a ∙ q ∙ e))
     pick2 ws vs c f t l p n a b (right x) (right q) = inl (sym q ∙ b)
 
 pub unlinked : (ws hs refs : List ℕ) (before : Option ℕ) (f c : ℕ) → HasWatchChains ws hs refs → f < length hs →
-    DirectlyFollows before c (chain_at ws hs f) →
+    DirectlyFollows before c (chain_for_place ws hs f) →
     AreChains (words_after_unlink ws before f c) (heads_after_unlink hs ws before f c) (IsMemberOf refs)
-    (with_chain_replaced (chain_at ws hs) f (without_reference c (chain_at ws hs f)))
+    (with_chain_replaced (chain_for_place ws hs) f (without_reference c (chain_for_place ws hs f)))
 unlinked ws hs refs None f c k h a =
-    let e : without_reference c (chain_at ws hs f) ≡ a.0 = rw a.1 (without-first c a.0 (let D : List ℕ → Type 0 = λ ys. Distinct ys in let d : Distinct (c ∷ a.0) = subst D a.1 (k.chains.once f h) in d.0)) in
-    rw e (drop-first ws hs (IsMemberOf refs) (chain_at ws hs) f c a.0 h a.1 k.chains)
+    let e : without_reference c (chain_for_place ws hs f) ≡ a.0 = rw a.1 (without-first c a.0 (let D : List ℕ → Type 0 = λ ys. Distinct ys in let d : Distinct (c ∷ a.0) = subst D a.1 (k.chains.once f h) in d.0)) in
+    rw e (drop-first ws hs (IsMemberOf refs) (chain_for_place ws hs) f c a.0 h a.1 k.chains)
 unlinked ws hs refs (Some b) f c k h a =
     let D : List ℕ → Type 0 = λ ys. Distinct ys in
     let d : Distinct (a.0 ++ (b ∷ (c ∷ a.1.0))) = subst D a.1.1 (k.chains.once f h) in
-    let e : without_reference c (chain_at ws hs f) ≡ a.0 ++ (b ∷ a.1.0) = rw a.1.1 (without-later a.0 b c a.1.0 d) in
-    rw e (drop-later ws hs (IsMemberOf refs) (chain_at ws hs) f b c a.0 a.1.0 h a.1.1 (headers-of ws hs refs k) k.chains)
+    let e : without_reference c (chain_for_place ws hs f) ≡ a.0 ++ (b ∷ a.1.0) = rw a.1.1 (without-later a.0 b c a.1.0 d) in
+    rw e (drop-later ws hs (IsMemberOf refs) (chain_for_place ws hs) f b c a.0 a.1.0 h a.1.1 (headers-of ws hs refs k) k.chains)

@@ -2,10 +2,10 @@
 use Rattle.std.proofs.Common.{◌≡◌, ℕ, ◌<◌, inl, inr, List, [], ◌∷◌, length, get_or, set, map, refl, sym, ap, ◌∙◌, subst, arith}
 use Rattle.std.proofs.lemmas.Bool.Decides.{eqb_tells}
 use Rattle.std.proofs.lemmas.List.{get_or-set_same, get_or-set_other, length-set}
-use Rattle.ilk_cnf.specs.Literal.{Literal, vars_differ}
+use Rattle.ilk_cnf.specs.Literal.{Literal, has_distinct_vars}
 use Rattle.ilk_arena.specs.Arena.{ArenaLists}
 use Rattle.ilk_arena.specs.Words.{IsMemberOf, with_chain_replaced}
-use Rattle.ilk_arena.specs.Linked.{lit_at, literals_at, cursor_at, chain_at, references_in, lists_of, HasWatchChains, HasClausesInOrder, HoldsArena}
+use Rattle.ilk_arena.specs.Linked.{lit_from_place, literals_at, cursor_at, chain_for_place, references_in, lists_of, HasWatchChains, HasClausesInOrder, HoldsArena}
 use Rattle.ilk_base.proofs.Lists.{list-ext}
 use Rattle.ilk_arena.proofs.Blocks.{references-are, blocks-same, stands-at}
 use Rattle.ilk_arena.proofs.Seen.{chain-seen, chains-count}
@@ -37,7 +37,7 @@ gives-set chains n cs p v w g h e = record {
 pub gives-one : (xs ys : List (List ℕ)) (n : ℕ) (cs : ℕ → List ℕ) → Gives xs n cs → Gives ys n cs → xs ≡ ys
 gives-one xs ys n cs a b = list-ext [] xs ys (a.size ∙ sym b.size) (λ i l. a.item i (omega (arith, a.size)) ∙ sym (b.item i (omega (arith, a.size))))
 
-pub gives-seen : (vars spare : ℕ) (ws hs refs : List ℕ) → Gives (lists_of vars spare ws hs refs).chains (length hs) (chain_at ws hs)
+pub gives-seen : (vars spare : ℕ) (ws hs refs : List ℕ) → Gives (lists_of vars spare ws hs refs).chains (length hs) (chain_for_place ws hs)
 gives-seen vars spare ws hs refs = record {
   size = chains-count vars spare ws hs refs;
   item = λ p l. chain-seen vars spare ws hs refs p l;
@@ -56,7 +56,7 @@ laid-alike ws us refs k a = record {
   blocks = blocks-same ws us 1 refs a.size (λ c s. (a.same c s).len) k.blocks;
   number = λ i c s. (a.same c (stands-at refs i c s)).number ∙ k.number i c s;
   cursor = λ c s. (let m = a.same c s in omega (arith, m.cursor, m.len, k.cursor c s));
-  apart = λ c s. ap (λ (ps : List ℕ). vars_differ (map lit_at ps)) (a.same c s).places ∙ k.apart c s;
+  apart = λ c s. ap (λ (ps : List ℕ). has_distinct_vars (map lit_from_place ps)) (a.same c s).places ∙ k.apart c s;
 }
 
 pub holds-alike : (ws us hs ks : List ℕ) (vars count : ℕ) → HoldsArena ws hs vars count → Alike ws us (references_in ws) → length ks ≡ length hs → HasWatchChains us ks (references_in ws)
@@ -83,6 +83,6 @@ pub lists-alike : (vars spare : ℕ) (ws us hs ks refs : List ℕ) (chains : Lis
 unfolding lists_of
 lists-alike vars spare ws us hs ks refs chains a e =
     arena-ext (lists_of vars spare us ks refs) (record (lists_of vars spare ws hs refs) { chains = chains }) refl refl refl
-    (map-same (literals_at us) (literals_at ws) refs (λ c s. ap (λ (ps : List ℕ). map lit_at ps) (a.same c s).places))
+    (map-same (literals_at us) (literals_at ws) refs (λ c s. ap (λ (ps : List ℕ). map lit_from_place ps) (a.same c s).places))
     (map-same (cursor_at us) (cursor_at ws) refs (λ c s. (a.same c s).cursor))
     e

@@ -7,11 +7,11 @@ use Rattle.std.proofs.lemmas.List.{get_or-set_other}
 use Rattle.std.proofs.lemmas.Map.Keys.{IsDistinct-head, IsDistinct-tail}
 use Rattle.ilk_cnf.specs.Literal.{Literal}
 use Rattle.ilk_arena.specs.Arena.{ArenaLists, place, chain_of, is_listed_in, chains_with_first, chains_without, without_reference, with_clause_added, with_watch_moved}
-use Rattle.ilk_arena.specs.Linked.{lit_at}
+use Rattle.ilk_arena.specs.Linked.{lit_from_place}
 use Rattle.ilk_arena.proofs.Seen.{lit-at-place}
 
 pub place-one : (l m : Literal) → place l ≡ place m → l ≡ m
-place-one l m e = sym (lit-at-place l) ∙ ap lit_at e ∙ lit-at-place m
+place-one l m e = sym (lit-at-place l) ∙ ap lit_from_place e ∙ lit-at-place m
 
 set-cases : (xs : List (List ℕ)) (i j : ℕ) (v : List ℕ) → (get_or (set xs i v) j [] ≡ get_or xs j []) ⊎ ((i ≡ j) × (get_or (set xs i v) j [] ≡ v))
 set-cases [] i j v = inl refl

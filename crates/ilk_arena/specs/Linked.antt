@@ -1,27 +1,27 @@
 -- Used only in proofs: the relation between the words of an arena and its lists.
 use Rattle.std.specs.Prelude.{ℕ, zero, suc, ◌+◌, ◌*◌, ◌/◌, ◌%◌, ◌<◌, ◌≤◌, ◌≡◌, ◌≢◌, true, ◌==◌, List, [], ◌∷◌, cond, nat_lt, slice_index, length, take, drop, map, Some}
 use Rattle.std.specs.List.{slice_get, range_with_len}
-use Rattle.ilk_cnf.specs.Literal.{Literal, vars_differ}
+use Rattle.ilk_cnf.specs.Literal.{Literal, has_distinct_vars}
 use Rattle.ilk_arena.specs.Arena.{ArenaLists}
 use Rattle.ilk_arena.specs.declared.place.TheConstants.{WORD_LIMIT}
-use Rattle.ilk_arena.specs.Words.{chain, IsMemberOf, Watches, AreChains}
+use Rattle.ilk_arena.specs.Words.{chain, IsMemberOf, HasWatch, AreChains}
 
-abbrev pub lit_at : ℕ → Literal
-lit_at p = record { var = p / 2; positive = p % 2 == 1 }
+abbrev pub lit_from_place : ℕ → Literal
+lit_from_place p = record { var = p / 2; positive = p % 2 == 1 }
 
 -- The places of the literals of clause `c`.
-unfoldable pub places_at : List ℕ → ℕ → List ℕ
-places_at ws c = take (slice_index ws c) (drop (c + 7) ws)
+unfoldable pub literal_places_at : List ℕ → ℕ → List ℕ
+literal_places_at ws c = take (slice_index ws c) (drop (c + 7) ws)
 
 abbrev pub literals_at : List ℕ → ℕ → List Literal
-literals_at ws c = map lit_at (places_at ws c)
+literals_at ws c = map lit_from_place (literal_places_at ws c)
 
 abbrev pub cursor_at : List ℕ → ℕ → ℕ
 cursor_at ws c = slice_index ws (c + 6)
 
 -- The references of the clauses that watch the literal with number `l`, from its head on.
-abbrev pub chain_at : List ℕ → List ℕ → ℕ → List ℕ
-chain_at ws hs l = chain ws l (length ws) (slice_index hs l)
+abbrev pub chain_for_place : List ℕ → List ℕ → ℕ → List ℕ
+chain_for_place ws hs l = chain ws l (length ws) (slice_index hs l)
 
 -- The references of the clauses from word `k` on, at most `n` of them.
 abbrev pub references_from : List ℕ → ℕ → ℕ → List ℕ
@@ -38,7 +38,7 @@ lists_of vars spare ws hs refs = record {
   references = refs;
   clauses = map (literals_at ws) refs;
   cursors = map (cursor_at ws) refs;
-  chains = map (chain_at ws hs) (range_with_len 0 (length hs));
+  chains = map (chain_for_place ws hs) (range_with_len 0 (length hs));
 }
 
 -- Holds if, from word `k` on, the block consists of the clauses `cs`, without gaps.
@@ -55,15 +55,15 @@ pub record HasWatchChains (ws hs refs : List ℕ) : Type 0 where
   pub whole : (c : ℕ) → IsMemberOf refs c → c + 7 + slice_index ws c ≤ length ws
   pub clear : (c d : ℕ) → IsMemberOf refs c → IsMemberOf refs d → c < d → c + 7 + slice_index ws c ≤ d
   pub differ : (c : ℕ) → IsMemberOf refs c → slice_index ws (c + 1) ≢ slice_index ws (c + 3)
-  pub least : (c p : ℕ) → IsMemberOf refs c → IsMemberOf (places_at ws c) p → 2 ≤ p
-  pub small : (c p : ℕ) → IsMemberOf refs c → IsMemberOf (places_at ws c) p → p < length hs
-  pub left_own : (c : ℕ) → IsMemberOf refs c → 2 ≤ slice_index ws c → IsMemberOf (places_at ws c) (slice_index ws (c + 1))
-  pub right_own : (c : ℕ) → IsMemberOf refs c → 2 ≤ slice_index ws c → IsMemberOf (places_at ws c) (slice_index ws (c + 3))
+  pub least : (c p : ℕ) → IsMemberOf refs c → IsMemberOf (literal_places_at ws c) p → 2 ≤ p
+  pub small : (c p : ℕ) → IsMemberOf refs c → IsMemberOf (literal_places_at ws c) p → p < length hs
+  pub left_own : (c : ℕ) → IsMemberOf refs c → 2 ≤ slice_index ws c → IsMemberOf (literal_places_at ws c) (slice_index ws (c + 1))
+  pub right_own : (c : ℕ) → IsMemberOf refs c → 2 ≤ slice_index ws c → IsMemberOf (literal_places_at ws c) (slice_index ws (c + 3))
   pub left_none : (c : ℕ) → IsMemberOf refs c → slice_index ws c < 2 → slice_index ws (c + 1) < 2
   pub right_none : (c : ℕ) → IsMemberOf refs c → slice_index ws c < 2 → slice_index ws (c + 3) < 2
-  pub chains : AreChains ws hs (IsMemberOf refs) (chain_at ws hs)
-  pub empty : (l : ℕ) → l < 2 → chain_at ws hs l ≡ []
-  pub standing : (c l : ℕ) → IsMemberOf refs c → 2 ≤ l → l < length hs → Watches ws c l → IsMemberOf (chain_at ws hs l) c
+  pub chains : AreChains ws hs (IsMemberOf refs) (chain_for_place ws hs)
+  pub empty : (l : ℕ) → l < 2 → chain_for_place ws hs l ≡ []
+  pub standing : (c l : ℕ) → IsMemberOf refs c → 2 ≤ l → l < length hs → HasWatch ws c l → IsMemberOf (chain_for_place ws hs l) c
 
 -- Holds if the clauses follow each other with their numbers and cursors, and no clause has a
 -- variable twice.
@@ -71,7 +71,7 @@ pub record HasClausesInOrder (ws refs : List ℕ) : Type 0 where
   pub blocks : IsGaplessFrom ws 1 refs
   pub number : (i c : ℕ) → slice_get refs i ≡ Some c → slice_index ws (c + 5) ≡ i + 1
   pub cursor : (c : ℕ) → IsMemberOf refs c → slice_index ws (c + 6) ≤ slice_index ws c
-  pub apart : (c : ℕ) → IsMemberOf refs c → vars_differ (literals_at ws c) ≡ true
+  pub apart : (c : ℕ) → IsMemberOf refs c → has_distinct_vars (literals_at ws c) ≡ true
 
 -- Holds if the words, the heads and the numbers of variables and clauses store the lists, and each
 -- place and reference fits a word.

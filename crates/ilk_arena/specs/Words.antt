@@ -48,9 +48,9 @@ chain ws l zero k = []
 chain ws l (suc n) k = cond (eqb k 0) [] (k ∷ chain ws l n (next_reference ws l k))
 
 -- Holds if `P` holds of each item.
-abbrev pub AllMembers : (ℕ → Type 0) → List ℕ → Type 0
-AllMembers P [] = Unit {0}
-AllMembers P (c ∷ cs) = P c × AllMembers P cs
+abbrev pub AllSatisfy : (ℕ → Type 0) → List ℕ → Type 0
+AllSatisfy P [] = Unit {0}
+AllSatisfy P (c ∷ cs) = P c × AllSatisfy P cs
 
 -- Holds if `c` is one of the items.
 abbrev pub IsMemberOf : List ℕ → ℕ → Type 0
@@ -59,7 +59,7 @@ IsMemberOf (x ∷ xs) c = (x ≡ c) ⊎ IsMemberOf xs c
 
 abbrev pub Distinct : List ℕ → Type 0
 Distinct [] = Unit {0}
-Distinct (c ∷ cs) = AllMembers (λ d. d ≢ c) cs × Distinct cs
+Distinct (c ∷ cs) = AllSatisfy (λ d. d ≢ c) cs × Distinct cs
 
 -- Holds if `c` directly follows the given reference, or is first if none is given.
 abbrev pub DirectlyFollows : Option ℕ → ℕ → List ℕ → Type 0
@@ -67,14 +67,14 @@ DirectlyFollows None c cs = (post : List ℕ) × (cs ≡ c ∷ post)
 DirectlyFollows (Some b) c cs = (pre : List ℕ) × ((post : List ℕ) × (cs ≡ pre ++ (b ∷ (c ∷ post))))
 
 -- Holds if a header names `l` as one of its watches.
-pub data Watches (ws : List ℕ) (c l : ℕ) : Type 0 where
-  left : slice_index ws (c + 1) ≡ l → Watches ws c l
-  right : slice_index ws (c + 3) ≡ l → Watches ws c l
+pub data HasWatch (ws : List ℕ) (c l : ℕ) : Type 0 where
+  left : slice_index ws (c + 1) ≡ l → HasWatch ws c l
+  right : slice_index ws (c + 3) ≡ l → HasWatch ws c l
 
 -- Holds if every chain is a path through headers that watch its literal, each once.
 pub record AreChains (ws hs : List ℕ) (R : ℕ → Type 0) (cs : ℕ → List ℕ) : Type 0 where
   pub path : (l : ℕ) → l < length hs → IsChainPath ws l (slice_index hs l) (cs l)
-  pub held : (l : ℕ) → l < length hs → AllMembers (λ c. R c × Watches ws c l) (cs l)
+  pub held : (l : ℕ) → l < length hs → AllSatisfy (λ c. R c × HasWatch ws c l) (cs l)
   pub once : (l : ℕ) → l < length hs → Distinct (cs l)
 
 -- Holds if the headers are inside the block and don't overlap.

@@ -1,13 +1,13 @@
 ghost use Rattle.std.specs.Prelude.{◌≡◌, ◌≤◌, ◌<◌, ◌+◌, ◌*◌, ◌^◌, false, Some, [], length, slice_get, replicate, IfOk, IfSome, OnOk, OnErr, IsTrue};
 ghost use Rattle.ilk_cnf.specs.Formula.{is_clause_over, is_lit_over};
-ghost use Rattle.ilk_cnf.specs.Literal.{vars_differ};
+ghost use Rattle.ilk_cnf.specs.Literal.{has_distinct_vars};
 ghost use Rattle.ilk_arena.specs.Arena.{with_clause_added, reference_after, chain_of, cursor_of, first_of, directly_follows, literals_of, number_of_clause, other_watch_of, with_watch_moved, set_for_reference, is_listed_in};
 ghost use Rattle.ilk_arena.specs.Words.{reference_of};
 ghost use Rattle.ilk_arena.specs.Chains.{IsArena};
 
-use crate::block::append;
+use crate::block::push_clause_words;
 use crate::links::{move_watch, next_of, other_of, set_both_heads};
-use crate::place::{WORD_LIMIT, lit_at, place};
+use crate::place::{WORD_LIMIT, lit_from_place, place};
 use ilk_cnf::Lit;
 use std::alloc::{AllocError, Global};
 use std::marker::Model;
@@ -100,7 +100,7 @@ impl Arena {
     pub fn add(&mut self, clause: &[Lit]) -> u64
         requires room { length clause.now + 8 ≤ self.old.spare }
         requires within { IsTrue (is_clause_over self.old.vars clause.now) }
-        requires differ { IsTrue (vars_differ clause.now) }
+        requires differ { IsTrue (has_distinct_vars clause.now) }
         ensures added { self.new ≡ with_clause_added self.old clause.now result self.new.spare }
         ensures fresh { is_listed_in result self.old.references ≡ false }
         ensures room { self.old.spare ≤ self.new.spare + length clause.now + 8 }
@@ -116,7 +116,7 @@ impl Arena {
     fn add_short(&mut self, clause: &[Lit]) -> u64
         requires room { length clause.now + 8 ≤ self.old.spare }
         requires within { IsTrue (is_clause_over self.old.vars clause.now) }
-        requires differ { IsTrue (vars_differ clause.now) }
+        requires differ { IsTrue (has_distinct_vars clause.now) }
         requires short { length clause.now < 2 }
         ensures added { self.new ≡ with_clause_added self.old clause.now result self.new.spare }
         ensures fresh { is_listed_in result self.old.references ≡ false }
@@ -125,7 +125,7 @@ impl Arena {
     {
         let reference = self.words.len() as u64;
         self.count += 1;
-        append(
+        push_clause_words(
             &mut self.words,
             [clause.len() as u32, 0, 0, 1, 0, self.count, 0],
             clause,
@@ -136,7 +136,7 @@ impl Arena {
     fn add_long(&mut self, clause: &[Lit]) -> u64
         requires room { length clause.now + 8 ≤ self.old.spare }
         requires within { IsTrue (is_clause_over self.old.vars clause.now) }
-        requires differ { IsTrue (vars_differ clause.now) }
+        requires differ { IsTrue (has_distinct_vars clause.now) }
         requires long { 2 ≤ length clause.now }
         ensures added { self.new ≡ with_clause_added self.old clause.now result self.new.spare }
         ensures fresh { is_listed_in result self.old.references ≡ false }
@@ -149,7 +149,7 @@ impl Arena {
         let left_link = self.heads[left as usize];
         let right_link = self.heads[right as usize];
         self.count += 1;
-        append(
+        push_clause_words(
             &mut self.words,
             [
                 clause.len() as u32,
@@ -188,7 +188,7 @@ impl Arena {
         requires below { i < length (literals_of self.now c) }
         ensures { slice_get (literals_of self.now c) i ≡ Some result }
     {
-        lit_at(self.words[c as usize + HEADER + i as usize])
+        lit_from_place(self.words[c as usize + HEADER + i as usize])
     }
 
     /// Returns the number of clause `c`: clauses are numbered from 1, in the order of adding.
@@ -246,7 +246,7 @@ impl Arena {
         requires stands { IsTrue (is_listed_in c (chain_of self.now l)) }
         ensures { other_watch_of self.now c l ≡ Some result }
     {
-        lit_at(other_of(&self.words, place(l), c))
+        lit_from_place(other_of(&self.words, place(l), c))
     }
 
     /// Moves the watch of clause `c` from `from` to its literal number `to`, which it doesn't

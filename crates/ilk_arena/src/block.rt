@@ -18,7 +18,7 @@ fn append_places(words: &mut Vec<u32>, clause: &[Lit])
 }
 
 /// Appends a header and the places of the literals, within the capacity.
-pub fn append(words: &mut Vec<u32>, header: [u32; 7], clause: &[Lit])
+pub fn push_clause_words(words: &mut Vec<u32>, header: [u32; 7], clause: &[Lit])
     requires room { vec_len words.old + length clause.now + 7 ≤ vec_capacity words.old }
     requires within { IsTrue (is_clause_over (WORD_LIMIT / 2 - 1) clause.now) }
     ensures items { words.new.items ≡ words.old.items ++ (header ++ map place clause.now) }

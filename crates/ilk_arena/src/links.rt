@@ -5,7 +5,7 @@ ghost use Rattle.ilk_arena.specs.declared.place.TheConstants.{WORD_LIMIT};
 /// Returns the index of the link for place `at` in the header of `clause`.
 #[inline(always)]
 #[tactic(auto, unfolding(crate::specs::Words::link_index))]
-pub fn slot_of(words: &[u32], at: u32, clause: u64) -> u64
+pub fn find_link_index(words: &[u32], at: u32, clause: u64) -> u64
     requires { clause + 7 ≤ length words.now }
     ensures slot { result ≡ link_index words.now at clause }
     ensures low { clause + 2 ≤ result }
@@ -24,7 +24,7 @@ pub fn next_of(words: &[u32], at: u32, clause: u64) -> u32
     requires { clause + 7 ≤ length words.now }
     ensures { result ≡ next_reference words.now at clause }
 {
-    words[slot_of(words, at, clause) as usize]
+    words[find_link_index(words, at, clause) as usize]
 }
 
 /// Returns the place besides `at` that `clause` watches.
@@ -50,7 +50,7 @@ fn skip(words: &mut [u32], from: u32, before: u64, clause: u64)
         (next_reference words.old from clause) }
 {
     let after = next_of(words, from, clause);
-    let at = slot_of(words, from, before);
+    let at = find_link_index(words, from, before);
     words[at as usize] = after;
 }
 
@@ -59,7 +59,7 @@ fn relabel(words: &mut [u32], from: u32, clause: u64, to: u32, link: u32)
     requires { clause + 7 ≤ length words.old }
     ensures { words.new ≡ watch_moved words.old from clause to link }
 {
-    let at = slot_of(words, from, clause);
+    let at = find_link_index(words, from, clause);
     words[at as usize - 1] = to;
     words[at as usize] = link;
 }

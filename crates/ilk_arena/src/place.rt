@@ -1,6 +1,6 @@
 ghost use Rattle.std.specs.Prelude.{◌≡◌, ◌<◌, ◌≤◌, ◌+◌, ◌*◌};
 ghost use Rattle.ilk_arena.specs.Arena.{place};
-ghost use Rattle.ilk_arena.specs.Linked.{lit_at};
+ghost use Rattle.ilk_arena.specs.Linked.{lit_from_place};
 
 use ilk_cnf::Lit;
 
@@ -20,9 +20,9 @@ pub fn place(l: Lit) -> u32
 
 /// Returns the literal whose number as an index of heads is `place`.
 #[inline(always)]
-pub fn lit_at(place: u32) -> Lit
+pub fn lit_from_place(place: u32) -> Lit
     requires { 2 ≤ place }
-    ensures { result ≡ lit_at place }
+    ensures { result ≡ lit_from_place place }
 {
     Lit::new(place as u64 / 2, place % 2 == 1)
 }

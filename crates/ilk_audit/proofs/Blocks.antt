@@ -6,13 +6,13 @@ use Rattle.std.proofs.lemmas.Bool.{and_parts, and_from, eqb-true, eq-eqb, leb-tr
 use Rattle.std.proofs.lemmas.List.{drop-append-le, take-append-le, take_all, length-drop, length-append}
 use Rattle.std.proofs.lemmas.Option.{same_Some}
 use Rattle.ilk_base.proofs.Tested.{list_all-more, list_all-slice_get}
-use Rattle.ilk_cnf.specs.Literal.{Literal, vars_differ}
+use Rattle.ilk_cnf.specs.Literal.{Literal, has_distinct_vars}
 use Rattle.ilk_cnf.specs.Code.{code_of}
 use Rattle.ilk_cnf.specs.Formula.{is_clause_over, are_clauses_over, IsFormula}
 use Rattle.ilk_log.specs.Propagation.{clause_numbered}
-use Rattle.ilk_audit.specs.Codes.{codes_in, codes_fit}
-use Rattle.ilk_audit.specs.Stored.{are_bounds, is_ascending, clauses_between, literals_of, IsBlock}
-use Rattle.ilk_audit.specs.declared.codes.Codes.{Codes}
+use Rattle.ilk_audit.specs.Codes.{codes_in, fits_lits_of_vars}
+use Rattle.ilk_audit.specs.Stored.{are_bounds, is_ascending, split_into_clauses, literals_of, IsClauseDb}
+use Rattle.ilk_audit.specs.declared.codes.LitCodes.{LitCodes}
 use Rattle.ilk_audit.proofs.Numbers.{literals_back}
 
 is_ascending-le : (from : ℕ) (bounds : List ℕ) (to : ℕ) → is_ascending from bounds to ≡ true → from ≤ to
@@ -55,7 +55,7 @@ between-same codes new from to le fits =
     ap (take (to - from)) (drop-append-le from codes new (omega arith)) ∙ take-append-le (to - from) (drop from codes) new long
 
 between-push : (from : ℕ) (bounds codes new : List ℕ) → is_ascending from bounds (length codes) ≡ true
-    → clauses_between (from ∷ (bounds ++ (length codes + length new) ∷ [])) (codes ++ new) ≡ clauses_between (from ∷ bounds) codes ++ literals_of new ∷ []
+    → split_into_clauses (from ∷ (bounds ++ (length codes + length new) ∷ [])) (codes ++ new) ≡ split_into_clauses (from ∷ bounds) codes ++ literals_of new ∷ []
 between-push from [] codes new h =
     let e : from ≡ length codes = eqb-true from (length codes) h in
     let n : length codes + length new - from ≡ length new = omega (arith, e) in
@@ -67,14 +67,14 @@ between-push from (b ∷ bounds) codes new h =
     let p = and_parts (nat_le from b) (is_ascending b bounds (length codes)) h in
     let here = leb-true from b p.0 in
     let same = between-same codes new from b here (is_ascending-le b bounds (length codes) p.1) in
-    ap (λ (xs : List ℕ). literals_of xs ∷ clauses_between (b ∷ (bounds ++ (length codes + length new) ∷ [])) (codes ++ new)) same
+    ap (λ (xs : List ℕ). literals_of xs ∷ split_into_clauses (b ∷ (bounds ++ (length codes + length new) ∷ [])) (codes ++ new)) same
     ∙ ap (λ (cs : List (List Literal)). literals_of (take (b - from) (drop from codes)) ∷ cs) (between-push b bounds codes new p.1)
 
-pub clauses-push : (bounds codes new : List ℕ) → are_bounds bounds (length codes) ≡ true → clauses_between (bounds ++ (length codes + length new) ∷ []) (codes ++ new) ≡ clauses_between bounds codes ++ literals_of new ∷ []
+pub clauses-push : (bounds codes new : List ℕ) → are_bounds bounds (length codes) ≡ true → split_into_clauses (bounds ++ (length codes + length new) ∷ []) (codes ++ new) ≡ split_into_clauses bounds codes ++ literals_of new ∷ []
 clauses-push [] codes new h = absurd (cc)
 clauses-push (from ∷ bounds) codes new h = between-push from bounds codes new h
 
-pub clause-at : (bounds codes : List ℕ) (i a b : ℕ) → slice_get bounds i ≡ Some a → slice_get bounds (suc i) ≡ Some b → slice_get (clauses_between bounds codes) i ≡ Some (literals_of (take (b - a) (drop a codes)))
+pub clause-at : (bounds codes : List ℕ) (i a b : ℕ) → slice_get bounds i ≡ Some a → slice_get bounds (suc i) ≡ Some b → slice_get (split_into_clauses bounds codes) i ≡ Some (literals_of (take (b - a) (drop a codes)))
 clause-at [] codes i a b p q = absurd (cc)
 clause-at (from ∷ []) codes i a b p q = absurd (cc)
 clause-at (from ∷ (to ∷ bounds)) codes zero a b p q =
@@ -83,30 +83,31 @@ clause-at (from ∷ (to ∷ bounds)) codes zero a b p q =
     ap (λ k. Some (literals_of (take (to - k) (drop k codes)))) x ∙ ap (λ k. Some (literals_of (take (k - a) (drop a codes)))) y
 clause-at (from ∷ (to ∷ bounds)) codes (suc i) a b p q = clause-at (to ∷ bounds) codes i a b p q
 
-pub clause-past : (bounds codes : List ℕ) (i : ℕ) → length bounds ≤ suc i → slice_get (clauses_between bounds codes) i ≡ None
+pub clause-past : (bounds codes : List ℕ) (i : ℕ) → length bounds ≤ suc i → slice_get (split_into_clauses bounds codes) i ≡ None
 clause-past [] codes i h = refl
 clause-past (from ∷ []) codes i h = refl
 clause-past (from ∷ (to ∷ bounds)) codes zero h = absurd (omega arith)
 clause-past (from ∷ (to ∷ bounds)) codes (suc i) h = clause-past (to ∷ bounds) codes i (omega arith)
 
-pub formula-push : (n : ℕ) (cs : List (List Literal)) (c : List Literal) → IsFormula (record { vars = n; clauses = cs }) → is_clause_over n c ≡ true → vars_differ c ≡ true → IsFormula (record { vars = n; clauses = cs ++ c ∷ [] })
+pub formula-push : (n : ℕ) (cs : List (List Literal)) (c : List Literal) → IsFormula (record { vars = n; clauses = cs }) → is_clause_over n c ≡ true → has_distinct_vars c ≡ true → IsFormula (record { vars = n; clauses = cs ++ c ∷ [] })
 formula-push n cs c f within differ = record {
   numbered = f.numbered;
   within = list_all-more (is_clause_over n) cs c f.within within;
-  differ = list_all-more vars_differ cs c f.differ differ;
+  differ = list_all-more has_distinct_vars cs c f.differ differ;
 }
 
-pub block-push : (n : ℕ) (codes more : Codes) (bounds : List ℕ) (c : List Literal) → IsBlock n codes bounds → codes_in more ≡ codes_in codes ++ map code_of c → codes_fit n more ≡ true → is_clause_over n c ≡ true → vars_differ c ≡ true
-    → IsBlock n more (bounds ++ length (codes_in more) ∷ []) × (clauses_between (bounds ++ length (codes_in more) ∷ []) (codes_in more) ≡ clauses_between bounds (codes_in codes) ++ c ∷ [])
+pub block-push : (n : ℕ) (codes more : LitCodes) (bounds : List ℕ) (c : List Literal) → IsClauseDb n codes bounds → codes_in more ≡ codes_in codes ++ map code_of c → fits_lits_of_vars n more ≡ true → is_clause_over n c ≡ true →
+    has_distinct_vars c ≡ true
+    → IsClauseDb n more (bounds ++ length (codes_in more) ∷ []) × (split_into_clauses (bounds ++ length (codes_in more) ∷ []) (codes_in more) ≡ split_into_clauses bounds (codes_in codes) ++ c ∷ [])
 block-push n codes more bounds c b e f within differ =
     let m : length (codes_in more) ≡ length (codes_in codes) + length (map code_of c) = ap (λ (xs : List ℕ). length xs) e ∙ length-append (codes_in codes) (map code_of c) in
-    let grown : clauses_between (bounds ++ length (codes_in more) ∷ []) (codes_in more) ≡ clauses_between bounds (codes_in codes) ++ c ∷ [] = ap (λ k. clauses_between (bounds ++ k ∷ []) (codes_in more)) m
-    ∙ ap (λ (xs : List ℕ). clauses_between (bounds ++ (length (codes_in codes) + length (map code_of c)) ∷ []) xs) e
+    let grown : split_into_clauses (bounds ++ length (codes_in more) ∷ []) (codes_in more) ≡ split_into_clauses bounds (codes_in codes) ++ c ∷ [] = ap (λ k. split_into_clauses (bounds ++ k ∷ []) (codes_in more)) m
+    ∙ ap (λ (xs : List ℕ). split_into_clauses (bounds ++ (length (codes_in codes) + length (map code_of c)) ∷ []) xs) e
     ∙ clauses-push bounds (codes_in codes) (map code_of c) b.bounded
-    ∙ ap (λ (ls : List Literal). clauses_between bounds (codes_in codes) ++ ls ∷ []) (literals_back c) in
+    ∙ ap (λ (ls : List Literal). split_into_clauses bounds (codes_in codes) ++ ls ∷ []) (literals_back c) in
     let P : List (List Literal) → Type 0 = λ cs. IsFormula (record { vars = n; clauses = cs }) in (
       record {
-        formula = subst P (sym grown) (formula-push n (clauses_between bounds (codes_in codes)) c b.formula within differ);
+        formula = subst P (sym grown) (formula-push n (split_into_clauses bounds (codes_in codes)) c b.formula within differ);
         fits = f;
         bounded = bounds-push bounds (length (codes_in codes)) (length (codes_in more)) b.bounded (omega (arith, m));
       },
@@ -115,13 +116,13 @@ block-push n codes more bounds c b e f within differ =
 
 pub numbered : (bounds codes : List ℕ) (number a b : ℕ) → 0 < number →
     slice_get bounds (number - 1) ≡ Some a → slice_get bounds number ≡ Some b →
-    clause_numbered (clauses_between bounds codes) number ≡ Some (literals_of (take (b - a) (drop a codes)))
+    clause_numbered (split_into_clauses bounds codes) number ≡ Some (literals_of (take (b - a) (drop a codes)))
 numbered bounds codes zero a b some p q = absurd (omega arith)
 numbered bounds codes (suc i) a b some p q =
     let e : suc i - 1 ≡ i = omega arith in
     clause-at bounds codes i a b (ap (slice_get bounds) (sym e) ∙ p) q
 
-pub numbered-none : (bounds codes : List ℕ) (number : ℕ) → (number ≡ 0) ⊎ (length bounds ≤ number) → clause_numbered (clauses_between bounds codes) number ≡ None
+pub numbered-none : (bounds codes : List ℕ) (number : ℕ) → (number ≡ 0) ⊎ (length bounds ≤ number) → clause_numbered (split_into_clauses bounds codes) number ≡ None
 numbered-none bounds codes zero h = refl
 numbered-none bounds codes (suc i) (inl z) = absurd (omega (arith, z))
 numbered-none bounds codes (suc i) (inr past) = clause-past bounds codes i past
@@ -136,7 +137,7 @@ pub numbered-within : (n : ℕ) (cs : List (List Literal)) (number : ℕ) (c : L
 numbered-within n cs zero c w e = absurd (cc)
 numbered-within n cs (suc i) c w e = list_all-slice_get (is_clause_over n) cs i c w e
 
-pub clauses-few : (bounds codes : List ℕ) → length (clauses_between bounds codes) ≤ length bounds
+pub clauses-few : (bounds codes : List ℕ) → length (split_into_clauses bounds codes) ≤ length bounds
 clauses-few [] codes = omega arith
 clauses-few (from ∷ []) codes = omega arith
 clauses-few (from ∷ (to ∷ bounds)) codes = omega (arith, clauses-few (to ∷ bounds) codes)

@@ -4,12 +4,12 @@ use Rattle.std.specs.Prelude.{is_none}
 use Rattle.std.specs.List.{filter}
 use Rattle.std.specs.Option.{option_map_or}
 use Rattle.std.proofs.lemmas.Bool.{cases_Bool, and_parts}
-use Rattle.ilk_base.specs.Option.{◌>>=◌, is_some_and, only_if}
-use Rattle.ilk_cnf.specs.Literal.{Literal, vars_differ}
+use Rattle.ilk_base.specs.Option.{◌>>=◌, is_some_and, then_some}
+use Rattle.ilk_cnf.specs.Literal.{Literal, has_distinct_vars}
 use Rattle.ilk_cnf.specs.Formula.{is_clause_over}
 use Rattle.ilk_log.specs.declared.step.Step.{Step}
-use Rattle.ilk_log.specs.Propagation.{clause_numbered, is_false, is_falsified, single_unset_lit, unit_lit}
-use Rattle.ilk_log.specs.Derived.{hints_end_in_conflict, is_derived, is_empty, negated_clause}
+use Rattle.ilk_log.specs.Propagation.{clause_numbered, is_false, is_falsified, only_lit_if_unset, unit_lit}
+use Rattle.ilk_log.specs.Derived.{hints_end_in_conflict, is_derived, is_empty_clause, negated_clause}
 use Rattle.ilk_audit.specs.Audited.{AuditState}
 use Rattle.ilk_audit.specs.Taken.{answer_from_fault, fault_of, hints_fault, is_taken, has_hint_left, step_answer}
 use Rattle.ilk_audit.specs.declared.taken.Why.{Why}
@@ -20,12 +20,12 @@ none-open set [] f = refl
 none-open set (l ∷ c) f = (let p = and_parts (is_false set l) (is_falsified set c) f in rw p.0 (none-open set c p.1))
 
 no-unit : (set c : List Literal) → is_falsified set c ≡ true → unit_lit set c ≡ None
-no-unit set c f = ap (single_unset_lit set) (none-open set c f)
+no-unit set c f = ap (only_lit_if_unset set) (none-open set c f)
 
 -- The reason why a clause that a hint names, and the hints after it, do not end as they have to.
 abbrev in_clause : List (List Literal) → List Literal → List ℕ → List Literal → Option Why
 in_clause clauses set hints c =
-    cond (is_falsified set c) (only_if (has_hint_left hints) NotFalse) (option_map_or (λ l. hints_fault clauses (l ∷ set) hints) (unit_lit set c) (Some NotUnit))
+    cond (is_falsified set c) (then_some (has_hint_left hints) NotFalse) (option_map_or (λ l. hints_fault clauses (l ∷ set) hints) (unit_lit set c) (Some NotUnit))
 
 last-clause : (clauses : List (List Literal)) (set c : List Literal) → is_none (in_clause clauses set [] c) ≡ is_falsified set c
 last-clause clauses set c =
@@ -72,12 +72,12 @@ hints-derived clauses set (h ∷ (k ∷ hints)) = go (λ l. hints-derived clause
 
 answer_from_fault-taken : (s : Step) (o : Option Why) → is_taken (answer_from_fault s o) ≡ is_none o
 answer_from_fault-taken s (Some why) = refl
-answer_from_fault-taken s None = elim (cases_Bool (is_empty s.clause)) [ inl t ↦ rw t refl | inr f ↦ rw f refl ]
+answer_from_fault-taken s None = elim (cases_Bool (is_empty_clause s.clause)) [ inl t ↦ rw t refl | inr f ↦ rw f refl ]
 
 pub fault-derived : (n : ℕ) (clauses : List (List Literal)) (s : Step) → is_none (fault_of n clauses s) ≡ is_derived n clauses s
 fault-derived n clauses s =
     elim (cases_Bool (is_clause_over n s.clause)) [
-      | inl a ↦ elim (cases_Bool (vars_differ s.clause)) [
+      | inl a ↦ elim (cases_Bool (has_distinct_vars s.clause)) [
         | inl b ↦ rw (a, b) (hints-derived clauses (negated_clause s.clause) s.hints)
         | inr b ↦ rw (a, b) refl
       ]

@@ -3,7 +3,7 @@ use Rattle.std.proofs.Common.{◌≡◌, ℕ, ◌+◌, ◌<◌, ◌≤◌, inl, 
 use Rattle.std.proofs.lemmas.List.{drop_more}
 use Rattle.std.proofs.lemmas.Bool.{cases_Bool, and_parts, and_from, not-true, true≢false}
 use Rattle.ilk_base.proofs.Lists.{drop_at as item-drop}
-use Rattle.ilk_cnf.specs.Literal.{Literal, has_lit, has_var, negated_lit, vars_differ}
+use Rattle.ilk_cnf.specs.Literal.{Literal, has_lit, has_var, negated_lit, has_distinct_vars}
 use Rattle.ilk_cnf.specs.Formula.{is_clause_over, is_lit_over}
 use Rattle.ilk_cnf.proofs.SameLiterals.{has-var}
 use Rattle.ilk_log.specs.Derived.{negated_clause}
@@ -16,20 +16,20 @@ use Rattle.ilk_audit.proofs.Scans.{by_found, hints-found}
 use Rattle.ilk_audit.proofs.Tables.{var-unset}
 
 abbrev pub is_clause : ℕ → List Literal → Bool
-is_clause n c = is_clause_over n c && vars_differ c
+is_clause n c = is_clause_over n c && has_distinct_vars c
 
 pub negated_clause-vars : (v : ℕ) (c : List Literal) → has_var v (negated_clause c) ≡ has_var v c
 negated_clause-vars v [] = refl
 negated_clause-vars v (l ∷ c) = ap (λ b. eqb l.var v || b) (negated_clause-vars v c)
 
 pub clause-more : (n : ℕ) (l : Literal) (c : List Literal) → is_clause n c ≡ true → is_lit_over n l ≡ true → has_var l.var c ≡ false → is_clause n (l ∷ c) ≡ true
-clause-more n l c h w u = (let p = and_parts (is_clause_over n c) (vars_differ c) h in rw (w, u, p.0, p.1) refl)
+clause-more n l c h w u = (let p = and_parts (is_clause_over n c) (has_distinct_vars c) h in rw (w, u, p.0, p.1) refl)
 
 pub clause-bad : (n : ℕ) (l : Literal) (c : List Literal) → (is_lit_over n l && not (has_var l.var c)) ≡ false → is_clause n (l ∷ c) ≡ false
 clause-bad n l c h = elim (cases_Bool (is_clause n (l ∷ c))) [
-  | inl t ↦ (let p = and_parts (is_lit_over n l && is_clause_over n c) (not (has_var l.var c) && vars_differ c) t in
+  | inl t ↦ (let p = and_parts (is_lit_over n l && is_clause_over n c) (not (has_var l.var c) && has_distinct_vars c) t in
       let a = and_parts (is_lit_over n l) (is_clause_over n c) p.0 in
-      let b = and_parts (not (has_var l.var c)) (vars_differ c) p.1 in
+      let b = and_parts (not (has_var l.var c)) (has_distinct_vars c) p.1 in
       absurd (true≢false (sym (and_from (is_lit_over n l) (not (has_var l.var c)) a.0 b.0) ∙ h)))
   | inr f ↦ f
 ]
@@ -38,10 +38,10 @@ clause-end : (n : ℕ) (c : List Literal) (i : ℕ) → is_clause n c ≡ true �
 clause-end n c zero h = h
 clause-end n [] (suc i) h = refl
 clause-end n (l ∷ c) (suc i) h =
-    let p = and_parts (is_lit_over n l && is_clause_over n c) (not (has_var l.var c) && vars_differ c) h in
+    let p = and_parts (is_lit_over n l && is_clause_over n c) (not (has_var l.var c) && has_distinct_vars c) h in
     let a = and_parts (is_lit_over n l) (is_clause_over n c) p.0 in
-    let b = and_parts (not (has_var l.var c)) (vars_differ c) p.1 in
-    clause-end n c i (and_from (is_clause_over n c) (vars_differ c) a.1 b.1)
+    let b = and_parts (not (has_var l.var c)) (has_distinct_vars c) p.1 in
+    clause-end n c i (and_from (is_clause_over n c) (has_distinct_vars c) a.1 b.1)
 
 pub clause-bad_end : (n : ℕ) (c : List Literal) (i : ℕ) → is_clause n (drop i c) ≡ false → is_clause n c ≡ false
 clause-bad_end n c i h = elim (cases_Bool (is_clause n c)) [

@@ -4,13 +4,13 @@ use Rattle.std.specs.Prelude.{nat_le, nat_lt, option_to_list, slice_get}
 use Rattle.std.specs.Option.{option_map_or}
 use Rattle.std.proofs.lemmas.Bool.{cases_Bool, and_parts, and_from, leb-true, ltb-true}
 use Rattle.std.proofs.lemmas.List.{drop_more}
-use Rattle.ilk_base.specs.Option.{only_if}
+use Rattle.ilk_base.specs.Option.{then_some}
 use Rattle.ilk_base.proofs.Tested.{list_all-slice_get}
 use Rattle.ilk_cnf.specs.Literal.{Literal, has_lit}
 use Rattle.ilk_cnf.specs.Code.{literal_of}
 use Rattle.ilk_cnf.specs.Formula.{is_clause_over, are_clauses_over, is_lit_over}
-use Rattle.ilk_log.specs.Propagation.{clause_numbered, is_false, is_falsified, single_unset_lit, unit_lit}
-use Rattle.ilk_audit.specs.Hinted.{clause_status_at, clause_status, status_from_open, IsSettable, unfalsified_lits}
+use Rattle.ilk_log.specs.Propagation.{clause_numbered, is_false, is_falsified, only_lit_if_unset, unit_lit}
+use Rattle.ilk_audit.specs.Hinted.{clause_status_at, clause_status, status_from_unfalsified, IsUnitLitSettable, unfalsified_lits}
 use Rattle.ilk_audit.specs.Stored.{literals_of}
 use Rattle.ilk_audit.specs.Taken.{hints_fault, has_hint_left}
 use Rattle.ilk_audit.specs.declared.hinted.ClauseStatus.{ClauseStatus}
@@ -22,7 +22,7 @@ use Rattle.ilk_audit.proofs.Tables.{var-unset}
 
 -- The invariant of a scan: at most one open literal so far, and the rest determines the result.
 pub record AtCodes (n : ℕ) (set : List Literal) (whole : List ℕ) (lone : Option Literal) (rest : List ℕ) : Type 0 where
-  pub found : status_from_open set (option_to_list lone ++ unfalsified_lits set (literals_of rest)) ≡ clause_status set (literals_of whole)
+  pub found : status_from_unfalsified set (option_to_list lone ++ unfalsified_lits set (literals_of rest)) ≡ clause_status set (literals_of whole)
   pub within : is_clause_over n (option_to_list lone) ≡ true
 
 open-false : (set : List Literal) (code : ℕ) (rest : List ℕ) → is_false set (literal_of code) ≡ true → unfalsified_lits set (literals_of (code ∷ rest)) ≡ unfalsified_lits set (literals_of rest)
@@ -33,7 +33,7 @@ open-more set code rest f = rw f refl
 
 pub scan-false : (n : ℕ) (set : List Literal) (whole : List ℕ) (lone : Option Literal) (code : ℕ) (rest : List ℕ) → AtCodes n set whole lone (code ∷ rest) → is_false set (literal_of code) ≡ true → AtCodes n set whole lone rest
 scan-false n set whole lone code rest a f = record {
-  found = sym (ap (λ (ls : List Literal). status_from_open set (option_to_list lone ++ ls)) (open-false set code rest f)) ∙ a.found;
+  found = sym (ap (λ (ls : List Literal). status_from_unfalsified set (option_to_list lone ++ ls)) (open-false set code rest f)) ∙ a.found;
   within = a.within;
 }
 
@@ -41,11 +41,11 @@ pub scan-open : (n : ℕ) (set : List Literal) (whole : List ℕ) (code : ℕ) (
     AtCodes n set whole None (code ∷ rest) → is_false set (literal_of code) ≡ false →
     is_lit_over n (literal_of code) ≡ true → AtCodes n set whole (Some (literal_of code)) rest
 scan-open n set whole code rest a f within = record {
-  found = sym (ap (λ (ls : List Literal). status_from_open set ls) (open-more set code rest f)) ∙ a.found;
+  found = sym (ap (λ (ls : List Literal). status_from_unfalsified set ls) (open-more set code rest f)) ∙ a.found;
   within = and_from (is_lit_over n (literal_of code)) true within refl;
 }
 
-pub scan-end : (n : ℕ) (set : List Literal) (whole : List ℕ) (lone : Option Literal) → AtCodes n set whole lone [] → status_from_open set (option_to_list lone) ≡ clause_status set (literals_of whole)
+pub scan-end : (n : ℕ) (set : List Literal) (whole : List ℕ) (lone : Option Literal) → AtCodes n set whole lone [] → status_from_unfalsified set (option_to_list lone) ≡ clause_status set (literals_of whole)
 scan-end n set whole None a = a.found
 scan-end n set whole (Some l) a = a.found
 
@@ -76,15 +76,15 @@ some-open set c l ls e = elim (cases_Bool (is_falsified set c)) [
 
 abbrev pub by_found : List (List Literal) → List Literal → List ℕ → ClauseStatus → Option Why
 by_found clauses set hints Missing = Some BadHint
-by_found clauses set hints AllFalse = only_if (has_hint_left hints) NotFalse
+by_found clauses set hints AllFalse = then_some (has_hint_left hints) NotFalse
 by_found clauses set hints (OneUnset l) = hints_fault clauses (l ∷ set) hints
 by_found clauses set hints Other = Some NotUnit
 
 in-clause : (clauses : List (List Literal)) (set : List Literal) (hints : List ℕ) (c ls : List Literal) →
     unfalsified_lits set c ≡ ls →
-    cond (is_falsified set c) (only_if (has_hint_left hints) NotFalse)
-    (option_map_or (λ l. hints_fault clauses (l ∷ set) hints) (single_unset_lit set ls) (Some NotUnit))
-    ≡ by_found clauses set hints (status_from_open set ls)
+    cond (is_falsified set c) (then_some (has_hint_left hints) NotFalse)
+    (option_map_or (λ l. hints_fault clauses (l ∷ set) hints) (only_lit_if_unset set ls) (Some NotUnit))
+    ≡ by_found clauses set hints (status_from_unfalsified set ls)
 in-clause clauses set hints c [] e = rw (all-false set c e) refl
 in-clause clauses set hints c (l ∷ []) e =
     rw (some-open set c l [] e)
@@ -99,7 +99,7 @@ hints-found clauses set h hints = go (clause_numbered clauses h)
   where
     go : (o : Option (List Literal)) →
         option_map_or
-        (λ c. cond (is_falsified set c) (only_if (has_hint_left hints) NotFalse)
+        (λ c. cond (is_falsified set c) (then_some (has_hint_left hints) NotFalse)
         (option_map_or (λ l. hints_fault clauses (l ∷ set) hints) (unit_lit set c) (Some NotUnit))) o
         (Some BadHint)
         ≡ by_found clauses set hints (option_map_or (clause_status set) o Missing)
@@ -117,21 +117,21 @@ first-open n set (m ∷ c) l ls e w =
           (ap (is_false set) (sym q) ∙ f, ap (is_lit_over n) (sym q) ∙ p.0))
     ]
 
-settable-in : (n : ℕ) (set c ls : List Literal) → unfalsified_lits set c ≡ ls → is_clause_over n c ≡ true → IsSettable n set (status_from_open set ls)
+settable-in : (n : ℕ) (set c ls : List Literal) → unfalsified_lits set c ≡ ls → is_clause_over n c ≡ true → IsUnitLitSettable n set (status_from_unfalsified set ls)
 settable-in n set c [] e w = tt
 settable-in n set c (l ∷ []) e w =
     let p = first-open n set c l [] e w in
     by_true (has_lit l set) refl p
   where
-    by_true : (b : Bool) → has_lit l set ≡ b → (is_false set l ≡ false) × (is_lit_over n l ≡ true) → IsSettable n set (cond b Other (OneUnset l))
+    by_true : (b : Bool) → has_lit l set ≡ b → (is_false set l ≡ false) × (is_lit_over n l ≡ true) → IsUnitLitSettable n set (cond b Other (OneUnset l))
     by_true true t p = tt
     by_true false f p = (p.1, var-unset l set f p.0)
 settable-in n set c (l ∷ (m ∷ ls)) e w = tt
 
-pub settable-at : (n : ℕ) (clauses : List (List Literal)) (set : List Literal) (h : ℕ) → are_clauses_over n clauses ≡ true → IsSettable n set (clause_status_at clauses set h)
+pub settable-at : (n : ℕ) (clauses : List (List Literal)) (set : List Literal) (h : ℕ) → are_clauses_over n clauses ≡ true → IsUnitLitSettable n set (clause_status_at clauses set h)
 settable-at n clauses set zero w = tt
 settable-at n clauses set (suc i) w = go (slice_get clauses i) refl
   where
-    go : (o : Option (List Literal)) → slice_get clauses i ≡ o → IsSettable n set (option_map_or (clause_status set) o Missing)
+    go : (o : Option (List Literal)) → slice_get clauses i ≡ o → IsUnitLitSettable n set (option_map_or (clause_status set) o Missing)
     go None e = tt
     go (Some c) e = settable-in n set c (unfalsified_lits set c) refl (list_all-slice_get (is_clause_over n) clauses i c w e)

@@ -4,17 +4,17 @@ use Rattle.std.specs.Prelude.{slice_get}
 use Rattle.std.proofs.Math.ListN.{length-set}
 use Rattle.std.proofs.lemmas.Bool.{cases_Bool, cases_eq, and_parts, and_from, or_left, or_parts, or_from, ne_eqb, eq-eqb, not-true, not_from_false, true≢false}
 use Rattle.ilk_base.proofs.Lists.{slice_get-set_same, slice_get-set_other}
-use Rattle.ilk_cnf.specs.Literal.{Literal, negated_lit, same_lit, has_lit, has_var, vars_differ}
+use Rattle.ilk_cnf.specs.Literal.{Literal, negated_lit, same_lit, has_lit, has_var, has_distinct_vars}
 use Rattle.ilk_cnf.specs.Code.{code_of}
 use Rattle.ilk_cnf.specs.Formula.{is_clause_over, is_lit_over}
 use Rattle.ilk_cnf.proofs.SameLiterals.{same-lit, lit-is, has-var}
 use Rattle.ilk_log.specs.Propagation.{is_false}
-use Rattle.ilk_audit.specs.Stored.{IsTableOf, PartialList}
+use Rattle.ilk_audit.specs.Stored.{IsFalseLitTable, AssignedLits}
 use Rattle.ilk_cnf.proofs.Gates.{negated_lit-negated_lit}
 use Rattle.ilk_cnf.proofs.Literals.{is_lit_over-parts}
 use Rattle.ilk_audit.proofs.Numbers.{same-code}
 
-abbrev partial_of : ℕ → List Literal → PartialList
+abbrev partial_of : ℕ → List Literal → AssignedLits
 partial_of n ls = record { vars = n; set = ls }
 
 pub var-unset : (l : Literal) (ls : List Literal) → has_lit l ls ≡ false → has_lit (negated_lit l) ls ≡ false → has_var l.var ls ≡ false
@@ -43,9 +43,10 @@ unlike l m differs = elim (cases_Bool (same_lit (negated_lit m) l)) [
   | inr f ↦ f
 ]
 
-pub table-set : (falses : List Bool) (n : ℕ) (ls : List Literal) (l : Literal) → IsTableOf falses (partial_of n ls) → is_lit_over n l ≡ true → has_var l.var ls ≡ false → IsTableOf (set falses (code_of (negated_lit l)) true) (partial_of n (l ∷ ls))
+pub table-set : (falses : List Bool) (n : ℕ) (ls : List Literal) (l : Literal) → IsFalseLitTable falses (partial_of n ls) → is_lit_over n l ≡ true → has_var l.var ls ≡ false →
+    IsFalseLitTable (set falses (code_of (negated_lit l)) true) (partial_of n (l ∷ ls))
 table-set falses n ls l t within unset = record {
-  partial = record { few = t.partial.few; within = and_from (is_lit_over n l) (is_clause_over n ls) within t.partial.within; once = and_from (not (has_var l.var ls)) (vars_differ ls) (not_from_false (has_var l.var ls) unset) t.partial.once };
+  partial = record { few = t.partial.few; within = and_from (is_lit_over n l) (is_clause_over n ls) within t.partial.within; once = and_from (not (has_var l.var ls)) (has_distinct_vars ls) (not_from_false (has_var l.var ls) unset) t.partial.once };
   long = simp length-set t.long;
   tells = λ m h. elim (cases_eq (code_of m) (code_of (negated_lit l))) [
     | inl e ↦ (let is : m ≡ negated_lit l = same-code m (negated_lit l) e in
@@ -57,10 +58,10 @@ table-set falses n ls l t within unset = record {
   ];
 }
 
-pub table-take : (falses : List Bool) (n : ℕ) (ls : List Literal) (l : Literal) → IsTableOf falses (partial_of n (l ∷ ls)) → IsTableOf (set falses (code_of (negated_lit l)) false) (partial_of n ls)
+pub table-take : (falses : List Bool) (n : ℕ) (ls : List Literal) (l : Literal) → IsFalseLitTable falses (partial_of n (l ∷ ls)) → IsFalseLitTable (set falses (code_of (negated_lit l)) false) (partial_of n ls)
 table-take falses n ls l t =
     let w = and_parts (is_lit_over n l) (is_clause_over n ls) t.partial.within in
-    let d = and_parts (not (has_var l.var ls)) (vars_differ ls) t.partial.once in
+    let d = and_parts (not (has_var l.var ls)) (has_distinct_vars ls) t.partial.once in
     let away : has_var l.var ls ≡ false = not-true (has_var l.var ls) d.0 in
     record {
       partial = record { few = t.partial.few; within = w.1; once = d.1 };

@@ -2,7 +2,7 @@
 use Rattle.std.specs.Prelude.{ℕ, Bool, List, [], ◌∷◌, ◌++◌}
 use Rattle.ilk_cnf.specs.Literal.{Literal}
 use Rattle.ilk_log.specs.declared.step.Step.{Step}
-use Rattle.ilk_log.specs.Derived.{is_empty}
+use Rattle.ilk_log.specs.Derived.{is_empty_clause}
 
 -- The clauses over the variables 1 to `vars` by which the next step may follow: those of the
 -- formula, then those of the steps taken. `closed` says whether a taken step had the empty clause;
@@ -14,4 +14,4 @@ pub record AuditState : Type 0 where
 
 -- The state after a step that follows: its clause is added, and `closed` is set if that is empty.
 abbrev pub with_step : AuditState → Step → AuditState
-with_step a s = record { vars = a.vars; clauses = a.clauses ++ s.clause ∷ []; closed = is_empty s.clause }
+with_step a s = record { vars = a.vars; clauses = a.clauses ++ s.clause ∷ []; closed = is_empty_clause s.clause }

@@ -13,14 +13,14 @@ abbrev pub unfalsified_lits : List Literal → List Literal → List Literal
 unfalsified_lits set c = filter (λ l. not (is_false set l)) c
 
 -- The status of a clause, from its literals that are not false.
-abbrev pub status_from_open : List Literal → List Literal → ClauseStatus
-status_from_open set [] = AllFalse
-status_from_open set (l ∷ []) = if has_lit l set then Other else OneUnset l
-status_from_open set (l ∷ (m ∷ ls)) = Other
+abbrev pub status_from_unfalsified : List Literal → List Literal → ClauseStatus
+status_from_unfalsified set [] = AllFalse
+status_from_unfalsified set (l ∷ []) = if has_lit l set then Other else OneUnset l
+status_from_unfalsified set (l ∷ (m ∷ ls)) = Other
 
 -- The status of a clause.
 abbrev pub clause_status : List Literal → List Literal → ClauseStatus
-clause_status set c = status_from_open set (unfalsified_lits set c)
+clause_status set c = status_from_unfalsified set (unfalsified_lits set c)
 
 -- The status of the clause that hint `h` names.
 abbrev pub clause_status_at : List (List Literal) → List Literal → ℕ → ClauseStatus
@@ -28,8 +28,8 @@ clause_status_at clauses set h = option_map_or (clause_status set) (clause_numbe
 
 -- Holds if the status, if it names one unset literal, names one over an unset variable from 1 to
 -- `n`.
-abbrev pub IsSettable : ℕ → List Literal → ClauseStatus → Type 0
-IsSettable n set Missing = Unit {0}
-IsSettable n set AllFalse = Unit {0}
-IsSettable n set (OneUnset l) = IsTrue (is_lit_over n l) × (has_var l.var set ≡ false)
-IsSettable n set Other = Unit {0}
+abbrev pub IsUnitLitSettable : ℕ → List Literal → ClauseStatus → Type 0
+IsUnitLitSettable n set Missing = Unit {0}
+IsUnitLitSettable n set AllFalse = Unit {0}
+IsUnitLitSettable n set (OneUnset l) = IsTrue (is_lit_over n l) × (has_var l.var set ≡ false)
+IsUnitLitSettable n set Other = Unit {0}

@@ -1,12 +1,12 @@
 -- The answer to a step: if it does not follow, the first cause in the order of the checks.
 use Rattle.std.specs.Prelude.{ℕ, Bool, true, false, ◌&&◌, List, [], ◌∷◌, Option, Some, None, if◌then◌else◌}
 use Rattle.std.specs.Option.{option_map_or}
-use Rattle.ilk_base.specs.Option.{only_if}
-use Rattle.ilk_cnf.specs.Literal.{Literal, vars_differ}
+use Rattle.ilk_base.specs.Option.{then_some}
+use Rattle.ilk_cnf.specs.Literal.{Literal, has_distinct_vars}
 use Rattle.ilk_cnf.specs.Formula.{is_clause_over}
 use Rattle.ilk_log.specs.declared.step.Step.{Step}
 use Rattle.ilk_log.specs.Propagation.{is_falsified, clause_numbered, unit_lit}
-use Rattle.ilk_log.specs.Derived.{is_empty, negated_clause}
+use Rattle.ilk_log.specs.Derived.{is_empty_clause, negated_clause}
 use Rattle.ilk_audit.specs.Audited.{AuditState, with_step}
 use Rattle.ilk_audit.specs.declared.taken.Taken.{Taken}
 use Rattle.ilk_audit.specs.declared.taken.Taken.TheVariants.{Good, Closed, Bad}
@@ -26,7 +26,7 @@ hints_fault clauses set [] = Some NotFalse
 -- it has a true literal or two unset ones. Otherwise its one unset literal is set.
 hints_fault clauses set (h ∷ hints) =
     option_map_or (λ c.
-    if is_falsified set c then only_if (has_hint_left hints) NotFalse else
+    if is_falsified set c then then_some (has_hint_left hints) NotFalse else
     option_map_or (λ l. hints_fault clauses (l ∷ set) hints) (unit_lit set c) (Some NotUnit))
     (clause_numbered clauses h) (Some BadHint)
 
@@ -34,12 +34,12 @@ hints_fault clauses set (h ∷ hints) =
 -- are checked first.
 abbrev pub fault_of : ℕ → List (List Literal) → Step → Option Why
 fault_of n clauses s =
-    if is_clause_over n s.clause && vars_differ s.clause then hints_fault clauses (negated_clause s.clause) s.hints else Some BadLiteral
+    if is_clause_over n s.clause && has_distinct_vars s.clause then hints_fault clauses (negated_clause s.clause) s.hints else Some BadLiteral
 
 -- The answer to a step: the reason why it does not follow, or that it is taken.
 abbrev pub answer_from_fault : Step → Option Why → Taken
 answer_from_fault s (Some why) = Bad why
-answer_from_fault s None = if is_empty s.clause then Closed else Good
+answer_from_fault s None = if is_empty_clause s.clause then Closed else Good
 
 -- The answer to a step.
 abbrev pub step_answer : AuditState → Step → Taken

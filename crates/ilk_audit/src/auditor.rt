@@ -1,13 +1,13 @@
 ghost use Rattle.std.specs.Prelude.{◌≡◌, ◌<◌, ◌^◌, ◌++◌, ◌∷◌, [], false, length, if◌then◌else◌, IfOk, IsTrue, OnOk, OnErr};
 ghost use Rattle.ilk_cnf.specs.Formula.{is_clause_over, IsFormula};
-ghost use Rattle.ilk_cnf.specs.Literal.{vars_differ};
-ghost use Rattle.ilk_log.specs.Derived.{is_empty};
+ghost use Rattle.ilk_cnf.specs.Literal.{has_distinct_vars};
+ghost use Rattle.ilk_log.specs.Derived.{is_empty_clause};
 ghost use Rattle.ilk_audit.specs.declared.taken.Taken.TheVariants.{Closed, Good};
 ghost use Rattle.ilk_audit.specs.Taken.{after_step, step_answer};
 
-use crate::block::Block;
+use crate::block::ClauseDb;
 use crate::fault::find_fault;
-use crate::partial::Partial;
+use crate::partial::PartialAssignment;
 use crate::taken::Taken;
 use ilk_cnf::{Cnf, Lit};
 use ilk_log::Step;
@@ -18,9 +18,9 @@ use std::marker::Model;
 /// before it.
 #[derive(Drop)]
 pub struct Auditor {
-    clauses: Block,
+    clauses: ClauseDb,
     // Nothing is set between two steps.
-    partial: Partial,
+    partial: PartialAssignment,
     closed: bool,
 }
 
@@ -36,10 +36,10 @@ impl Model for Auditor {
     ghost invariant = { λ a. a.partial ≡ record { vars = a.clauses.vars; set = [] } };
 }
 
-fn clauses_of(alloc: Global, cnf: &Cnf) -> Result<Block, AllocError>
+fn clauses_of(alloc: Global, cnf: &Cnf) -> Result<ClauseDb, AllocError>
     ensures { IfOk result (λ block. block ≡ cnf.now) }
 {
-    let mut block = Block::new(alloc, cnf.vars())?;
+    let mut block = ClauseDb::new(alloc, cnf.vars())?;
     for number in 0..cnf.clauses() {
         block.push(cnf.clause(number + 1))?;
     }
@@ -55,7 +55,7 @@ impl Auditor {
     {
         Ok(Auditor {
             clauses: clauses_of(alloc, cnf)?,
-            partial: Partial::new(alloc, cnf.vars())?,
+            partial: PartialAssignment::new(alloc, cnf.vars())?,
             closed: false,
         })
     }
@@ -72,15 +72,15 @@ impl Auditor {
 
     fn add(&mut self, clause: &[Lit]) -> Result<Taken, AllocError>
         requires within { IsTrue (is_clause_over self.old.vars clause.now) }
-        requires differ { IsTrue (vars_differ clause.now) }
+        requires differ { IsTrue (has_distinct_vars clause.now) }
         ensures taken { IfOk result
-            (λ taken. taken ≡ (if is_empty clause.now then Closed else Good)) }
+            (λ taken. taken ≡ (if is_empty_clause clause.now then Closed else Good)) }
         ensures after { OnOk result
             (self.new
             ≡ record {
               vars = self.old.vars;
               clauses = self.old.clauses ++ clause.now ∷ [];
-              closed = is_empty clause.now;
+              closed = is_empty_clause clause.now;
             }) }
         ensures err { OnErr result (self.new ≡ self.old) }
     {
@@ -101,11 +101,15 @@ impl Auditor {
         ensures after { OnOk result (self.new ≡ after_step self.old step.now) }
         ensures err { OnErr result (self.new ≡ self.old) }
     {
-        self.take_parts(step.clause.as_slice(), step.hints.as_slice())
+        self.audit_step_from_slices(step.clause.as_slice(), step.hints.as_slice())
     }
 
     /// Checks the step that two slices give, and takes it if it follows.
-    pub fn take_parts(&mut self, clause: &[Lit], hints: &[u64]) -> Result<Taken, AllocError>
+    pub fn audit_step_from_slices(
+        &mut self,
+        clause: &[Lit],
+        hints: &[u64],
+    ) -> Result<Taken, AllocError>
         requires open { self.old.closed ≡ false }
         ensures taken { IfOk result
             (λ taken. taken

@@ -3,45 +3,45 @@
 
 ghost use Rattle.std.specs.Prelude.{◌≡◌, ◌≤◌, ◌<◌, ◌-◌, ◌^◌, ◌⊎◌, ◌∷◌, [], Some, drop, length, option_to_list, slice_get, take, IfNone, IfOk, IfSome, IsTrue, OnOk, OnErr};
 ghost use Rattle.ilk_cnf.specs.Formula.{is_clause_over, with_clauses, IsFormula};
-ghost use Rattle.ilk_cnf.specs.Literal.{vars_differ};
+ghost use Rattle.ilk_cnf.specs.Literal.{has_distinct_vars};
 ghost use Rattle.ilk_audit.specs.Codes.{codes_in};
-ghost use Rattle.ilk_audit.specs.Hinted.{clause_status_at, clause_status, status_from_open, IsSettable};
+ghost use Rattle.ilk_audit.specs.Hinted.{clause_status_at, clause_status, status_from_unfalsified, IsUnitLitSettable};
 ghost use Rattle.ilk_audit.specs.Stored.{literals_of};
 
-use crate::codes::{Codes, literal_of};
+use crate::codes::{LitCodes, literal_of};
 use crate::hinted::ClauseStatus;
-use crate::partial::Partial;
+use crate::partial::PartialAssignment;
 use ilk_cnf::Lit;
 use std::alloc::{AllocError, Global};
 use std::marker::Model;
 
 /// Clauses over the variables 1 to `vars`, each over different ones.
 #[derive(Drop)]
-pub struct Block {
+pub struct ClauseDb {
     vars: u64,
-    codes: Codes,
+    codes: LitCodes,
     // The start of the first clause, and the end of each.
     bounds: Vec<usize>,
 }
 
-impl Model for Block {
+impl Model for ClauseDb {
     ghost use Rattle.std.specs.Prelude.{length};
     ghost use Rattle.ilk_cnf.specs.Formula.{Formula};
     ghost use Rattle.ilk_audit.specs.Codes.{codes_in};
-    ghost use Rattle.ilk_audit.specs.Stored.{IsBlock, clauses_between};
+    ghost use Rattle.ilk_audit.specs.Stored.{IsClauseDb, split_into_clauses};
 
     ghost Value = { Formula };
 
     ghost view = { λ b. record
-        { vars = b.vars; clauses = clauses_between b.bounds.items (codes_in b.codes) } };
+        { vars = b.vars; clauses = split_into_clauses b.bounds.items (codes_in b.codes) } };
 
-    ghost invariant = { λ b. IsBlock b.vars b.codes b.bounds.items };
+    ghost invariant = { λ b. IsClauseDb b.vars b.codes b.bounds.items };
 }
 
 // Returns the result for a clause whose only literal that is not false, if any, is `lone`.
-fn found_open(partial: &Partial, lone: Option<Lit>) -> ClauseStatus
+fn found_open(partial: &PartialAssignment, lone: Option<Lit>) -> ClauseStatus
     requires { IsTrue (is_clause_over partial.now.vars (option_to_list lone)) }
-    ensures { result ≡ status_from_open partial.now.set (option_to_list lone) }
+    ensures { result ≡ status_from_unfalsified partial.now.set (option_to_list lone) }
 {
     match lone {
         None => ClauseStatus::AllFalse,
@@ -50,7 +50,7 @@ fn found_open(partial: &Partial, lone: Option<Lit>) -> ClauseStatus
     }
 }
 
-fn found_in_narrow(partial: &Partial, codes: &[u32]) -> ClauseStatus
+fn found_in_narrow(partial: &PartialAssignment, codes: &[u32]) -> ClauseStatus
     requires few { partial.now.vars ≤ 2 ^ 62 }
     requires within { IsTrue (is_clause_over partial.now.vars (literals_of codes.now)) }
     ensures { result ≡ clause_status partial.now.set (literals_of codes.now) }
@@ -68,7 +68,7 @@ fn found_in_narrow(partial: &Partial, codes: &[u32]) -> ClauseStatus
     found_open(partial, lone)
 }
 
-fn found_in_wide(partial: &Partial, codes: &[u64]) -> ClauseStatus
+fn found_in_wide(partial: &PartialAssignment, codes: &[u64]) -> ClauseStatus
     requires few { partial.now.vars ≤ 2 ^ 62 }
     requires within { IsTrue (is_clause_over partial.now.vars (literals_of codes.now)) }
     ensures { result ≡ clause_status partial.now.set (literals_of codes.now) }
@@ -86,7 +86,12 @@ fn found_in_wide(partial: &Partial, codes: &[u64]) -> ClauseStatus
     found_open(partial, lone)
 }
 
-fn found_between(partial: &Partial, codes: &Codes, from: usize, to: usize) -> ClauseStatus
+fn found_between(
+    partial: &PartialAssignment,
+    codes: &LitCodes,
+    from: usize,
+    to: usize,
+) -> ClauseStatus
     requires few { partial.now.vars ≤ 2 ^ 62 }
     requires ascend { from ≤ to }
     requires fit { to ≤ length (codes_in codes.now) }
@@ -98,8 +103,8 @@ fn found_between(partial: &Partial, codes: &Codes, from: usize, to: usize) -> Cl
         (literals_of (take (to - from) (drop from (codes_in codes.now)))) }
 {
     match codes {
-        Codes::Narrow(codes) => found_in_narrow(partial, &codes[from..to]),
-        Codes::Wide(codes) => found_in_wide(partial, &codes[from..to]),
+        LitCodes::Narrow(codes) => found_in_narrow(partial, &codes[from..to]),
+        LitCodes::Wide(codes) => found_in_wide(partial, &codes[from..to]),
     }
 }
 
@@ -117,15 +122,15 @@ fn part_at(bounds: &[usize], number: u64) -> Option<(usize, usize)>
     Some((bounds[number - 1], bounds[number]))
 }
 
-impl Block {
+impl ClauseDb {
     /// Creates a block without clauses over the variables 1 to `vars`.
-    pub fn new(alloc: Global, vars: u64) -> Result<Block, AllocError>
+    pub fn new(alloc: Global, vars: u64) -> Result<ClauseDb, AllocError>
         requires { vars ≤ 2 ^ 62 }
         ensures { IfOk result (λ b. b ≡ record { vars = vars; clauses = [] }) }
     {
-        Ok(Block {
+        Ok(ClauseDb {
             vars,
-            codes: Codes::new(alloc, vars),
+            codes: LitCodes::new(alloc, vars),
             bounds: vec![in alloc; 0]?,
         })
     }
@@ -144,23 +149,23 @@ impl Block {
     /// Adds a clause at the end.
     pub fn push(&mut self, clause: &[Lit]) -> Result<(), AllocError>
         requires within { IsTrue (is_clause_over self.old.vars clause.now) }
-        requires differ { IsTrue (vars_differ clause.now) }
+        requires differ { IsTrue (has_distinct_vars clause.now) }
         ensures ok { OnOk result (self.new
             ≡ with_clauses self.old self.old.vars (clause.now ∷ [])) }
         ensures err { OnErr result (self.new ≡ self.old) }
     {
         self.codes.reserve(clause.len())?;
         self.bounds.reserve(1)?;
-        self.codes.append(self.vars, clause);
+        self.codes.push_lit_codes(self.vars, clause);
         self.bounds.push(self.codes.len()).unwrap();
         Ok(())
     }
 
     /// Returns the status of clause `number`, from 1, under `partial`.
-    pub fn clause_status(&self, partial: &Partial, number: u64) -> ClauseStatus
+    pub fn clause_status(&self, partial: &PartialAssignment, number: u64) -> ClauseStatus
         requires { partial.now.vars ≡ self.now.vars }
         ensures found { result ≡ clause_status_at self.now.clauses partial.now.set number }
-        ensures unit { IsSettable partial.now.vars partial.now.set result }
+        ensures unit { IsUnitLitSettable partial.now.vars partial.now.set result }
     {
         match part_at(self.bounds.as_slice(), number) {
             Some((from, to)) => found_between(partial, &self.codes, from, to),

@@ -3,14 +3,14 @@
 ghost use Rattle.std.specs.Prelude.{ℕ, ◌≡◌, ◌≤◌, ◌<◌, ◌+◌, ◌*◌, ◌/◌, ◌^◌, ◌++◌, [], map, length, vec_len, vec_capacity, OnOk, IsTrue};
 ghost use Rattle.ilk_cnf.specs.Code.{code_of, literal_of};
 ghost use Rattle.ilk_cnf.specs.Formula.{is_clause_over};
-ghost use Rattle.ilk_audit.specs.Codes.{codes_in, codes_fit, HasRoom};
+ghost use Rattle.ilk_audit.specs.Codes.{codes_in, fits_lits_of_vars, HasRoom};
 
 use ilk_cnf::Lit;
 use std::alloc::{AllocError, Global};
 
 /// The numbers of literals, in one of two widths.
 #[derive(Drop)]
-pub enum Codes {
+pub enum LitCodes {
     /// Numbers below 2^32.
     Narrow(Vec<u32>),
     /// Numbers of any size.
@@ -58,16 +58,16 @@ fn append_wide(codes: &mut Vec<u64>, vars: u64, clause: &[Lit])
     }
 }
 
-impl Codes {
+impl LitCodes {
     /// Creates an empty list with the width that the variables 1 to `vars` need.
-    pub fn new(alloc: Global, vars: u64) -> Codes
+    pub fn new(alloc: Global, vars: u64) -> LitCodes
         ensures empty { codes_in result ≡ [] }
-        ensures fit { IsTrue (codes_fit vars result) }
+        ensures fit { IsTrue (fits_lits_of_vars vars result) }
     {
         if vars < 1 << 31 {
-            Codes::Narrow(Vec::new(alloc))
+            LitCodes::Narrow(Vec::new(alloc))
         } else {
-            Codes::Wide(Vec::new(alloc))
+            LitCodes::Wide(Vec::new(alloc))
         }
     }
 
@@ -76,36 +76,36 @@ impl Codes {
         ensures { result ≡ length (codes_in self.now) }
     {
         match self {
-            Codes::Narrow(codes) => codes.len(),
-            Codes::Wide(codes) => codes.len(),
+            LitCodes::Narrow(codes) => codes.len(),
+            LitCodes::Wide(codes) => codes.len(),
         }
     }
 
     /// Reserves memory for `count` more.
     pub fn reserve(&mut self, count: usize) -> Result<(), AllocError>
         ensures same { codes_in self.new ≡ codes_in self.old }
-        ensures fit { (n : ℕ) → codes_fit n self.new ≡ codes_fit n self.old }
+        ensures fit { (n : ℕ) → fits_lits_of_vars n self.new ≡ fits_lits_of_vars n self.old }
         ensures room { OnOk result (HasRoom count self.new) }
     {
         match self {
-            Codes::Narrow(codes) => codes.reserve(count),
-            Codes::Wide(codes) => codes.reserve(count),
+            LitCodes::Narrow(codes) => codes.reserve(count),
+            LitCodes::Wide(codes) => codes.reserve(count),
         }
     }
 
     /// Appends the numbers of literals over the variables 1 to `vars`, for which memory is
     /// reserved.
-    pub fn append(&mut self, vars: u64, clause: &[Lit])
+    pub fn push_lit_codes(&mut self, vars: u64, clause: &[Lit])
         requires numbered { vars ≤ 2 ^ 62 }
-        requires fit { IsTrue (codes_fit vars self.old) }
+        requires fit { IsTrue (fits_lits_of_vars vars self.old) }
         requires within { IsTrue (is_clause_over vars clause.now) }
         requires room { HasRoom (length clause.now) self.old }
         ensures codes { codes_in self.new ≡ codes_in self.old ++ map code_of clause.now }
-        ensures fit { IsTrue (codes_fit vars self.new) }
+        ensures fit { IsTrue (fits_lits_of_vars vars self.new) }
     {
         match self {
-            Codes::Narrow(codes) => append_narrow(codes, vars, clause),
-            Codes::Wide(codes) => append_wide(codes, vars, clause),
+            LitCodes::Narrow(codes) => append_narrow(codes, vars, clause),
+            LitCodes::Wide(codes) => append_wide(codes, vars, clause),
         }
     }
 }

@@ -1,17 +1,17 @@
 ghost use Rattle.std.specs.Prelude.{◌≡◌, ◌&&◌, true, [], not, IfOk, IsTrue};
 ghost use Rattle.ilk_cnf.specs.Formula.{is_clause_over, is_lit_over};
-ghost use Rattle.ilk_cnf.specs.Literal.{has_var, vars_differ};
+ghost use Rattle.ilk_cnf.specs.Literal.{has_var, has_distinct_vars};
 ghost use Rattle.ilk_log.specs.Derived.{negated_clause};
 ghost use Rattle.ilk_audit.specs.Taken.{fault_of, hints_fault};
 
-use crate::block::Block;
+use crate::block::ClauseDb;
 use crate::hinted::ClauseStatus;
-use crate::partial::Partial;
+use crate::partial::PartialAssignment;
 use crate::taken::Why;
 use ilk_cnf::Lit;
 use std::alloc::AllocError;
 
-fn is_unset(partial: &Partial, l: Lit) -> bool
+fn is_unset(partial: &PartialAssignment, l: Lit) -> bool
     requires { IsTrue (is_lit_over partial.now.vars l) }
     ensures { result ≡ not (has_var l.var partial.now.set) }
 {
@@ -19,7 +19,7 @@ fn is_unset(partial: &Partial, l: Lit) -> bool
 }
 
 // Returns whether the variable of a literal belongs to the formula and is unset.
-fn is_settable(partial: &Partial, l: Lit) -> bool
+fn is_settable(partial: &PartialAssignment, l: Lit) -> bool
     ensures { result ≡ (is_lit_over partial.now.vars l && not (has_var l.var partial.now.set)) }
 {
     l.var() > 0 && l.var() <= partial.vars() && is_unset(partial, l)
@@ -27,10 +27,10 @@ fn is_settable(partial: &Partial, l: Lit) -> bool
 
 // Sets the negations of a clause's literals, from last to first. Returns whether the clause is over
 // different variables of the formula.
-fn set_opposites(partial: &mut Partial, clause: &[Lit]) -> Result<bool, AllocError>
+fn set_opposites(partial: &mut PartialAssignment, clause: &[Lit]) -> Result<bool, AllocError>
     requires { partial.old.set ≡ [] }
     ensures answer { IfOk result
-        (λ ok. ok ≡ (is_clause_over partial.old.vars clause.now && vars_differ clause.now)) }
+        (λ ok. ok ≡ (is_clause_over partial.old.vars clause.now && has_distinct_vars clause.now)) }
     ensures set { IfOk result (λ ok. ok ≡ true → partial.new.set ≡ negated_clause clause.now) }
     ensures vars { partial.new.vars ≡ partial.old.vars }
 {
@@ -48,8 +48,8 @@ fn set_opposites(partial: &mut Partial, clause: &[Lit]) -> Result<bool, AllocErr
 
 // Returns why the hints do not end at a false clause, or `None` if they do.
 fn hints_fault(
-    clauses: &Block,
-    partial: &mut Partial,
+    clauses: &ClauseDb,
+    partial: &mut PartialAssignment,
     hints: &[u64],
 ) -> Result<Option<Why>, AllocError>
     requires { partial.old.vars ≡ clauses.now.vars }
@@ -71,8 +71,8 @@ fn hints_fault(
 
 /// Returns why a step does not follow, or `None` if it does. The literals that it set stay set.
 pub fn find_fault(
-    clauses: &Block,
-    partial: &mut Partial,
+    clauses: &ClauseDb,
+    partial: &mut PartialAssignment,
     clause: &[Lit],
     hints: &[u64],
 ) -> Result<Option<Why>, AllocError>

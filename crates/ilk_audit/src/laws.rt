@@ -7,7 +7,7 @@ ghost use Rattle.ilk_audit.specs.Taken.{is_taken, step_answer};
 /// A step is taken exactly if it follows from the clauses of the formula and of the steps before
 /// it. Proof only; no run-time effect.
 #[tactic(auto, using(crate::proofs::Derived::taken_derived))]
-pub fn taken_steps_are_derived()
+pub fn accepts_exactly_derived_steps()
     ensures { (a : AuditState) (s : StepValue) →
         is_taken (step_answer a s) ≡ is_derived a.vars a.clauses s }
 {}

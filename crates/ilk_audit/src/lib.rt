@@ -13,9 +13,9 @@
 //! block of 32-bit numbers, and a byte for each literal says whether it is false. It is cleared
 //! after each step.
 //!
-//! `Auditor::new` takes a formula, `take` and `take_parts` its steps. `closed` returns whether the
-//! empty clause was taken: then no assignment satisfies the formula. If every step is taken and the
-//! last one closes, the log is a refutation (`taken_steps_are_derived`).
+//! `Auditor::new` takes a formula, `take` and `audit_step_from_slices` its steps. `closed` returns
+//! whether the empty clause was taken: then no assignment satisfies the formula. If every step is
+//! taken and the last one closes, the log is a refutation (`accepts_exactly_derived_steps`).
 #![tactic(auto)]
 
 mod auditor;
@@ -28,5 +28,5 @@ mod partial;
 mod taken;
 
 pub use auditor::Auditor;
-pub use laws::taken_steps_are_derived;
+pub use laws::accepts_exactly_derived_steps;
 pub use taken::{Taken, Why};

@@ -5,7 +5,7 @@ ghost use Rattle.std.specs.Prelude.{◌≡◌, ◌<◌, ◌≤◌, ◌^◌, ◌�
 ghost use Rattle.ilk_cnf.specs.Formula.{is_lit_over};
 ghost use Rattle.ilk_cnf.specs.Literal.{has_var};
 ghost use Rattle.ilk_log.specs.Propagation.{is_false};
-ghost use Rattle.ilk_audit.specs.Stored.{IsPartial};
+ghost use Rattle.ilk_audit.specs.Stored.{IsPartialAssignment};
 
 use crate::codes::code_of;
 use ilk_cnf::Lit;
@@ -14,7 +14,7 @@ use std::marker::Model;
 
 /// Literals that are set, over different variables.
 #[derive(Drop)]
-pub struct Partial {
+pub struct PartialAssignment {
     vars: u64,
     // By the number of a literal: whether it is false.
     falses: Vec<bool>,
@@ -22,25 +22,25 @@ pub struct Partial {
     trail: Vec<Lit>,
 }
 
-impl Model for Partial {
+impl Model for PartialAssignment {
     ghost use Rattle.std.specs.Prelude.{reverse};
-    ghost use Rattle.ilk_audit.specs.Stored.{PartialList, IsTableOf};
+    ghost use Rattle.ilk_audit.specs.Stored.{AssignedLits, IsFalseLitTable};
 
-    ghost Value = { PartialList };
+    ghost Value = { AssignedLits };
 
     ghost view = { λ p. record { vars = p.vars; set = reverse p.trail.items } };
 
-    ghost invariant = { λ p. IsTableOf p.falses.items
+    ghost invariant = { λ p. IsFalseLitTable p.falses.items
         (record { vars = p.vars; set = reverse p.trail.items }) };
 }
 
-impl Partial {
+impl PartialAssignment {
     /// Creates an empty assignment of the variables 1 to `vars`.
-    pub fn new(alloc: Global, vars: u64) -> Result<Partial, AllocError>
+    pub fn new(alloc: Global, vars: u64) -> Result<PartialAssignment, AllocError>
         requires { vars ≤ 2 ^ 62 }
         ensures { IfOk result (λ p. p ≡ record { vars = vars; set = [] }) }
     {
-        Ok(Partial {
+        Ok(PartialAssignment {
             vars,
             falses: vec![in alloc; false; 2 * vars as usize + 2]?,
             trail: Vec::new(alloc),
@@ -50,7 +50,7 @@ impl Partial {
     /// Returns the number of variables.
     pub fn vars(&self) -> u64
         ensures count { result ≡ self.now.vars }
-        ensures set { IsPartial self.now }
+        ensures set { IsPartialAssignment self.now }
     {
         self.vars
     }

@@ -6,8 +6,8 @@ abbrev pub ◌>>=◌ : {A B : Type 0} → Option A → (A → Option B) → Opti
 o >>= f = option_and_then f o
 
 -- The value `x`, if the test `b` passes.
-abbrev pub only_if : {A : Type 0} → Bool → A → Option A
-only_if b x = if b then Some x else None
+abbrev pub then_some : {A : Type 0} → Bool → A → Option A
+then_some b x = if b then Some x else None
 
 -- Returns whether there is a value and it passes the test.
 abbrev pub is_some_and : {A : Type 0} → Option A → (A → Bool) → Bool

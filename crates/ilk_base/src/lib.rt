@@ -5,7 +5,7 @@
 //! items, a list of bytes. Definitions therefore speak only of lists, and a contract compares a row
 //! with a list by `≡`. `new`, `push` and `push_if` build a row; `at`, `len` and `as_slice` read it;
 //! `at_mut` and `remove` change it. `has_number` searches numbers. A type whose values are written
-//! as words is `Worded`: its one table is used for writing and, by `value_of_word`, for reading.
+//! as words is `HasWord`: its one table is used for writing and, by `value_of_word`, for reading.
 //!
 //! `specs/` contains `do` blocks over options (`Option`) and results (`Result`), tests of every
 //! number below a bound (`Each`), and lists of numbers (`Numbers`). It also contains lists without
@@ -21,4 +21,4 @@ mod words;
 pub use numbers::has_number;
 pub use row::Row;
 pub use text::Text;
-pub use words::{Worded, value_of_word};
+pub use words::{HasWord, value_of_word};

@@ -3,7 +3,7 @@ ghost use Rattle.ilk_base.specs.Words.{value_of_word as value_by_word};
 
 /// A value that texts write as a word. The method `word` is the table of words of the type: texts
 /// are written by it, and `value_of_word` reads by it.
-pub trait Worded: Copy {
+pub trait HasWord: Copy {
     ghost word_of: { Self → List ℕ };
 
     /// Returns the word of the value.
@@ -12,7 +12,7 @@ pub trait Worded: Copy {
 }
 
 /// Returns the first of `values` whose word is `word`. Returns `None` if it is the word of none.
-pub fn value_of_word<T: Worded>(values: &[T], word: &[u8]) -> Option<T>
+pub fn value_of_word<T: HasWord>(values: &[T], word: &[u8]) -> Option<T>
     ensures { result ≡ value_by_word T.word_of values.now word.now }
 {
     values

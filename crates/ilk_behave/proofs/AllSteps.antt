@@ -3,15 +3,15 @@ use Rattle.std.proofs.Common.{◌≡◌, ℕ, zero, suc, ◌+◌, ◌-◌, ◌<�
 use Rattle.std.specs.List.{flat_map}
 use Rattle.std.proofs.lemmas.Bool.{eq-eqb}
 use Rattle.std.proofs.lemmas.Option.{cond_some, same_Some, slice_get_within}
-use Rattle.ilk_base.specs.Option.{only_if}
+use Rattle.ilk_base.specs.Option.{then_some}
 use Rattle.ilk_base.proofs.Lists.{at-before, at-past, item_at}
 use Rattle.ilk_base.proofs.Options.{bind_some}
 use Rattle.ilk_base.proofs.Ranges.{below_or_past}
 use Rattle.ilk_base.proofs.Tested.{list_any-at, list_any-from}
-use Rattle.ilk_ir.specs.System.{RuleTree, after_rule, after_settings}
+use Rattle.ilk_ir.specs.System.{PlainRule, after_rule, after_settings}
 use Rattle.ilk_ir.specs.Tree.{tree_holds}
-use Rattle.ilk_plant.specs.Plant.{IsPlant, PlantLists, border, next_to, point_number}
-use Rattle.ilk_plant.specs.Sound.{NoWalkReturns}
+use Rattle.ilk_plant.specs.Plant.{IsPlant, PlantLists, section_inward_if_border, next_to, point_number}
+use Rattle.ilk_plant.specs.Sound.{IsAcyclic}
 use Rattle.ilk_plant.specs.declared.network.Dir.{Dir}
 use Rattle.ilk_plant.specs.declared.network.Dir.TheVariants.{Up, Down}
 use Rattle.ilk_plant.specs.declared.state.State.{State}
@@ -20,11 +20,11 @@ use Rattle.ilk_model.specs.declared.event.Event.{Event}
 use Rattle.ilk_model.specs.declared.event.Event.TheVariants.{Mark, Allocate, Lock, Sense, Release, Finish, Throw, Settle, Enter, Head, Tail, Leave, Cancel}
 use Rattle.ilk_layout.specs.Image.{image_of}
 use Rattle.ilk_layout.specs.Laws.{IsWellFormedAndSafe}
-use Rattle.ilk_behave.specs.Behaviour.{events_of, events_of_rules, rules_of, system_of}
+use Rattle.ilk_behave.specs.Behaviour.{events_of, events_of_rules, rules_of, system_of_plant}
 use Rattle.ilk_behave.specs.Numbered.{IsEventOfPlant}
-use Rattle.ilk_behave.specs.Settings.{rules_for}
-use Rattle.ilk_behave.specs.Steps.{AlwaysStepLikeEvent, SomeRuleGives, RuleGives, StepsLikeEvents, can_fire}
-use Rattle.ilk_behave.specs.TrainRules.{head_rules, tail_rule}
+use Rattle.ilk_behave.specs.Settings.{map_or_no_rules}
+use Rattle.ilk_behave.specs.Steps.{RulesAlwaysMatchEvent, SomeRuleGives, RuleGives, SystemMatchesEvents, can_fire}
+use Rattle.ilk_behave.specs.TrainRules.{head_rules_to_neighbour, tail_rule}
 use Rattle.ilk_behave.proofs.AllocateSteps.{allocate-steps, lock-steps}
 use Rattle.ilk_behave.proofs.EnterSteps.{enter-steps, leave-steps}
 use Rattle.ilk_behave.proofs.Fired.{has-neighbour-known, in-one}
@@ -36,9 +36,9 @@ use Rattle.ilk_behave.proofs.PointSteps.{settle-steps, throw-steps}
 use Rattle.ilk_behave.proofs.ReleaseSteps.{finish-steps, release-steps}
 use Rattle.ilk_behave.proofs.RouteSteps.{cancel-steps, mark-steps, sense-steps}
 use Rattle.ilk_behave.proofs.TailSteps.{tail-steps}
-use Rattle.ilk_motion.proofs.Shape.{border-known}
+use Rattle.ilk_motion.proofs.Shape.{section_inward_if_border-known}
 
-event-steps : (p : PlantLists) → IsPlant p → NoWalkReturns p → (event : Event) → AlwaysStepLikeEvent p event
+event-steps : (p : PlantLists) → IsPlant p → IsAcyclic p → (event : Event) → RulesAlwaysMatchEvent p event
 event-steps p plant never (Mark r) s shape calm = mark-steps p plant s shape calm r
 event-steps p plant never (Allocate r) s shape calm = allocate-steps p plant s shape calm r
 event-steps p plant never (Lock r) s shape calm = lock-steps p plant s shape calm r
@@ -53,20 +53,20 @@ event-steps p plant never (Tail x) s shape calm = tail-steps p plant never s sha
 event-steps p plant never (Leave x) s shape calm = leave-steps p plant never s shape calm x
 event-steps p plant never (Cancel r) s shape calm = cancel-steps p plant s shape calm r
 
-thing-of : {A : Type 0} (o : Option A) (rules : A → List RuleTree) (j : ℕ) (rule : RuleTree) → slice_get (rules_for o rules) j ≡ Some rule → (a : A) × (o ≡ Some a)
+thing-of : {A : Type 0} (o : Option A) (rules : A → List PlainRule) (j : ℕ) (rule : PlainRule) → slice_get (map_or_no_rules o rules) j ≡ Some rule → (a : A) × (o ≡ Some a)
 thing-of None rules j rule at = cc
 thing-of (Some a) rules j rule at = (a, refl)
 
 point-known : (p : PlantLists) (x n : ℕ) → point_number p x ≡ Some n → x < length p.sections
 point-known p x n e = let section = numbered-section p x n e in slice_get_within p.sections x section.0 section.1
 
-towards-known : (p : PlantLists) → IsPlant p → (x : ℕ) (rules : Dir → ℕ → List RuleTree) (j : ℕ) (rule : RuleTree) → slice_get (flat_map (λ d. flat_map (rules d) (next_to p x d)) (Up ∷ Down ∷ [])) j ≡ Some rule → x < length p.sections
+towards-known : (p : PlantLists) → IsPlant p → (x : ℕ) (rules : Dir → ℕ → List PlainRule) (j : ℕ) (rule : PlainRule) → slice_get (flat_map (λ d. flat_map (rules d) (next_to p x d)) (Up ∷ Down ∷ [])) j ≡ Some rule → x < length p.sections
 towards-known p plant x rules j rule at =
     let one = in-one (λ d. flat_map (rules d) (next_to p x d)) (Up ∷ Down ∷ []) j rule at in
     let two = in-one (rules one.1) (next_to p x one.1) one.2 rule one.4 in
     has-neighbour-known p plant x two.1 one.1 (list_any-from (λ y. y == two.1) (next_to p x one.1) two.0 two.1 two.3 (eq-eqb two.1 two.1 refl))
 
-rule-numbered : (p : PlantLists) → IsPlant p → (event : Event) (j : ℕ) (rule : RuleTree) → slice_get (rules_of p event) j ≡ Some rule → IsEventOfPlant p event
+rule-numbered : (p : PlantLists) → IsPlant p → (event : Event) (j : ℕ) (rule : PlainRule) → slice_get (rules_of p event) j ≡ Some rule → IsEventOfPlant p event
 rule-numbered p plant (Mark r) j rule at = let route = thing-of (slice_get p.routes r) _ j rule at in slice_get_within p.routes r route.0 route.1
 rule-numbered p plant (Allocate r) j rule at = let route = thing-of (slice_get p.routes r) _ j rule at in slice_get_within p.routes r route.0 route.1
 rule-numbered p plant (Lock r) j rule at = let route = thing-of (slice_get p.routes r) _ j rule at in slice_get_within p.routes r route.0 route.1
@@ -76,12 +76,12 @@ rule-numbered p plant (Finish r) j rule at = let route = thing-of (slice_get p.r
 rule-numbered p plant (Cancel r) j rule at = let route = thing-of (slice_get p.routes r) _ j rule at in slice_get_within p.routes r route.0 route.1
 rule-numbered p plant (Throw x) j rule at = let point = thing-of (point_number p x) _ j rule at in point-known p x point.0 point.1
 rule-numbered p plant (Settle x) j rule at = let point = thing-of (point_number p x) _ j rule at in point-known p x point.0 point.1
-rule-numbered p plant (Enter x) j rule at = let edge = thing-of (border p x) _ j rule at in border-known p x edge.0 edge.1
-rule-numbered p plant (Head x) j rule at = towards-known p plant x (λ d y. flat_map (head_rules p x d y) (true ∷ false ∷ [])) j rule at
+rule-numbered p plant (Enter x) j rule at = let edge = thing-of (section_inward_if_border p x) _ j rule at in section_inward_if_border-known p x edge.0 edge.1
+rule-numbered p plant (Head x) j rule at = towards-known p plant x (λ d y. flat_map (head_rules_to_neighbour p x d y) (true ∷ false ∷ [])) j rule at
 rule-numbered p plant (Tail x) j rule at = towards-known p plant x (λ d y. map (tail_rule p x d y) (true ∷ false ∷ [])) j rule at
 rule-numbered p plant (Leave x) j rule at = let section = thing-of (slice_get p.sections x) _ j rule at in slice_get_within p.sections x section.0 section.1
 
-numbered : (p : PlantLists) (events : List Event) (k : ℕ) (event : Event) (j : ℕ) (rule : RuleTree) →
+numbered : (p : PlantLists) (events : List Event) (k : ℕ) (event : Event) (j : ℕ) (rule : PlainRule) →
     slice_get events k ≡ Some event → slice_get (rules_of p event) j ≡ Some rule →
     (i : ℕ) × (slice_get (events_of_rules p events) i ≡ Some event) ×
     (slice_get (flat_map (rules_of p) events) i ≡ Some rule)
@@ -95,7 +95,7 @@ numbered p (z ∷ rest) (suc k) event j rule at there =
     let back : length (rules_of p z) + later.0 - length (rules_of p z) ≡ later.0 = omega arith in
     (length (rules_of p z) + later.0, of_rest p z rest (length (rules_of p z) + later.0) (omega arith) ∙ ap (slice_get (events_of_rules p rest)) back ∙ later.1, at-past (rules_of p z) (flat_map (rules_of p) rest) later.0 rule later.2)
 
-rule-of : (p : PlantLists) (events : List Event) (i : ℕ) (event : Event) (rule : RuleTree) →
+rule-of : (p : PlantLists) (events : List Event) (i : ℕ) (event : Event) (rule : PlainRule) →
     slice_get (events_of_rules p events) i ≡ Some event →
     slice_get (flat_map (rules_of p) events) i ≡ Some rule →
     (j : ℕ) × (slice_get (rules_of p event) j ≡ Some rule)
@@ -114,29 +114,29 @@ rule-of p (z ∷ rest) i event rule at there =
 -- A rule gives these values.
 record IsGiven (p : PlantLists) (s : State) (event : Event) (values : List ℕ) : Type 0 where
   pub place : ℕ
-  pub rule : RuleTree
+  pub rule : PlainRule
   pub at : slice_get (rules_of p event) place ≡ Some rule
   pub fires : can_fire p s rule ≡ true
   pub is : after_settings (image_of p s) rule.sets ≡ values
 
 given : (p : PlantLists) (s : State) (event : Event) (i : ℕ) (values : List ℕ) → RuleGives p s event i values → IsGiven p s event values
 given p s event i values h =
-    let found = bind_some (slice_get (system_of p).rules i) (λ r. after_rule r (image_of p s)) values h.gives in
+    let found = bind_some (slice_get (system_of_plant p).rules i) (λ r. after_rule r (image_of p s)) values h.gives in
     let fires = cond_some (tree_holds (image_of p s) found.0.guard) (after_settings (image_of p s) found.0.sets) values found.2 in
     let mine = rule-of p (events_of p) i event found.0 h.of_event found.1 in
     record { place = mine.0; rule = found.0; at = mine.1; fires = fires.0; is = fires.1 }
 
-module _ (p : PlantLists) (plant : IsPlant p) (never : NoWalkReturns p) where
+module _ (p : PlantLists) (plant : IsPlant p) (never : IsAcyclic p) where
   gives-where-enabled : (s : State) (event : Event) → IsWellFormedAndSafe p s → is_some (next p s event) ≡ true → SomeRuleGives p s event
   gives-where-enabled s event calm h =
       let step = event-steps p plant never event s calm.shape calm.no_hazard in
-      let found : (j : ℕ) × (rule : RuleTree) × (slice_get (rules_of p event) j ≡ Some rule) × (can_fire p s rule ≡ true) = list_any-at (can_fire p s) (rules_of p event) (step.enabled ∙ h) in
+      let found : (j : ℕ) × (rule : PlainRule) × (slice_get (rules_of p event) j ≡ Some rule) × (can_fire p s rule ≡ true) = list_any-at (can_fire p s) (rules_of p event) (step.enabled ∙ h) in
       let listed_at = listed p event (rule-numbered p plant event found.0 found.1 found.2) in
       let number = numbered p (events_of p) listed_at.0 event found.0 found.1 listed_at.1 found.2 in
       record {
         number = number.0;
         values = after_settings (image_of p s) found.1.sets;
-        gives = record { of_event = number.1; gives = ap (option_and_then (λ r. after_rule r (image_of p s))) number.2 ∙ ap (λ b. only_if b (after_settings (image_of p s) found.1.sets)) found.3 };
+        gives = record { of_event = number.1; gives = ap (option_and_then (λ r. after_rule r (image_of p s))) number.2 ∙ ap (λ b. then_some b (after_settings (image_of p s) found.1.sets)) found.3 };
       }
 
   enabled-where-given : (s : State) (event : Event) → IsWellFormedAndSafe p s → SomeRuleGives p s event → is_some (next p s event) ≡ true
@@ -145,7 +145,7 @@ module _ (p : PlantLists) (plant : IsPlant p) (never : NoWalkReturns p) where
       let one = given p s event h.number h.values h.gives in
       sym step.enabled ∙ list_any-from (can_fire p s) (rules_of p event) one.place one.rule one.at one.fires
 
-  pub steps-as : StepsLikeEvents p
+  pub steps-as : SystemMatchesEvents p
   steps-as = record {
     enabled = λ s event calm. (gives-where-enabled s event calm, enabled-where-given s event calm);
     after = λ s t event i values calm e h.

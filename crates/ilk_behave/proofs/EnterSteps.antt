@@ -4,16 +4,16 @@ use Rattle.std.specs.List.{list_any}
 use Rattle.std.proofs.lemmas.Bool.{cases_Bool, eq-eqb, false≢true, ltb-false, ne_eqb, or_parts}
 use Rattle.std.proofs.lemmas.Bool.Decides.{nat_tests}
 use Rattle.std.proofs.lemmas.Option.{none-some, same_Some, slice_get_within}
-use Rattle.ilk_base.specs.Option.{◌>>=◌, only_if}
+use Rattle.ilk_base.specs.Option.{◌>>=◌, then_some}
 use Rattle.ilk_base.proofs.Positions.{is_some-position, position-at}
 use Rattle.ilk_base.proofs.Tested.{list_any-from}
 use Rattle.ilk_ir.specs.Tree.{tree_holds}
-use Rattle.ilk_ir.specs.System.{RuleTree, after_settings}
+use Rattle.ilk_ir.specs.System.{PlainRule, after_settings}
 use Rattle.ilk_plant.specs.Network.{has_section}
-use Rattle.ilk_plant.specs.Plant.{IsPlant, PlantLists, border}
+use Rattle.ilk_plant.specs.Plant.{IsPlant, PlantLists, section_inward_if_border}
 use Rattle.ilk_plant.specs.Shape.{HasShape}
-use Rattle.ilk_plant.specs.Sound.{NoWalkReturns}
-use Rattle.ilk_plant.specs.State.{has_lock, is_clear, is_occupied, detected_position}
+use Rattle.ilk_plant.specs.Sound.{IsAcyclic}
+use Rattle.ilk_plant.specs.State.{has_lock_state, is_unlocked_and_vacant, is_occupied, detected_position}
 use Rattle.ilk_plant.specs.declared.network.Dir.{Dir}
 use Rattle.ilk_plant.specs.declared.network.Dir.TheVariants.{Up, Down}
 use Rattle.ilk_plant.specs.declared.network.Section.{Section}
@@ -26,7 +26,7 @@ use Rattle.ilk_motion.specs.Trains.{after_enter, after_leave, has_neighbour}
 use Rattle.ilk_model.specs.Hazard.{hazard, has_two_trains, is_wrong_under_train, is_wrong_under_body}
 use Rattle.ilk_layout.specs.Image.{image_of, occupancy_values}
 use Rattle.ilk_layout.specs.Occupancy.{occupancy_of}
-use Rattle.ilk_layout.specs.Standing.{is_wrong_under}
+use Rattle.ilk_layout.specs.Standing.{is_point_wrong_under}
 use Rattle.ilk_layout.specs.Values.{occupancy_value}
 use Rattle.ilk_layout.specs.Variables.{occupancy_var}
 use Rattle.ilk_layout.specs.declared.values.Occupancy.{Occupancy}
@@ -36,7 +36,7 @@ use Rattle.ilk_layout.proofs.Trains.{has_x, occupancy-more, with_trains}
 use Rattle.ilk_layout.proofs.Writes.{image_with}
 use Rattle.ilk_layout.specs.Conditions.{lock_is, no_train_at, occupancy_is}
 use Rattle.ilk_behave.specs.Settings.{set_occupancy, rule}
-use Rattle.ilk_behave.specs.Steps.{StepLikeEvent, can_fire}
+use Rattle.ilk_behave.specs.Steps.{RulesMatchEvent, can_fire}
 use Rattle.ilk_behave.specs.TrainRules.{leave_rule, rules_of_enter, rules_of_leave}
 use Rattle.ilk_layout.proofs.Calm.{calm-at, occupancy-in, taken-in}
 use Rattle.ilk_behave.proofs.Tools.{no_rules, none_step, rule_step, rules_step}
@@ -44,26 +44,26 @@ use Rattle.ilk_layout.proofs.ConditionValues.{lock-holds, occupancy-holds, vacan
 use Rattle.ilk_behave.proofs.Writing.{by_image}
 use Rattle.ilk_behave.proofs.OneSection.{none-counted, one-written, only-body, only-of, position-some, removed-any, removed-count, removed-find, taken-parts, vacant-as}
 
-module _ (p : PlantLists) (plant : IsPlant p) (never : NoWalkReturns p) (s : State) (shape : HasShape p s) (calm : hazard p s ≡ None) where
+module _ (p : PlantLists) (plant : IsPlant p) (never : IsAcyclic p) (s : State) (shape : HasShape p s) (calm : hazard p s ≡ None) where
   entered-other : (x y : ℕ) (d : Dir) → (y ≡ x → ⊥) → occupancy_of p (with_trains s (s.trains ++ new_train_on x d ∷ [])) y ≡ occupancy_of p s y
   entered-other x y d apart =
       let nay : (x == y) ≡ false = ne_eqb x y (λ e. apart (sym e)) in
       occupancy-more p s s.trains (new_train_on x d) y ∙ rw nay refl
 
-  entered-here : (x : ℕ) (d : Dir) → border p x ≡ Some d → is_occupied s x ≡ false → occupancy_of p (with_trains s (s.trains ++ new_train_on x d ∷ [])) x ≡ Taken d true true
+  entered-here : (x : ℕ) (d : Dir) → section_inward_if_border p x ≡ Some d → is_occupied s x ≡ false → occupancy_of p (with_trains s (s.trains ++ new_train_on x d ∷ [])) x ≡ Taken d true true
   entered-here x d edge none =
       let own : (x == x) ≡ true = eq-eqb x x refl in
       let vacant = vacant-as p s x none in
-      let right : is_wrong_under p s x (x ∷ []) ≡ false = by_section (slice_get p.sections x) refl in
+      let right : is_point_wrong_under p s x (x ∷ []) ≡ false = by_section (slice_get p.sections x) refl in
       occupancy-more p s s.trains (new_train_on x d) x ∙ rw (own, vacant, right) refl
     where
-      by_section : (o : Option Section) → slice_get p.sections x ≡ o → is_wrong_under p s x (x ∷ []) ≡ false
+      by_section : (o : Option Section) → slice_get p.sections x ≡ o → is_point_wrong_under p s x (x ∷ []) ≡ false
       by_section None e = rw e refl
       by_section (Some (Linear a b c f)) e = rw e refl
       by_section (Some (Point stem plus minus faces)) e = (let bad : None ≡ Some d = rw e at edge in cc)
 
-  pub enter-steps : (x : ℕ) → StepLikeEvent p s (after_enter p s x) (rules_of_enter p x)
-  enter-steps x = by_border (border p x) refl
+  pub enter-steps : (x : ℕ) → RulesMatchEvent p s (after_enter p s x) (rules_of_enter p x)
+  enter-steps x = by_border (section_inward_if_border p x) refl
     where
       shuffle : (v l : Bool) → (v && (l && true)) ≡ (l && v)
       shuffle true true = refl
@@ -71,7 +71,7 @@ module _ (p : PlantLists) (plant : IsPlant p) (never : NoWalkReturns p) (s : Sta
       shuffle false true = refl
       shuffle false false = refl
 
-      known : (d : Dir) → border p x ≡ Some d → x < length p.sections
+      known : (d : Dir) → section_inward_if_border p x ≡ Some d → x < length p.sections
       known d e = by_section (slice_get p.sections x) refl
         where
           by_section : (o : Option Section) → slice_get p.sections x ≡ o → x < length p.sections
@@ -83,18 +83,18 @@ module _ (p : PlantLists) (plant : IsPlant p) (never : NoWalkReturns p) (s : Sta
       free true false h = refl
       free false b h = cc
 
-      by_border : (o : Option Dir) → border p x ≡ o → StepLikeEvent p s (after_enter p s x) (rules_of_enter p x)
+      by_border : (o : Option Dir) → section_inward_if_border p x ≡ o → RulesMatchEvent p s (after_enter p s x) (rules_of_enter p x)
       by_border None e = rw e (no_rules p s)
       by_border (Some d) e =
           let within = known d e in
           let vacant = vacant-holds p s shape calm x within in
           let lock = lock-holds p s shape x FreeLock within in
-          rw e (rule_step p s (with_trains s (s.trains ++ new_train_on x d ∷ [])) (is_clear s x) (rule (no_train_at p x ∷ lock_is p x FreeLock ∷ []) (set_occupancy p x (Taken d true true) ∷ []))
-          (ap (λ b. b && (tree_holds (image_of p s) (lock_is p x FreeLock) && true)) vacant ∙ ap (λ b. not (is_occupied s x) && (b && true)) lock ∙ shuffle (not (is_occupied s x)) (has_lock s x FreeLock))
+          rw e (rule_step p s (with_trains s (s.trains ++ new_train_on x d ∷ [])) (is_unlocked_and_vacant s x) (rule (no_train_at p x ∷ lock_is p x FreeLock ∷ []) (set_occupancy p x (Taken d true true) ∷ []))
+          (ap (λ b. b && (tree_holds (image_of p s) (lock_is p x FreeLock) && true)) vacant ∙ ap (λ b. not (is_occupied s x) && (b && true)) lock ∙ shuffle (not (is_occupied s x)) (has_lock_state s x FreeLock))
           (λ h. by_image p s (with_trains s (s.trains ++ new_train_on x d ∷ []))
           (set_occupancy p x (Taken d true true) ∷ []) (ap
           (λ o. set (image_with s (occupancy_values p s)) (occupancy_var p x) (occupancy_value o))
-          (sym (entered-here x d e (free (has_lock s x FreeLock) (is_occupied s x) h)))
+          (sym (entered-here x d e (free (has_lock_state s x FreeLock) (is_occupied s x) h)))
           ∙ one-written p s (s.trains ++ new_train_on x d ∷ []) x shape within (λ y apart. entered-other x y d apart))))
 
   -- A train that is only on `x` leaves.
@@ -140,7 +140,7 @@ module _ (p : PlantLists) (plant : IsPlant p) (never : NoWalkReturns p) (s : Sta
       ap (λ o. set (image_with s (occupancy_values p s)) (occupancy_var p x) (occupancy_value o)) (sym here)
       ∙ one-written p s (remove s.trains i) x shape within (λ y apart. left-other i x y t at (ap (has_section y) body ∙ (let nay : (x == y) ≡ false = ne_eqb x y (λ e. apart (sym e)) in rw nay refl)))
 
-  pub leave-steps : (x : ℕ) → StepLikeEvent p s (after_leave p s x) (rules_of_leave p x)
+  pub leave-steps : (x : ℕ) → RulesMatchEvent p s (after_leave p s x) (rules_of_leave p x)
   leave-steps x = by_section (slice_get p.sections x) refl
     where
       -- No train is only on `x`.
@@ -221,14 +221,14 @@ module _ (p : PlantLists) (plant : IsPlant p) (never : NoWalkReturns p) (s : Sta
       none-fires within none [] = refl
       none-fires within none (d ∷ ds) = (let nay = nay-other d none in rw nay (none-fires within none ds))
 
-      rule-sets : (ds : List Dir) (i : ℕ) (r : RuleTree) → slice_get (map (leave_rule p x) ds) i ≡ Some r → r.sets ≡ set_occupancy p x Vacant ∷ []
+      rule-sets : (ds : List Dir) (i : ℕ) (r : PlainRule) → slice_get (map (leave_rule p x) ds) i ≡ Some r → r.sets ≡ set_occupancy p x Vacant ∷ []
       rule-sets [] i r at = cc
-      rule-sets (d ∷ ds) zero r at = (let same : leave_rule p x d ≡ r = same_Some (leave_rule p x d) r at in ap (λ (q : RuleTree). q.sets) (sym same))
+      rule-sets (d ∷ ds) zero r at = (let same : leave_rule p x d ≡ r = same_Some (leave_rule p x d) r at in ap (λ (q : PlainRule). q.sets) (sym same))
       rule-sets (d ∷ ds) (suc i) r at = rule-sets ds i r at
 
       by_train : (section : Section) (i : ℕ) (t : Train) → x < length p.sections →
           position (occupies_only x) s.trains ≡ Some i → slice_get s.trains i ≡ Some t →
-          StepLikeEvent p s (only_if (not (has_neighbour section t.dir)) (with_trains s (remove s.trains i)))
+          RulesMatchEvent p s (then_some (not (has_neighbour section t.dir)) (with_trains s (remove s.trains i)))
           (map (leave_rule p x) (filter (λ d. not (has_neighbour section d)) (Up ∷ Down ∷ [])))
       by_train section i t within first at =
           let body = only-body x t.body (position-at (occupies_only x) s.trains i t first at) in
@@ -250,10 +250,10 @@ module _ (p : PlantLists) (plant : IsPlant p) (never : NoWalkReturns p) (s : Sta
 
       by_place : (section : Section) (o : Option ℕ) → x < length p.sections →
           position (occupies_only x) s.trains ≡ o →
-          StepLikeEvent p s
+          RulesMatchEvent p s
           (o >>=
           (λ i. slice_get s.trains i >>=
-          (λ t. only_if (not (has_neighbour section t.dir)) (with_trains s (remove s.trains i)))))
+          (λ t. then_some (not (has_neighbour section t.dir)) (with_trains s (remove s.trains i)))))
           (map (leave_rule p x) (filter (λ d. not (has_neighbour section d)) (Up ∷ Down ∷ [])))
       by_place section None within none =
           none_step p s (map (leave_rule p x) (filter (λ d. not (has_neighbour section d)) (Up ∷ Down ∷ [])))
@@ -262,13 +262,13 @@ module _ (p : PlantLists) (plant : IsPlant p) (never : NoWalkReturns p) (s : Sta
       by_place section (Some i) within first = by_item (slice_get s.trains i) refl
         where
           by_item : (o : Option Train) → slice_get s.trains i ≡ o →
-              StepLikeEvent p s
+              RulesMatchEvent p s
               (o >>=
-              (λ t. only_if (not (has_neighbour section t.dir)) (with_trains s (remove s.trains i))))
+              (λ t. then_some (not (has_neighbour section t.dir)) (with_trains s (remove s.trains i))))
               (map (leave_rule p x) (filter (λ d. not (has_neighbour section d)) (Up ∷ Down ∷ [])))
           by_item None e = absurd (none-some ((position-some (occupies_only x) s.trains i first).0) (sym e ∙ (position-some (occupies_only x) s.trains i first).1))
           by_item (Some t) e = by_train section i t within first e
 
-      by_section : (o : Option Section) → slice_get p.sections x ≡ o → StepLikeEvent p s (after_leave p s x) (rules_of_leave p x)
+      by_section : (o : Option Section) → slice_get p.sections x ≡ o → RulesMatchEvent p s (after_leave p s x) (rules_of_leave p x)
       by_section None e = rw e (no_rules p s)
       by_section (Some section) e = rw e (by_place section (position (occupies_only x) s.trains) (slice_get_within p.sections x section e) refl)

@@ -7,7 +7,7 @@ use Rattle.std.proofs.lemmas.Option.{none-some, same_Some}
 use Rattle.ilk_base.proofs.Lists.{at-either}
 use Rattle.ilk_base.proofs.Positions.{is_some-position, position-at}
 use Rattle.ilk_base.proofs.Tested.{list_any-from, none-pass}
-use Rattle.ilk_ir.specs.System.{RuleTree, after_settings}
+use Rattle.ilk_ir.specs.System.{PlainRule, after_settings}
 use Rattle.ilk_ir.specs.Tree.{tree_holds}
 use Rattle.ilk_plant.specs.Network.{has_section}
 use Rattle.ilk_plant.specs.NetworkRules.{opposite_direction}
@@ -26,19 +26,19 @@ use Rattle.ilk_layout.specs.declared.values.Occupancy.TheVariants.{Taken}
 use Rattle.ilk_layout.proofs.Read.{occupancy-back}
 use Rattle.ilk_layout.specs.Conditions.{occupancy_is}
 use Rattle.ilk_layout.proofs.ConditionValues.{occupancy-holds}
-use Rattle.ilk_behave.specs.Steps.{StepLikeEvent, can_fire}
+use Rattle.ilk_behave.specs.Steps.{RulesMatchEvent, can_fire}
 use Rattle.ilk_behave.proofs.OneSection.{position-some}
 
 -- The settings of the rule give the image of the next state.
-pub record Tells (p : PlantLists) (s : State) (following : Option State) (rule : RuleTree) : Type 0 where
+pub record Tells (p : PlantLists) (s : State) (following : Option State) (rule : PlainRule) : Type 0 where
   pub state : State
   pub follows : following ≡ Some state
   pub image : after_settings (image_of p s) rule.sets ≡ image_of p state
 
-pub told_step : (p : PlantLists) (s : State) (following : Option State) (rules : List RuleTree) →
-    ((i : ℕ) (rule : RuleTree) → slice_get rules i ≡ Some rule → can_fire p s rule ≡ true →
+pub told_step : (p : PlantLists) (s : State) (following : Option State) (rules : List PlainRule) →
+    ((i : ℕ) (rule : PlainRule) → slice_get rules i ≡ Some rule → can_fire p s rule ≡ true →
     Tells p s following rule) →
-    ((t : State) → following ≡ Some t → list_any (can_fire p s) rules ≡ true) → StepLikeEvent p s following rules
+    ((t : State) → following ≡ Some t → list_any (can_fire p s) rules ≡ true) → RulesMatchEvent p s following rules
 told_step p s following rules told some =
     record {
       enabled = by_following following refl;
@@ -70,7 +70,7 @@ direction-at Up = (zero, refl)
 direction-at Down = (suc zero, refl)
 
 -- A neighbour for which some rule can fire.
-pub record IsFor (p : PlantLists) (s : State) (x : ℕ) (rules : Dir → ℕ → List RuleTree) : Type 0 where
+pub record IsFor (p : PlantLists) (s : State) (x : ℕ) (rules : Dir → ℕ → List PlainRule) : Type 0 where
   pub dir : Dir
   pub neighbour : ℕ
   pub beside : has_section neighbour (next_to p x dir) ≡ true
@@ -78,11 +78,11 @@ pub record IsFor (p : PlantLists) (s : State) (x : ℕ) (rules : Dir → ℕ →
 
 -- Rules for each neighbour of `x`, in each direction.
 pub neighbour_steps :
-    (p : PlantLists) (s : State) (following : Option State) (x : ℕ) (rules : Dir → ℕ → List RuleTree) →
-    ((d : Dir) (y j : ℕ) (rule : RuleTree) → has_section y (next_to p x d) ≡ true →
+    (p : PlantLists) (s : State) (following : Option State) (x : ℕ) (rules : Dir → ℕ → List PlainRule) →
+    ((d : Dir) (y j : ℕ) (rule : PlainRule) → has_section y (next_to p x d) ≡ true →
     slice_get (rules d y) j ≡ Some rule → can_fire p s rule ≡ true → Tells p s following rule) →
     ((t : State) → following ≡ Some t → IsFor p s x rules) →
-    StepLikeEvent p s following (flat_map (λ d. flat_map (rules d) (next_to p x d)) (Up ∷ Down ∷ []))
+    RulesMatchEvent p s following (flat_map (λ d. flat_map (rules d) (next_to p x d)) (Up ∷ Down ∷ []))
 neighbour_steps p s following x rules told some =
     told_step p s following (flat_map (λ d. flat_map (rules d) (next_to p x d)) (Up ∷ Down ∷ []))
     (λ i rule at h.

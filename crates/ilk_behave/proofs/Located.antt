@@ -8,7 +8,7 @@ use Rattle.std.proofs.lemmas.Option.{slice_get-map, slice_get_past, slice_get_wi
 use Rattle.ilk_base.proofs.Lists.{at-before, item_at}
 use Rattle.ilk_plant.specs.Plant.{PlantLists}
 use Rattle.ilk_model.specs.declared.event.Event.{Event}
-use Rattle.ilk_behave.specs.Behaviour.{event_of_rule, events_of, events_of_route, events_of_rules, events_of_section, rules_of, system_of}
+use Rattle.ilk_behave.specs.Behaviour.{event_of_rule, events_of, events_of_route, events_of_rules, events_of_section, rules_of, system_of_plant}
 use Rattle.ilk_behave.proofs.PlantEvents.{Begins, events_before_route, events_before_section, routes-begin, routes-more, sections-begin, sections-more, sections-start}
 
 pub past : {X : Type 0} (xs ys : List X) (i : ℕ) → slice_get (xs ++ ys) (length xs + i) ≡ slice_get ys i
@@ -93,7 +93,7 @@ past-routes p n i j all far = far ∙ ap (λ es. length (events_of_rules p es) +
 
 -- The event of rule `i`, or `None` if and only if it does not exist.
 abbrev pub IsEventOf : PlantLists → ℕ → Option Event → Type 0
-IsEventOf p i answer = (answer ≡ event_of_rule p i) × ((answer ≡ None) ↔ (length (system_of p).rules ≤ i))
+IsEventOf p i answer = (answer ≡ event_of_rule p i) × ((answer ≡ None) ↔ (length (system_of_plant p).rules ≤ i))
 
 event-found : (p : PlantLists) (first : List Event) (i : ℕ) (event : Event) → Begins p first → slice_get (events_of_rules p first) i ≡ Some event → IsEventOf p i (Some event)
 event-found p first i event begins found =
@@ -121,5 +121,5 @@ found-nowhere p x i j all far =
     let long : length (events_of_rules p (events_before_section p x)) ≡ length (events_of_rules p (events_of p)) = ap (λ n. length (events_of_rules p (events_before_section p n))) all in
     let same = as_many p (events_of p) in
     let over : length (events_of_rules p (events_of p)) ≤ i = omega (arith, far, long) in
-    let beyond : length (system_of p).rules ≤ i = omega (arith, same, over) in
+    let beyond : length (system_of_plant p).rules ≤ i = omega (arith, same, over) in
     (sym (slice_get_past (events_of_rules p (events_of p)) i over), (λ e. beyond, λ h. refl))

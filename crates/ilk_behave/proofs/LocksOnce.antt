@@ -10,7 +10,7 @@ use Rattle.ilk_base.proofs.Lists.{at-before, at-either, at-past, map-at}
 use Rattle.ilk_base.proofs.Once.{EachOnce}
 use Rattle.ilk_ir.specs.declared.system.Setting.{Setting}
 use Rattle.ilk_plant.specs.Network.{has_section}
-use Rattle.ilk_plant.specs.Plant.{IsRouteOf, PlantLists, point_count, point_number}
+use Rattle.ilk_plant.specs.Plant.{IsValidRouteOf, PlantLists, point_count, point_number}
 use Rattle.ilk_plant.specs.TableRules.{sections_locked_for}
 use Rattle.ilk_plant.specs.declared.state.Hold.{Hold}
 use Rattle.ilk_plant.specs.declared.table.Listed.{Listed}
@@ -18,10 +18,10 @@ use Rattle.ilk_plant.specs.declared.table.Route.{Route}
 use Rattle.ilk_plant.proofs.Once.{numbers_differ-places}
 use Rattle.ilk_plant.proofs.PointNumbers.{point_number-below}
 use Rattle.ilk_plant.proofs.Rows.{has_section-at}
-use Rattle.ilk_routes.specs.Claims.{sections_beside_path, required_points}
+use Rattle.ilk_routes.specs.Claims.{sections_outside_path, required_points}
 use Rattle.ilk_layout.specs.Variables.{lock_var, commanded_var}
 use Rattle.ilk_layout.proofs.Valid.{lock_is-valid, is_point_commanded-valid}
-use Rattle.ilk_behave.specs.Settings.{set_as_listed, set_lock, set_locks, set_commanded}
+use Rattle.ilk_behave.specs.Settings.{command_as_listed, set_lock, set_locks, set_commanded}
 use Rattle.ilk_plant.proofs.PointNumbers.{number-once}
 use Rattle.ilk_behave.proofs.RulesValid.{all-flat_map, all-map, fits}
 use Rattle.ilk_behave.proofs.SetOnce.{SetElsewhere, SetOnce, elsewhere-flat_map, elsewhere-map, once-append, once-flat_map, once-map}
@@ -32,7 +32,7 @@ module _ (p : PlantLists) where
   locks xs hold = set_locks p xs hold
 
   abbrev commands : List Listed → List Setting
-  commands entries = flat_map (set_as_listed p) entries
+  commands entries = flat_map (command_as_listed p) entries
 
   pub locks-fit : (xs : List ℕ) (hold : Hold) → ((i x : ℕ) → slice_get xs i ≡ Some x → x < length p.sections) → list_all (fits p) (set_locks p xs hold) ≡ true
   locks-fit xs hold within =
@@ -58,11 +58,11 @@ module _ (p : PlantLists) where
           let one : made.0 ≡ y = omega (arith, var, same) in
           apart i j y (made.1 ∙ ap Some one) there
 
-  pub commands-fit : (entries : List Listed) → list_all (fits p) (flat_map (set_as_listed p) entries) ≡ true
+  pub commands-fit : (entries : List Listed) → list_all (fits p) (flat_map (command_as_listed p) entries) ≡ true
   commands-fit entries =
-      all-flat_map (fits p) (set_as_listed p) entries (λ i listed at. one listed (point_number p listed.point) refl)
+      all-flat_map (fits p) (command_as_listed p) entries (λ i listed at. one listed (point_number p listed.point) refl)
     where
-      one : (listed : Listed) (o : Option ℕ) → point_number p listed.point ≡ o → list_all (fits p) (set_as_listed p listed) ≡ true
+      one : (listed : Listed) (o : Option ℕ) → point_number p listed.point ≡ o → list_all (fits p) (command_as_listed p listed) ≡ true
       one listed None e = rw e refl
       one listed (Some n) e =
           let known = point_number-below p listed.point in
@@ -73,38 +73,38 @@ module _ (p : PlantLists) where
           only zero m at = same_Some n m at
           only (suc i) m at = cc
 
-  set_as_listed-elsewhere : (v : ℕ) (listed : Listed) → ((n : ℕ) → point_number p listed.point ≡ Some n → commanded_var p n ≡ v → ⊥) → SetElsewhere v (set_as_listed p listed)
-  set_as_listed-elsewhere v listed other = by_number (point_number p listed.point) refl
+  command_as_listed-elsewhere : (v : ℕ) (listed : Listed) → ((n : ℕ) → point_number p listed.point ≡ Some n → commanded_var p n ≡ v → ⊥) → SetElsewhere v (command_as_listed p listed)
+  command_as_listed-elsewhere v listed other = by_number (point_number p listed.point) refl
     where
-      by_number : (o : Option ℕ) → point_number p listed.point ≡ o → SetElsewhere v (set_as_listed p listed)
+      by_number : (o : Option ℕ) → point_number p listed.point ≡ o → SetElsewhere v (command_as_listed p listed)
       by_number None e = rw e tt
       by_number (Some n) e = rw e (other n e, tt)
 
-  set_as_listed-once : (listed : Listed) → SetOnce (set_as_listed p listed)
-  set_as_listed-once listed = by_number (point_number p listed.point) refl
+  command_as_listed-once : (listed : Listed) → SetOnce (command_as_listed p listed)
+  command_as_listed-once listed = by_number (point_number p listed.point) refl
     where
-      by_number : (o : Option ℕ) → point_number p listed.point ≡ o → SetOnce (set_as_listed p listed)
+      by_number : (o : Option ℕ) → point_number p listed.point ≡ o → SetOnce (command_as_listed p listed)
       by_number None e = rw e tt
       by_number (Some n) e = rw e (tt, tt)
 
-  set_as_listed-sets : (listed : Listed) (k : ℕ) (s : Setting) → slice_get (set_as_listed p listed) k ≡ Some s → (n : ℕ) × (point_number p listed.point ≡ Some n) × (s.var ≡ commanded_var p n)
-  set_as_listed-sets listed k s at = by_number (point_number p listed.point) refl k at
+  command_as_listed-sets : (listed : Listed) (k : ℕ) (s : Setting) → slice_get (command_as_listed p listed) k ≡ Some s → (n : ℕ) × (point_number p listed.point ≡ Some n) × (s.var ≡ commanded_var p n)
+  command_as_listed-sets listed k s at = by_number (point_number p listed.point) refl k at
     where
-      by_number : (o : Option ℕ) → point_number p listed.point ≡ o → (k : ℕ) → slice_get (set_as_listed p listed) k ≡ Some s → (n : ℕ) × (point_number p listed.point ≡ Some n) × (s.var ≡ commanded_var p n)
+      by_number : (o : Option ℕ) → point_number p listed.point ≡ o → (k : ℕ) → slice_get (command_as_listed p listed) k ≡ Some s → (n : ℕ) × (point_number p listed.point ≡ Some n) × (s.var ≡ commanded_var p n)
       by_number None e k at = let none = rw e at at in cc
       by_number (Some n) e zero at =
           let first : slice_get (set_commanded p n listed.at ∷ []) 0 ≡ Some s = rw e at at in
           (n, e, ap (λ (z : Setting). z.var) (sym (same_Some (set_commanded p n listed.at) s first)))
       by_number (Some n) e (suc k) at = let none = rw e at at in cc
 
-  pub commands-elsewhere : (v : ℕ) (entries : List Listed) → ((n : ℕ) → n < point_count p → commanded_var p n ≡ v → ⊥) → SetElsewhere v (flat_map (set_as_listed p) entries)
+  pub commands-elsewhere : (v : ℕ) (entries : List Listed) → ((n : ℕ) → n < point_count p → commanded_var p n ≡ v → ⊥) → SetElsewhere v (flat_map (command_as_listed p) entries)
   commands-elsewhere v entries other =
-      elsewhere-flat_map v (set_as_listed p) entries (λ i listed at. set_as_listed-elsewhere v listed (λ n e same. other n (let known = point_number-below p listed.point in rw e at known) same))
+      elsewhere-flat_map v (command_as_listed p) entries (λ i listed at. command_as_listed-elsewhere v listed (λ n e same. other n (let known = point_number-below p listed.point in rw e at known) same))
 
-  commands-once : (entries : List Listed) → EachOnce (map (λ (listed : Listed). listed.point) entries) → SetOnce (flat_map (set_as_listed p) entries)
+  commands-once : (entries : List Listed) → EachOnce (map (λ (listed : Listed). listed.point) entries) → SetOnce (flat_map (command_as_listed p) entries)
   commands-once entries once =
-      once-flat_map (set_as_listed p) entries (λ i listed at. set_as_listed-once listed) (λ i j x y k s apart at also set. set_as_listed-elsewhere s.var y (λ n e same. (
-      let first = set_as_listed-sets x k s set in
+      once-flat_map (command_as_listed p) entries (λ i listed at. command_as_listed-once listed) (λ i j x y k s apart at also set. command_as_listed-elsewhere s.var y (λ n e same. (
+      let first = command_as_listed-sets x k s set in
       let number : first.0 ≡ n = (let var = first.2 in omega (arith, var, same)) in
       let section : x.point ≡ y.point = number-once p x.point y.point n (first.1 ∙ ap Some number) e in
       apart (once i j y.point (pointed entries i x at ∙ ap Some section) (pointed entries j y also)))))
@@ -112,7 +112,7 @@ module _ (p : PlantLists) where
       pointed : (entries : List Listed) (i : ℕ) (listed : Listed) → slice_get entries i ≡ Some listed → slice_get (map (λ (listed : Listed). listed.point) entries) i ≡ Some listed.point
       pointed entries i listed at = slice_get-map (λ (listed : Listed). listed.point) entries i ∙ ap (option_map (λ (listed : Listed). listed.point)) at
 
-  module _ (route : Route) (of : IsRouteOf p route) where
+  module _ (route : Route) (of : IsValidRouteOf p route) where
     -- A protecting point is on no section of path and overlap.
     pub protecting-apart : (i j x : ℕ) → slice_get (route.path ++ route.overlap) i ≡ Some x → slice_get (map (λ (listed : Listed). listed.point) route.protecting_points) j ≡ Some x → ⊥
     protecting-apart i j x at also =
@@ -129,7 +129,7 @@ module _ (p : PlantLists) where
         (numbers_differ-places (map (λ (listed : Listed). listed.point) route.protecting_points)
         of.protecting_points_once) protecting-apart
 
-    pub last_locks-once : (hold : Hold) (k x : ℕ) → slice_get route.path k ≡ Some x → SetOnce (set_locks p (x ∷ sections_beside_path route) hold)
+    pub last_locks-once : (hold : Hold) (k x : ℕ) → slice_get route.path k ≡ Some x → SetOnce (set_locks p (x ∷ sections_outside_path route) hold)
     last_locks-once hold k x there = (
       other,
       two_locks-once route.overlap (map (λ (listed : Listed). listed.point) route.protecting_points)
@@ -145,9 +145,9 @@ module _ (p : PlantLists) where
             let places = numbers_differ-places (route.path ++ route.overlap) of.sections_once (length route.path + i) (length route.path + j) y (at-past route.path route.overlap i y at) (at-past route.path route.overlap j y also) in
             omega (arith, places)
 
-        other : SetElsewhere (lock_var p x) (set_locks p (sections_beside_path route) hold)
+        other : SetElsewhere (lock_var p x) (set_locks p (sections_outside_path route) hold)
         other =
-            locks-elsewhere (lock_var p x) (sections_beside_path route) hold (λ i y at same. (
+            locks-elsewhere (lock_var p x) (sections_outside_path route) hold (λ i y at same. (
             let one : y ≡ x = omega (arith, same) in
             let here : slice_get (route.path ++ route.overlap) k ≡ Some x = at-before route.path route.overlap k x there in
             elim (at-either route.overlap (map (λ (listed : Listed). listed.point) route.protecting_points) i y at) [
@@ -157,9 +157,9 @@ module _ (p : PlantLists) where
               | inr h ↦ protecting-apart k h.0 x here (h.1 ∙ ap Some one)
             ]))
 
-    pub wanted-once : SetOnce (flat_map (set_as_listed p) (required_points route))
+    pub wanted-once : SetOnce (flat_map (command_as_listed p) (required_points route))
     wanted-once =
-        subst SetOnce (sym (flat_map-append (set_as_listed p) route.points route.protecting_points))
+        subst SetOnce (sym (flat_map-append (command_as_listed p) route.points route.protecting_points))
         (once-append (commands route.points) (commands route.protecting_points)
         (commands-once route.points
         (numbers_differ-places (map (λ (listed : Listed). listed.point) route.points)
@@ -168,11 +168,11 @@ module _ (p : PlantLists) where
         (numbers_differ-places (map (λ (listed : Listed). listed.point) route.protecting_points)
         of.protecting_points_once)) cross)
       where
-        cross : (i : ℕ) (s : Setting) → slice_get (flat_map (set_as_listed p) route.points) i ≡ Some s → SetElsewhere s.var (flat_map (set_as_listed p) route.protecting_points)
+        cross : (i : ℕ) (s : Setting) → slice_get (flat_map (command_as_listed p) route.points) i ≡ Some s → SetElsewhere s.var (flat_map (command_as_listed p) route.protecting_points)
         cross i s at =
-            let found = in-one (set_as_listed p) route.points i s at in
-            elsewhere-flat_map s.var (set_as_listed p) route.protecting_points (λ j y there. set_as_listed-elsewhere s.var y (λ n e same. (
-            let first = set_as_listed-sets found.1 found.2 s found.4 in
+            let found = in-one (command_as_listed p) route.points i s at in
+            elsewhere-flat_map s.var (command_as_listed p) route.protecting_points (λ j y there. command_as_listed-elsewhere s.var y (λ n e same. (
+            let first = command_as_listed-sets found.1 found.2 s found.4 in
             let number : first.0 ≡ n = (let var = first.2 in omega (arith, var, same)) in
             let section : found.1.point ≡ y.point = number-once p found.1.point y.point n (first.1 ∙ ap Some number) e in
             let passed = all-at (λ (listed : Listed). IsTrue (has_section listed.point (route.path ++ route.overlap))) route.points found.0 found.1 of.points_passed found.3 in

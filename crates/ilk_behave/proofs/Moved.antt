@@ -8,17 +8,17 @@ use Rattle.ilk_base.proofs.Lists.{slice_get-set_other, slice_get-set_same}
 use Rattle.ilk_base.proofs.Tested.{count-one, few-from_places, find-at, list_all-slice_get, list_any-at, list_any-from, list_any-none, none-pass}
 use Rattle.ilk_plant.specs.Network.{has_section}
 use Rattle.ilk_plant.specs.Plant.{IsPlant, PlantLists}
-use Rattle.ilk_plant.specs.Shape.{HasShape, has_valid_body}
-use Rattle.ilk_plant.specs.Sound.{NoWalkReturns}
+use Rattle.ilk_plant.specs.Shape.{HasShape, train_body_is_valid}
+use Rattle.ilk_plant.specs.Sound.{IsAcyclic}
 use Rattle.ilk_plant.specs.State.{is_occupied, detected_position}
 use Rattle.ilk_plant.specs.declared.network.Section.{Section}
 use Rattle.ilk_plant.specs.declared.network.Section.TheVariants.{Linear, Point}
 use Rattle.ilk_plant.specs.declared.state.State.{State}
 use Rattle.ilk_plant.specs.declared.state.Train.{Train}
 use Rattle.ilk_plant.proofs.InLists.{section-from, section-at}
-use Rattle.ilk_model.specs.Hazard.{hazard, is_hazardous, has_two_trains, is_wrong_under_train, is_wrong_under_body}
+use Rattle.ilk_model.specs.Hazard.{hazard, is_section_hazardous, has_two_trains, is_wrong_under_train, is_wrong_under_body}
 use Rattle.ilk_layout.specs.Occupancy.{occupancy_of}
-use Rattle.ilk_layout.specs.Standing.{is_wrong_under}
+use Rattle.ilk_layout.specs.Standing.{is_point_wrong_under}
 use Rattle.ilk_layout.specs.declared.values.Occupancy.TheVariants.{Taken}
 use Rattle.ilk_layout.proofs.Bodies.{first-at, last-at}
 use Rattle.ilk_layout.proofs.Calm.{alone, calm-at}
@@ -26,17 +26,17 @@ use Rattle.ilk_layout.proofs.Plants.{body-once}
 use Rattle.ilk_layout.proofs.Trains.{find-some, has_x, with_trains}
 use Rattle.ilk_behave.proofs.OneSection.{vacant-as}
 
-pub right-under : (p : PlantLists) (s : State) (i x : ℕ) (t : Train) → is_hazardous p s x ≡ false → slice_get s.trains i ≡ Some t → is_wrong_under p s x t.body ≡ false
+pub right-under : (p : PlantLists) (s : State) (i x : ℕ) (t : Train) → is_section_hazardous p s x ≡ false → slice_get s.trains i ≡ Some t → is_point_wrong_under p s x t.body ≡ false
 right-under p s i x t safe at = by_section (slice_get p.sections x) refl (or_parts (has_two_trains s x) (is_wrong_under_train p s x) safe).1
   where
-    by_section : (o : Option Section) → slice_get p.sections x ≡ o → is_wrong_under_train p s x ≡ false → is_wrong_under p s x t.body ≡ false
+    by_section : (o : Option Section) → slice_get p.sections x ≡ o → is_wrong_under_train p s x ≡ false → is_point_wrong_under p s x t.body ≡ false
     by_section None e right = rw e refl
     by_section (Some (Linear a b c d)) e right = rw e refl
     by_section (Some (Point stem plus minus faces)) e right =
         let none : list_any (λ (train : Train). is_wrong_under_body x plus minus (detected_position p s x) train.body) s.trains ≡ false = rw e at right in
         rw e (list_any-none (λ (train : Train). is_wrong_under_body x plus minus (detected_position p s x) train.body) s.trains i t none at)
 
-pub none-wrong : (p : PlantLists) (s : State) (x : ℕ) → ((i : ℕ) (t : Train) → slice_get s.trains i ≡ Some t → is_wrong_under p s x t.body ≡ false) → is_wrong_under_train p s x ≡ false
+pub none-wrong : (p : PlantLists) (s : State) (x : ℕ) → ((i : ℕ) (t : Train) → slice_get s.trains i ≡ Some t → is_point_wrong_under p s x t.body ≡ false) → is_wrong_under_train p s x ≡ false
 none-wrong p s x right = by_section (slice_get p.sections x) refl
   where
     by_section : (o : Option Section) → slice_get p.sections x ≡ o → is_wrong_under_train p s x ≡ false
@@ -45,7 +45,7 @@ none-wrong p s x right = by_section (slice_get p.sections x) refl
     by_section (Some (Point stem plus minus faces)) e =
         rw e (none-pass (λ (train : Train). is_wrong_under_body x plus minus (detected_position p s x) train.body) s.trains (λ i t at. (let here = right i t at in rw e at here)))
 
-pub some-wrong : (p : PlantLists) (s : State) (i x : ℕ) (t : Train) → slice_get s.trains i ≡ Some t → is_wrong_under p s x t.body ≡ true → is_wrong_under_train p s x ≡ true
+pub some-wrong : (p : PlantLists) (s : State) (i x : ℕ) (t : Train) → slice_get s.trains i ≡ Some t → is_point_wrong_under p s x t.body ≡ true → is_wrong_under_train p s x ≡ true
 some-wrong p s i x t at wrong = by_section (slice_get p.sections x) refl
   where
     by_section : (o : Option Section) → slice_get p.sections x ≡ o → is_wrong_under_train p s x ≡ true
@@ -58,19 +58,19 @@ some-wrong p s i x t at wrong = by_section (slice_get p.sections x) refl
 pub safe-from : (p : PlantLists) (s : State) (x : ℕ) →
     ((i j : ℕ) (t u : Train) → slice_get s.trains i ≡ Some t → slice_get s.trains j ≡ Some u →
     has_section x t.body ≡ true → has_section x u.body ≡ true → i ≡ j) →
-    ((i : ℕ) (t : Train) → slice_get s.trains i ≡ Some t → is_wrong_under p s x t.body ≡ false) →
-    is_hazardous p s x ≡ false
+    ((i : ℕ) (t : Train) → slice_get s.trains i ≡ Some t → is_point_wrong_under p s x t.body ≡ false) →
+    is_section_hazardous p s x ≡ false
 safe-from p s x one right =
     let few : count_by (has_x x) s.trains ≤ 1 = few-from_places (has_x x) s.trains one in
     let two : has_two_trains s x ≡ false = grind (arith, nat_tests) in
     or_from (has_two_trains s x) (is_wrong_under_train p s x) two (none-wrong p s x right)
 
-pub occupancy-there : (p : PlantLists) → NoWalkReturns p → (s : State) → HasShape p s →
+pub occupancy-there : (p : PlantLists) → IsAcyclic p → (s : State) → HasShape p s →
     (i k x : ℕ) (t : Train) → slice_get s.trains i ≡ Some t → slice_get t.body k ≡ Some x →
-    is_hazardous p s x ≡ false → occupancy_of p s x ≡ Taken t.dir (k == 0) (k + 1 == length t.body)
+    is_section_hazardous p s x ≡ false → occupancy_of p s x ≡ Taken t.dir (k == 0) (k + 1 == length t.body)
 occupancy-there p never s shape i k x t at place safe =
     let has : has_section x t.body ≡ true = section-from t.body k x place in
-    let once = body-once p t never (list_all-slice_get (has_valid_body p) s.trains i t shape.bodies at) in
+    let once = body-once p t never (list_all-slice_get (train_body_is_valid p) s.trains i t shape.bodies at) in
     let some = find-some (has_x x) s.trains (list_any-from (has_x x) s.trains i t at has) in
     let found = find-at (has_x x) s.trains some.0 some.1 in
     let few : count_by (has_x x) s.trains ≤ 1 = ltb-false 1 (count_by (has_x x) s.trains) (or_parts (has_two_trains s x) (is_wrong_under_train p s x) safe).0 in
@@ -82,7 +82,7 @@ occupancy-there p never s shape i k x t at place safe =
     rw (safe, it, first, last) refl
 
 -- In a state without hazard, train `i` gets the body of `u`.
-module _ (p : PlantLists) (plant : IsPlant p) (never : NoWalkReturns p) (s : State) (shape : HasShape p s)
+module _ (p : PlantLists) (plant : IsPlant p) (never : IsAcyclic p) (s : State) (shape : HasShape p s)
     (calm : hazard p s ≡ None) (i : ℕ) (t u : Train) (at : slice_get s.trains i ≡ Some t)
     (moved : HasShape p (with_trains s (set s.trains i u))) where
   pub now-at : slice_get (set s.trains i u) i ≡ Some u
@@ -104,18 +104,18 @@ module _ (p : PlantLists) (plant : IsPlant p) (never : NoWalkReturns p) (s : Sta
         | inr h ↦ (v, h.1, has)
       ]
 
-  pub still-safe : (x : ℕ) → x < length p.sections → (has_section x u.body ≡ true → has_section x t.body ≡ true) → is_wrong_under p s x u.body ≡ false → is_hazardous p (with_trains s (set s.trains i u)) x ≡ false
+  pub still-safe : (x : ℕ) → x < length p.sections → (has_section x u.body ≡ true → has_section x t.body ≡ true) → is_point_wrong_under p s x u.body ≡ false → is_section_hazardous p (with_trains s (set s.trains i u)) x ≡ false
   still-safe x within had right =
       safe-from p (with_trains s (set s.trains i u)) x
       (λ j k v w e f hv hw. (let a = was-there x had j v e hv in let b = was-there x had k w f hw in alone p plant never s shape calm j k x a.0 b.0 a.1 b.1 a.2 b.2))
       (λ j v e. elim (now-there j v e) [
-        | inl h ↦ ap (λ (w : Train). is_wrong_under p s x w.body) (sym h.1) ∙ right
+        | inl h ↦ ap (λ (w : Train). is_point_wrong_under p s x w.body) (sym h.1) ∙ right
         | inr h ↦ right-under p s j x v (calm-at p s x calm within) h.1
       ])
 
   -- A section keeps its occupancy if it has the same place in both bodies or is in neither.
   pub kept : (x : ℕ) → x < length p.sections → u.dir ≡ t.dir →
-      (has_section x u.body ≡ true → has_section x t.body ≡ true) → is_wrong_under p s x u.body ≡ false →
+      (has_section x u.body ≡ true → has_section x t.body ≡ true) → is_point_wrong_under p s x u.body ≡ false →
       ((k : ℕ) → slice_get t.body k ≡ Some x →
       (m : ℕ) × (slice_get u.body m ≡ Some x) × ((m == 0) ≡ (k == 0)) ×
       ((m + 1 == length u.body) ≡ (k + 1 == length t.body))) →
@@ -136,10 +136,10 @@ module _ (p : PlantLists) (plant : IsPlant p) (never : NoWalkReturns p) (s : Sta
             ∙ sym (vacant-as p s x away)
       ]
     where
-      safe : is_hazardous p s x ≡ false
+      safe : is_section_hazardous p s x ≡ false
       safe = calm-at p s x calm within
 
-      still : is_hazardous p (with_trains s (set s.trains i u)) x ≡ false
+      still : is_section_hazardous p (with_trains s (set s.trains i u)) x ≡ false
       still = still-safe x within had right
 
       by_train : (j : ℕ) (v : Train) → slice_get s.trains j ≡ Some v → (i ≡ j) ⊎ (i ≡ j → ⊥) → (k : ℕ) × (slice_get v.body k ≡ Some x) → occupancy_of p (with_trains s (set s.trains i u)) x ≡ occupancy_of p s x

@@ -19,19 +19,19 @@ use Rattle.ilk_plant.specs.declared.state.Lie.{Lie}
 use Rattle.ilk_plant.specs.declared.state.Lie.TheVariants.{Plus as LiesPlus, Minus as LiesMinus, Moving}
 use Rattle.ilk_plant.specs.declared.state.PointState.{PointState}
 use Rattle.ilk_plant.specs.declared.state.State.{State}
-use Rattle.ilk_model.specs.Hazard.{hazard, is_hazardous, has_two_trains, is_wrong_under_train}
-use Rattle.ilk_routes.specs.Lies.{is_moving, lie_from_position, is_lie_at_position}
+use Rattle.ilk_model.specs.Hazard.{hazard, is_section_hazardous, has_two_trains, is_wrong_under_train}
+use Rattle.ilk_routes.specs.Lies.{is_detected_moving, lie_from_position, is_lie_at_position}
 use Rattle.ilk_routes.specs.Points.{after_settle, after_throw}
 use Rattle.ilk_layout.specs.Image.{image_of, occupancy_values}
 use Rattle.ilk_layout.specs.Occupancy.{occupancy_of}
-use Rattle.ilk_layout.specs.Values.{lie_value, occupancy_value, position_value}
+use Rattle.ilk_layout.specs.Values.{detected_value, occupancy_value, commanded_value}
 use Rattle.ilk_layout.specs.Variables.{occupancy_var}
 use Rattle.ilk_layout.specs.declared.values.Occupancy.TheVariants.{Crash}
 use Rattle.ilk_layout.proofs.Writes.{at-written, image_with, occupancy-written}
 use Rattle.ilk_layout.specs.Conditions.{is_point_detected, no_train_at, is_point_commanded, train_at}
-use Rattle.ilk_behave.specs.PointRules.{is_out_of_position, rules_of_settle, rules_of_throw}
+use Rattle.ilk_behave.specs.PointRules.{rests_out_of_position, rules_of_settle, rules_of_throw}
 use Rattle.ilk_behave.specs.Settings.{set_detected, set_occupancy, rule}
-use Rattle.ilk_behave.specs.Steps.{StepLikeEvent, can_fire}
+use Rattle.ilk_behave.specs.Steps.{RulesMatchEvent, can_fire}
 use Rattle.ilk_layout.proofs.Calm.{calm-at}
 use Rattle.ilk_plant.proofs.PointNumbers.{numbered-section}
 use Rattle.ilk_behave.proofs.Occupancies.{occupancies-alone, occupancies-set, point-of, with_point}
@@ -62,18 +62,18 @@ module _ (p : PlantLists) (plant : IsPlant p) (s : State) (shape : HasShape p s)
       ∙ ap (λ q. image_with (with_point s n q) (occupancy_values p s)) goes
       ∙ ap (image_with (with_point s n (record point { at = lie_from_position point.to }))) (sym (occupancies-alone p s x n (record point { at = lie_from_position point.to }) number none))
 
-  pub settle-steps : (x : ℕ) → StepLikeEvent p s (after_settle p s x) (rules_of_settle p x)
+  pub settle-steps : (x : ℕ) → RulesMatchEvent p s (after_settle p s x) (rules_of_settle p x)
   settle-steps x = by_number (point_number p x) refl
     where
       guard : (n : ℕ) (point : PointState) (to : Position) → slice_get s.points n ≡ Some point →
           can_fire p s (rule (is_point_detected p n Moving ∷ is_point_commanded p n to ∷ []) (set_detected p n (lie_from_position to) ∷ []))
-          ≡ ((lie_value point.at == 2) && ((position_value point.to == position_value to) && true))
+          ≡ ((detected_value point.at == 2) && ((commanded_value point.to == commanded_value to) && true))
       guard n point to at =
           let one = at-holds p s shape n point Moving at in
           let two = to-holds p s shape n point to at in
           rw (one, two) refl
 
-      moves : (at : Lie) (to : Position) → (((lie_value at == 2) && ((position_value to == 0) && true)) || ((lie_value at == 2) && ((position_value to == 1) && true))) ≡ is_moving at
+      moves : (at : Lie) (to : Position) → (((detected_value at == 2) && ((commanded_value to == 0) && true)) || ((detected_value at == 2) && ((commanded_value to == 1) && true))) ≡ is_detected_moving at
       moves LiesPlus Plus = refl
       moves LiesPlus Minus = refl
       moves LiesMinus Plus = refl
@@ -81,30 +81,31 @@ module _ (p : PlantLists) (plant : IsPlant p) (s : State) (shape : HasShape p s)
       moves Moving Plus = refl
       moves Moving Minus = refl
 
-      is-moving : (at : Lie) (b : Bool) → ((lie_value at == 2) && b) ≡ true → at ≡ Moving
+      is-moving : (at : Lie) (b : Bool) → ((detected_value at == 2) && b) ≡ true → at ≡ Moving
       is-moving LiesPlus b h = cc
       is-moving LiesMinus b h = cc
       is-moving Moving b h = refl
 
-      is-to : (a : Bool) (to at : Position) → (a && ((position_value to == position_value at) && true)) ≡ true → to ≡ at
+      is-to : (a : Bool) (to at : Position) → (a && ((commanded_value to == commanded_value at) && true)) ≡ true → to ≡ at
       is-to true Plus Plus h = refl
       is-to true Minus Minus h = refl
       is-to true Plus Minus h = cc
       is-to true Minus Plus h = cc
       is-to false to at h = cc
 
-      by_number : (o : Option ℕ) → point_number p x ≡ o → StepLikeEvent p s (after_settle p s x) (rules_of_settle p x)
+      by_number : (o : Option ℕ) → point_number p x ≡ o → RulesMatchEvent p s (after_settle p s x) (rules_of_settle p x)
       by_number None e = rw e (no_rules p s)
       by_number (Some n) e =
           let point = point-of p s shape x n e in
-          let alone : (b : Bool) → ((lie_value point.0.at == 2) && b) ≡ true → is_occupied s x ≡ false = λ b h. moving-alone x n e (point.2 ∙ ap Some (is-moving point.0.at b h)) in
+          let alone : (b : Bool) → ((detected_value point.0.at == 2) && b) ≡ true → is_occupied s x ≡ false = λ b h. moving-alone x n e (point.2 ∙ ap Some (is-moving point.0.at b h)) in
           let t = with_point s n (record point.0 { at = lie_from_position point.0.to }) in
           let at_plus = rule (is_point_detected p n Moving ∷ is_point_commanded p n Plus ∷ []) (set_detected p n (lie_from_position Plus) ∷ []) in
           let at_minus = rule (is_point_detected p n Moving ∷ is_point_commanded p n Minus ∷ []) (set_detected p n (lie_from_position Minus) ∷ []) in
-          rw (e, point.1) (two_rules_step p s t ((lie_value point.0.at == 2) && ((position_value point.0.to == 0) && true)) ((lie_value point.0.at == 2) && ((position_value point.0.to == 1) && true)) (is_moving point.0.at) at_plus at_minus
+          rw (e, point.1) (two_rules_step p s t ((detected_value point.0.at == 2) && ((commanded_value point.0.to == 0) && true)) ((detected_value point.0.at == 2) && ((commanded_value point.0.to == 1) && true))
+          (is_detected_moving point.0.at) at_plus at_minus
           (guard n point.0 Plus point.1) (guard n point.0 Minus point.1) (moves point.0.at point.0.to)
-          (λ h. by_image p s t (set_detected p n (lie_from_position Plus) ∷ []) (settle-sets x n point.0 Plus e point.1 (alone ((position_value point.0.to == 0) && true) h) (is-to (lie_value point.0.at == 2) point.0.to Plus h)))
-          (λ h. by_image p s t (set_detected p n (lie_from_position Minus) ∷ []) (settle-sets x n point.0 Minus e point.1 (alone ((position_value point.0.to == 1) && true) h) (is-to (lie_value point.0.at == 2) point.0.to Minus h))))
+          (λ h. by_image p s t (set_detected p n (lie_from_position Plus) ∷ []) (settle-sets x n point.0 Plus e point.1 (alone ((commanded_value point.0.to == 0) && true) h) (is-to (detected_value point.0.at == 2) point.0.to Plus h)))
+          (λ h. by_image p s t (set_detected p n (lie_from_position Minus) ∷ []) (settle-sets x n point.0 Minus e point.1 (alone ((commanded_value point.0.to == 1) && true) h) (is-to (detected_value point.0.at == 2) point.0.to Minus h))))
 
   crashes : (x n : ℕ) (point : PointState) → point_number p x ≡ Some n → slice_get s.points n ≡ Some point → is_occupied s x ≡ true → occupancy_of p (with_point s n (record point { at = Moving })) x ≡ Crash
   crashes x n point number at some =
@@ -116,7 +117,7 @@ module _ (p : PlantLists) (plant : IsPlant p) (s : State) (shape : HasShape p s)
       let moves : detected_position p t x ≡ Some Moving = there.2 ∙ ap (λ (q : PointState). Some q.at) is in
       let section = numbered-section p x n number in
       let wrong : is_wrong_under_train p t x ≡ true = by_section section.0 section.1 section.2 moves in
-      let hazard : is_hazardous p t x ≡ true = ap (λ b. has_two_trains t x || b) wrong ∙ or-true (has_two_trains t x) in
+      let hazard : is_section_hazardous p t x ≡ true = ap (λ b. has_two_trains t x || b) wrong ∙ or-true (has_two_trains t x) in
       rw hazard refl
     where
       by_section : (section : Section) → slice_get p.sections x ≡ Some section → is_point section ≡ true → detected_position p (with_point s n (record point { at = Moving })) x ≡ Some Moving
@@ -124,17 +125,17 @@ module _ (p : PlantLists) (plant : IsPlant p) (s : State) (shape : HasShape p s)
       by_section (Linear a b c d) e is moves = cc
       by_section (Point stem plus minus faces) e is moves = rw (e, moves) some
 
-  pub throw-steps : (x : ℕ) → StepLikeEvent p s (after_throw p s x) (rules_of_throw p x)
+  pub throw-steps : (x : ℕ) → RulesMatchEvent p s (after_throw p s x) (rules_of_throw p x)
   throw-steps x = by_number (point_number p x) refl
     where
       elsewhere : (at : Lie) (to : Position) (v : Bool) →
-          (not (lie_value at == 2)
+          (not (detected_value at == 2)
           &&
-          ((not (lie_value at == 0) || (not (position_value to == 0) || false))
+          ((not (detected_value at == 0) || (not (commanded_value to == 0) || false))
           &&
-          ((not (lie_value at == 1) || (not (position_value to == 1) || false))
+          ((not (detected_value at == 1) || (not (commanded_value to == 1) || false))
           && (v && true))))
-          ≡ ((not (is_moving at) && not (is_lie_at_position at to)) && v)
+          ≡ ((not (is_detected_moving at) && not (is_lie_at_position at to)) && v)
       elsewhere LiesPlus Plus v = refl
       elsewhere LiesPlus Minus true = refl
       elsewhere LiesPlus Minus false = refl
@@ -150,8 +151,8 @@ module _ (p : PlantLists) (plant : IsPlant p) (s : State) (shape : HasShape p s)
 
       parts : (n : ℕ) (point : PointState) → slice_get s.points n ≡ Some point → (v : Bool) (last : Tree) →
           tree_holds (image_of p s) last ≡ v →
-          can_fire p s (rule (is_out_of_position p n ++ last ∷ []) [])
-          ≡ ((not (is_moving point.at) && not (is_lie_at_position point.at point.to)) && v)
+          can_fire p s (rule (rests_out_of_position p n ++ last ∷ []) [])
+          ≡ ((not (is_detected_moving point.at) && not (is_lie_at_position point.at point.to)) && v)
       parts n point at v last is =
           let moving = at-holds p s shape n point Moving at in
           let plus = at-holds p s shape n point LiesPlus at in
@@ -160,7 +161,7 @@ module _ (p : PlantLists) (plant : IsPlant p) (s : State) (shape : HasShape p s)
           let to_minus = to-holds p s shape n point Minus at in
           rw (moving, plus, minus, to_plus, to_minus, is) (elsewhere point.at point.to v)
 
-      by_number : (o : Option ℕ) → point_number p x ≡ o → StepLikeEvent p s (after_throw p s x) (rules_of_throw p x)
+      by_number : (o : Option ℕ) → point_number p x ≡ o → RulesMatchEvent p s (after_throw p s x) (rules_of_throw p x)
       by_number None e = rw e (no_rules p s)
       by_number (Some n) e =
           let point = point-of p s shape x n e in
@@ -171,10 +172,11 @@ module _ (p : PlantLists) (plant : IsPlant p) (s : State) (shape : HasShape p s)
           let t = with_point s n thrown in
           let written = at-written p s (occupancy_values p s) shape n point.0 Moving point.1 in
           let shaped : HasShape p t = with_lists p s (set s.points n thrown) s.boards s.locks shape (length-set s.points n thrown) refl refl in
-          let off = not (is_moving point.0.at) && not (is_lie_at_position point.0.at point.0.to) in
+          let off = not (is_detected_moving point.0.at) && not (is_lie_at_position point.0.at point.0.to) in
           let clear_sets : List Setting = set_detected p n Moving ∷ [] in
           let crash_sets : List Setting = set_detected p n Moving ∷ set_occupancy p x Crash ∷ [] in
-          rw (e, point.1) (two_rules_step p s t (off && not (is_occupied s x)) (off && not (not (is_occupied s x))) off (rule (is_out_of_position p n ++ no_train_at p x ∷ []) clear_sets) (rule (is_out_of_position p n ++ train_at p x ∷ []) crash_sets)
+          rw (e, point.1) (two_rules_step p s t (off && not (is_occupied s x)) (off && not (not (is_occupied s x))) off (rule (rests_out_of_position p n ++ no_train_at p x ∷ []) clear_sets)
+          (rule (rests_out_of_position p n ++ train_at p x ∷ []) crash_sets)
           (parts n point.0 point.1 (not (is_occupied s x)) (no_train_at p x) vacant)
           (parts n point.0 point.1 (not (not (is_occupied s x))) (train_at p x) (ap not vacant))
           (either off (not (is_occupied s x)))

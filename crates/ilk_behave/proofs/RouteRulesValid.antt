@@ -13,14 +13,14 @@ use Rattle.ilk_plant.specs.declared.state.Aspect.TheVariants.{Closed, Open}
 use Rattle.ilk_plant.specs.declared.state.Hold.TheVariants.{Free as FreeLock, Locked as LockedLock}
 use Rattle.ilk_plant.specs.declared.state.Mode.TheVariants.{Free, Marked, Allocating, Locked}
 use Rattle.ilk_plant.specs.declared.table.Route.{Route}
-use Rattle.ilk_routes.specs.Boards.{has_protecting_board}
+use Rattle.ilk_routes.specs.Boards.{is_protecting_board}
 use Rattle.ilk_routes.specs.Claims.{required_points}
 use Rattle.ilk_layout.specs.Variables.{lock_var, mode_var}
-use Rattle.ilk_layout.specs.Conditions.{board_is, lies_at_listed, lock_is, mode_is, no_train_at}
-use Rattle.ilk_layout.proofs.Valid.{board_is-valid, lies_at_listed-valid, lock_is-valid, mode_is-valid, no_train_at-valid}
-use Rattle.ilk_behave.specs.Guards.{clear_at, unclaimed}
-use Rattle.ilk_behave.specs.RouteRules.{protectors, rules_of_allocate, rules_of_cancel, rules_of_lock, rules_of_mark}
-use Rattle.ilk_behave.specs.Settings.{set_board, set_as_listed, set_lock, set_locks, set_mode, rule}
+use Rattle.ilk_layout.specs.Conditions.{board_is, listed_is_detected, lock_is, mode_is, no_train_at}
+use Rattle.ilk_layout.proofs.Valid.{board_is-valid, listed_is_detected-valid, lock_is-valid, mode_is-valid, no_train_at-valid}
+use Rattle.ilk_behave.specs.Guards.{free_and_vacant_at, not_alloc_or_locked}
+use Rattle.ilk_behave.specs.RouteRules.{routes_protected_by, rules_of_allocate, rules_of_cancel, rules_of_lock, rules_of_mark}
+use Rattle.ilk_behave.specs.Settings.{set_board, command_as_listed, set_lock, set_locks, set_mode, rule}
 use Rattle.ilk_behave.proofs.LocksOnce.{all_locks-once, commands-elsewhere, commands-fit, locks-elsewhere, locks-fit, wanted-once}
 use Rattle.ilk_behave.proofs.RouteSteps.{locked-known}
 use Rattle.ilk_behave.proofs.RulesValid.{all-append, all-cons, all-flat_map, all-map, fits, is_valid, is_valid_rule, one_rule-valid, rule-valid, two_rules-valid}
@@ -80,14 +80,14 @@ module _ (p : PlantLists) (plant : IsPlant p) where
           let of = plant.routes_known r route e in
           let known = locked-known p route of in
           let locks : List Setting = set_locks p (sections_locked_for route) LockedLock in
-          let commands : List Setting = flat_map (set_as_listed p) (required_points route) in
-          let conditions : List Tree = mode_is r Marked ∷ flat_map unclaimed route.conflicts ++ flat_map (clear_at p) (sections_locked_for route) in
-          let sets : List Setting = set_mode r Allocating ∷ set_locks p (sections_locked_for route) LockedLock ++ flat_map (set_as_listed p) (required_points route) in
+          let commands : List Setting = flat_map (command_as_listed p) (required_points route) in
+          let conditions : List Tree = mode_is r Marked ∷ flat_map not_alloc_or_locked route.conflicts ++ flat_map (free_and_vacant_at p) (sections_locked_for route) in
+          let sets : List Setting = set_mode r Allocating ∷ set_locks p (sections_locked_for route) LockedLock ++ flat_map (command_as_listed p) (required_points route) in
           rw e (one_rule-valid p (rule conditions sets) (rule-valid p conditions sets
-          (all-append (is_valid p) (mode_is r Marked ∷ flat_map unclaimed route.conflicts) (flat_map (clear_at p) (sections_locked_for route))
-          (all-cons (is_valid p) (mode_is r Marked) (flat_map unclaimed route.conflicts) (mode_is-valid p r Marked within)
-          (all-flat_map (is_valid p) unclaimed route.conflicts (λ i q at. unclaimed-valid q (all-at (λ q. q < length p.routes) route.conflicts i q of.conflicts at))))
-          (all-flat_map (is_valid p) (clear_at p) (sections_locked_for route) (λ i x at. clear-valid x (known i x at))))
+          (all-append (is_valid p) (mode_is r Marked ∷ flat_map not_alloc_or_locked route.conflicts) (flat_map (free_and_vacant_at p) (sections_locked_for route))
+          (all-cons (is_valid p) (mode_is r Marked) (flat_map not_alloc_or_locked route.conflicts) (mode_is-valid p r Marked within)
+          (all-flat_map (is_valid p) not_alloc_or_locked route.conflicts (λ i q at. unclaimed-valid q (all-at (λ q. q < length p.routes) route.conflicts i q of.conflicts at))))
+          (all-flat_map (is_valid p) (free_and_vacant_at p) (sections_locked_for route) (λ i x at. clear-valid x (known i x at))))
           (all-append (fits p) (set_mode r Allocating ∷ locks) commands
           (all-cons (fits p) (set_mode r Allocating) locks (mode_is-valid p r Allocating within) (locks-fit p (sections_locked_for route) LockedLock known))
           (commands-fit p (required_points route)))
@@ -96,18 +96,18 @@ module _ (p : PlantLists) (plant : IsPlant p) where
           (wanted-once p route of)
           (cross within route))))
         where
-          unclaimed-valid : (q : ℕ) → q < length p.routes → list_all (is_valid p) (unclaimed q) ≡ true
+          unclaimed-valid : (q : ℕ) → q < length p.routes → list_all (is_valid p) (not_alloc_or_locked q) ≡ true
           unclaimed-valid q within =
               all-cons (is_valid p) (negation (mode_is q Allocating)) (negation (mode_is q Locked) ∷ []) (mode_is-valid p q Allocating within) (all-cons (is_valid p) (negation (mode_is q Locked)) [] (mode_is-valid p q Locked within) refl)
 
-          clear-valid : (x : ℕ) → x < length p.sections → list_all (is_valid p) (clear_at p x) ≡ true
+          clear-valid : (x : ℕ) → x < length p.sections → list_all (is_valid p) (free_and_vacant_at p x) ≡ true
           clear-valid x inside =
               all-cons (is_valid p) (lock_is p x FreeLock) (no_train_at p x ∷ []) (lock_is-valid p x FreeLock inside) (all-cons (is_valid p) (no_train_at p x) [] (no_train_at-valid p x inside) refl)
 
           cross : r < length p.routes → (route : Route) → (i : ℕ) (s : Setting) →
               slice_get (set_mode r Allocating ∷ set_locks p (sections_locked_for route) LockedLock) i
               ≡ Some s →
-              SetElsewhere s.var (flat_map (set_as_listed p) (required_points route))
+              SetElsewhere s.var (flat_map (command_as_listed p) (required_points route))
           cross within route zero s at =
               commands-elsewhere p s.var (required_points route) (λ n less same. (let var : mode_var r ≡ s.var = ap (λ (z : Setting). z.var) (same_Some (set_mode r Allocating) s at) in omega (arith, within, less, same, var)))
           cross within route (suc i) s at =
@@ -124,19 +124,19 @@ module _ (p : PlantLists) (plant : IsPlant p) where
       by_route (Some route) e =
           let within = slice_get_within p.routes r route e in
           let of = plant.routes_known r route e in
-          let lies : List Tree = map (lies_at_listed p) (required_points route) in
+          let lies : List Tree = map (listed_is_detected p) (required_points route) in
           let boards : List Tree = map (λ m. board_is p m Closed) route.protecting_boards in
-          let free : List Tree = map (λ q. negation (mode_is q Locked)) (protectors p route.source) in
+          let free : List Tree = map (λ q. negation (mode_is q Locked)) (routes_protected_by p route.source) in
           let conditions : List Tree = mode_is r Allocating ∷ ((lies ++ boards) ++ free) in
           let sets : List Setting = set_mode r Locked ∷ set_board p route.source Open ∷ [] in
           rw e (one_rule-valid p (rule conditions sets) (rule-valid p conditions sets
           (all-cons (is_valid p) (mode_is r Allocating) ((lies ++ boards) ++ free) (mode_is-valid p r Allocating within)
           (all-append (is_valid p) (lies ++ boards) free
           (all-append (is_valid p) lies boards
-          (all-map (is_valid p) (lies_at_listed p) (required_points route) (λ i listed at. lies_at_listed-valid p listed))
+          (all-map (is_valid p) (listed_is_detected p) (required_points route) (λ i listed at. listed_is_detected-valid p listed))
           (all-map (is_valid p) (λ m. board_is p m Closed) route.protecting_boards (λ i m at. board_is-valid p m Closed (all-at (λ m. m < length p.boards) route.protecting_boards i m of.protecting_boards at))))
-          (all-map (is_valid p) (λ q. negation (mode_is q Locked)) (protectors p route.source)
-          (λ i q at. mode_is-valid p q Locked (let less = passing_within (λ q. has_protecting_board p q route.source) 0 (length p.routes) i q at in omega (arith, less))))))
+          (all-map (is_valid p) (λ q. negation (mode_is q Locked)) (routes_protected_by p route.source)
+          (λ i q at. mode_is-valid p q Locked (let less = passing_within (λ q. is_protecting_board p q route.source) 0 (length p.routes) i q at in omega (arith, less))))))
           (all-cons (fits p) (set_mode r Locked) (set_board p route.source Open ∷ []) (mode_is-valid p r Locked within)
           (all-cons (fits p) (set_board p route.source Open) [] (board_is-valid p route.source Open of.source) refl))
           (((λ same. omega (arith, within, same)), tt), (tt, tt))))

@@ -6,11 +6,11 @@ use Rattle.std.proofs.lemmas.List.Elements.{All-append, All-map}
 use Rattle.std.proofs.lemmas.Option.{slice_get_within}
 use Rattle.std.proofs.Math.Bool.{and-true}
 use Rattle.ilk_base.proofs.Lists.{item_at, slice_get-set_same}
-use Rattle.ilk_ir.specs.Tree.{any_of, tree_holds, trees}
+use Rattle.ilk_ir.specs.Tree.{any_of, tree_holds, trees_from_list}
 use Rattle.ilk_ir.specs.System.{after_settings}
-use Rattle.ilk_plant.specs.Plant.{IsPlant, IsRouteOf, PlantLists}
+use Rattle.ilk_plant.specs.Plant.{IsPlant, IsValidRouteOf, PlantLists}
 use Rattle.ilk_plant.specs.Shape.{HasShape}
-use Rattle.ilk_plant.specs.State.{has_lock, is_occupied}
+use Rattle.ilk_plant.specs.State.{has_lock_state, is_occupied}
 use Rattle.ilk_plant.specs.TableRules.{sections_locked_for}
 use Rattle.ilk_plant.specs.declared.state.Aspect.TheVariants.{Closed}
 use Rattle.ilk_plant.specs.declared.state.Hold.TheVariants.{Free as FreeLock, Locked as LockedLock, Used as UsedLock}
@@ -20,7 +20,7 @@ use Rattle.ilk_plant.specs.declared.state.RouteState.{RouteState}
 use Rattle.ilk_plant.specs.declared.state.State.{State}
 use Rattle.ilk_plant.specs.declared.table.Listed.{Listed}
 use Rattle.ilk_plant.specs.declared.table.Route.{Route}
-use Rattle.ilk_plant.proofs.Shapes.{counts_fit_path-counts, counts_fit_path-from_counts}
+use Rattle.ilk_plant.proofs.Shapes.{seen_and_released_fit_path-counts, seen_and_released_fit_path-from_counts}
 use Rattle.ilk_model.specs.Hazard.{hazard}
 use Rattle.ilk_routes.specs.Locks.{with_locks}
 use Rattle.ilk_routes.specs.Modes.{same_mode}
@@ -31,13 +31,13 @@ use Rattle.ilk_layout.specs.Conditions.{mode_is}
 use Rattle.ilk_behave.specs.RouteRules.{rules_of_cancel, rules_of_mark, rules_of_sense, sense_rule}
 use Rattle.ilk_layout.specs.Variables.{mode_var, seen_var}
 use Rattle.ilk_behave.specs.Settings.{set_board, set_locks, set_mode, rule}
-use Rattle.ilk_behave.specs.Steps.{StepLikeEvent, can_fire}
+use Rattle.ilk_behave.specs.Steps.{RulesMatchEvent, can_fire}
 use Rattle.ilk_base.proofs.ListTests.{all-at}
 use Rattle.ilk_behave.proofs.Tools.{no_rules, place_steps, rule_step, two_rules_step}
 use Rattle.ilk_layout.proofs.ConditionValues.{lock-holds, mode-holds, seen-holds, vacant-holds}
 use Rattle.ilk_behave.proofs.Writing.{by_image, locks-written, with_lists, with_route}
 
-pub locked-known : (p : PlantLists) (route : Route) → IsRouteOf p route → (i x : ℕ) → slice_get (sections_locked_for route) i ≡ Some x → x < length p.sections
+pub locked-known : (p : PlantLists) (route : Route) → IsValidRouteOf p route → (i x : ℕ) → slice_get (sections_locked_for route) i ≡ Some x → x < length p.sections
 locked-known p route of i x at =
     all-at (λ x. x < length p.sections) (sections_locked_for route) i x
     (All-append (λ x. x < length p.sections) (route.path ++ route.overlap)
@@ -53,10 +53,10 @@ module _ (p : PlantLists) (plant : IsPlant p) (s : State) (shape : HasShape p s)
       let count = shape.routes in
       item_at s.routes r (omega arith)
 
-  pub mark-steps : (r : ℕ) → StepLikeEvent p s (after_mark p s r) (rules_of_mark p r)
+  pub mark-steps : (r : ℕ) → RulesMatchEvent p s (after_mark p s r) (rules_of_mark p r)
   mark-steps r = by_route (slice_get p.routes r) refl
     where
-      by_route : (o : Option Route) → slice_get p.routes r ≡ o → StepLikeEvent p s (after_mark p s r) (rules_of_mark p r)
+      by_route : (o : Option Route) → slice_get p.routes r ≡ o → RulesMatchEvent p s (after_mark p s r) (rules_of_mark p r)
       by_route None e = rw e (no_rules p s)
       by_route (Some route) e =
           let now = state-of r route e in
@@ -65,7 +65,7 @@ module _ (p : PlantLists) (plant : IsPlant p) (s : State) (shape : HasShape p s)
           (and-true (tree_holds (image_of p s) (mode_is r Free)) ∙ mode-holds p s shape r now.0 Free now.1)
           (λ h. by_image p s marked (set_mode r Marked ∷ []) (mode-written p s (occupancy_values p s) shape r now.0 Marked now.1)))
 
-  pub cancel-steps : (r : ℕ) → StepLikeEvent p s (after_cancel p s r) (rules_of_cancel p r)
+  pub cancel-steps : (r : ℕ) → RulesMatchEvent p s (after_cancel p s r) (rules_of_cancel p r)
   cancel-steps r = by_route (slice_get p.routes r) refl
     where
       not-both : (m : Mode) → same_mode m Marked ≡ true → same_mode m Allocating ≡ false
@@ -75,14 +75,14 @@ module _ (p : PlantLists) (plant : IsPlant p) (s : State) (shape : HasShape p s)
       not-both Locked h = refl
       not-both Occupied h = refl
 
-      by_route : (o : Option Route) → slice_get p.routes r ≡ o → StepLikeEvent p s (after_cancel p s r) (rules_of_cancel p r)
+      by_route : (o : Option Route) → slice_get p.routes r ≡ o → RulesMatchEvent p s (after_cancel p s r) (rules_of_cancel p r)
       by_route None e = rw e (no_rules p s)
       by_route (Some route) e =
           let now = state-of r route e in
           let freed = record s { routes = set s.routes r (record now.0 { mode = Free }) } in
           let fits = shape.counts r route now.0 e now.1 in
           let shaped : HasShape p freed = with_route p s r route (record now.0 { mode = Free }) shape e
-          (counts_fit_path-from_counts route (record now.0 { mode = Free }) (counts_fit_path-counts route now.0 fits).0 (counts_fit_path-counts route now.0 fits).1) in
+          (seen_and_released_fit_path-from_counts route (record now.0 { mode = Free }) (seen_and_released_fit_path-counts route now.0 fits).0 (seen_and_released_fit_path-counts route now.0 fits).1) in
           let moded = mode-written p s (occupancy_values p s) shape r now.0 Free now.1 in
           let unlocked = locks-written p freed (occupancy_values p s) (sections_locked_for route) FreeLock shaped (locked-known p route (plant.routes_known r route e)) in
           let unlocked_all = record freed { locks = with_locks s.locks (sections_locked_for route) FreeLock } in
@@ -117,14 +117,14 @@ module _ (p : PlantLists) (plant : IsPlant p) (s : State) (shape : HasShape p s)
       ((now.seen == k)
       &&
       (((same_mode now.mode Locked || same_mode now.mode Occupied) && is_occupied s x)
-      && has_lock s x LockedLock))
+      && has_lock_state s x LockedLock))
   sense-guard r route now k x here inside =
       let locked = mode-holds p s shape r now Locked here in
       let occupied = mode-holds p s shape r now Occupied here in
       let seen = seen-holds p s shape r now k here in
       let vacant = vacant-holds p s shape calm x inside in
       let lock = lock-holds p s shape x LockedLock inside in
-      rw (locked, occupied, seen, vacant, lock) (shuffle (same_mode now.mode Locked) (same_mode now.mode Occupied) (now.seen == k) (is_occupied s x) (has_lock s x LockedLock))
+      rw (locked, occupied, seen, vacant, lock) (shuffle (same_mode now.mode Locked) (same_mode now.mode Occupied) (now.seen == k) (is_occupied s x) (has_lock_state s x LockedLock))
     where
       shuffle : (a b c d e : Bool) → ((a || (b || false)) && (c && (not (not d) && (e && true)))) ≡ (c && (((a || b) && d) && e))
       shuffle true b true true true = refl
@@ -143,7 +143,7 @@ module _ (p : PlantLists) (plant : IsPlant p) (s : State) (shape : HasShape p s)
   sense-other r route now k x here apart =
       let seen = seen-holds p s shape r now k here in
       let nay : (now.seen == k) ≡ false = ne_eqb now.seen k apart in
-      rw (seen, nay) (fails (tree_holds (image_of p s) (any_of (trees (mode_is r Locked ∷ mode_is r Occupied ∷ [])))))
+      rw (seen, nay) (fails (tree_holds (image_of p s) (any_of (trees_from_list (mode_is r Locked ∷ mode_is r Occupied ∷ [])))))
     where
       fails : (a : Bool) → (a && false) ≡ false
       fails true = refl
@@ -161,7 +161,7 @@ module _ (p : PlantLists) (plant : IsPlant p) (s : State) (shape : HasShape p s)
       (occupancy_values p s)
   sense-sets r route now x known here at inside =
       let e = occupancy_values p s in
-      let fits = counts_fit_path-counts route now (shape.counts r route now known here) in
+      let fits = seen_and_released_fit_path-counts route now (shape.counts r route now known here) in
       let less = slice_get_within route.path now.seen x at in
       let count = shape.routes in
       let within = slice_get_within s.routes r now here in
@@ -169,10 +169,10 @@ module _ (p : PlantLists) (plant : IsPlant p) (s : State) (shape : HasShape p s)
       let shape1 = with_lists p s s.points s.boards (set s.locks x UsedLock) shape refl refl (length-set s.locks x UsedLock) in
       let now2 = record now { seen = now.seen + 1 } in
       let s2 = record s1 { routes = set s.routes r now2 } in
-      let shape2 : HasShape p s2 = with_route p s1 r route now2 shape1 known (counts_fit_path-from_counts route now2 (omega arith) fits.1) in
+      let shape2 : HasShape p s2 = with_route p s1 r route now2 shape1 known (seen_and_released_fit_path-from_counts route now2 (omega arith) fits.1) in
       let now3 = record now2 { mode = Occupied } in
       let s3 = record s1 { routes = set s.routes r now3 } in
-      let shape3 : HasShape p s3 = with_route p s1 r route now3 shape1 known (counts_fit_path-from_counts route now3 (omega arith) fits.1) in
+      let shape3 : HasShape p s3 = with_route p s1 r route now3 shape1 known (seen_and_released_fit_path-from_counts route now3 (omega arith) fits.1) in
       let one = lock-written p s e shape x UsedLock inside in
       let two = seen-written p s1 e shape1 r now (now.seen + 1) here in
       let three = mode-written p s2 e shape2 r now2 Occupied (slice_get-set_same s.routes r now2 within) ∙ ap (λ routes. image_with (record s1 { routes = routes }) e) (set-set s.routes r now2 now3) in
@@ -190,15 +190,15 @@ module _ (p : PlantLists) (plant : IsPlant p) (s : State) (shape : HasShape p s)
       last s3 shape3 true = board-written p s3 (occupancy_values p s) shape3 route.source Closed (plant.routes_known r route known).source
       last s3 shape3 false = refl
 
-  pub sense-steps : (r : ℕ) → StepLikeEvent p s (after_sense p s r) (rules_of_sense p r)
+  pub sense-steps : (r : ℕ) → RulesMatchEvent p s (after_sense p s r) (rules_of_sense p r)
   sense-steps r = by_route (slice_get p.routes r) refl
     where
-      by_route : (o : Option Route) → slice_get p.routes r ≡ o → StepLikeEvent p s (after_sense p s r) (rules_of_sense p r)
+      by_route : (o : Option Route) → slice_get p.routes r ≡ o → RulesMatchEvent p s (after_sense p s r) (rules_of_sense p r)
       by_route None e = rw e (no_rules p s)
       by_route (Some route) e =
           let now = state-of r route e in
           rw (e, now.1) (place_steps p s (sense_rule p r route) route.path now.0.seen
-          (λ x. ((same_mode now.0.mode Locked || same_mode now.0.mode Occupied) && is_occupied s x) && has_lock s x LockedLock)
+          (λ x. ((same_mode now.0.mode Locked || same_mode now.0.mode Occupied) && is_occupied s x) && has_lock_state s x LockedLock)
           (sensed now.0)
           (λ k x apart. sense-other r route now.0 k x now.1 apart)
           (λ x at. sense-guard r route now.0 now.0.seen x now.1 (inside now.0.seen x at)
@@ -207,7 +207,7 @@ module _ (p : PlantLists) (plant : IsPlant p) (s : State) (shape : HasShape p s)
           &&
           (((same_mode now.0.mode Locked || same_mode now.0.mode Occupied)
           && is_occupied s x)
-          && has_lock s x LockedLock))
+          && has_lock_state s x LockedLock))
           (eq-eqb now.0.seen now.0.seen refl))
           (λ x at. by_image p s (sensed now.0 x) (sense_rule p r route now.0.seen x).sets (sense-sets r route now.0 x e now.1 at (inside now.0.seen x at))))
         where

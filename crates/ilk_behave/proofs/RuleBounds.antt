@@ -5,9 +5,9 @@ use Rattle.std.specs.Option.{option_to_list}
 use Rattle.std.proofs.lemmas.List.{length-append, length-map}
 use Rattle.std.proofs.lemmas.List.FromFn.{length-range_with_len}
 use Rattle.std.proofs.lemmas.List.Sums.{count_by-le-length, length-filter}
-use Rattle.ilk_ir.specs.System.{RuleTree}
+use Rattle.ilk_ir.specs.System.{PlainRule}
 use Rattle.ilk_plant.specs.Network.{neighbours_on, same_direction}
-use Rattle.ilk_plant.specs.Plant.{IsPlant, PlantLists, border, next_to, point_number}
+use Rattle.ilk_plant.specs.Plant.{IsPlant, PlantLists, section_inward_if_border, next_to, point_number}
 use Rattle.ilk_plant.specs.declared.network.Dir.{Dir}
 use Rattle.ilk_plant.specs.declared.network.Dir.TheVariants.{Up, Down}
 use Rattle.ilk_plant.specs.declared.network.Section.{Section}
@@ -16,10 +16,10 @@ use Rattle.ilk_plant.specs.declared.table.Route.{Route}
 use Rattle.ilk_model.specs.declared.event.Event.{Event}
 use Rattle.ilk_model.specs.declared.event.Event.TheVariants as event
 use Rattle.ilk_motion.specs.Trains.{has_neighbour}
-use Rattle.ilk_behave.specs.Behaviour.{events_of, events_of_route, events_of_section, rules_of, system_of}
+use Rattle.ilk_behave.specs.Behaviour.{events_of, events_of_route, events_of_section, rules_of, system_of_plant}
 use Rattle.ilk_behave.specs.PointRules.{rules_of_settle, rules_of_throw}
 use Rattle.ilk_behave.specs.RouteRules.{rules_of_allocate, rules_of_cancel, rules_of_finish, rules_of_lock, rules_of_mark, rules_of_release, rules_of_sense}
-use Rattle.ilk_behave.specs.TrainRules.{both_directions, head_rules, leave_rule, rules_of_enter, rules_of_head, rules_of_leave, rules_of_tail, tail_rule}
+use Rattle.ilk_behave.specs.TrainRules.{both_directions, head_rules_to_neighbour, leave_rule, rules_of_enter, rules_of_head, rules_of_leave, rules_of_tail, tail_rule}
 use Rattle.ilk_behave.proofs.RuleCounts.{cancel-count, finish-count, release-count, sense-count}
 
 flat_map-few : {X Y : Type 0} (f : X → List Y) (most : ℕ) (xs : List X) → ((x : X) → length (f x) ≤ most) → length (flat_map f xs) ≤ most * length xs
@@ -106,9 +106,9 @@ module _ (p : PlantLists) (plant : IsPlant p) where
 
   -- Events of trains.
   few-enter : (x : ℕ) → length (rules_of_enter p x) ≤ 1
-  few-enter x = by_inward (border p x) refl
+  few-enter x = by_inward (section_inward_if_border p x) refl
     where
-      by_inward : (o : Option Dir) → border p x ≡ o → length (rules_of_enter p x) ≤ 1
+      by_inward : (o : Option Dir) → section_inward_if_border p x ≡ o → length (rules_of_enter p x) ≤ 1
       by_inward None e = rw e (omega arith)
       by_inward (Some d) e = rw e (omega arith)
 
@@ -132,7 +132,7 @@ module _ (p : PlantLists) (plant : IsPlant p) where
       by_section None e = rw e (omega arith)
       by_section (Some section) e = rw e (on_side section d)
 
-  heads-few : (x : ℕ) (d : Dir) (ys : List ℕ) → length ys ≤ 2 → length (flat_map (λ y. flat_map (head_rules p x d y) (true ∷ false ∷ [])) ys) ≤ 8
+  heads-few : (x : ℕ) (d : Dir) (ys : List ℕ) → length ys ≤ 2 → length (flat_map (λ y. flat_map (head_rules_to_neighbour p x d y) (true ∷ false ∷ [])) ys) ≤ 8
   heads-few x d [] few = omega arith
   heads-few x d (y ∷ []) few = omega arith
   heads-few x d (y ∷ z ∷ []) few = omega arith
@@ -142,7 +142,7 @@ module _ (p : PlantLists) (plant : IsPlant p) where
   few-head x =
       let up = heads-few x Up (next_to p x Up) (few-next x Up) in
       let down = heads-few x Down (next_to p x Down) (few-next x Down) in
-      let f : Dir → List RuleTree = λ d. flat_map (λ y. flat_map (head_rules p x d y) (true ∷ false ∷ [])) (next_to p x d) in
+      let f : Dir → List PlainRule = λ d. flat_map (λ y. flat_map (head_rules_to_neighbour p x d y) (true ∷ false ∷ [])) (next_to p x d) in
       let one = length-append (f Up) (f Down ++ []) in
       let two = length-append (f Down) [] in
       omega (arith, up, down, one, two)
@@ -157,7 +157,7 @@ module _ (p : PlantLists) (plant : IsPlant p) where
   few-tail x =
       let up = tails-few x Up (next_to p x Up) (few-next x Up) in
       let down = tails-few x Down (next_to p x Down) (few-next x Down) in
-      let f : Dir → List RuleTree = λ d. flat_map (λ y. map (tail_rule p x d y) (true ∷ false ∷ [])) (next_to p x d) in
+      let f : Dir → List PlainRule = λ d. flat_map (λ y. map (tail_rule p x d y) (true ∷ false ∷ [])) (next_to p x d) in
       let one = length-append (f Up) (f Down ++ []) in
       let two = length-append (f Down) [] in
       omega (arith, up, down, one, two)
@@ -200,7 +200,7 @@ module _ (p : PlantLists) (plant : IsPlant p) where
       let as_sections = length-range_with_len 0 (length p.sections) in
       omega (arith, routes, sections, of_routes, of_sections, sum, as_routes, as_sections)
 
-  pub few-in_all : length (system_of p).rules ≤ 256 * 256 * 13
+  pub few-in_all : length (system_of_plant p).rules ≤ 256 * 256 * 13
   few-in_all =
       let few = flat_map-few (rules_of p) 256 (events_of p) few-rules in
       let events = few-events in

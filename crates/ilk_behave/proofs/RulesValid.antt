@@ -3,7 +3,7 @@ use Rattle.std.proofs.Common.{◌≡◌, ℕ, suc, Bool, true, ◌&&◌, Some, L
 use Rattle.std.specs.List.{flat_map, list_all}
 use Rattle.std.proofs.lemmas.Bool.{and_from}
 use Rattle.std.proofs.lemmas.List.Folds.{list_all-append}
-use Rattle.ilk_ir.specs.System.{RuleTree, rule_valid, sets_distinct_vars}
+use Rattle.ilk_ir.specs.System.{PlainRule, rule_valid, sets_distinct_vars}
 use Rattle.ilk_ir.specs.Tree.{Tree, tree_valid, value_valid}
 use Rattle.ilk_ir.specs.declared.system.Setting.{Setting}
 use Rattle.ilk_ir.proofs.Trees.{all_of-valid}
@@ -19,7 +19,7 @@ is_valid p tree = tree_valid (ranges_of_plant p) tree
 abbrev pub fits : PlantLists → Setting → Bool
 fits p s = value_valid (ranges_of_plant p) s.var s.value
 
-abbrev pub is_valid_rule : PlantLists → RuleTree → Bool
+abbrev pub is_valid_rule : PlantLists → PlainRule → Bool
 is_valid_rule p r = rule_valid (ranges_of_plant p) r
 
 pub all-append : {X : Type 0} (f : X → Bool) (xs ys : List X) → list_all f xs ≡ true → list_all f ys ≡ true → list_all f (xs ++ ys) ≡ true
@@ -44,8 +44,8 @@ rule-valid p conditions sets h k once =
     (all_of-valid (ranges_of_plant p) conditions ∙ h) k)
     (set_once-apart sets once)
 
-pub one_rule-valid : (p : PlantLists) (r : RuleTree) → is_valid_rule p r ≡ true → list_all (is_valid_rule p) (r ∷ []) ≡ true
+pub one_rule-valid : (p : PlantLists) (r : PlainRule) → is_valid_rule p r ≡ true → list_all (is_valid_rule p) (r ∷ []) ≡ true
 one_rule-valid p r h = all-cons (is_valid_rule p) r [] h refl
 
-pub two_rules-valid : (p : PlantLists) (r q : RuleTree) → is_valid_rule p r ≡ true → is_valid_rule p q ≡ true → list_all (is_valid_rule p) (r ∷ q ∷ []) ≡ true
+pub two_rules-valid : (p : PlantLists) (r q : PlainRule) → is_valid_rule p r ≡ true → is_valid_rule p q ≡ true → list_all (is_valid_rule p) (r ∷ q ∷ []) ≡ true
 two_rules-valid p r q h k = all-cons (is_valid_rule p) r (q ∷ []) h (one_rule-valid p q k)

@@ -11,7 +11,7 @@ use Rattle.ilk_model.specs.declared.event.Event.{Event}
 use Rattle.ilk_model.specs.declared.event.Event.TheVariants.{Mark, Allocate, Lock, Sense, Release, Finish, Throw, Settle, Enter, Head, Tail, Leave, Cancel}
 use Rattle.ilk_layout.specs.Variables.{ranges_of_plant}
 use Rattle.ilk_layout.proofs.Valid.{length-ranges, ranges-positive}
-use Rattle.ilk_behave.specs.Behaviour.{events_of, rules_of, system_of}
+use Rattle.ilk_behave.specs.Behaviour.{events_of, rules_of, system_of_plant}
 use Rattle.ilk_behave.proofs.PathRulesValid.{finish-valid, release-valid, sense-valid}
 use Rattle.ilk_behave.proofs.RouteRulesValid.{allocate-valid, cancel-valid, lock-valid, mark-valid}
 use Rattle.ilk_behave.proofs.RuleBounds.{few-in_all}
@@ -34,7 +34,7 @@ module _ (p : PlantLists) (plant : IsPlant p) where
   event-valid (Leave x) = leave-valid p plant x
   event-valid (Cancel r) = cancel-valid p plant r
 
-  all-valid : list_all (is_valid_rule p) (system_of p).rules ≡ true
+  all-valid : list_all (is_valid_rule p) (system_of_plant p).rules ≡ true
   all-valid = all-flat_map (is_valid_rule p) (rules_of p) (events_of p) (λ i event at. event-valid event)
 
   less-test : (a b : ℕ) → a < b → nat_lt a b ≡ true
@@ -49,16 +49,16 @@ module _ (p : PlantLists) (plant : IsPlant p) where
       let long = length-ranges p in
       less-test (length (ranges_of_plant p)) (2 ^ 32) (omega (arith, routes, sections, boards, points, long))
 
-  few-rules_in_all : nat_lt (length (system_of p).rules) (2 ^ 32) ≡ true
+  few-rules_in_all : nat_lt (length (system_of_plant p).rules) (2 ^ 32) ≡ true
   few-rules_in_all =
       let few = few-in_all p plant in
-      less-test (length (system_of p).rules) (2 ^ 32) (omega (arith, few))
+      less-test (length (system_of_plant p).rules) (2 ^ 32) (omega (arith, few))
 
-  pub system-valid : system_valid (system_of p) ≡ true
+  pub system-valid : system_valid (system_of_plant p) ≡ true
   system-valid =
       let ranges : List ℕ = ranges_of_plant p in
       let few : Bool = nat_lt (length ranges) (2 ^ 32) in
-      let few_rules : Bool = nat_lt (length (system_of p).rules) (2 ^ 32) in
+      let few_rules : Bool = nat_lt (length (system_of_plant p).rules) (2 ^ 32) in
       let positive : Bool = list_all (λ range. nat_lt 0 range) ranges in
-      let valid : Bool = list_all (is_valid_rule p) (system_of p).rules in
+      let valid : Bool = list_all (is_valid_rule p) (system_of_plant p).rules in
       and_from ((few && few_rules) && positive) valid (and_from (few && few_rules) positive (and_from few few_rules few-ranges few-rules_in_all) (ranges-positive p)) all-valid

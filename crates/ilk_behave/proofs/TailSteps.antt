@@ -17,7 +17,7 @@ use Rattle.ilk_ir.proofs.Trees.{all_of-holds}
 use Rattle.ilk_plant.specs.Network.{has_section, same_direction}
 use Rattle.ilk_plant.specs.Plant.{IsPlant, PlantLists, next_to}
 use Rattle.ilk_plant.specs.Shape.{HasShape}
-use Rattle.ilk_plant.specs.Sound.{NoWalkReturns}
+use Rattle.ilk_plant.specs.Sound.{IsAcyclic}
 use Rattle.ilk_plant.specs.State.{detected_position}
 use Rattle.ilk_plant.specs.declared.network.Dir.{Dir}
 use Rattle.ilk_plant.specs.declared.network.Dir.TheVariants.{Up, Down}
@@ -28,15 +28,15 @@ use Rattle.ilk_plant.specs.declared.state.Lie.TheVariants.{Plus as LiesPlus, Min
 use Rattle.ilk_plant.specs.declared.state.State.{State}
 use Rattle.ilk_plant.specs.declared.state.Train.{Train}
 use Rattle.ilk_plant.proofs.InLists.{section-from, section-at, only-one, rest-has}
-use Rattle.ilk_motion.specs.Ahead.{ahead, leg_by_lie, section_led_to}
-use Rattle.ilk_motion.specs.Body.{has_tail_before_head, without_tail}
+use Rattle.ilk_motion.specs.Ahead.{ahead, detected_leg, section_led_to}
+use Rattle.ilk_motion.specs.Body.{has_movable_tail_at, without_tail}
 use Rattle.ilk_motion.specs.Trains.{after_tail}
 use Rattle.ilk_motion.proofs.Shape.{after_tail-shape}
 use Rattle.ilk_routes.specs.Lies.{is_lie_at_position, lie_from_position}
 use Rattle.ilk_model.specs.Hazard.{hazard}
 use Rattle.ilk_layout.specs.Image.{image_of}
 use Rattle.ilk_layout.specs.Occupancy.{occupancy_of}
-use Rattle.ilk_layout.specs.Standing.{is_wrong_under}
+use Rattle.ilk_layout.specs.Standing.{is_point_wrong_under}
 use Rattle.ilk_layout.specs.Values.{occupancy_value}
 use Rattle.ilk_layout.specs.Variables.{occupancy_var}
 use Rattle.ilk_layout.specs.declared.values.Occupancy.TheVariants.{Vacant, Taken}
@@ -45,9 +45,9 @@ use Rattle.ilk_layout.proofs.Changes.{image-two, occupied}
 use Rattle.ilk_layout.proofs.Made.{legs-differ}
 use Rattle.ilk_layout.proofs.Plants.{body-known, body-once}
 use Rattle.ilk_layout.proofs.Trains.{has_x, with_trains}
-use Rattle.ilk_layout.specs.Conditions.{occupancy_is, is_detected}
+use Rattle.ilk_layout.specs.Conditions.{occupancy_is, section_point_is_detected}
 use Rattle.ilk_behave.specs.Guards.{leads_towards, leg_position}
-use Rattle.ilk_behave.specs.Steps.{StepLikeEvent, can_fire}
+use Rattle.ilk_behave.specs.Steps.{RulesMatchEvent, can_fire}
 use Rattle.ilk_behave.specs.TrainRules.{rules_of_tail, tail_rule}
 use Rattle.ilk_behave.proofs.AllocateSteps.{lie-holds}
 use Rattle.ilk_behave.proofs.OneSection.{vacant-as}
@@ -64,21 +64,22 @@ module _ (p : PlantLists) (plant : IsPlant p) (s : State) (shape : HasShape p s)
       only None h = cc
       only (Some z) h = sym (eq-eqb z y (only-one y z h))
 
-      lies : (plus minus : ℕ) (l : Lie) (b : Bool) → (plus == y) ≡ b → (plus ≡ minus → ⊥) → has_section y (plus ∷ minus ∷ []) ≡ true → (is_lie_at_position l (leg_position plus y) && true) ≡ is_some_and (leg_by_lie plus minus l) (λ z. z == y)
+      lies : (plus minus : ℕ) (l : Lie) (b : Bool) → (plus == y) ≡ b → (plus ≡ minus → ⊥) → has_section y (plus ∷ minus ∷ []) ≡ true → (is_lie_at_position l (leg_position plus y) && true) ≡ is_some_and (detected_leg plus minus l) (λ z. z == y)
       lies plus minus LiesPlus true e apart h = rw e refl
       lies plus minus LiesPlus false e apart h = rw e refl
       lies plus minus LiesMinus true e apart h = (let other : (minus == y) ≡ false = ne_eqb minus y (λ same. apart (eqb-true plus y e ∙ sym same)) in rw (e, other) refl)
       lies plus minus LiesMinus false e apart h = (let other : ((minus == y) || false) ≡ true = rw e at h in let same : minus ≡ y = only-one y minus other in rw (e, eq-eqb minus y same) refl)
       lies plus minus Moving b e apart h = ap (λ v. v && true) (lies-nowhere (leg_position plus y))
 
-      by_lie : (plus minus : ℕ) (o : Option Lie) → (plus ≡ minus → ⊥) → has_section y (plus ∷ minus ∷ []) ≡ true → (is_some_and o (λ l. is_lie_at_position l (leg_position plus y)) && true) ≡ is_some_and (o >>= leg_by_lie plus minus) (λ z. z == y)
+      by_lie : (plus minus : ℕ) (o : Option Lie) → (plus ≡ minus → ⊥) → has_section y (plus ∷ minus ∷ []) ≡ true → (is_some_and o (λ l. is_lie_at_position l (leg_position plus y)) && true) ≡ is_some_and (o >>= detected_leg plus minus) (λ z. z == y)
       by_lie plus minus None apart h = refl
       by_lie plus minus (Some l) apart h = lies plus minus l (plus == y) refl apart h
 
-      towards : (stem plus minus : ℕ) (faces d : Dir) → slice_get p.sections x ≡ Some (Point stem plus minus faces) → leads_towards p x d y ≡ cond (same_direction faces d) (is_detected p x (lie_from_position (leg_position plus y)) ∷ []) []
+      towards : (stem plus minus : ℕ) (faces d : Dir) → slice_get p.sections x ≡ Some (Point stem plus minus faces) →
+          leads_towards p x d y ≡ cond (same_direction faces d) (section_point_is_detected p x (lie_from_position (leg_position plus y)) ∷ []) []
       towards stem plus minus faces d e = leads-by p x y d (slice_get p.sections x) refl ∙ ap (leading p x y d) e
 
-      goes : (stem plus minus : ℕ) (faces d : Dir) → slice_get p.sections x ≡ Some (Point stem plus minus faces) → ahead p s x d ≡ cond (same_direction faces d) (detected_position p s x >>= leg_by_lie plus minus) (Some stem)
+      goes : (stem plus minus : ℕ) (faces d : Dir) → slice_get p.sections x ≡ Some (Point stem plus minus faces) → ahead p s x d ≡ cond (same_direction faces d) (detected_position p s x >>= detected_leg plus minus) (Some stem)
       goes stem plus minus faces d e = ap (λ o. o >>= (λ section. section_led_to section d (detected_position p s x))) e
 
       facing : (stem plus minus : ℕ) (faces d : Dir) (b : Bool) → same_direction faces d ≡ b →
@@ -89,15 +90,15 @@ module _ (p : PlantLists) (plant : IsPlant p) (s : State) (shape : HasShape p s)
           let near : has_section y (plus ∷ minus ∷ []) ≡ true = rw (e, f) at h in
           let apart = legs-differ p plant x stem plus minus faces e in
           let lie = lie-holds p plant s shape calm x (leg_position plus y) in
-          ap (list_all (tree_holds (image_of p s))) (towards stem plus minus faces d e ∙ ap (λ b. cond b (is_detected p x (lie_from_position (leg_position plus y)) ∷ []) []) f)
+          ap (list_all (tree_holds (image_of p s))) (towards stem plus minus faces d e ∙ ap (λ b. cond b (section_point_is_detected p x (lie_from_position (leg_position plus y)) ∷ []) []) f)
           ∙ ap (λ b. b && true) lie
           ∙ by_lie plus minus (detected_position p s x) apart.0 near
-          ∙ ap (λ o. is_some_and o (λ z. z == y)) (sym (goes stem plus minus faces d e ∙ ap (λ b. cond b (detected_position p s x >>= leg_by_lie plus minus) (Some stem)) f))
+          ∙ ap (λ o. is_some_and o (λ z. z == y)) (sym (goes stem plus minus faces d e ∙ ap (λ b. cond b (detected_position p s x >>= detected_leg plus minus) (Some stem)) f))
       facing stem plus minus faces d false f e h =
           let near : has_section y (stem ∷ []) ≡ true = rw (e, f) at h in
-          ap (list_all (tree_holds (image_of p s))) (towards stem plus minus faces d e ∙ ap (λ b. cond b (is_detected p x (lie_from_position (leg_position plus y)) ∷ []) []) f)
+          ap (list_all (tree_holds (image_of p s))) (towards stem plus minus faces d e ∙ ap (λ b. cond b (section_point_is_detected p x (lie_from_position (leg_position plus y)) ∷ []) []) f)
           ∙ sym (eq-eqb stem y (only-one y stem near))
-          ∙ ap (λ o. is_some_and o (λ z. z == y)) (sym (goes stem plus minus faces d e ∙ ap (λ b. cond b (detected_position p s x >>= leg_by_lie plus minus) (Some stem)) f))
+          ∙ ap (λ o. is_some_and o (λ z. z == y)) (sym (goes stem plus minus faces d e ∙ ap (λ b. cond b (detected_position p s x >>= detected_leg plus minus) (Some stem)) f))
 
       by_section : (o : Option Section) → slice_get p.sections x ≡ o → (d : Dir) → has_section y (next_to p x d) ≡ true → list_all (tree_holds (image_of p s)) (leads_towards p x d y) ≡ is_some_and (ahead p s x d) (λ z. z == y)
       by_section None e d h = (let bad : false ≡ true = rw e at h in absurd (false≢true bad))
@@ -105,7 +106,7 @@ module _ (p : PlantLists) (plant : IsPlant p) (s : State) (shape : HasShape p s)
       by_section (Some (Linear down up b c)) e Up h = rw e (only up (rw e at h))
       by_section (Some (Point stem plus minus faces)) e d h = facing stem plus minus faces d (same_direction faces d) refl e h
 
-module _ (p : PlantLists) (plant : IsPlant p) (never : NoWalkReturns p) (s : State) (shape : HasShape p s) (calm : hazard p s ≡ None) where
+module _ (p : PlantLists) (plant : IsPlant p) (never : IsAcyclic p) (s : State) (shape : HasShape p s) (calm : hazard p s ≡ None) where
   -- The train with its tail at `x` and its next section `y`.
   module _ (i x y : ℕ) (t : Train) (at : slice_get s.trains i ≡ Some t) (first : slice_get t.body 0 ≡ Some x) (second : slice_get t.body 1 ≡ Some y) where
     within-x : x < length p.sections
@@ -117,7 +118,7 @@ module _ (p : PlantLists) (plant : IsPlant p) (never : NoWalkReturns p) (s : Sta
     tail-follows : after_tail p s x ≡ Some (with_trains s (set s.trains i (without_tail t)))
     tail-follows =
         let section = item_at p.sections x within-x in
-        let position_is = only-position (has_tail_before_head x) s.trains i t at (several x y t.body first second) (λ j v e h. alone p plant never s shape calm j i x v t e at (has-first x v.body h) (section-from t.body 0 x first)) in
+        let position_is = only-position (has_movable_tail_at x) s.trains i t at (several x y t.body first second) (λ j v e h. alone p plant never s shape calm j i x v t e at (has-first x v.body h) (section-from t.body 0 x first)) in
         rw (section.1, position_is, at) refl
 
     tail-moved : HasShape p (with_trains s (set s.trains i (without_tail t)))
@@ -145,7 +146,7 @@ module _ (p : PlantLists) (plant : IsPlant p) (never : NoWalkReturns p) (s : Sta
           | inr h ↦ false_from_ne_true (has_section x v.body) (λ has. h.0 (alone p plant never s shape calm i j x t v at h.1 (section-from t.body 0 x first) has))
         ]))
 
-    safe-rest : (z : ℕ) → z < length p.sections → is_wrong_under p s z (remove t.body 0) ≡ false
+    safe-rest : (z : ℕ) → z < length p.sections → is_point_wrong_under p s z (remove t.body 0) ≡ false
     safe-rest z within = rest-wrong p s z t.body (right-under p s i z t (calm-at p s z calm within) at)
 
     tail-taken : occupancy_of p (with_trains s (set s.trains i (without_tail t))) y ≡ Taken t.dir true (1 + 1 == length t.body)
@@ -219,9 +220,9 @@ module _ (p : PlantLists) (plant : IsPlant p) (never : NoWalkReturns p) (s : Sta
   tail-fires : (x : ℕ) (after : State) → after_tail p s x ≡ Some after → IsFor p s x (λ d y. map (tail_rule p x d y) (true ∷ false ∷ []))
   tail-fires x after e =
       let section = bind_some (slice_get p.sections x) _ after e in
-      let first = bind_some (position (has_tail_before_head x) s.trains) _ after section.2 in
+      let first = bind_some (position (has_movable_tail_at x) s.trains) _ after section.2 in
       let train = bind_some (slice_get s.trains first.0) _ after first.2 in
-      let two = first-two x train.0.body (position-at (has_tail_before_head x) s.trains first.0 train.0 first.1 train.1) in
+      let two = first-two x train.0.body (position-at (has_movable_tail_at x) s.trains first.0 train.0 first.1 train.1) in
       from first.0 train.0 two.0 train.1 two.1 two.2
     where
       flag : (head : Bool) → (k : ℕ) × (slice_get (true ∷ false ∷ []) k ≡ Some head)
@@ -265,7 +266,7 @@ module _ (p : PlantLists) (plant : IsPlant p) (never : NoWalkReturns p) (s : Sta
             fires = list_any-from (can_fire p s) (map (tail_rule p x d y) (true ∷ false ∷ [])) place.0 (tail_rule p x d y head) (slice_get-map (tail_rule p x d y) (true ∷ false ∷ []) place.0 ∙ (let there = place.1 in rw there refl)) fires;
           }
 
-  pub tail-steps : (x : ℕ) → StepLikeEvent p s (after_tail p s x) (rules_of_tail p x)
+  pub tail-steps : (x : ℕ) → RulesMatchEvent p s (after_tail p s x) (rules_of_tail p x)
   tail-steps x =
       neighbour_steps p s (after_tail p s x) x (λ d y. map (tail_rule p x d y) (true ∷ false ∷ []))
       (λ d y j rule near at h.

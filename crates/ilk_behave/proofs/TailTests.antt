@@ -18,8 +18,8 @@ use Rattle.ilk_motion.specs.Body.{is_first_of_several}
 use Rattle.ilk_routes.specs.Lies.{is_lie_at_position, lie_from_position}
 use Rattle.ilk_model.specs.Hazard.{is_wrong_under_body}
 use Rattle.ilk_model.proofs.Straying.{rest-is_wrong_under_body}
-use Rattle.ilk_layout.specs.Standing.{is_wrong_under}
-use Rattle.ilk_layout.specs.Conditions.{is_detected}
+use Rattle.ilk_layout.specs.Standing.{is_point_wrong_under}
+use Rattle.ilk_layout.specs.Conditions.{section_point_is_detected}
 use Rattle.ilk_behave.specs.Guards.{leads_towards, leg_position}
 
 pub lies-nowhere : (at : Position) → is_lie_at_position Moving at ≡ false
@@ -30,7 +30,7 @@ lies-nowhere Minus = refl
 abbrev pub leading : PlantLists → ℕ → ℕ → Dir → Option Section → List Tree
 leading p x y d None = []
 leading p x y d (Some (Linear down up b c)) = []
-leading p x y d (Some (Point stem plus minus faces)) = cond (same_direction faces d) (is_detected p x (lie_from_position (leg_position plus y)) ∷ []) []
+leading p x y d (Some (Point stem plus minus faces)) = cond (same_direction faces d) (section_point_is_detected p x (lie_from_position (leg_position plus y)) ∷ []) []
 
 pub leads-by : (p : PlantLists) (x y : ℕ) (d : Dir) (o : Option Section) → slice_get p.sections x ≡ o → leads_towards p x d y ≡ leading p x y d (slice_get p.sections x)
 leads-by p x y d None e = rw e refl
@@ -45,10 +45,10 @@ pub rest-length : (body : List ℕ) (k x : ℕ) → slice_get body k ≡ Some x 
 rest-length [] k x at = cc
 rest-length (y ∷ body) k x at = omega arith
 
-pub rest-wrong : (p : PlantLists) (s : State) (x : ℕ) (body : List ℕ) → is_wrong_under p s x body ≡ false → is_wrong_under p s x (remove body 0) ≡ false
+pub rest-wrong : (p : PlantLists) (s : State) (x : ℕ) (body : List ℕ) → is_point_wrong_under p s x body ≡ false → is_point_wrong_under p s x (remove body 0) ≡ false
 rest-wrong p s x body right = by_section (slice_get p.sections x) refl
   where
-    by_section : (o : Option Section) → slice_get p.sections x ≡ o → is_wrong_under p s x (remove body 0) ≡ false
+    by_section : (o : Option Section) → slice_get p.sections x ≡ o → is_point_wrong_under p s x (remove body 0) ≡ false
     by_section None e = rw e refl
     by_section (Some (Linear a b c d)) e = rw e refl
     by_section (Some (Point stem plus minus faces)) e =

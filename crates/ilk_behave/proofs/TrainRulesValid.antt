@@ -4,11 +4,11 @@ use Rattle.std.specs.List.{flat_map, list_all}
 use Rattle.std.proofs.lemmas.Bool.{false≢true}
 use Rattle.std.proofs.lemmas.List.Folds.{list_all-map}
 use Rattle.std.proofs.lemmas.Option.{slice_get_within}
-use Rattle.ilk_ir.specs.Tree.{Tree, any_of, negation, trees}
+use Rattle.ilk_ir.specs.Tree.{Tree, any_of, negation, trees_from_list}
 use Rattle.ilk_ir.specs.declared.system.Setting.{Setting}
 use Rattle.ilk_ir.proofs.Trees.{any_of-valid}
 use Rattle.ilk_plant.specs.Network.{has_section, same_direction}
-use Rattle.ilk_plant.specs.Plant.{IsPlant, PlantLists, board_of, border, next_to, point_count, point_number}
+use Rattle.ilk_plant.specs.Plant.{IsPlant, PlantLists, board_of, section_inward_if_border, next_to, point_count, point_number}
 use Rattle.ilk_plant.specs.declared.network.Dir.{Dir}
 use Rattle.ilk_plant.specs.declared.network.Position.{Position}
 use Rattle.ilk_plant.specs.declared.network.Position.TheVariants.{Plus, Minus}
@@ -24,12 +24,12 @@ use Rattle.ilk_routes.specs.Lies.{lie_from_position}
 use Rattle.ilk_layout.specs.Variables.{occupancy_var, ranges_of_plant}
 use Rattle.ilk_layout.specs.declared.values.Occupancy.{Occupancy}
 use Rattle.ilk_layout.specs.declared.values.Occupancy.TheVariants.{Vacant, Taken, Crash}
-use Rattle.ilk_layout.specs.Conditions.{is_point_detected, board_is, is_detected, lock_is, no_train_at, occupancy_is, is_point_commanded, train_at}
-use Rattle.ilk_layout.proofs.Valid.{is_point_detected-valid, board_is-valid, is_detected-valid, lock_is-valid, no_train_at-valid, occupancy_is-valid, is_point_commanded-valid, train_at-valid}
-use Rattle.ilk_behave.specs.Guards.{leads_towards, leg_position, passable, right_on_point, is_right_from}
-use Rattle.ilk_behave.specs.PointRules.{is_out_of_position, rules_of_settle, rules_of_throw}
-use Rattle.ilk_behave.specs.Settings.{set_detected, set_board, close_board, set_occupancy, rule}
-use Rattle.ilk_behave.specs.TrainRules.{both_directions, is_free_for_train, head_settings, head_rules, leave_rule, head_conditions, rules_of_enter, rules_of_head, rules_of_leave, rules_of_tail, tail_rule}
+use Rattle.ilk_layout.specs.Conditions.{is_point_detected, board_is, section_point_is_detected, lock_is, no_train_at, occupancy_is, is_point_commanded, train_at}
+use Rattle.ilk_layout.proofs.Valid.{is_point_detected-valid, board_is-valid, section_point_is_detected-valid, lock_is-valid, no_train_at-valid, occupancy_is-valid, is_point_commanded-valid, train_at-valid}
+use Rattle.ilk_behave.specs.Guards.{leads_towards, leg_position, board_open_if_any, not_wrong_on_point, not_wrong_from}
+use Rattle.ilk_behave.specs.PointRules.{rests_out_of_position, rules_of_settle, rules_of_throw}
+use Rattle.ilk_behave.specs.Settings.{set_detected, set_board, close_board_if_any, set_occupancy, rule}
+use Rattle.ilk_behave.specs.TrainRules.{both_directions, no_hazard_for_train, head_settings, head_rules_to_neighbour, leave_rule, head_conditions, rules_of_enter, rules_of_head, rules_of_leave, rules_of_tail, tail_rule}
 use Rattle.ilk_plant.proofs.PointNumbers.{numbered-section}
 use Rattle.ilk_behave.proofs.RulesValid.{all-append, all-cons, all-flat_map, all-map, fits, is_valid, is_valid_rule, one_rule-valid, rule-valid, two_rules-valid}
 use Rattle.ilk_behave.proofs.SetOnce.{SetElsewhere, SetOnce}
@@ -47,17 +47,17 @@ module _ (p : PlantLists) (plant : IsPlant p) where
 
   -- Events of points.
 
-  is_out_of_position-valid : (n : ℕ) → n < point_count p → list_all (is_valid p) (is_out_of_position p n) ≡ true
-  is_out_of_position-valid n less =
+  rests_out_of_position-valid : (n : ℕ) → n < point_count p → list_all (is_valid p) (rests_out_of_position p n) ≡ true
+  rests_out_of_position-valid n less =
       let plus : List Tree = negation (is_point_detected p n LiesPlus) ∷ negation (is_point_commanded p n Plus) ∷ [] in
       let minus : List Tree = negation (is_point_detected p n LiesMinus) ∷ negation (is_point_commanded p n Minus) ∷ [] in
-      all-cons (is_valid p) (negation (is_point_detected p n Moving)) (any_of (trees plus) ∷ any_of (trees minus) ∷ []) (is_point_detected-valid p n Moving less)
-      (all-cons (is_valid p) (any_of (trees plus)) (any_of (trees minus) ∷ [])
+      all-cons (is_valid p) (negation (is_point_detected p n Moving)) (any_of (trees_from_list plus) ∷ any_of (trees_from_list minus) ∷ []) (is_point_detected-valid p n Moving less)
+      (all-cons (is_valid p) (any_of (trees_from_list plus)) (any_of (trees_from_list minus) ∷ [])
       (any_of-valid ranges plus
       ∙ all-cons (is_valid p) (negation (is_point_detected p n LiesPlus)) (negation (is_point_commanded p n Plus) ∷ [])
       (is_point_detected-valid p n LiesPlus less)
       (all-cons (is_valid p) (negation (is_point_commanded p n Plus)) [] (is_point_commanded-valid p n Plus less) refl))
-      (all-cons (is_valid p) (any_of (trees minus)) []
+      (all-cons (is_valid p) (any_of (trees_from_list minus)) []
       (any_of-valid ranges minus
       ∙ all-cons (is_valid p) (negation (is_point_detected p n LiesMinus)) (negation (is_point_commanded p n Minus) ∷ [])
       (is_point_detected-valid p n LiesMinus less)
@@ -72,16 +72,16 @@ module _ (p : PlantLists) (plant : IsPlant p) where
       by_number (Some n) e =
           let less = number-less x n e in
           let inside = number-known x n e in
-          let elsewhere : List Tree = is_out_of_position p n in
+          let elsewhere : List Tree = rests_out_of_position p n in
           let moves : List Setting = set_detected p n Moving ∷ [] in
           let crashes : List Setting = set_detected p n Moving ∷ set_occupancy p x Crash ∷ [] in
           rw e (two_rules-valid p (rule (elsewhere ++ no_train_at p x ∷ []) moves) (rule (elsewhere ++ train_at p x ∷ []) crashes)
           (rule-valid p (elsewhere ++ no_train_at p x ∷ []) moves
-          (all-append (is_valid p) elsewhere (no_train_at p x ∷ []) (is_out_of_position-valid n less) (all-cons (is_valid p) (no_train_at p x) [] (no_train_at-valid p x inside) refl))
+          (all-append (is_valid p) elsewhere (no_train_at p x ∷ []) (rests_out_of_position-valid n less) (all-cons (is_valid p) (no_train_at p x) [] (no_train_at-valid p x inside) refl))
           (all-cons (fits p) (set_detected p n Moving) [] (is_point_detected-valid p n Moving less) refl)
           (tt, tt))
           (rule-valid p (elsewhere ++ train_at p x ∷ []) crashes
-          (all-append (is_valid p) elsewhere (train_at p x ∷ []) (is_out_of_position-valid n less) (all-cons (is_valid p) (train_at p x) [] (train_at-valid p x inside) refl))
+          (all-append (is_valid p) elsewhere (train_at p x ∷ []) (rests_out_of_position-valid n less) (all-cons (is_valid p) (train_at p x) [] (train_at-valid p x inside) refl))
           (all-cons (fits p) (set_detected p n Moving) (set_occupancy p x Crash ∷ []) (is_point_detected-valid p n Moving less) (all-cons (fits p) (set_occupancy p x Crash) [] (occupancy_is-valid p x Crash inside) refl))
           (((λ same. omega (arith, less, same)), tt), (tt, tt))))
 
@@ -105,7 +105,7 @@ module _ (p : PlantLists) (plant : IsPlant p) where
   pub enter-valid : (x : ℕ) → list_all (is_valid_rule p) (rules_of_enter p x) ≡ true
   enter-valid x = by_section (slice_get p.sections x) refl
     where
-      by_inward : x < length p.sections → (o : Option Dir) → border p x ≡ o → list_all (is_valid_rule p) (rules_of_enter p x) ≡ true
+      by_inward : x < length p.sections → (o : Option Dir) → section_inward_if_border p x ≡ o → list_all (is_valid_rule p) (rules_of_enter p x) ≡ true
       by_inward inside None e = rw e refl
       by_inward inside (Some d) e =
           let conditions : List Tree = no_train_at p x ∷ lock_is p x FreeLock ∷ [] in
@@ -116,34 +116,34 @@ module _ (p : PlantLists) (plant : IsPlant p) where
           (tt, tt)))
 
       by_section : (o : Option Section) → slice_get p.sections x ≡ o → list_all (is_valid_rule p) (rules_of_enter p x) ≡ true
-      by_section None e = let none : border p x ≡ None = rw e refl in rw none refl
-      by_section (Some section) e = by_inward (slice_get_within p.sections x section e) (border p x) refl
+      by_section None e = let none : section_inward_if_border p x ≡ None = rw e refl in rw none refl
+      by_section (Some section) e = by_inward (slice_get_within p.sections x section e) (section_inward_if_border p x) refl
 
-  passable-valid : (x : ℕ) (d : Dir) → list_all (is_valid p) (passable p x d) ≡ true
-  passable-valid x d = by_board (board_of p x d) refl
+  board_open_if_any-valid : (x : ℕ) (d : Dir) → list_all (is_valid p) (board_open_if_any p x d) ≡ true
+  board_open_if_any-valid x d = by_board (board_of p x d) refl
     where
-      by_board : (o : Option ℕ) → board_of p x d ≡ o → list_all (is_valid p) (passable p x d) ≡ true
+      by_board : (o : Option ℕ) → board_of p x d ≡ o → list_all (is_valid p) (board_open_if_any p x d) ≡ true
       by_board None e = rw e refl
       by_board (Some m) e = rw e (all-cons (is_valid p) (board_is p m Open) [] (board_is-valid p m Open (plant.boards_known x m d e)) refl)
 
-  closes-fit : (x : ℕ) (d : Dir) → list_all (fits p) (close_board p x d) ≡ true
+  closes-fit : (x : ℕ) (d : Dir) → list_all (fits p) (close_board_if_any p x d) ≡ true
   closes-fit x d = by_board (board_of p x d) refl
     where
-      by_board : (o : Option ℕ) → board_of p x d ≡ o → list_all (fits p) (close_board p x d) ≡ true
+      by_board : (o : Option ℕ) → board_of p x d ≡ o → list_all (fits p) (close_board_if_any p x d) ≡ true
       by_board None e = rw e refl
       by_board (Some m) e = rw e (all-cons (fits p) (set_board p m Closed) [] (board_is-valid p m Closed (plant.boards_known x m d e)) refl)
 
-  closes-elsewhere : (x y : ℕ) (d : Dir) → SetElsewhere (occupancy_var p y) (close_board p x d)
+  closes-elsewhere : (x y : ℕ) (d : Dir) → SetElsewhere (occupancy_var p y) (close_board_if_any p x d)
   closes-elsewhere x y d = by_board (board_of p x d) refl
     where
-      by_board : (o : Option ℕ) → board_of p x d ≡ o → SetElsewhere (occupancy_var p y) (close_board p x d)
+      by_board : (o : Option ℕ) → board_of p x d ≡ o → SetElsewhere (occupancy_var p y) (close_board_if_any p x d)
       by_board None e = rw e tt
       by_board (Some m) e = let known = plant.boards_known x m d e in rw e ((λ same. omega (arith, known, same)), tt)
 
-  closes-once : (x : ℕ) (d : Dir) → SetOnce (close_board p x d)
+  closes-once : (x : ℕ) (d : Dir) → SetOnce (close_board_if_any p x d)
   closes-once x d = by_board (board_of p x d) refl
     where
-      by_board : (o : Option ℕ) → board_of p x d ≡ o → SetOnce (close_board p x d)
+      by_board : (o : Option ℕ) → board_of p x d ≡ o → SetOnce (close_board_if_any p x d)
       by_board None e = rw e tt
       by_board (Some m) e = rw e (tt, tt)
 
@@ -158,20 +158,20 @@ module _ (p : PlantLists) (plant : IsPlant p) where
       by_section None e = rw e refl
       by_section (Some (Linear down up board_down board_up)) e = rw e refl
       by_section (Some (Point stem plus minus faces)) e =
-          rw e (by_facing (same_direction faces d) (is_detected p x (lie_from_position (leg_position plus y))) (is_detected-valid p x (lie_from_position (leg_position plus y))))
+          rw e (by_facing (same_direction faces d) (section_point_is_detected p x (lie_from_position (leg_position plus y))) (section_point_is_detected-valid p x (lie_from_position (leg_position plus y))))
 
-  is_right_from-valid : (x : ℕ) (d : Dir) (y : ℕ) → list_all (is_valid p) (is_right_from p x d y) ≡ true
-  is_right_from-valid x d y = by_section (slice_get p.sections y) refl
+  not_wrong_from-valid : (x : ℕ) (d : Dir) (y : ℕ) → list_all (is_valid p) (not_wrong_from p x d y) ≡ true
+  not_wrong_from-valid x d y = by_section (slice_get p.sections y) refl
     where
-      by_facing : (plus : ℕ) (b : Bool) → is_valid p (cond b (negation (is_detected p y Moving)) (is_detected p y (lie_from_position (leg_position plus x)))) ≡ true
-      by_facing plus true = is_detected-valid p y Moving
-      by_facing plus false = is_detected-valid p y (lie_from_position (leg_position plus x))
+      by_facing : (plus : ℕ) (b : Bool) → is_valid p (cond b (negation (section_point_is_detected p y Moving)) (section_point_is_detected p y (lie_from_position (leg_position plus x)))) ≡ true
+      by_facing plus true = section_point_is_detected-valid p y Moving
+      by_facing plus false = section_point_is_detected-valid p y (lie_from_position (leg_position plus x))
 
-      by_section : (o : Option Section) → slice_get p.sections y ≡ o → list_all (is_valid p) (is_right_from p x d y) ≡ true
+      by_section : (o : Option Section) → slice_get p.sections y ≡ o → list_all (is_valid p) (not_wrong_from p x d y) ≡ true
       by_section None e = rw e refl
       by_section (Some (Linear down up board_down board_up)) e = rw e refl
       by_section (Some (Point stem plus minus faces)) e =
-          rw e (all-cons (is_valid p) (right_on_point p x d y plus faces) [] (by_facing plus (same_direction faces d)) refl)
+          rw e (all-cons (is_valid p) (not_wrong_on_point p x d y plus faces) [] (by_facing plus (same_direction faces d)) refl)
 
   -- Two neighbours: both are sections, and they differ.
   abbrev AreNext : ℕ → ℕ → Type 0
@@ -188,44 +188,44 @@ module _ (p : PlantLists) (plant : IsPlant p) where
 
   head_conditions-valid : (x : ℕ) (d : Dir) (y : ℕ) (tail : Bool) → x < length p.sections → list_all (is_valid p) (head_conditions p x d y tail) ≡ true
   head_conditions-valid x d y tail inside =
-      all-append (is_valid p) (occupancy_is p x (Taken d tail true) ∷ passable p x d) (leads_towards p x d y)
-      (all-cons (is_valid p) (occupancy_is p x (Taken d tail true)) (passable p x d) (occupancy_is-valid p x (Taken d tail true) inside) (passable-valid x d))
+      all-append (is_valid p) (occupancy_is p x (Taken d tail true) ∷ board_open_if_any p x d) (leads_towards p x d y)
+      (all-cons (is_valid p) (occupancy_is p x (Taken d tail true)) (board_open_if_any p x d) (occupancy_is-valid p x (Taken d tail true) inside) (board_open_if_any-valid x d))
       (leads_towards-valid x d y)
 
-  is_free_for_train-valid : (x : ℕ) (d : Dir) (y : ℕ) → y < length p.sections → list_all (is_valid p) (is_free_for_train p x d y) ≡ true
-  is_free_for_train-valid x d y inside =
-      all-cons (is_valid p) (no_train_at p y) (is_right_from p x d y) (no_train_at-valid p y inside) (is_right_from-valid x d y)
+  no_hazard_for_train-valid : (x : ℕ) (d : Dir) (y : ℕ) → y < length p.sections → list_all (is_valid p) (no_hazard_for_train p x d y) ≡ true
+  no_hazard_for_train-valid x d y inside =
+      all-cons (is_valid p) (no_train_at p y) (not_wrong_from p x d y) (no_train_at-valid p y inside) (not_wrong_from-valid x d y)
 
   head_settings-fits : (x : ℕ) (d : Dir) (y : ℕ) (tail : Bool) (there : Occupancy) → AreNext x y → list_all (fits p) (head_settings p x d y tail there) ≡ true
   head_settings-fits x d y tail there next =
-      all-cons (fits p) (set_occupancy p x (Taken d tail false)) (set_occupancy p y there ∷ close_board p x d) (occupancy_is-valid p x (Taken d tail false) next.0)
-      (all-cons (fits p) (set_occupancy p y there) (close_board p x d) (occupancy_is-valid p y there next.1) (closes-fit x d))
+      all-cons (fits p) (set_occupancy p x (Taken d tail false)) (set_occupancy p y there ∷ close_board_if_any p x d) (occupancy_is-valid p x (Taken d tail false) next.0)
+      (all-cons (fits p) (set_occupancy p y there) (close_board_if_any p x d) (occupancy_is-valid p y there next.1) (closes-fit x d))
 
   head_settings-once : (x : ℕ) (d : Dir) (y : ℕ) (tail : Bool) (there : Occupancy) → AreNext x y → SetOnce (head_settings p x d y tail there)
   head_settings-once x d y tail there next =
       (((λ same. next.2 (omega (arith, same))), closes-elsewhere x x d), (closes-elsewhere x y d, closes-once x d))
 
-  head_rules-valid : (x : ℕ) (d : Dir) (y : ℕ) (tail : Bool) → AreNext x y → list_all (is_valid_rule p) (head_rules p x d y tail) ≡ true
-  head_rules-valid x d y tail next =
+  head_rules_to_neighbour-valid : (x : ℕ) (d : Dir) (y : ℕ) (tail : Bool) → AreNext x y → list_all (is_valid_rule p) (head_rules_to_neighbour p x d y tail) ≡ true
+  head_rules_to_neighbour-valid x d y tail next =
       let may : List Tree = head_conditions p x d y tail in
-      let free : List Tree = is_free_for_train p x d y in
-      let not_free : Tree = any_of (trees (map negation free)) in
+      let free : List Tree = no_hazard_for_train p x d y in
+      let not_free : Tree = any_of (trees_from_list (map negation free)) in
       two_rules-valid p (rule (may ++ free) (head_settings p x d y tail (Taken d false true))) (rule (may ++ not_free ∷ []) (head_settings p x d y tail Crash))
       (rule-valid p (may ++ free) (head_settings p x d y tail (Taken d false true))
-      (all-append (is_valid p) may free (head_conditions-valid x d y tail next.0) (is_free_for_train-valid x d y next.1))
+      (all-append (is_valid p) may free (head_conditions-valid x d y tail next.0) (no_hazard_for_train-valid x d y next.1))
       (head_settings-fits x d y tail (Taken d false true) next)
       (head_settings-once x d y tail (Taken d false true) next))
       (rule-valid p (may ++ not_free ∷ []) (head_settings p x d y tail Crash)
       (all-append (is_valid p) may (not_free ∷ []) (head_conditions-valid x d y tail next.0)
-      (all-cons (is_valid p) not_free [] (any_of-valid ranges (map negation free) ∙ list_all-map (is_valid p) negation free ∙ is_free_for_train-valid x d y next.1) refl))
+      (all-cons (is_valid p) not_free [] (any_of-valid ranges (map negation free) ∙ list_all-map (is_valid p) negation free ∙ no_hazard_for_train-valid x d y next.1) refl))
       (head_settings-fits x d y tail Crash next)
       (head_settings-once x d y tail Crash next))
 
   pub head-valid : (x : ℕ) → list_all (is_valid_rule p) (rules_of_head p x) ≡ true
   head-valid x =
-      all-flat_map (is_valid_rule p) (λ d. flat_map (λ y. flat_map (head_rules p x d y) (true ∷ false ∷ [])) (next_to p x d)) both_directions (λ j d there.
-      all-flat_map (is_valid_rule p) (λ y. flat_map (head_rules p x d y) (true ∷ false ∷ [])) (next_to p x d) (λ i y at.
-      all-flat_map (is_valid_rule p) (head_rules p x d y) (true ∷ false ∷ []) (λ k tail which. head_rules-valid x d y tail (are-next x i y d at))))
+      all-flat_map (is_valid_rule p) (λ d. flat_map (λ y. flat_map (head_rules_to_neighbour p x d y) (true ∷ false ∷ [])) (next_to p x d)) both_directions (λ j d there.
+      all-flat_map (is_valid_rule p) (λ y. flat_map (head_rules_to_neighbour p x d y) (true ∷ false ∷ [])) (next_to p x d) (λ i y at.
+      all-flat_map (is_valid_rule p) (head_rules_to_neighbour p x d y) (true ∷ false ∷ []) (λ k tail which. head_rules_to_neighbour-valid x d y tail (are-next x i y d at))))
 
   tail_rule-valid : (x : ℕ) (d : Dir) (y : ℕ) (head : Bool) → AreNext x y → is_valid_rule p (tail_rule p x d y head) ≡ true
   tail_rule-valid x d y head next =

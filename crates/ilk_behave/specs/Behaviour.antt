@@ -1,7 +1,7 @@
 -- The behaviour of a plant as a finite system: the rules of each event, in the order of the events.
 use Rattle.std.specs.Prelude.{ℕ, Option, List, [], ◌∷◌, ◌++◌, length, map, flat_map, slice_get}
 use Rattle.std.specs.List.{range_with_len}
-use Rattle.ilk_ir.specs.System.{RuleTree, SystemTree}
+use Rattle.ilk_ir.specs.System.{PlainRule, PlainSystem}
 use Rattle.ilk_plant.specs.Plant.{PlantLists}
 use Rattle.ilk_model.specs.declared.event.Event.{Event}
 use Rattle.ilk_model.specs.declared.event.Event.TheVariants.{Mark, Allocate, Lock, Sense, Release, Finish, Throw, Settle, Enter, Head, Tail, Leave, Cancel}
@@ -24,7 +24,7 @@ events_of p =
     flat_map events_of_route (range_with_len 0 (length p.routes))
     ++ flat_map events_of_section (range_with_len 0 (length p.sections))
 
-abbrev pub rules_of : PlantLists → Event → List RuleTree
+abbrev pub rules_of : PlantLists → Event → List PlainRule
 rules_of p (Mark r) = rules_of_mark p r
 rules_of p (Allocate r) = rules_of_allocate p r
 rules_of p (Lock r) = rules_of_lock p r
@@ -39,8 +39,8 @@ rules_of p (Tail x) = rules_of_tail p x
 rules_of p (Leave x) = rules_of_leave p x
 rules_of p (Cancel r) = rules_of_cancel p r
 
-abbrev pub system_of : PlantLists → SystemTree
-system_of p = record { ranges = ranges_of_plant p; rules = flat_map (rules_of p) (events_of p) }
+abbrev pub system_of_plant : PlantLists → PlainSystem
+system_of_plant p = record { ranges = ranges_of_plant p; rules = flat_map (rules_of p) (events_of p) }
 
 -- The event of each rule of these events.
 abbrev pub events_of_rules : PlantLists → List Event → List Event

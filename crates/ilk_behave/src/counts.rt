@@ -38,12 +38,12 @@ fn all_neighbours(plant: &Plant, x: u32) -> u32
 fn open_ends(section: &Section) -> u32
     ensures { result ≡ length (filter (λ d. not (has_neighbour section.now d)) both_directions) }
 {
-    let up = if section.neighbour_on(Dir::Up, 0).is_some() {
+    let up = if section.nth_neighbour_on(Dir::Up, 0).is_some() {
         0
     } else {
         1
     };
-    let down = if section.neighbour_on(Dir::Down, 0).is_some() {
+    let down = if section.nth_neighbour_on(Dir::Down, 0).is_some() {
         0
     } else {
         1
@@ -95,7 +95,7 @@ fn cancel_rule_count(plant: &Plant, r: u32) -> u32
 }
 
 /// Returns the number of rules of an event.
-pub fn rule_count(plant: &Plant, event: Event) -> u32
+pub fn count_event_rules(plant: &Plant, event: Event) -> u32
     requires { IsEventOfPlant plant.now event }
     ensures { result ≡ length (rules_of plant.now event) }
 {
@@ -105,7 +105,11 @@ pub fn rule_count(plant: &Plant, event: Event) -> u32
         Event::Release(r) => release_rule_count(plant, r),
         Event::Finish(r) => finish_rule_count(plant, r),
         Event::Throw(x) | Event::Settle(x) => point_rule_count(plant, x),
-        Event::Enter(x) => if plant.border(x).is_some() { 1 } else { 0 },
+        Event::Enter(x) => if plant.section_inward_if_border(x).is_some() {
+            1
+        } else {
+            0
+        },
         Event::Head(x) => 4 * all_neighbours(plant, x),
         Event::Tail(x) => 2 * all_neighbours(plant, x),
         Event::Leave(x) => open_ends(plant.section(x)),

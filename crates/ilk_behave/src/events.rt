@@ -1,9 +1,9 @@
 ghost use Rattle.std.specs.Prelude.{◌≡◌, ◌↔◌, ◌≤◌, ◌+◌, None, Some, IfErr, IfOk, length, slice_get};
 ghost use Rattle.ilk_behave.specs.Behaviour as behaviour;
-ghost use Rattle.ilk_behave.specs.Behaviour.{event_of_rule, events_of_rules, system_of};
+ghost use Rattle.ilk_behave.specs.Behaviour.{event_of_rule, events_of_rules, system_of_plant};
 ghost use Rattle.ilk_behave.specs.Numbered.{AreEventsOfPlant};
 
-use crate::counts::rule_count;
+use crate::counts::count_event_rules;
 use ilk_model::Event;
 use ilk_plant::Plant;
 
@@ -47,7 +47,7 @@ fn find_event(plant: &Plant, events: &[Event], place: u32) -> Result<Event, u32>
 {
     let mut left = place;
     for event in events {
-        let count = rule_count(plant, *event);
+        let count = count_event_rules(plant, *event);
         if left < count {
             return Ok(*event);
         }
@@ -60,7 +60,7 @@ fn find_event(plant: &Plant, events: &[Event], place: u32) -> Result<Event, u32>
 /// this number.
 pub fn event_of(plant: &Plant, rule: u32) -> Option<Event>
     ensures event { result ≡ event_of_rule plant.now rule }
-    ensures none { (result ≡ None) ↔ (length (system_of plant.now).rules ≤ rule) }
+    ensures none { (result ≡ None) ↔ (length (system_of_plant plant.now).rules ≤ rule) }
 {
     let mut left = rule;
     for r in 0..plant.routes() {

@@ -5,7 +5,9 @@ ghost use Rattle.ilk_layout.specs.Conditions as conditions;
 ghost use Rattle.ilk_behave.specs.Guards as guards;
 
 use ilk_ir::Form;
-use ilk_layout::{board_is, is_detected, lies_at_listed, lock_is, mode_is, negated, no_train_at};
+use ilk_layout::{
+    board_is, listed_is_detected, lock_is, mode_is, negated, no_train_at, section_point_is_detected,
+};
 use ilk_plant::{Aspect, Dir, Hold, Lie, Listed, Mode, Plant, Position, Row, Section};
 use ilk_routes::lie_from_position;
 use std::alloc::{AllocError, Global};
@@ -36,14 +38,18 @@ pub fn push_leads_towards(
 {
     if let Section::Point { plus, faces, .. } = *plant.section(x) {
         if faces == d {
-            forms.push(is_detected(plant, x, lie_from_position(leg_position(plus, y))))?;
+            forms.push(section_point_is_detected(
+                plant,
+                x,
+                lie_from_position(leg_position(plus, y)),
+            ))?;
         }
     }
     Ok(())
 }
 
 // Returns the condition that a train from `x` in direction `d` would be right on the point `y`.
-fn right_on_point(
+fn not_wrong_on_point(
     alloc: Global,
     plant: &Plant,
     x: u32,
@@ -53,18 +59,18 @@ fn right_on_point(
     faces: Dir,
 ) -> Result<Form, AllocError>
     ensures { IfOk result
-        (λ made. tree_of made ≡ guards.right_on_point plant.now x d y plus faces) }
+        (λ made. tree_of made ≡ guards.not_wrong_on_point plant.now x d y plus faces) }
 {
     if faces == d {
-        negated(alloc, is_detected(plant, y, Lie::Moving))
+        negated(alloc, section_point_is_detected(plant, y, Lie::Moving))
     } else {
-        Ok(is_detected(plant, y, lie_from_position(leg_position(plus, x))))
+        Ok(section_point_is_detected(plant, y, lie_from_position(leg_position(plus, x))))
     }
 }
 
 /// Adds the condition that a train from `x` in direction `d` would be right on `y`. If `y` is a
 /// point facing `d`, it is not moving; any other point is set for its leg `x`.
-pub fn push_is_right_from(
+pub fn push_not_wrong_from(
     alloc: Global,
     forms: &mut Vec<Form>,
     plant: &Plant,
@@ -75,10 +81,10 @@ pub fn push_is_right_from(
     requires { y < length plant.now.sections }
     ensures { OnOk result
         (map tree_of forms.new.items
-        ≡ map tree_of forms.old.items ++ guards.is_right_from plant.now x d y) }
+        ≡ map tree_of forms.old.items ++ guards.not_wrong_from plant.now x d y) }
 {
     if let Section::Point { plus, faces, .. } = *plant.section(y) {
-        forms.push(right_on_point(alloc, plant, x, d, y, plus, faces)?)?;
+        forms.push(not_wrong_on_point(alloc, plant, x, d, y, plus, faces)?)?;
     }
     Ok(())
 }
@@ -96,21 +102,26 @@ pub fn push_is_wrong_from(
     requires { y < length plant.now.sections }
     ensures { OnOk result
         (map tree_of forms.new.items
-        ≡ map tree_of forms.old.items ++ map negation (guards.is_right_from plant.now x d y)) }
+        ≡ map tree_of forms.old.items ++ map negation (guards.not_wrong_from plant.now x d y)) }
 {
     if let Section::Point { plus, faces, .. } = *plant.section(y) {
-        let right = right_on_point(alloc, plant, x, d, y, plus, faces)?;
+        let right = not_wrong_on_point(alloc, plant, x, d, y, plus, faces)?;
         forms.push(negated(alloc, right)?)?;
     }
     Ok(())
 }
 
 /// Adds the condition that the board of `x` for direction `d`, if any, is open.
-pub fn push_passable(forms: &mut Vec<Form>, plant: &Plant, x: u32, d: Dir) -> Result<(), AllocError>
+pub fn push_board_open_if_any(
+    forms: &mut Vec<Form>,
+    plant: &Plant,
+    x: u32,
+    d: Dir,
+) -> Result<(), AllocError>
     requires { x < length plant.now.sections }
     ensures { OnOk result
         (map tree_of forms.new.items
-        ≡ map tree_of forms.old.items ++ guards.passable plant.now x d) }
+        ≡ map tree_of forms.old.items ++ guards.board_open_if_any plant.now x d) }
 {
     if let Some(m) = plant.board_of(x, d) {
         forms.push(board_is(plant, m, Aspect::Open))?;
@@ -119,7 +130,7 @@ pub fn push_passable(forms: &mut Vec<Form>, plant: &Plant, x: u32, d: Dir) -> Re
 }
 
 /// Adds the condition that none of the routes is Allocating or Locked.
-pub fn push_unclaimed(
+pub fn push_not_alloc_or_locked(
     alloc: Global,
     forms: &mut Vec<Form>,
     plant: &Plant,
@@ -128,7 +139,7 @@ pub fn push_unclaimed(
     requires { All (λ r. r < length plant.now.routes) routes.now }
     ensures { OnOk result
         (map tree_of forms.new.items
-        ≡ map tree_of forms.old.items ++ flat_map guards.unclaimed routes.now) }
+        ≡ map tree_of forms.old.items ++ flat_map guards.not_alloc_or_locked routes.now) }
 {
     for r in routes.as_slice() {
         forms.push(negated(alloc, mode_is(plant, *r, Mode::Allocating))?)?;
@@ -140,7 +151,8 @@ pub fn push_unclaimed(
 fn push_clear_at(forms: &mut Vec<Form>, plant: &Plant, x: u32) -> Result<(), AllocError>
     requires { x < length plant.now.sections }
     ensures { OnOk result
-        (map tree_of forms.new.items ≡ map tree_of forms.old.items ++ guards.clear_at plant.now x) }
+        (map tree_of forms.new.items
+        ≡ map tree_of forms.old.items ++ guards.free_and_vacant_at plant.now x) }
 {
     forms.push(lock_is(plant, x, Hold::Free))?;
     forms.push(no_train_at(plant, x))?;
@@ -148,7 +160,7 @@ fn push_clear_at(forms: &mut Vec<Form>, plant: &Plant, x: u32) -> Result<(), All
 }
 
 /// Adds the condition that each section has lock Free and is vacant.
-pub fn push_clear(
+pub fn push_free_and_vacant(
     forms: &mut Vec<Form>,
     plant: &Plant,
     sections: &Row<u32>,
@@ -156,7 +168,8 @@ pub fn push_clear(
     requires { All (λ x. x < length plant.now.sections) sections.now }
     ensures { OnOk result
         (map tree_of forms.new.items
-        ≡ map tree_of forms.old.items ++ flat_map (guards.clear_at plant.now) sections.now) }
+        ≡ map tree_of forms.old.items
+        ++ flat_map (guards.free_and_vacant_at plant.now) sections.now) }
 {
     for x in sections.as_slice() {
         push_clear_at(forms, plant, *x)?;
@@ -165,7 +178,7 @@ pub fn push_clear(
 }
 
 /// Adds the condition that the section of each point has lock Free and is vacant.
-pub fn push_points_clear(
+pub fn push_points_free_vacant(
     forms: &mut Vec<Form>,
     plant: &Plant,
     points: &Row<Listed>,
@@ -174,7 +187,8 @@ pub fn push_points_clear(
     ensures { OnOk result
         (map tree_of forms.new.items
         ≡ map tree_of forms.old.items
-        ++ flat_map (guards.clear_at plant.now) (map (λ listed. listed.point) points.now)) }
+        ++ flat_map (guards.free_and_vacant_at plant.now)
+        (map (λ listed. listed.point) points.now)) }
 {
     for listed in points.as_slice() {
         push_clear_at(forms, plant, listed.point)?;
@@ -190,10 +204,10 @@ pub fn push_detected_as_listed(
 ) -> Result<(), AllocError>
     ensures { OnOk result
         (map tree_of forms.new.items
-        ≡ map tree_of forms.old.items ++ map (conditions.lies_at_listed plant.now) points.now) }
+        ≡ map tree_of forms.old.items ++ map (conditions.listed_is_detected plant.now) points.now) }
 {
     for listed in points.as_slice() {
-        forms.push(lies_at_listed(plant, listed))?;
+        forms.push(listed_is_detected(plant, listed))?;
     }
     Ok(())
 }

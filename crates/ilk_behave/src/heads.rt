@@ -1,15 +1,17 @@
 ghost use Rattle.std.specs.Prelude.{◌≡◌, ◌<◌, ◌++◌, ◌∷◌, [], Some, true, false, length, map, flat_map, slice_get, IfOk, OnOk};
 ghost use Rattle.std.specs.Option.{option_to_list};
 ghost use Rattle.ilk_ir.specs.Form.{tree_of};
-ghost use Rattle.ilk_ir.specs.System.{rule_tree};
-ghost use Rattle.ilk_ir.specs.Tree.{any_of, negation, trees};
+ghost use Rattle.ilk_ir.specs.System.{plain_rule};
+ghost use Rattle.ilk_ir.specs.Tree.{any_of, negation, trees_from_list};
 ghost use Rattle.ilk_plant.specs.Plant.{next_to};
 ghost use Rattle.ilk_layout.specs.declared.values.Occupancy.TheVariants.{Crash, Taken};
 ghost use Rattle.ilk_behave.specs.Settings as settings;
 ghost use Rattle.ilk_behave.specs.TrainRules as definitions;
 
-use crate::guards::{push_is_right_from, push_is_wrong_from, push_leads_towards, push_passable};
-use crate::settings::{push_close_board, push_rule, set_occupancy};
+use crate::guards::{
+    push_board_open_if_any, push_is_wrong_from, push_leads_towards, push_not_wrong_from,
+};
+use crate::settings::{push_close_board_if_any, push_rule, set_occupancy};
 use ilk_ir::{Form, Rules, Sets};
 use ilk_layout::{Occupancy, no_train_at, occupancy_is, train_at};
 use ilk_plant::{Dir, Plant, Row};
@@ -35,7 +37,7 @@ fn may_go_on(
     };
     let mut forms = Vec::new(alloc);
     forms.push(occupancy_is(plant, x, train))?;
-    push_passable(&mut forms, plant, x, d)?;
+    push_board_open_if_any(&mut forms, plant, x, d)?;
     push_leads_towards(&mut forms, plant, x, d, y)?;
     Ok(forms)
 }
@@ -63,7 +65,7 @@ fn gone_on(
     let mut sets = Row::new(alloc);
     sets.push(set_occupancy(plant, x, left))?;
     sets.push(set_occupancy(plant, y, there))?;
-    push_close_board(&mut sets, plant, x, d)?;
+    push_close_board_if_any(&mut sets, plant, x, d)?;
     Ok(sets)
 }
 
@@ -79,17 +81,18 @@ fn push_free_from(
     requires { y < length plant.now.sections }
     ensures { OnOk result
         (map tree_of forms.new.items
-        ≡ map tree_of forms.old.items ++ definitions.is_free_for_train plant.now x d y) }
+        ≡ map tree_of forms.old.items ++ definitions.no_hazard_for_train plant.now x d y) }
 {
     forms.push(no_train_at(plant, y))?;
-    push_is_right_from(alloc, forms, plant, x, d, y)
+    push_not_wrong_from(alloc, forms, plant, x, d, y)
 }
 
 fn not_free_from(alloc: Global, plant: &Plant, x: u32, d: Dir, y: u32) -> Result<Form, AllocError>
     requires { y < length plant.now.sections }
     ensures { IfOk result
         (λ form. tree_of form
-        ≡ any_of (trees (map negation (definitions.is_free_for_train plant.now x d y)))) }
+        ≡ any_of (trees_from_list
+        (map negation (definitions.no_hazard_for_train plant.now x d y)))) }
 {
     let mut forms = Vec::new(alloc);
     forms.push(train_at(alloc, plant, y)?)?;
@@ -110,11 +113,11 @@ fn push_head_free(
     requires here { x < length plant.now.sections }
     requires there { y < length plant.now.sections }
     ensures { OnOk result
-        (map rule_tree rules.new
-        ≡ map rule_tree rules.old
+        (map plain_rule rules.new
+        ≡ map plain_rule rules.old
         ++ settings.rule
         (definitions.head_conditions plant.now x d y tail
-        ++ definitions.is_free_for_train plant.now x d y)
+        ++ definitions.no_hazard_for_train plant.now x d y)
         (definitions.head_settings plant.now x d y tail (Taken d false true)) ∷ []) }
 {
     let mut forms = may_go_on(alloc, plant, x, d, y, tail)?;
@@ -141,11 +144,11 @@ fn push_head_crash(
     requires here { x < length plant.now.sections }
     requires there { y < length plant.now.sections }
     ensures { OnOk result
-        (map rule_tree rules.new
-        ≡ map rule_tree rules.old
+        (map plain_rule rules.new
+        ≡ map plain_rule rules.old
         ++ settings.rule
         (definitions.head_conditions plant.now x d y tail
-        ++ any_of (trees (map negation (definitions.is_free_for_train plant.now x d y)))
+        ++ any_of (trees_from_list (map negation (definitions.no_hazard_for_train plant.now x d y)))
         ∷ [])
         (definitions.head_settings plant.now x d y tail Crash) ∷ []) }
 {
@@ -167,9 +170,9 @@ fn push_head_to(
     requires here { x < length plant.now.sections }
     requires there { y < length plant.now.sections }
     ensures { OnOk result
-        (map rule_tree rules.new
-        ≡ map rule_tree rules.old
-        ++ flat_map (definitions.head_rules plant.now x d y) (true ∷ false ∷ [])) }
+        (map plain_rule rules.new
+        ≡ map plain_rule rules.old
+        ++ flat_map (definitions.head_rules_to_neighbour plant.now x d y) (true ∷ false ∷ [])) }
 {
     push_head_free(alloc, rules, plant, x, d, y, true)?;
     push_head_crash(alloc, rules, plant, x, d, y, true)?;
@@ -188,10 +191,10 @@ fn push_head_at(
 ) -> Result<(), AllocError>
     requires { x < length plant.now.sections }
     ensures { OnOk result
-        (map rule_tree rules.new
-        ≡ map rule_tree rules.old
+        (map plain_rule rules.new
+        ≡ map plain_rule rules.old
         ++ flat_map
-        (λ y. flat_map (definitions.head_rules plant.now x d y) (true ∷ false ∷ []))
+        (λ y. flat_map (definitions.head_rules_to_neighbour plant.now x d y) (true ∷ false ∷ []))
         (option_to_list (slice_get (next_to plant.now x d) i))) }
 {
     if let Some(y) = plant.neighbour(x, d, i) {
@@ -209,10 +212,10 @@ fn push_head_in(
 ) -> Result<(), AllocError>
     requires { x < length plant.now.sections }
     ensures { OnOk result
-        (map rule_tree rules.new
-        ≡ map rule_tree rules.old
+        (map plain_rule rules.new
+        ≡ map plain_rule rules.old
         ++ flat_map
-        (λ y. flat_map (definitions.head_rules plant.now x d y) (true ∷ false ∷ []))
+        (λ y. flat_map (definitions.head_rules_to_neighbour plant.now x d y) (true ∷ false ∷ []))
         (next_to plant.now x d)) }
 {
     push_head_at(alloc, rules, plant, x, d, 0)?;
@@ -221,11 +224,16 @@ fn push_head_in(
 }
 
 /// Adds the rules of `head x`: in each direction, to each neighbour.
-pub fn push_head(alloc: Global, rules: &mut Rules, plant: &Plant, x: u32) -> Result<(), AllocError>
+pub fn push_head_rules(
+    alloc: Global,
+    rules: &mut Rules,
+    plant: &Plant,
+    x: u32,
+) -> Result<(), AllocError>
     requires { x < length plant.now.sections }
     ensures { OnOk result
-        (map rule_tree rules.new
-        ≡ map rule_tree rules.old ++ definitions.rules_of_head plant.now x) }
+        (map plain_rule rules.new
+        ≡ map plain_rule rules.old ++ definitions.rules_of_head plant.now x) }
 {
     push_head_in(alloc, rules, plant, x, Dir::Up)?;
     push_head_in(alloc, rules, plant, x, Dir::Down)

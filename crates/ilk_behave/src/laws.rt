@@ -1,124 +1,124 @@
 //! Theorems: the rules of each event step as the event does.
 
 ghost use Rattle.std.specs.Prelude.{ℕ};
-ghost use Rattle.ilk_behave.specs.Steps.{AlwaysStepLikeEvent, StepsLikeEvents};
+ghost use Rattle.ilk_behave.specs.Steps.{RulesAlwaysMatchEvent, SystemMatchesEvents};
 ghost use Rattle.ilk_model.specs.declared.event.Event.TheVariants as event;
 
 use ilk_plant::Plant;
 
 /// In a well-formed state without hazard, the rules of the event `mark` change the image exactly as
 /// the event changes the state. Proof only; no run-time effect.
-pub fn mark_steps(plant: &Plant)
-    ensures { (r : ℕ) → AlwaysStepLikeEvent plant.now (event.Mark r) }
+pub fn mark_rules_match(plant: &Plant)
+    ensures { (r : ℕ) → RulesAlwaysMatchEvent plant.now (event.Mark r) }
 {
-    plant.is_sound();
+    plant.prove_is_plant();
 }
 
 /// In a well-formed state without hazard, the rules of the event `cancel` change the image exactly
 /// as the event changes the state. Proof only; no run-time effect.
-pub fn cancel_steps(plant: &Plant)
-    ensures { (r : ℕ) → AlwaysStepLikeEvent plant.now (event.Cancel r) }
+pub fn cancel_rules_match(plant: &Plant)
+    ensures { (r : ℕ) → RulesAlwaysMatchEvent plant.now (event.Cancel r) }
 {
-    plant.is_sound();
+    plant.prove_is_plant();
 }
 
 /// In a well-formed state without hazard, the rules of the event `sense` change the image exactly
 /// as the event changes the state. Proof only; no run-time effect.
-pub fn sense_steps(plant: &Plant)
-    ensures { (r : ℕ) → AlwaysStepLikeEvent plant.now (event.Sense r) }
+pub fn sense_rules_match(plant: &Plant)
+    ensures { (r : ℕ) → RulesAlwaysMatchEvent plant.now (event.Sense r) }
 {
-    plant.is_sound();
+    plant.prove_is_plant();
 }
 
 /// In a well-formed state without hazard, the rules of the event `release` change the image exactly
 /// as the event changes the state. Proof only; no run-time effect.
-pub fn release_steps(plant: &Plant)
-    ensures { (r : ℕ) → AlwaysStepLikeEvent plant.now (event.Release r) }
+pub fn release_rules_match(plant: &Plant)
+    ensures { (r : ℕ) → RulesAlwaysMatchEvent plant.now (event.Release r) }
 {
-    plant.is_sound();
+    plant.prove_is_plant();
 }
 
 /// In a well-formed state without hazard, the rules of the event `finish` change the image exactly
 /// as the event changes the state. Proof only; no run-time effect.
-pub fn finish_steps(plant: &Plant)
-    ensures { (r : ℕ) → AlwaysStepLikeEvent plant.now (event.Finish r) }
+pub fn finish_rules_match(plant: &Plant)
+    ensures { (r : ℕ) → RulesAlwaysMatchEvent plant.now (event.Finish r) }
 {
-    plant.is_sound();
+    plant.prove_is_plant();
 }
 
 /// In a well-formed state without hazard, the rules of the event `allocate` change the image
 /// exactly as the event changes the state. Proof only; no run-time effect.
-pub fn allocate_steps(plant: &Plant)
-    ensures { (r : ℕ) → AlwaysStepLikeEvent plant.now (event.Allocate r) }
+pub fn allocate_rules_match(plant: &Plant)
+    ensures { (r : ℕ) → RulesAlwaysMatchEvent plant.now (event.Allocate r) }
 {
-    plant.is_sound();
+    plant.prove_is_plant();
 }
 
 /// In a well-formed state without hazard, the rules of the event `lock` change the image exactly as
 /// the event changes the state. Proof only; no run-time effect.
-pub fn lock_steps(plant: &Plant)
-    ensures { (r : ℕ) → AlwaysStepLikeEvent plant.now (event.Lock r) }
+pub fn lock_rules_match(plant: &Plant)
+    ensures { (r : ℕ) → RulesAlwaysMatchEvent plant.now (event.Lock r) }
 {
-    plant.is_sound();
+    plant.prove_is_plant();
 }
 
 /// In a well-formed state without hazard, the rules of the event `throw` change the image exactly
 /// as the event changes the state. Proof only; no run-time effect.
-pub fn throw_steps(plant: &Plant)
-    ensures { (x : ℕ) → AlwaysStepLikeEvent plant.now (event.Throw x) }
+pub fn throw_rules_match(plant: &Plant)
+    ensures { (x : ℕ) → RulesAlwaysMatchEvent plant.now (event.Throw x) }
 {
-    plant.is_sound();
+    plant.prove_is_plant();
 }
 
 /// In a well-formed state without hazard, the rules of the event `settle` change the image exactly
 /// as the event changes the state. Proof only; no run-time effect.
-pub fn settle_steps(plant: &Plant)
-    ensures { (x : ℕ) → AlwaysStepLikeEvent plant.now (event.Settle x) }
+pub fn settle_rules_match(plant: &Plant)
+    ensures { (x : ℕ) → RulesAlwaysMatchEvent plant.now (event.Settle x) }
 {
-    plant.is_sound();
+    plant.prove_is_plant();
 }
 
 /// In a well-formed state without hazard, the rules of the event `enter` change the image exactly
 /// as the event changes the state. Proof only; no run-time effect.
-pub fn enter_steps(plant: &Plant)
-    ensures { (x : ℕ) → AlwaysStepLikeEvent plant.now (event.Enter x) }
+pub fn enter_rules_match(plant: &Plant)
+    ensures { (x : ℕ) → RulesAlwaysMatchEvent plant.now (event.Enter x) }
 {
-    plant.is_sound();
-    plant.is_from_drafts();
+    plant.prove_is_plant();
+    plant.prove_from_drafts();
 }
 
 /// In a well-formed state without hazard, the rules of the event `head` change the image exactly as
 /// the event changes the state. Proof only; no run-time effect.
-pub fn head_steps(plant: &Plant)
-    ensures { (x : ℕ) → AlwaysStepLikeEvent plant.now (event.Head x) }
+pub fn head_rules_match(plant: &Plant)
+    ensures { (x : ℕ) → RulesAlwaysMatchEvent plant.now (event.Head x) }
 {
-    plant.is_sound();
-    plant.is_from_drafts();
+    plant.prove_is_plant();
+    plant.prove_from_drafts();
 }
 
 /// In a well-formed state without hazard, the rules of the event `tail` change the image exactly as
 /// the event changes the state. Proof only; no run-time effect.
-pub fn tail_steps(plant: &Plant)
-    ensures { (x : ℕ) → AlwaysStepLikeEvent plant.now (event.Tail x) }
+pub fn tail_rules_match(plant: &Plant)
+    ensures { (x : ℕ) → RulesAlwaysMatchEvent plant.now (event.Tail x) }
 {
-    plant.is_sound();
-    plant.is_from_drafts();
+    plant.prove_is_plant();
+    plant.prove_from_drafts();
 }
 
 /// In a well-formed state without hazard, the rules of the event `leave` change the image exactly
 /// as the event changes the state. Proof only; no run-time effect.
-pub fn leave_steps(plant: &Plant)
-    ensures { (x : ℕ) → AlwaysStepLikeEvent plant.now (event.Leave x) }
+pub fn leave_rules_match(plant: &Plant)
+    ensures { (x : ℕ) → RulesAlwaysMatchEvent plant.now (event.Leave x) }
 {
-    plant.is_sound();
-    plant.is_from_drafts();
+    plant.prove_is_plant();
+    plant.prove_from_drafts();
 }
 
 /// The rules of the plant's system change images exactly as its events change their states.
 /// Proof only; no run-time effect.
-pub fn system_steps(plant: &Plant)
-    ensures { StepsLikeEvents plant.now }
+pub fn system_matches_events(plant: &Plant)
+    ensures { SystemMatchesEvents plant.now }
 {
-    plant.is_sound();
-    plant.is_from_drafts();
+    plant.prove_is_plant();
+    plant.prove_from_drafts();
 }

@@ -10,10 +10,10 @@
 //!
 //! `behaviour` builds the system of a plant, and `event_of` returns the event of a rule. An event
 //! has one rule for each case: each index of a path, each section to which a train may move, and
-//! whether a crash results. `mark_steps` and its siblings prove that the rules of each event step
-//! as the event does (`specs/Steps`). The contract of `behaviour` states this for the whole system,
-//! by rule numbers, and that the system is valid. `few_rules_of_events` bounds the number of rules
-//! of an event.
+//! whether a crash results. `mark_rules_match` and its siblings prove that the rules of each event
+//! step as the event does (`specs/Steps`). The contract of `behaviour` states this for the whole
+//! system, by rule numbers, and that the system is valid. `each_event_has_few_rules` bounds the
+//! number of rules of an event.
 #![tactic(auto)]
 
 mod counts;
@@ -31,8 +31,10 @@ mod validity;
 
 pub use events::event_of;
 pub use laws::{
-    allocate_steps, cancel_steps, enter_steps, finish_steps, head_steps, leave_steps, lock_steps,
-    mark_steps, release_steps, sense_steps, settle_steps, system_steps, tail_steps, throw_steps,
+    allocate_rules_match, cancel_rules_match, enter_rules_match, finish_rules_match,
+    head_rules_match, leave_rules_match, lock_rules_match, mark_rules_match, release_rules_match,
+    sense_rules_match, settle_rules_match, system_matches_events, tail_rules_match,
+    throw_rules_match,
 };
 pub use system::behaviour;
-pub use validity::{MAX_EVENT_RULES, few_rules_of_events, system_is_valid};
+pub use validity::{MAX_EVENT_RULES, each_event_has_few_rules, system_is_valid};

@@ -1,13 +1,13 @@
 ghost use Rattle.std.specs.Prelude.{◌≡◌, ◌≤◌, ◌<◌, ◌+◌, ◌-◌, ◌==◌, ◌++◌, ◌∷◌, [], if◌then◌else◌, length, map, IfOk, OnOk};
 ghost use Rattle.ilk_ir.specs.Form.{tree_of};
-ghost use Rattle.ilk_ir.specs.System.{rule_tree};
-ghost use Rattle.ilk_ir.specs.Tree.{any_of, trees};
-ghost use Rattle.ilk_plant.specs.Plant.{IsRouteOf};
+ghost use Rattle.ilk_ir.specs.System.{plain_rule};
+ghost use Rattle.ilk_ir.specs.Tree.{any_of, trees_from_list};
+ghost use Rattle.ilk_plant.specs.Plant.{IsValidRouteOf};
 ghost use Rattle.ilk_plant.specs.declared.limits.TheConstants.{MAX_PATH};
 ghost use Rattle.ilk_plant.specs.declared.state.Aspect.TheVariants.{Closed};
 ghost use Rattle.ilk_plant.specs.declared.state.Hold.TheVariants.{Free as FreeLock, Locked as LockedLock, Used as UsedLock};
 ghost use Rattle.ilk_plant.specs.declared.state.Mode.TheVariants.{Free, Locked, Occupied};
-ghost use Rattle.ilk_routes.specs.Claims.{sections_beside_path};
+ghost use Rattle.ilk_routes.specs.Claims.{sections_outside_path};
 ghost use Rattle.ilk_layout.specs.Conditions as conditions;
 ghost use Rattle.ilk_behave.specs.Settings as settings;
 ghost use Rattle.ilk_behave.specs.RouteRules as definitions;
@@ -22,11 +22,12 @@ use ilk_plant::{Aspect, Hold, Mode, Plant, Route, Row};
 use ilk_routes::last_of;
 use std::alloc::{AllocError, Global};
 
-fn locked_or_occupied(alloc: Global, plant: &Plant, r: u32) -> Result<Form, AllocError>
+fn route_locked_or_occupied(alloc: Global, plant: &Plant, r: u32) -> Result<Form, AllocError>
     requires { r < length plant.now.routes }
     ensures { IfOk result
         (λ form. tree_of form
-        ≡ any_of (trees (conditions.mode_is r Locked ∷ conditions.mode_is r Occupied ∷ []))) }
+        ≡ any_of (trees_from_list
+        (conditions.mode_is r Locked ∷ conditions.mode_is r Occupied ∷ []))) }
 {
     let mut forms = Vec::new(alloc);
     forms.push(mode_is(plant, r, Mode::Locked))?;
@@ -39,14 +40,15 @@ fn sense_forms(alloc: Global, plant: &Plant, r: u32, k: u8, x: u32) -> Result<Ve
     requires known { r < length plant.now.routes }
     requires section { x < length plant.now.sections }
     ensures { IfOk result (λ forms. map tree_of forms.items
-        ≡ any_of (trees (conditions.mode_is r Locked ∷ conditions.mode_is r Occupied ∷ []))
+        ≡ any_of (trees_from_list
+        (conditions.mode_is r Locked ∷ conditions.mode_is r Occupied ∷ []))
         ∷ conditions.seen_is r k
         ∷ conditions.train_at plant.now x
         ∷ conditions.lock_is plant.now x LockedLock
         ∷ []) }
 {
     let mut forms = Vec::new(alloc);
-    forms.push(locked_or_occupied(alloc, plant, r)?)?;
+    forms.push(route_locked_or_occupied(alloc, plant, r)?)?;
     forms.push(seen_is(plant, r, k))?;
     forms.push(train_at(alloc, plant, x)?)?;
     forms.push(lock_is(plant, x, Hold::Locked))?;
@@ -82,11 +84,16 @@ fn sense_sets(
 }
 
 /// Adds the rules of `sense r`, one for each index of its path.
-pub fn push_sense(alloc: Global, rules: &mut Rules, plant: &Plant, r: u32) -> Result<(), AllocError>
+pub fn push_sense_rules(
+    alloc: Global,
+    rules: &mut Rules,
+    plant: &Plant,
+    r: u32,
+) -> Result<(), AllocError>
     requires { r < length plant.now.routes }
     ensures { OnOk result
-        (map rule_tree rules.new
-        ≡ map rule_tree rules.old ++ definitions.rules_of_sense plant.now r) }
+        (map plain_rule rules.new
+        ≡ map plain_rule rules.old ++ definitions.rules_of_sense plant.now r) }
 {
     let route = plant.route(r);
     let path = route.path.as_slice();
@@ -100,11 +107,11 @@ pub fn push_sense(alloc: Global, rules: &mut Rules, plant: &Plant, r: u32) -> Re
 }
 
 // Returns the condition that `k` or more of the `n` path sections of route `r` are seen.
-fn seen_from(alloc: Global, plant: &Plant, r: u32, k: u8, n: u8) -> Result<Form, AllocError>
+fn seen_at_least(alloc: Global, plant: &Plant, r: u32, k: u8, n: u8) -> Result<Form, AllocError>
     requires known { r < length plant.now.routes }
     requires place { k ≤ n }
     requires few { n ≤ MAX_PATH }
-    ensures { IfOk result (λ form. tree_of form ≡ definitions.seen_from r k n) }
+    ensures { IfOk result (λ form. tree_of form ≡ definitions.seen_at_least r k n) }
 {
     let mut forms = Vec::new(alloc);
     for more in 0..n + 1 - k {
@@ -128,7 +135,7 @@ fn release_forms(
     requires place { k + 2 ≤ n }
     ensures { IfOk result (λ forms. map tree_of forms.items ≡ conditions.mode_is r Occupied
         ∷ conditions.rel_is r k
-        ∷ definitions.seen_from r (k + 2) n
+        ∷ definitions.seen_at_least r (k + 2) n
         ∷ conditions.no_train_at plant.now x
         ∷ conditions.lock_is plant.now x UsedLock
         ∷ []) }
@@ -136,7 +143,7 @@ fn release_forms(
     let mut forms = Vec::new(alloc);
     forms.push(mode_is(plant, r, Mode::Occupied))?;
     forms.push(rel_is(plant, r, k))?;
-    forms.push(seen_from(alloc, plant, r, k + 2, n)?)?;
+    forms.push(seen_at_least(alloc, plant, r, k + 2, n)?)?;
     forms.push(no_train_at(plant, x))?;
     forms.push(lock_is(plant, x, Hold::Used))?;
     Ok(forms)
@@ -158,7 +165,7 @@ fn release_sets(alloc: Global, plant: &Plant, r: u32, k: u8, x: u32) -> Result<S
 }
 
 /// Adds the rules of `release r`, one for each index of its path except the last.
-pub fn push_release(
+pub fn push_release_rules(
     alloc: Global,
     rules: &mut Rules,
     plant: &Plant,
@@ -166,8 +173,8 @@ pub fn push_release(
 ) -> Result<(), AllocError>
     requires { r < length plant.now.routes }
     ensures { OnOk result
-        (map rule_tree rules.new
-        ≡ map rule_tree rules.old ++ definitions.rules_of_release plant.now r) }
+        (map plain_rule rules.new
+        ≡ map plain_rule rules.old ++ definitions.rules_of_release plant.now r) }
 {
     let route = plant.route(r);
     let path = route.path.as_slice();
@@ -204,10 +211,10 @@ fn finish_sets(
     x: u32,
 ) -> Result<Sets, AllocError>
     requires known { r < length plant.now.routes }
-    requires route { IsRouteOf plant.now route.now }
+    requires route { IsValidRouteOf plant.now route.now }
     requires section { x < length plant.now.sections }
     ensures { IfOk result (λ sets. sets
-        ≡ settings.set_locks plant.now (x ∷ sections_beside_path route.now) FreeLock
+        ≡ settings.set_locks plant.now (x ∷ sections_outside_path route.now) FreeLock
         ++ settings.set_mode r Free
         ∷ settings.set_seen r 0
         ∷ settings.set_rel r 0
@@ -224,7 +231,7 @@ fn finish_sets(
 }
 
 /// Adds the rule of `finish r`.
-pub fn push_finish(
+pub fn push_finish_rules(
     alloc: Global,
     rules: &mut Rules,
     plant: &Plant,
@@ -232,8 +239,8 @@ pub fn push_finish(
 ) -> Result<(), AllocError>
     requires { r < length plant.now.routes }
     ensures { OnOk result
-        (map rule_tree rules.new
-        ≡ map rule_tree rules.old ++ definitions.rules_of_finish plant.now r) }
+        (map plain_rule rules.new
+        ≡ map plain_rule rules.old ++ definitions.rules_of_finish plant.now r) }
 {
     let route = plant.route(r);
     let last = last_of(&route.path);

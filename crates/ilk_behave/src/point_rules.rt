@@ -1,8 +1,8 @@
 ghost use Rattle.std.specs.Prelude.{◌≡◌, ◌<◌, ◌++◌, ◌∷◌, [], length, map, IfOk, OnOk};
 ghost use Rattle.ilk_ir.specs.Form.{tree_of};
-ghost use Rattle.ilk_ir.specs.System.{rule_tree};
+ghost use Rattle.ilk_ir.specs.System.{plain_rule};
 ghost use Rattle.ilk_plant.specs.Plant.{point_count};
-ghost use Rattle.ilk_ir.specs.Tree.{any_of, negation, trees};
+ghost use Rattle.ilk_ir.specs.Tree.{any_of, negation, trees_from_list};
 ghost use Rattle.ilk_plant.specs.declared.state.Lie.TheVariants.{Moving};
 ghost use Rattle.ilk_routes.specs.Lies.{lie_from_position};
 ghost use Rattle.ilk_layout.specs.declared.values.Occupancy.TheVariants.{Crash};
@@ -30,7 +30,7 @@ fn lies_or_is_commanded_elsewhere(
     ensures { IfOk result
         (λ form. tree_of form
         ≡ any_of
-        (trees
+        (trees_from_list
         (negation (conditions.is_point_detected plant.now n (lie_from_position position))
         ∷ negation (conditions.is_point_commanded plant.now n position) ∷ []))) }
 {
@@ -47,7 +47,7 @@ fn lies_or_is_commanded_elsewhere(
 fn lies_elsewhere(alloc: Global, plant: &Plant, n: u32) -> Result<Vec<Form>, AllocError>
     requires { n < point_count plant.now }
     ensures { IfOk result
-        (λ forms. map tree_of forms.items ≡ definitions.is_out_of_position plant.now n) }
+        (λ forms. map tree_of forms.items ≡ definitions.rests_out_of_position plant.now n) }
 {
     let mut forms = Vec::new(alloc);
     forms.push(negated(alloc, is_point_detected(plant, n, Lie::Moving))?)?;
@@ -67,10 +67,10 @@ fn push_throw_clear(
     requires point { n < point_count plant.now }
     requires section { x < length plant.now.sections }
     ensures { OnOk result
-        (map rule_tree rules.new
-        ≡ map rule_tree rules.old
+        (map plain_rule rules.new
+        ≡ map plain_rule rules.old
         ++ settings.rule
-        (definitions.is_out_of_position plant.now n
+        (definitions.rests_out_of_position plant.now n
         ++ conditions.no_train_at plant.now x ∷ [])
         (settings.set_detected plant.now n Moving ∷ []) ∷ []) }
 {
@@ -92,10 +92,10 @@ fn push_throw_under_train(
     requires point { n < point_count plant.now }
     requires section { x < length plant.now.sections }
     ensures { OnOk result
-        (map rule_tree rules.new
-        ≡ map rule_tree rules.old
+        (map plain_rule rules.new
+        ≡ map plain_rule rules.old
         ++ settings.rule
-        (definitions.is_out_of_position plant.now n
+        (definitions.rests_out_of_position plant.now n
         ++ conditions.train_at plant.now x ∷ [])
         (settings.set_detected plant.now n Moving
         ∷ settings.set_occupancy plant.now x Crash ∷ []) ∷ []) }
@@ -109,11 +109,16 @@ fn push_throw_under_train(
 }
 
 /// Adds the rules of `throw x`, or none if `x` has no point.
-pub fn push_throw(alloc: Global, rules: &mut Rules, plant: &Plant, x: u32) -> Result<(), AllocError>
+pub fn push_throw_rules(
+    alloc: Global,
+    rules: &mut Rules,
+    plant: &Plant,
+    x: u32,
+) -> Result<(), AllocError>
     requires { x < length plant.now.sections }
     ensures { OnOk result
-        (map rule_tree rules.new
-        ≡ map rule_tree rules.old ++ definitions.rules_of_throw plant.now x) }
+        (map plain_rule rules.new
+        ≡ map plain_rule rules.old ++ definitions.rules_of_throw plant.now x) }
 {
     if let Some(n) = plant.point_number(x) {
         push_throw_clear(alloc, rules, plant, x, n)?;
@@ -132,8 +137,8 @@ fn push_settle_at(
 ) -> Result<(), AllocError>
     requires { n < point_count plant.now }
     ensures { OnOk result
-        (map rule_tree rules.new
-        ≡ map rule_tree rules.old
+        (map plain_rule rules.new
+        ≡ map plain_rule rules.old
         ++ settings.rule
         (conditions.is_point_detected plant.now n Moving
         ∷ conditions.is_point_commanded plant.now n position
@@ -149,7 +154,7 @@ fn push_settle_at(
 }
 
 /// Adds the rules of `settle x`, or none if `x` has no point.
-pub fn push_settle(
+pub fn push_settle_rules(
     alloc: Global,
     rules: &mut Rules,
     plant: &Plant,
@@ -157,8 +162,8 @@ pub fn push_settle(
 ) -> Result<(), AllocError>
     requires { x < length plant.now.sections }
     ensures { OnOk result
-        (map rule_tree rules.new
-        ≡ map rule_tree rules.old ++ definitions.rules_of_settle plant.now x) }
+        (map plain_rule rules.new
+        ≡ map plain_rule rules.old ++ definitions.rules_of_settle plant.now x) }
 {
     if let Some(n) = plant.point_number(x) {
         push_settle_at(alloc, rules, plant, n, Position::Plus)?;

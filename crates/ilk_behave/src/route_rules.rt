@@ -1,8 +1,8 @@
 ghost use Rattle.std.specs.Prelude.{◌≡◌, ◌<◌, ◌++◌, ◌∷◌, [], All, if◌then◌else◌, length, map, flat_map, IfOk, OnOk};
 ghost use Rattle.ilk_ir.specs.Form.{tree_of};
-ghost use Rattle.ilk_ir.specs.System.{rule_tree};
+ghost use Rattle.ilk_ir.specs.System.{plain_rule};
 ghost use Rattle.ilk_ir.specs.Tree.{negation};
-ghost use Rattle.ilk_plant.specs.Plant.{IsRouteOf};
+ghost use Rattle.ilk_plant.specs.Plant.{IsValidRouteOf};
 ghost use Rattle.ilk_plant.specs.TableRules.{sections_locked_for};
 ghost use Rattle.ilk_plant.specs.declared.state.Aspect.TheVariants.{Closed};
 ghost use Rattle.ilk_plant.specs.declared.state.Hold.TheVariants.{Free as FreeLock, Locked as LockedLock};
@@ -13,22 +13,30 @@ ghost use Rattle.ilk_behave.specs.Guards as guards;
 ghost use Rattle.ilk_behave.specs.Settings as settings;
 ghost use Rattle.ilk_behave.specs.RouteRules as definitions;
 
-use crate::guards::{push_clear, push_detected_as_listed, push_points_clear, push_unclaimed};
+use crate::guards::{
+    push_detected_as_listed, push_free_and_vacant, push_not_alloc_or_locked,
+    push_points_free_vacant,
+};
 use crate::settings::{
     push_commands, push_rule, push_set_locks, push_set_point_locks, set_board, set_mode,
 };
 use ilk_ir::{Form, Rules, Sets};
 use ilk_layout::{board_is, mode_is, negated};
 use ilk_plant::{Aspect, Hold, Mode, Plant, Route, Row};
-use ilk_routes::has_protecting_board;
+use ilk_routes::is_protecting_board;
 use std::alloc::{AllocError, Global};
 
 /// Adds the rule of `mark r`.
-pub fn push_mark(alloc: Global, rules: &mut Rules, plant: &Plant, r: u32) -> Result<(), AllocError>
+pub fn push_mark_rules(
+    alloc: Global,
+    rules: &mut Rules,
+    plant: &Plant,
+    r: u32,
+) -> Result<(), AllocError>
     requires { r < length plant.now.routes }
     ensures { OnOk result
-        (map rule_tree rules.new
-        ≡ map rule_tree rules.old ++ definitions.rules_of_mark plant.now r) }
+        (map plain_rule rules.new
+        ≡ map plain_rule rules.old ++ definitions.rules_of_mark plant.now r) }
 {
     let _ = plant.route(r);
     let mut forms = Vec::new(alloc);
@@ -45,18 +53,18 @@ fn allocate_forms(
     route: &Route,
 ) -> Result<Vec<Form>, AllocError>
     requires known { r < length plant.now.routes }
-    requires route { IsRouteOf plant.now route.now }
+    requires route { IsValidRouteOf plant.now route.now }
     ensures { IfOk result
         (λ forms. map tree_of forms.items
-        ≡ conditions.mode_is r Marked ∷ flat_map guards.unclaimed route.now.conflicts
-        ++ flat_map (guards.clear_at plant.now) (sections_locked_for route.now)) }
+        ≡ conditions.mode_is r Marked ∷ flat_map guards.not_alloc_or_locked route.now.conflicts
+        ++ flat_map (guards.free_and_vacant_at plant.now) (sections_locked_for route.now)) }
 {
     let mut forms = Vec::new(alloc);
     forms.push(mode_is(plant, r, Mode::Marked))?;
-    push_unclaimed(alloc, &mut forms, plant, &route.conflicts)?;
-    push_clear(&mut forms, plant, &route.path)?;
-    push_clear(&mut forms, plant, &route.overlap)?;
-    push_points_clear(&mut forms, plant, &route.protecting_points)?;
+    push_not_alloc_or_locked(alloc, &mut forms, plant, &route.conflicts)?;
+    push_free_and_vacant(&mut forms, plant, &route.path)?;
+    push_free_and_vacant(&mut forms, plant, &route.overlap)?;
+    push_points_free_vacant(&mut forms, plant, &route.protecting_points)?;
     Ok(forms)
 }
 
@@ -67,7 +75,7 @@ fn push_all_locks(
     route: &Route,
     hold: Hold,
 ) -> Result<(), AllocError>
-    requires { IsRouteOf plant.now route.now }
+    requires { IsValidRouteOf plant.now route.now }
     ensures { OnOk result
         (sets.new
         ≡ sets.old ++ settings.set_locks plant.now (sections_locked_for route.now) hold) }
@@ -79,12 +87,12 @@ fn push_all_locks(
 
 fn allocate_sets(alloc: Global, plant: &Plant, r: u32, route: &Route) -> Result<Sets, AllocError>
     requires known { r < length plant.now.routes }
-    requires route { IsRouteOf plant.now route.now }
+    requires route { IsValidRouteOf plant.now route.now }
     ensures { IfOk result
         (λ sets. sets
         ≡ settings.set_mode r Allocating
         ∷ settings.set_locks plant.now (sections_locked_for route.now) LockedLock
-        ++ flat_map (settings.set_as_listed plant.now) (required_points route.now)) }
+        ++ flat_map (settings.command_as_listed plant.now) (required_points route.now)) }
 {
     let mut sets = Row::new(alloc);
     sets.push(set_mode(plant, r, Mode::Allocating))?;
@@ -95,7 +103,7 @@ fn allocate_sets(alloc: Global, plant: &Plant, r: u32, route: &Route) -> Result<
 }
 
 /// Adds the rule of `allocate r`.
-pub fn push_allocate(
+pub fn push_allocate_rules(
     alloc: Global,
     rules: &mut Rules,
     plant: &Plant,
@@ -103,8 +111,8 @@ pub fn push_allocate(
 ) -> Result<(), AllocError>
     requires { r < length plant.now.routes }
     ensures { OnOk result
-        (map rule_tree rules.new
-        ≡ map rule_tree rules.old ++ definitions.rules_of_allocate plant.now r) }
+        (map plain_rule rules.new
+        ≡ map plain_rule rules.old ++ definitions.rules_of_allocate plant.now r) }
 {
     let route = plant.route(r);
     let forms = allocate_forms(alloc, plant, r, route)?;
@@ -156,22 +164,22 @@ fn push_no_protector_locked(
         (map tree_of forms.new.items
         ≡ map tree_of forms.old.items
         ++ map (λ q. negation (conditions.mode_is q Locked))
-        (definitions.protectors plant.now m)) }
+        (definitions.routes_protected_by plant.now m)) }
 {
     for q in 0..plant.routes() {
-        push_not_locked_if(alloc, forms, plant, q, has_protecting_board(plant, q, m))?;
+        push_not_locked_if(alloc, forms, plant, q, is_protecting_board(plant, q, m))?;
     }
     Ok(())
 }
 
 fn lock_forms(alloc: Global, plant: &Plant, r: u32, route: &Route) -> Result<Vec<Form>, AllocError>
     requires known { r < length plant.now.routes }
-    requires route { IsRouteOf plant.now route.now }
+    requires route { IsValidRouteOf plant.now route.now }
     ensures { IfOk result (λ forms. map tree_of forms.items ≡ conditions.mode_is r Allocating
-        ∷ map (conditions.lies_at_listed plant.now) (required_points route.now)
+        ∷ map (conditions.listed_is_detected plant.now) (required_points route.now)
         ++ map (λ m. conditions.board_is plant.now m Closed) route.now.protecting_boards
         ++ map (λ q. negation (conditions.mode_is q Locked))
-        (definitions.protectors plant.now route.now.source)) }
+        (definitions.routes_protected_by plant.now route.now.source)) }
 {
     let mut forms = Vec::new(alloc);
     forms.push(mode_is(plant, r, Mode::Allocating))?;
@@ -183,11 +191,16 @@ fn lock_forms(alloc: Global, plant: &Plant, r: u32, route: &Route) -> Result<Vec
 }
 
 /// Adds the rule of `lock r`.
-pub fn push_lock(alloc: Global, rules: &mut Rules, plant: &Plant, r: u32) -> Result<(), AllocError>
+pub fn push_lock_rules(
+    alloc: Global,
+    rules: &mut Rules,
+    plant: &Plant,
+    r: u32,
+) -> Result<(), AllocError>
     requires { r < length plant.now.routes }
     ensures { OnOk result
-        (map rule_tree rules.new
-        ≡ map rule_tree rules.old ++ definitions.rules_of_lock plant.now r) }
+        (map plain_rule rules.new
+        ≡ map plain_rule rules.old ++ definitions.rules_of_lock plant.now r) }
 {
     let route = plant.route(r);
     let forms = lock_forms(alloc, plant, r, route)?;
@@ -205,8 +218,8 @@ fn push_cancel_marked(
 ) -> Result<(), AllocError>
     requires { r < length plant.now.routes }
     ensures { OnOk result
-        (map rule_tree rules.new
-        ≡ map rule_tree rules.old
+        (map plain_rule rules.new
+        ≡ map plain_rule rules.old
         ++ settings.rule (conditions.mode_is r Marked ∷ [])
         (settings.set_mode r Free ∷ []) ∷ []) }
 {
@@ -225,10 +238,10 @@ fn push_cancel_allocating(
     route: &Route,
 ) -> Result<(), AllocError>
     requires known { r < length plant.now.routes }
-    requires route { IsRouteOf plant.now route.now }
+    requires route { IsValidRouteOf plant.now route.now }
     ensures { OnOk result
-        (map rule_tree rules.new
-        ≡ map rule_tree rules.old
+        (map plain_rule rules.new
+        ≡ map plain_rule rules.old
         ++ settings.rule (conditions.mode_is r Allocating ∷ [])
         (settings.set_mode r Free
         ∷ settings.set_locks plant.now (sections_locked_for route.now)
@@ -243,7 +256,7 @@ fn push_cancel_allocating(
 }
 
 /// Adds the rules of `cancel r`.
-pub fn push_cancel(
+pub fn push_cancel_rules(
     alloc: Global,
     rules: &mut Rules,
     plant: &Plant,
@@ -251,8 +264,8 @@ pub fn push_cancel(
 ) -> Result<(), AllocError>
     requires { r < length plant.now.routes }
     ensures { OnOk result
-        (map rule_tree rules.new
-        ≡ map rule_tree rules.old ++ definitions.rules_of_cancel plant.now r) }
+        (map plain_rule rules.new
+        ≡ map plain_rule rules.old ++ definitions.rules_of_cancel plant.now r) }
 {
     push_cancel_marked(alloc, rules, plant, r)?;
     push_cancel_allocating(alloc, rules, plant, r, plant.route(r))

@@ -1,14 +1,14 @@
 ghost use Rattle.std.specs.Prelude.{◌≡◌, ◌<◌, ◌++◌, ◌∷◌, [], length, map, flat_map, All, OnOk};
 ghost use Rattle.ilk_ir.specs.Form.{tree_of};
-ghost use Rattle.ilk_ir.specs.System.{rule_tree};
+ghost use Rattle.ilk_ir.specs.System.{plain_rule};
 ghost use Rattle.ilk_plant.specs.Plant.{point_count};
 ghost use Rattle.ilk_behave.specs.Settings as settings;
 
 use ilk_ir::{Form, Rule, Rules, Sets, Setting};
 use ilk_layout::{
-    Occupancy, aspect_value, board_var, commanded_var, detected_var, hold_value, lie_value,
-    lock_var, mode_value, mode_var, occupancy_value, occupancy_var, position_value, rel_var,
-    seen_var,
+    Occupancy, aspect_value, board_var, commanded_value, commanded_var, detected_value,
+    detected_var, lock_value, lock_var, mode_value, mode_var, occupancy_value, occupancy_var,
+    rel_var, seen_var,
 };
 use ilk_plant::{Aspect, Dir, Hold, Lie, Listed, Mode, Plant, Position, Row, point_number_at};
 use std::alloc::AllocError;
@@ -16,8 +16,8 @@ use std::alloc::AllocError;
 /// Adds the rule that makes the settings `sets` if all `forms` hold.
 pub fn push_rule(rules: &mut Rules, forms: Vec<Form>, sets: Sets) -> Result<(), AllocError>
     ensures { OnOk result
-        (map rule_tree rules.new
-        ≡ map rule_tree rules.old ++ settings.rule (map tree_of forms.items) sets ∷ []) }
+        (map plain_rule rules.new
+        ≡ map plain_rule rules.old ++ settings.rule (map tree_of forms.items) sets ∷ []) }
 {
     rules.push(Rule {
         guard: Form::And(forms),
@@ -65,7 +65,7 @@ pub fn set_detected(plant: &Plant, n: u32, lie: Lie) -> Setting
 {
     Setting {
         var: detected_var(plant, n),
-        value: lie_value(lie),
+        value: detected_value(lie),
     }
 }
 
@@ -76,7 +76,7 @@ pub fn set_commanded(plant: &Plant, n: u32, position: Position) -> Setting
 {
     Setting {
         var: commanded_var(plant, n),
-        value: position_value(position),
+        value: commanded_value(position),
     }
 }
 
@@ -98,7 +98,7 @@ pub fn set_lock(plant: &Plant, x: u32, hold: Hold) -> Setting
 {
     Setting {
         var: lock_var(plant, x),
-        value: hold_value(hold),
+        value: lock_value(hold),
     }
 }
 
@@ -150,7 +150,7 @@ pub fn push_set_point_locks(
 }
 
 fn push_command(sets: &mut Sets, plant: &Plant, listed: &Listed) -> Result<(), AllocError>
-    ensures { OnOk result (sets.new ≡ sets.old ++ settings.set_as_listed plant.now listed.now) }
+    ensures { OnOk result (sets.new ≡ sets.old ++ settings.command_as_listed plant.now listed.now) }
 {
     if let Some(n) = point_number_at(plant, listed.point) {
         sets.push(set_commanded(plant, n, listed.at))?;
@@ -161,7 +161,7 @@ fn push_command(sets: &mut Sets, plant: &Plant, listed: &Listed) -> Result<(), A
 /// Adds the settings that command each point to its listed position.
 pub fn push_commands(sets: &mut Sets, plant: &Plant, points: &Row<Listed>) -> Result<(), AllocError>
     ensures { OnOk result
-        (sets.new ≡ sets.old ++ flat_map (settings.set_as_listed plant.now) points.now) }
+        (sets.new ≡ sets.old ++ flat_map (settings.command_as_listed plant.now) points.now) }
 {
     for listed in points.as_slice() {
         push_command(sets, plant, listed)?;
@@ -170,9 +170,14 @@ pub fn push_commands(sets: &mut Sets, plant: &Plant, points: &Row<Listed>) -> Re
 }
 
 /// Adds the setting that closes the board of `x` for direction `d`, if any.
-pub fn push_close_board(sets: &mut Sets, plant: &Plant, x: u32, d: Dir) -> Result<(), AllocError>
+pub fn push_close_board_if_any(
+    sets: &mut Sets,
+    plant: &Plant,
+    x: u32,
+    d: Dir,
+) -> Result<(), AllocError>
     requires { x < length plant.now.sections }
-    ensures { OnOk result (sets.new ≡ sets.old ++ settings.close_board plant.now x d) }
+    ensures { OnOk result (sets.new ≡ sets.old ++ settings.close_board_if_any plant.now x d) }
 {
     if let Some(m) = plant.board_of(x, d) {
         sets.push(set_board(plant, m, Aspect::Closed))?;

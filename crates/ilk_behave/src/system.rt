@@ -1,18 +1,20 @@
 ghost use Rattle.std.specs.Prelude.{◌≡◌, ◌++◌, map, IfOk, IsTrue, OnOk};
-ghost use Rattle.ilk_ir.specs.System.{rule_tree, system_tree, system_valid};
-ghost use Rattle.ilk_behave.specs.Behaviour.{rules_of, system_of};
+ghost use Rattle.ilk_ir.specs.System.{plain_rule, plain_system, system_valid};
+ghost use Rattle.ilk_behave.specs.Behaviour.{rules_of, system_of_plant};
 ghost use Rattle.std.specs.List.{flat_map};
 ghost use Rattle.ilk_behave.specs.Behaviour.{events_of};
 ghost use Rattle.ilk_behave.specs.Numbered.{IsEventOfPlant, AreEventsOfPlant};
-ghost use Rattle.ilk_behave.specs.Steps.{StepsLikeEvents};
+ghost use Rattle.ilk_behave.specs.Steps.{SystemMatchesEvents};
 
 use crate::events::{events_of_route, events_of_section};
-use crate::heads::push_head;
-use crate::laws::system_steps;
-use crate::passage_rules::{push_finish, push_release, push_sense};
-use crate::point_rules::{push_settle, push_throw};
-use crate::route_rules::{push_allocate, push_cancel, push_lock, push_mark};
-use crate::train_rules::{push_enter, push_leave, push_tail};
+use crate::heads::push_head_rules;
+use crate::laws::system_matches_events;
+use crate::passage_rules::{push_finish_rules, push_release_rules, push_sense_rules};
+use crate::point_rules::{push_settle_rules, push_throw_rules};
+use crate::route_rules::{
+    push_allocate_rules, push_cancel_rules, push_lock_rules, push_mark_rules,
+};
+use crate::train_rules::{push_enter_rules, push_leave_rules, push_tail_rules};
 use crate::validity::system_is_valid;
 use ilk_ir::{Rules, System};
 use ilk_layout::ranges;
@@ -28,22 +30,22 @@ fn push_rules_of(
 ) -> Result<(), AllocError>
     requires { IsEventOfPlant plant.now event }
     ensures { OnOk result
-        (map rule_tree rules.new ≡ map rule_tree rules.old ++ rules_of plant.now event) }
+        (map plain_rule rules.new ≡ map plain_rule rules.old ++ rules_of plant.now event) }
 {
     match event {
-        Event::Mark(r) => push_mark(alloc, rules, plant, r),
-        Event::Allocate(r) => push_allocate(alloc, rules, plant, r),
-        Event::Lock(r) => push_lock(alloc, rules, plant, r),
-        Event::Sense(r) => push_sense(alloc, rules, plant, r),
-        Event::Release(r) => push_release(alloc, rules, plant, r),
-        Event::Finish(r) => push_finish(alloc, rules, plant, r),
-        Event::Throw(x) => push_throw(alloc, rules, plant, x),
-        Event::Settle(x) => push_settle(alloc, rules, plant, x),
-        Event::Enter(x) => push_enter(alloc, rules, plant, x),
-        Event::Head(x) => push_head(alloc, rules, plant, x),
-        Event::Tail(x) => push_tail(alloc, rules, plant, x),
-        Event::Leave(x) => push_leave(alloc, rules, plant, x),
-        Event::Cancel(r) => push_cancel(alloc, rules, plant, r),
+        Event::Mark(r) => push_mark_rules(alloc, rules, plant, r),
+        Event::Allocate(r) => push_allocate_rules(alloc, rules, plant, r),
+        Event::Lock(r) => push_lock_rules(alloc, rules, plant, r),
+        Event::Sense(r) => push_sense_rules(alloc, rules, plant, r),
+        Event::Release(r) => push_release_rules(alloc, rules, plant, r),
+        Event::Finish(r) => push_finish_rules(alloc, rules, plant, r),
+        Event::Throw(x) => push_throw_rules(alloc, rules, plant, x),
+        Event::Settle(x) => push_settle_rules(alloc, rules, plant, x),
+        Event::Enter(x) => push_enter_rules(alloc, rules, plant, x),
+        Event::Head(x) => push_head_rules(alloc, rules, plant, x),
+        Event::Tail(x) => push_tail_rules(alloc, rules, plant, x),
+        Event::Leave(x) => push_leave_rules(alloc, rules, plant, x),
+        Event::Cancel(r) => push_cancel_rules(alloc, rules, plant, r),
     }
 }
 
@@ -55,8 +57,8 @@ fn push_rules_of_all(
 ) -> Result<(), AllocError>
     requires { AreEventsOfPlant plant.now events.now }
     ensures { OnOk result
-        (map rule_tree rules.new
-        ≡ map rule_tree rules.old ++ flat_map (rules_of plant.now) events.now) }
+        (map plain_rule rules.new
+        ≡ map plain_rule rules.old ++ flat_map (rules_of plant.now) events.now) }
 {
     for event in events {
         push_rules_of(alloc, rules, plant, *event)?;
@@ -67,7 +69,7 @@ fn push_rules_of_all(
 // Returns the rules of all events, route by route and then section by section.
 fn all_rules(alloc: Global, plant: &Plant) -> Result<Rules, AllocError>
     ensures { IfOk result
-        (λ rules. map rule_tree rules ≡ flat_map (rules_of plant.now) (events_of plant.now)) }
+        (λ rules. map plain_rule rules ≡ flat_map (rules_of plant.now) (events_of plant.now)) }
 {
     let mut rules = Row::new(alloc);
     for r in 0..plant.routes() {
@@ -82,12 +84,12 @@ fn all_rules(alloc: Global, plant: &Plant) -> Result<Rules, AllocError>
 /// Returns the behaviour of a plant as a finite system, which is valid and steps as the plant's
 /// events do. Fails only if memory runs out.
 pub fn behaviour(alloc: Global, plant: &Plant) -> Result<System, AllocError>
-    ensures system { IfOk result (λ made. system_tree made ≡ system_of plant.now) }
-    ensures valid { IsTrue (system_valid (system_of plant.now)) }
-    ensures steps { StepsLikeEvents plant.now }
+    ensures system { IfOk result (λ made. plain_system made ≡ system_of_plant plant.now) }
+    ensures valid { IsTrue (system_valid (system_of_plant plant.now)) }
+    ensures steps { SystemMatchesEvents plant.now }
 {
     system_is_valid(plant);
-    system_steps(plant);
+    system_matches_events(plant);
     Ok(System {
         ranges: ranges(alloc, plant)?,
         rules: all_rules(alloc, plant)?,

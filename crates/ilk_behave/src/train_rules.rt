@@ -1,5 +1,5 @@
 ghost use Rattle.std.specs.Prelude.{◌≡◌, ◌<◌, ◌++◌, ◌∷◌, [], Some, true, false, not, filter, length, map, flat_map, slice_get, OnOk};
-ghost use Rattle.ilk_ir.specs.System.{rule_tree};
+ghost use Rattle.ilk_ir.specs.System.{plain_rule};
 ghost use Rattle.ilk_plant.specs.Plant.{next_to};
 ghost use Rattle.ilk_motion.specs.Trains.{has_neighbour};
 ghost use Rattle.ilk_layout.specs.declared.values.Occupancy.TheVariants.{Taken};
@@ -13,13 +13,18 @@ use ilk_plant::{Dir, Hold, Plant, Row, Section};
 use std::alloc::{AllocError, Global};
 
 /// Adds the rule of `enter x`, or none if `x` is not a border.
-pub fn push_enter(alloc: Global, rules: &mut Rules, plant: &Plant, x: u32) -> Result<(), AllocError>
+pub fn push_enter_rules(
+    alloc: Global,
+    rules: &mut Rules,
+    plant: &Plant,
+    x: u32,
+) -> Result<(), AllocError>
     requires { x < length plant.now.sections }
     ensures { OnOk result
-        (map rule_tree rules.new
-        ≡ map rule_tree rules.old ++ definitions.rules_of_enter plant.now x) }
+        (map plain_rule rules.new
+        ≡ map plain_rule rules.old ++ definitions.rules_of_enter plant.now x) }
 {
-    if let Some(inward) = plant.border(x) {
+    if let Some(inward) = plant.section_inward_if_border(x) {
         let mut forms = Vec::new(alloc);
         forms.push(no_train_at(plant, x))?;
         forms.push(lock_is(plant, x, Hold::Free))?;
@@ -49,8 +54,8 @@ fn push_tail_rule(
     requires here { x < length plant.now.sections }
     requires there { y < length plant.now.sections }
     ensures { OnOk result
-        (map rule_tree rules.new
-        ≡ map rule_tree rules.old ++ definitions.tail_rule plant.now x d y head ∷ []) }
+        (map plain_rule rules.new
+        ≡ map plain_rule rules.old ++ definitions.tail_rule plant.now x d y head ∷ []) }
 {
     let mut forms = Vec::new(alloc);
     let before = Occupancy::Taken {
@@ -88,8 +93,8 @@ fn push_tail_to(
     requires here { x < length plant.now.sections }
     requires there { y < length plant.now.sections }
     ensures { OnOk result
-        (map rule_tree rules.new
-        ≡ map rule_tree rules.old
+        (map plain_rule rules.new
+        ≡ map plain_rule rules.old
         ++ map (definitions.tail_rule plant.now x d y) (true ∷ false ∷ [])) }
 {
     push_tail_rule(alloc, rules, plant, x, d, y, true)?;
@@ -105,8 +110,8 @@ fn push_tail_in(
 ) -> Result<(), AllocError>
     requires { x < length plant.now.sections }
     ensures { OnOk result
-        (map rule_tree rules.new
-        ≡ map rule_tree rules.old
+        (map plain_rule rules.new
+        ≡ map plain_rule rules.old
         ++ flat_map
         (λ y. map (definitions.tail_rule plant.now x d y) (true ∷ false ∷ []))
         (next_to plant.now x d)) }
@@ -121,11 +126,16 @@ fn push_tail_in(
 }
 
 /// Adds the rules of `tail x`: in each direction, to each neighbour.
-pub fn push_tail(alloc: Global, rules: &mut Rules, plant: &Plant, x: u32) -> Result<(), AllocError>
+pub fn push_tail_rules(
+    alloc: Global,
+    rules: &mut Rules,
+    plant: &Plant,
+    x: u32,
+) -> Result<(), AllocError>
     requires { x < length plant.now.sections }
     ensures { OnOk result
-        (map rule_tree rules.new
-        ≡ map rule_tree rules.old ++ definitions.rules_of_tail plant.now x) }
+        (map plain_rule rules.new
+        ≡ map plain_rule rules.old ++ definitions.rules_of_tail plant.now x) }
 {
     push_tail_in(alloc, rules, plant, x, Dir::Up)?;
     push_tail_in(alloc, rules, plant, x, Dir::Down)
@@ -143,12 +153,12 @@ fn push_leave_in(
     requires known { x < length plant.now.sections }
     requires section { slice_get plant.now.sections x ≡ Some section.now }
     ensures { OnOk result
-        (map rule_tree rules.new
-        ≡ map rule_tree rules.old
+        (map plain_rule rules.new
+        ≡ map plain_rule rules.old
         ++ map (definitions.leave_rule plant.now x)
         (filter (λ e. not (has_neighbour section.now e)) (d ∷ []))) }
 {
-    if section.neighbour_on(d, 0).is_some() {
+    if section.nth_neighbour_on(d, 0).is_some() {
         return Ok(());
     }
     let train = Occupancy::Taken {
@@ -164,11 +174,16 @@ fn push_leave_in(
 }
 
 /// Adds the rules of `leave x`, one for each direction in which it has no neighbour.
-pub fn push_leave(alloc: Global, rules: &mut Rules, plant: &Plant, x: u32) -> Result<(), AllocError>
+pub fn push_leave_rules(
+    alloc: Global,
+    rules: &mut Rules,
+    plant: &Plant,
+    x: u32,
+) -> Result<(), AllocError>
     requires { x < length plant.now.sections }
     ensures { OnOk result
-        (map rule_tree rules.new
-        ≡ map rule_tree rules.old ++ definitions.rules_of_leave plant.now x) }
+        (map plain_rule rules.new
+        ≡ map plain_rule rules.old ++ definitions.rules_of_leave plant.now x) }
 {
     let section = plant.section(x);
     push_leave_in(alloc, rules, plant, x, section, Dir::Up)?;

@@ -2,7 +2,7 @@
 
 ghost use Rattle.std.specs.Prelude.{◌≤◌, length, IsTrue};
 ghost use Rattle.ilk_ir.specs.System.{system_valid};
-ghost use Rattle.ilk_behave.specs.Behaviour.{rules_of, system_of};
+ghost use Rattle.ilk_behave.specs.Behaviour.{rules_of, system_of_plant};
 ghost use Rattle.ilk_behave.specs.declared.validity.TheConstants.{MAX_EVENT_RULES};
 ghost use Rattle.ilk_model.specs.declared.event.Event.{Event};
 
@@ -14,14 +14,14 @@ pub const MAX_EVENT_RULES: u64 = 256;
 /// The system of a plant is valid: its rules test and set only existing variables, to values in
 /// range, and set none twice. Proof only; no run-time effect.
 pub fn system_is_valid(plant: &Plant)
-    ensures { IsTrue (system_valid (system_of plant.now)) }
+    ensures { IsTrue (system_valid (system_of_plant plant.now)) }
 {
-    plant.is_sound();
+    plant.prove_is_plant();
 }
 
 /// No event has more than `MAX_EVENT_RULES` rules. Proof only; no run-time effect.
-pub fn few_rules_of_events(plant: &Plant)
+pub fn each_event_has_few_rules(plant: &Plant)
     ensures { (event : Event) → length (rules_of plant.now event) ≤ MAX_EVENT_RULES }
 {
-    plant.is_sound();
+    plant.prove_is_plant();
 }

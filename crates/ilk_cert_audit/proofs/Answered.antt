@@ -8,9 +8,9 @@ use Rattle.ilk_audit.specs.declared.taken.Why.{Why}
 use Rattle.ilk_audit.proofs.Derived.{taken_derived}
 use Rattle.ilk_lines.specs.Lines.{Bytes}
 use Rattle.ilk_log.specs.declared.step.Step.{Step as LogStep}
-use Rattle.ilk_log.specs.Derived.{is_derived, is_empty}
+use Rattle.ilk_log.specs.Derived.{is_derived, is_empty_clause}
 use Rattle.ilk_log.specs.StepText.{has_writable_numbers, step_text}
-use Rattle.ilk_cert_audit.specs.Stages.{IsFollowing, IsLineOfKind, IsRead}
+use Rattle.ilk_cert_audit.specs.Stages.{IsDerivedStepLine, IsStepLineOfKind, ReadsAsStep}
 use Rattle.ilk_cert_audit.specs.declared.next.Line.TheVariants as line
 use Rattle.ilk_cert_audit.proofs.Numbers.{derived-numbers}
 
@@ -18,21 +18,21 @@ pub record IsFew (a : AuditState) : Type 0 where
   pub vars : a.vars ≤ 2 ^ 62
   pub clauses : length a.clauses < 2 ^ 64
 
-good-open : (s : LogStep) (o : Option Why) → answer_from_fault s o ≡ Good → is_empty s.clause ≡ false
+good-open : (s : LogStep) (o : Option Why) → answer_from_fault s o ≡ Good → is_empty_clause s.clause ≡ false
 good-open s (Some why) e = absurd (cc)
-good-open s None e = elim (cases_Bool (is_empty s.clause)) [
+good-open s None e = elim (cases_Bool (is_empty_clause s.clause)) [
   | inl t ↦ absurd (let z : Closed ≡ Good = rw t at e in cc)
   | inr f ↦ f
 ]
 
-closed-empty : (s : LogStep) (o : Option Why) → answer_from_fault s o ≡ Closed → is_empty s.clause ≡ true
+closed-empty : (s : LogStep) (o : Option Why) → answer_from_fault s o ≡ Closed → is_empty_clause s.clause ≡ true
 closed-empty s (Some why) e = absurd (cc)
-closed-empty s None e = elim (cases_Bool (is_empty s.clause)) [
+closed-empty s None e = elim (cases_Bool (is_empty_clause s.clause)) [
   | inl t ↦ t
   | inr f ↦ absurd (let z : Good ≡ Closed = rw f at e in cc)
 ]
 
-abbrev following : (a new : AuditState) (text : Bytes) (t : LogStep) → IsFew a → IsRead text t → is_taken (step_answer a t) ≡ true → new ≡ after_step a t → IsFollowing text a new
+abbrev following : (a new : AuditState) (text : Bytes) (t : LogStep) → IsFew a → ReadsAsStep text t → is_taken (step_answer a t) ≡ true → new ≡ after_step a t → IsDerivedStepLine text a new
 following a new text t few read taken after = record {
   step = t;
   own = read.own;
@@ -41,16 +41,16 @@ following a new text t few read taken after = record {
   after = after ∙ rw taken refl;
 }
 
-pub good_follows : (a new : AuditState) (text : Bytes) (t : LogStep) → IsFew a → IsRead text t → Good ≡ step_answer a t → new ≡ after_step a t → IsLineOfKind text a new line.Follows
+pub good_follows : (a new : AuditState) (text : Bytes) (t : LogStep) → IsFew a → ReadsAsStep text t → Good ≡ step_answer a t → new ≡ after_step a t → IsStepLineOfKind text a new line.Follows
 good_follows a new text t few read e after = (following a new text t few read (ap is_taken (sym e)) after, good-open t (fault_of a.vars a.clauses t) (sym e))
 
-pub closed_closes : (a new : AuditState) (text : Bytes) (t : LogStep) → IsFew a → IsRead text t → Closed ≡ step_answer a t → new ≡ after_step a t → IsLineOfKind text a new line.Closes
+pub closed_closes : (a new : AuditState) (text : Bytes) (t : LogStep) → IsFew a → ReadsAsStep text t → Closed ≡ step_answer a t → new ≡ after_step a t → IsStepLineOfKind text a new line.Closes
 closed_closes a new text t few read e after = (following a new text t few read (ap is_taken (sym e)) after, closed-empty t (fault_of a.vars a.clauses t) (sym e))
 
-pub bad_is : (a new : AuditState) (text : Bytes) (t : LogStep) (why : Why) → IsFew a → IsRead text t → Bad why ≡ step_answer a t → IsLineOfKind text a new line.Bad
+pub bad_is : (a new : AuditState) (text : Bytes) (t : LogStep) (why : Why) → IsFew a → ReadsAsStep text t → Bad why ≡ step_answer a t → IsStepLineOfKind text a new line.Bad
 bad_is a new text t why few read e u own d =
     let same = read.only u own (derived-numbers a.vars a.clauses u few.vars few.clauses d) in
     true≢false (sym d ∙ ap (is_derived a.vars a.clauses) (sym same) ∙ sym (taken_derived a t) ∙ ap is_taken (sym e))
 
-pub unread_is : (a new : AuditState) (text : Bytes) → IsFew a → ((u : LogStep) → text ≡ step_text u → has_writable_numbers u ≡ true → ⊥) → IsLineOfKind text a new line.Bad
+pub unread_is : (a new : AuditState) (text : Bytes) → IsFew a → ((u : LogStep) → text ≡ step_text u → has_writable_numbers u ≡ true → ⊥) → IsStepLineOfKind text a new line.Bad
 unread_is a new text few none u own d = none u own (derived-numbers a.vars a.clauses u few.vars few.clauses d)

@@ -1,14 +1,14 @@
 -- Lines of a certificate begin one, regardless of the cut.
 use Rattle.std.proofs.Common.{◌≡◌, ℕ, zero, suc, Bool, true, false, List, [], ◌∷◌, ◌++◌, refl, ap, ◌∙◌, take}
 use Rattle.ilk_cnf.specs.Literal.{Literal}
-use Rattle.ilk_ir.specs.System.{SystemTree}
+use Rattle.ilk_ir.specs.System.{PlainSystem}
 use Rattle.ilk_lines.specs.Lines.{Bytes}
-use Rattle.ilk_log.specs.Derived.{is_empty}
+use Rattle.ilk_log.specs.Derived.{is_empty_clause}
 use Rattle.ilk_unroll.specs.declared.queries.Wanted.{Wanted}
-use Rattle.ilk_unroll.specs.Goal.{GoalTree}
+use Rattle.ilk_unroll.specs.Goal.{PlainGoal}
 use Rattle.ilk_unroll.specs.Query.{query_formula}
 use Rattle.ilk_certificate.specs.Certificate.{certified_queries}
-use Rattle.ilk_cert_audit.specs.Grammar.{CertificateLines, IfElse, QueryLines, StepLines, ToldLines}
+use Rattle.ilk_cert_audit.specs.Grammar.{CertificateLines, IfElse, QueryLines, StepLines, LinesAfterHeader}
 
 take-none : (m : ℕ) → take m (let xs : List Bytes = [] in xs) ≡ []
 take-none zero = refl
@@ -20,7 +20,7 @@ cut-steps : (may : Bool) (n : ℕ) (clauses : List (List Literal)) (After Cut : 
 cut-steps may n clauses After Cut cut [] zero h = refl
 cut-steps may n clauses After Cut cut [] (suc m) h = refl
 cut-steps may n clauses After Cut cut (line ∷ lines) zero h = refl
-cut-steps may n clauses After Cut cut (line ∷ lines) (suc m) h = (h.0, h.1, h.2, by_end (is_empty h.0.clause) (cut-steps may n (clauses ++ h.0.clause ∷ []) After Cut cut lines m) h.3)
+cut-steps may n clauses After Cut cut (line ∷ lines) (suc m) h = (h.0, h.1, h.2, by_end (is_empty_clause h.0.clause) (cut-steps may n (clauses ++ h.0.clause ∷ []) After Cut cut lines m) h.3)
   where
     by_end : (b : Bool) →
         (StepLines may n (clauses ++ h.0.clause ∷ []) After lines →
@@ -30,7 +30,7 @@ cut-steps may n clauses After Cut cut (line ∷ lines) (suc m) h = (h.0, h.1, h.
     by_end true more after = cut lines m after
     by_end false more after = more after
 
-cut-queries : (may : Bool) (s : SystemTree) (g : GoalTree) (qs : List Wanted) (lines : List Bytes) (m : ℕ) → QueryLines may s g qs lines → QueryLines true s g qs (take m lines)
+cut-queries : (may : Bool) (s : PlainSystem) (g : PlainGoal) (qs : List Wanted) (lines : List Bytes) (m : ℕ) → QueryLines may s g qs lines → QueryLines true s g qs (take m lines)
 cut-queries may s g [] [] zero h = refl
 cut-queries may s g [] [] (suc m) h = refl
 cut-queries may s g [] (line ∷ lines) zero h = refl
@@ -41,13 +41,13 @@ cut-queries may s g (q ∷ qs) (line ∷ lines) zero h = refl
 cut-queries may s g (q ∷ qs) (line ∷ lines) (suc m) h =
     (h.0, cut-steps may (query_formula s g q).vars (query_formula s g q).clauses (QueryLines may s g qs) (QueryLines true s g qs) (λ more i after. cut-queries may s g qs more i after) lines m h.1)
 
-cut-told : (may : Bool) (s : SystemTree) (g : GoalTree) (k : ℕ) (lines : List Bytes) (m : ℕ) → ToldLines may s g k lines → ToldLines true s g k (take m lines)
+cut-told : (may : Bool) (s : PlainSystem) (g : PlainGoal) (k : ℕ) (lines : List Bytes) (m : ℕ) → LinesAfterHeader may s g k lines → LinesAfterHeader true s g k (take m lines)
 cut-told may s g k [] zero h = refl
 cut-told may s g k [] (suc m) h = refl
 cut-told may s g k (line ∷ lines) zero h = refl
 cut-told may s g k (line ∷ lines) (suc m) h = (h.0, h.1, h.2, cut-queries may s g (certified_queries k) lines m h.3)
 
-pub cut-certificate : (may : Bool) (s : SystemTree) (g : GoalTree) (k : ℕ) (lines : List Bytes) (m : ℕ) → CertificateLines may s g k lines → CertificateLines true s g k (take m lines)
+pub cut-certificate : (may : Bool) (s : PlainSystem) (g : PlainGoal) (k : ℕ) (lines : List Bytes) (m : ℕ) → CertificateLines may s g k lines → CertificateLines true s g k (take m lines)
 cut-certificate may s g k [] zero h = refl
 cut-certificate may s g k [] (suc m) h = refl
 cut-certificate may s g k (line ∷ lines) zero h = refl

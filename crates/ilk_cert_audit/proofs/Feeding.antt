@@ -2,13 +2,13 @@
 use Rattle.std.proofs.Common.{◌≡◌, ℕ, ◌+◌, ◌-◌, Bool, true, false, ◌==◌, None, List, [], ◌∷◌, ◌++◌, length, refl, sym, ap, ◌∙◌, subst, arith, append-nil, append_assoc, length-append}
 use Rattle.std.proofs.lemmas.Bool.{eq-eqb, eqb-true}
 use Rattle.std.proofs.lemmas.List.{take-append-le}
-use Rattle.ilk_ir.specs.System.{SystemTree}
-use Rattle.ilk_lines.specs.Lines.{after_lines, Bytes, lines_of}
+use Rattle.ilk_ir.specs.System.{PlainSystem}
+use Rattle.ilk_lines.specs.Lines.{unterminated_tail, Bytes, lines_of}
 use Rattle.ilk_lines.specs.Written.{LacksByte}
-use Rattle.ilk_unroll.specs.Goal.{GoalTree}
-use Rattle.ilk_cert_audit.specs.Fed.{HasTakenLines, IsFedTo, IsKept, IsStageAfter, Keeps}
+use Rattle.ilk_unroll.specs.Goal.{PlainGoal}
+use Rattle.ilk_cert_audit.specs.Fed.{HasTakenLines, HasTakenLinesAndRest, IsUnfinishedLineBuffer, IsStageAfter, Keeps}
 use Rattle.ilk_cert_audit.specs.FirstBad.{BeginsCertificate, IsFirstBadOfLines}
-use Rattle.ilk_cert_audit.specs.Stages.{IsNext, is_hopeless, is_refused}
+use Rattle.ilk_cert_audit.specs.Stages.{IsNextStage, is_bad_line_prefix, is_refused}
 use Rattle.ilk_cert_audit.specs.declared.lines.LineAudit.{LineAudit}
 use Rattle.ilk_cert_audit.specs.declared.stage.Stage.{Stage}
 use Rattle.ilk_cert_audit.specs.declared.stage.Stage.TheVariants.{Head, Told, Between, Within, Ended, Refused}
@@ -16,7 +16,7 @@ use Rattle.ilk_cert_audit.proofs.Hopeless.{hopeless-bad}
 use Rattle.ilk_cert_audit.proofs.Pieces.{bytes-added, line-added, lines-more}
 use Rattle.ilk_cert_audit.proofs.Taking.{staged}
 
-pub keeps-from : (stage : Stage) (unfinished bytes : Bytes) → IsKept stage unfinished (after_lines bytes) → Keeps stage unfinished bytes
+pub keeps-from : (stage : Stage) (unfinished bytes : Bytes) → IsUnfinishedLineBuffer stage unfinished (unterminated_tail bytes) → Keeps stage unfinished bytes
 keeps-from Head u b e = e
 keeps-from Told u b e = e
 keeps-from (Between k next) u b e = e
@@ -32,7 +32,7 @@ keeps-any (Within k q a) u b h = absurd (cc)
 keeps-any (Ended k) u b h = absurd (cc)
 keeps-any (Refused n) u b h = tt
 
-keeps-is : (stage : Stage) (unfinished bytes : Bytes) → is_refused stage ≡ false → Keeps stage unfinished bytes → IsKept stage unfinished (after_lines bytes)
+keeps-is : (stage : Stage) (unfinished bytes : Bytes) → is_refused stage ≡ false → Keeps stage unfinished bytes → IsUnfinishedLineBuffer stage unfinished (unterminated_tail bytes)
 keeps-is Head u b h k = k
 keeps-is Told u b h k = k
 keeps-is (Between m next) u b h k = k
@@ -40,16 +40,16 @@ keeps-is (Within m q a) u b h k = k
 keeps-is (Ended m) u b h k = k
 keeps-is (Refused n) u b h k = absurd (cc)
 
-kept-whole : (stage : Stage) (kept line : Bytes) → line ≡ kept → IsKept stage kept line
+kept-whole : (stage : Stage) (kept line : Bytes) → line ≡ kept → IsUnfinishedLineBuffer stage kept line
 kept-whole stage kept line same = record { rest = []; whole = same ∙ sym (append-nil kept); none_left = λ h. refl }
 
-kept-is : (stage : Stage) (kept line : Bytes) → is_hopeless stage kept ≡ false → IsKept stage kept line → line ≡ kept
+kept-is : (stage : Stage) (kept line : Bytes) → is_bad_line_prefix stage kept ≡ false → IsUnfinishedLineBuffer stage kept line → line ≡ kept
 kept-is stage kept line hope k = k.whole ∙ ap (λ (r : Bytes). kept ++ r) (k.none_left hope) ∙ append-nil kept
 
-pub kept-none : (stage : Stage) (line : Bytes) → IsKept stage [] line → line ≡ []
+pub kept-none : (stage : Stage) (line : Bytes) → IsUnfinishedLineBuffer stage [] line → line ≡ []
 kept-none stage line k = kept-is stage [] line (no-bytes stage) k
   where
-    no-bytes : (stage : Stage) → is_hopeless stage [] ≡ false
+    no-bytes : (stage : Stage) → is_bad_line_prefix stage [] ≡ false
     no-bytes Head = refl
     no-bytes Told = refl
     no-bytes (Between k next) = refl
@@ -57,17 +57,17 @@ kept-none stage line k = kept-is stage [] line (no-bytes stage) k
     no-bytes (Ended k) = refl
     no-bytes (Refused n) = refl
 
-pub kept-all : (stage : Stage) (kept line : Bytes) → IsKept stage kept line → line ≡ [] → kept ≡ []
+pub kept-all : (stage : Stage) (kept line : Bytes) → IsUnfinishedLineBuffer stage kept line → line ≡ [] → kept ≡ []
 kept-all stage [] line k none = refl
 kept-all stage (x ∷ kept) line k none = (let h : [] ≡ x ∷ (kept ++ k.rest) = sym none ∙ k.whole in cc)
 
-pub waits : (s : SystemTree) (g : GoalTree) (audit : LineAudit) (unfinished bytes : Bytes) → is_refused audit.stage ≡ false → IsFedTo s g audit unfinished bytes → IsKept audit.stage unfinished (after_lines bytes)
+pub waits : (s : PlainSystem) (g : PlainGoal) (audit : LineAudit) (unfinished bytes : Bytes) → is_refused audit.stage ≡ false → HasTakenLinesAndRest s g audit unfinished bytes → IsUnfinishedLineBuffer audit.stage unfinished (unterminated_tail bytes)
 waits s g audit unfinished bytes open_ fed = keeps-is audit.stage unfinished bytes open_ fed.kept
 
-line-ended : (s : SystemTree) (g : GoalTree) (old new : LineAudit) (unfinished kept bytes rest : Bytes)
-    → LacksByte 10 rest → IsFedTo s g old unfinished bytes
-    → ((lines : List Bytes) → HasTakenLines s g old lines → HasTakenLines s g new (lines ++ (after_lines bytes ++ rest) ∷ []))
-    → Keeps new.stage kept (bytes ++ (rest ++ 10 ∷ [])) → IsFedTo s g new kept (bytes ++ (rest ++ 10 ∷ []))
+line-ended : (s : PlainSystem) (g : PlainGoal) (old new : LineAudit) (unfinished kept bytes rest : Bytes)
+    → LacksByte 10 rest → HasTakenLinesAndRest s g old unfinished bytes
+    → ((lines : List Bytes) → HasTakenLines s g old lines → HasTakenLines s g new (lines ++ (unterminated_tail bytes ++ rest) ∷ []))
+    → Keeps new.stage kept (bytes ++ (rest ++ 10 ∷ [])) → HasTakenLinesAndRest s g new kept (bytes ++ (rest ++ 10 ∷ []))
 line-ended s g old new unfinished kept bytes rest lacks fed takes keeps =
     let P : List Bytes → Type 0 = λ ls. HasTakenLines s g new ls in
     record {
@@ -75,45 +75,45 @@ line-ended s g old new unfinished kept bytes rest lacks fed takes keeps =
       kept = keeps;
     }
 
-pub line-fed : (s : SystemTree) (g : GoalTree) (old new : LineAudit) (unfinished bytes rest : Bytes)
-    → is_refused old.stage ≡ false → is_hopeless old.stage unfinished ≡ false → LacksByte 10 rest
-    → IsFedTo s g old unfinished bytes
+pub line-fed : (s : PlainSystem) (g : PlainGoal) (old new : LineAudit) (unfinished bytes rest : Bytes)
+    → is_refused old.stage ≡ false → is_bad_line_prefix old.stage unfinished ≡ false → LacksByte 10 rest
+    → HasTakenLinesAndRest s g old unfinished bytes
     → ((lines : List Bytes) → HasTakenLines s g old lines → HasTakenLines s g new (lines ++ (unfinished ++ rest) ∷ []))
-    → IsFedTo s g new [] (bytes ++ (rest ++ 10 ∷ []))
+    → HasTakenLinesAndRest s g new [] (bytes ++ (rest ++ 10 ∷ []))
 line-fed s g old new unfinished bytes rest open_ hope lacks fed takes =
-    let same = kept-is old.stage unfinished (after_lines bytes) hope (waits s g old unfinished bytes open_ fed) in
+    let same = kept-is old.stage unfinished (unterminated_tail bytes) hope (waits s g old unfinished bytes open_ fed) in
     let P : Bytes → Type 0 = λ u. (lines : List Bytes) → HasTakenLines s g old lines → HasTakenLines s g new (lines ++ (u ++ rest) ∷ []) in
     line-ended s g old new unfinished [] bytes rest lacks fed (subst P (sym same) takes)
-    (keeps-from new.stage [] (bytes ++ (rest ++ 10 ∷ [])) (kept-whole new.stage [] (after_lines (bytes ++ (rest ++ 10 ∷ []))) (line-added bytes rest lacks).1))
+    (keeps-from new.stage [] (bytes ++ (rest ++ 10 ∷ [])) (kept-whole new.stage [] (unterminated_tail (bytes ++ (rest ++ 10 ∷ []))) (line-added bytes rest lacks).1))
 
-pub hopeless-fed : (s : SystemTree) (g : GoalTree) (old new : LineAudit) (unfinished bytes rest : Bytes)
-    → is_refused old.stage ≡ false → is_hopeless old.stage unfinished ≡ true → is_refused new.stage ≡ true
-    → LacksByte 10 rest → IsFedTo s g old unfinished bytes
-    → ((lines : List Bytes) (line : Bytes) → HasTakenLines s g old lines → IsNext s g old.stage line None → HasTakenLines s g new (lines ++ line ∷ []))
-    → IsFedTo s g new unfinished (bytes ++ (rest ++ 10 ∷ []))
+pub hopeless-fed : (s : PlainSystem) (g : PlainGoal) (old new : LineAudit) (unfinished bytes rest : Bytes)
+    → is_refused old.stage ≡ false → is_bad_line_prefix old.stage unfinished ≡ true → is_refused new.stage ≡ true
+    → LacksByte 10 rest → HasTakenLinesAndRest s g old unfinished bytes
+    → ((lines : List Bytes) (line : Bytes) → HasTakenLines s g old lines → IsNextStage s g old.stage line None → HasTakenLines s g new (lines ++ line ∷ []))
+    → HasTakenLinesAndRest s g new unfinished (bytes ++ (rest ++ 10 ∷ []))
 hopeless-fed s g old new unfinished bytes rest open_ hopeless refused lacks fed takes =
     let kept = waits s g old unfinished bytes open_ fed in
-    let whole : after_lines bytes ++ rest ≡ unfinished ++ (kept.rest ++ rest) = ap (λ (l : Bytes). l ++ rest) kept.whole ∙ append_assoc unfinished kept.rest rest in
-    let B : Bytes → Type 0 = λ l. IsNext s g old.stage l None in
+    let whole : unterminated_tail bytes ++ rest ≡ unfinished ++ (kept.rest ++ rest) = ap (λ (l : Bytes). l ++ rest) kept.whole ∙ append_assoc unfinished kept.rest rest in
+    let B : Bytes → Type 0 = λ l. IsNextStage s g old.stage l None in
     let bad = subst B (sym whole) (hopeless-bad s g old.stage unfinished (kept.rest ++ rest) (staged old.stage open_ old.staged) hopeless) in
-    line-ended s g old new unfinished unfinished bytes rest lacks fed (λ lines taken. takes lines (after_lines bytes ++ rest) taken bad)
+    line-ended s g old new unfinished unfinished bytes rest lacks fed (λ lines taken. takes lines (unterminated_tail bytes ++ rest) taken bad)
     (keeps-any new.stage unfinished (bytes ++ (rest ++ 10 ∷ [])) refused)
 
-pub rest-fed : (s : SystemTree) (g : GoalTree) (audit : LineAudit) (unfinished bytes rest : Bytes)
-    → is_refused audit.stage ≡ false → is_hopeless audit.stage unfinished ≡ false → LacksByte 10 rest
-    → IsFedTo s g audit unfinished bytes → IsFedTo s g audit (unfinished ++ rest) (bytes ++ rest)
+pub rest-fed : (s : PlainSystem) (g : PlainGoal) (audit : LineAudit) (unfinished bytes rest : Bytes)
+    → is_refused audit.stage ≡ false → is_bad_line_prefix audit.stage unfinished ≡ false → LacksByte 10 rest
+    → HasTakenLinesAndRest s g audit unfinished bytes → HasTakenLinesAndRest s g audit (unfinished ++ rest) (bytes ++ rest)
 rest-fed s g audit unfinished bytes rest open_ hope lacks fed =
-    let same = kept-is audit.stage unfinished (after_lines bytes) hope (waits s g audit unfinished bytes open_ fed) in
+    let same = kept-is audit.stage unfinished (unterminated_tail bytes) hope (waits s g audit unfinished bytes open_ fed) in
     let added = bytes-added bytes rest lacks in
     let P : List Bytes → Type 0 = λ ls. HasTakenLines s g audit ls in
     record {
       taken = subst P (sym added.0) fed.taken;
-      kept = keeps-from audit.stage (unfinished ++ rest) (bytes ++ rest) (kept-whole audit.stage (unfinished ++ rest) (after_lines (bytes ++ rest)) (added.1 ∙ ap (λ (u : Bytes). u ++ rest) same));
+      kept = keeps-from audit.stage (unfinished ++ rest) (bytes ++ rest) (kept-whole audit.stage (unfinished ++ rest) (unterminated_tail (bytes ++ rest)) (added.1 ∙ ap (λ (u : Bytes). u ++ rest) same));
     }
 
-pub rest-dropped : (s : SystemTree) (g : GoalTree) (audit : LineAudit) (unfinished bytes rest : Bytes)
-    → is_refused audit.stage ≡ false → is_hopeless audit.stage unfinished ≡ true → LacksByte 10 rest
-    → IsFedTo s g audit unfinished bytes → IsFedTo s g audit unfinished (bytes ++ rest)
+pub rest-dropped : (s : PlainSystem) (g : PlainGoal) (audit : LineAudit) (unfinished bytes rest : Bytes)
+    → is_refused audit.stage ≡ false → is_bad_line_prefix audit.stage unfinished ≡ true → LacksByte 10 rest
+    → HasTakenLinesAndRest s g audit unfinished bytes → HasTakenLinesAndRest s g audit unfinished (bytes ++ rest)
 rest-dropped s g audit unfinished bytes rest open_ hopeless lacks fed =
     let kept = waits s g audit unfinished bytes open_ fed in
     let added = bytes-added bytes rest lacks in
@@ -127,7 +127,7 @@ rest-dropped s g audit unfinished bytes rest open_ hopeless lacks fed =
       });
     }
 
-bad-longer : (s : SystemTree) (g : GoalTree) (lines more : List Bytes) (m : ℕ) → IsFirstBadOfLines s g lines m → IsFirstBadOfLines s g (lines ++ more) m
+bad-longer : (s : PlainSystem) (g : PlainGoal) (lines more : List Bytes) (m : ℕ) → IsFirstBadOfLines s g lines m → IsFirstBadOfLines s g (lines ++ more) m
 bad-longer s g lines more m b =
     let long : length (lines ++ more) ≡ length lines + length more = length-append lines more in
     let before = take-append-le (m - 1) lines more (omega (arith, b.within)) in
@@ -140,7 +140,7 @@ bad-longer s g lines more m b =
       bad = λ h. b.bad (subst P here h);
     }
 
-pub refused-fed : (s : SystemTree) (g : GoalTree) (audit : LineAudit) (unfinished bytes rest : Bytes) → is_refused audit.stage ≡ true → IsFedTo s g audit unfinished bytes → IsFedTo s g audit unfinished (bytes ++ rest)
+pub refused-fed : (s : PlainSystem) (g : PlainGoal) (audit : LineAudit) (unfinished bytes rest : Bytes) → is_refused audit.stage ≡ true → HasTakenLinesAndRest s g audit unfinished bytes → HasTakenLinesAndRest s g audit unfinished (bytes ++ rest)
 refused-fed s g audit unfinished bytes rest refused fed =
     record {
       taken = record {

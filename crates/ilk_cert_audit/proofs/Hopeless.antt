@@ -8,18 +8,18 @@ use Rattle.std.proofs.lemmas.Fmt.{length-decimal-le}
 use Rattle.std.proofs.lemmas.List.{take-append-le}
 use Rattle.std.proofs.lemmas.Slice.Eq.{bytes_eq-Decides}
 use Rattle.std.proofs.Math.Seq.{take-append_seam}
-use Rattle.ilk_ir.specs.System.{SystemTree}
+use Rattle.ilk_ir.specs.System.{PlainSystem}
 use Rattle.ilk_lines.specs.Lines.{Bytes}
 use Rattle.ilk_lines.specs.Written.{line_of}
 use Rattle.ilk_log.specs.declared.step.Step.{Step}
 use Rattle.ilk_log.specs.StepText.{lit_word, step_text}
 use Rattle.std.specs.Prelude.{map}
-use Rattle.ilk_unroll.specs.Goal.{GoalTree, step_count, wanted_valid}
+use Rattle.ilk_unroll.specs.Goal.{PlainGoal, step_count, step_count_is_allowed}
 use Rattle.ilk_unroll.specs.declared.queries.Wanted.{Wanted}
 use Rattle.ilk_unroll.specs.declared.queries.Wanted.TheVariants.{Hazard, Breach, Step as StepOf}
-use Rattle.ilk_certificate.specs.CertificateText.{query_line}
+use Rattle.ilk_certificate.specs.CertificateText.{query_header_line}
 use Rattle.ilk_cert_audit.specs.Grammar.{safe_line}
-use Rattle.ilk_cert_audit.specs.Stages.{IsNext, begins_no_step, is_hopeless, is_valid_k, is_valid_stage, may_have_query}
+use Rattle.ilk_cert_audit.specs.Stages.{IsNextStage, begins_no_step, is_bad_line_prefix, is_valid_k, is_valid_stage, query_fits_k}
 use Rattle.ilk_cert_audit.specs.declared.stage.Stage.{Stage}
 use Rattle.ilk_cert_audit.specs.declared.stage.Stage.TheVariants.{Head, Told, Between, Within, Ended, Refused}
 
@@ -34,7 +34,7 @@ two-digits n small = length-decimal-le 2 n (omega arith) (omega arith) (omega ar
 safe-short : (k : ℕ) → k ≤ 16 → length (safe_line k) ≤ 32
 safe-short k small = omega (arith, two-digits k small)
 
-query-short : (q : Wanted) → wanted_valid q ≡ true → length (query_line q) ≤ 32
+query-short : (q : Wanted) → step_count_is_allowed q ≡ true → length (query_header_line q) ≤ 32
 query-short (Hazard n) valid = let small : n ≤ 16 = grind (arith, nat_tests) in omega (arith, two-digits n small)
 query-short (Breach n) valid = let small : n ≤ 16 = grind (arith, nat_tests) in omega (arith, two-digits n small)
 query-short (StepOf n) valid = let small : n ≤ 16 = grind (arith, nat_tests) in omega (arith, two-digits n small)
@@ -53,14 +53,14 @@ no-step begun rest s h same =
     let never : false ≡ true = ap not (sym equal) ∙ parts.1 in
     cc
 
-pub hopeless-bad : (s : SystemTree) (g : GoalTree) (stage : Stage) (begun rest : Bytes) → is_valid_stage stage ≡ true → is_hopeless stage begun ≡ true → IsNext s g stage (begun ++ rest) None
+pub hopeless-bad : (s : PlainSystem) (g : PlainGoal) (stage : Stage) (begun rest : Bytes) → is_valid_stage stage ≡ true → is_bad_line_prefix stage begun ≡ true → IsNextStage s g stage (begun ++ rest) None
 hopeless-bad s g Head begun rest staged h may k lines f = too-long begun rest (codes "irv certificate 3") h f.0 (omega arith)
 hopeless-bad s g Told begun rest staged h may k lines f = too-long begun rest (safe_line k) h f.0 (safe-short k f.2)
 hopeless-bad s g (Between m None) begun rest staged h may k lines f = too-long begun rest (codes "end") h f.1.0 (omega arith)
 hopeless-bad s g (Between m (Some q)) begun rest staged h may k lines f =
-    let asked = and_parts (is_valid_k m) (may_have_query m q) staged in
-    let valid = and_parts (nat_le (step_count q) m) (wanted_valid q) asked.1 in
-    too-long begun rest (query_line q) h f.1.0 (query-short q valid.1)
+    let asked = and_parts (is_valid_k m) (query_fits_k m q) staged in
+    let valid = and_parts (nat_le (step_count q) m) (step_count_is_allowed q) asked.1 in
+    too-long begun rest (query_header_line q) h f.1.0 (query-short q valid.1)
 hopeless-bad s g (Within m q auditor) begun rest staged h may k lines f = no-step begun rest f.1.0 h f.1.1
 hopeless-bad s g (Ended m) begun rest staged h may k lines f = let none = f.1 in cc
 hopeless-bad s g (Refused n) begun rest staged h may k lines f = cc

@@ -6,7 +6,7 @@ use Rattle.std.proofs.lemmas.Bool.{and_parts, and_from, lt-ltb}
 use Rattle.std.proofs.lemmas.Option.{slice_get_within}
 use Rattle.ilk_base.specs.Option.{◌>>=◌}
 use Rattle.ilk_base.proofs.Options.{bind_some, some-and}
-use Rattle.ilk_cnf.specs.Literal.{Literal, vars_differ}
+use Rattle.ilk_cnf.specs.Literal.{Literal, has_distinct_vars}
 use Rattle.ilk_cnf.specs.Formula.{is_clause_over}
 use Rattle.ilk_cnf.proofs.Literals.{is_clause_over-more}
 use Rattle.ilk_log.specs.declared.step.Step.{Step as LogStep}
@@ -35,6 +35,6 @@ hints-fit clauses set (h ∷ (k ∷ hints)) few e =
 
 pub derived-numbers : (n : ℕ) (clauses : List (List Literal)) (s : LogStep) → n ≤ 2 ^ 62 → length clauses < 2 ^ 64 → is_derived n clauses s ≡ true → has_writable_numbers s ≡ true
 derived-numbers n clauses s most few d =
-    let p = and_parts (is_clause_over n s.clause && vars_differ s.clause) (hints_end_in_conflict clauses (negated_clause s.clause) s.hints) d in
-    let q = and_parts (is_clause_over n s.clause) (vars_differ s.clause) p.0 in
+    let p = and_parts (is_clause_over n s.clause && has_distinct_vars s.clause) (hints_end_in_conflict clauses (negated_clause s.clause) s.hints) d in
+    let q = and_parts (is_clause_over n s.clause) (has_distinct_vars s.clause) p.0 in
     and_from (is_clause_over (2 ^ 62) s.clause) (list_all fits s.hints) (is_clause_over-more n (2 ^ 62) s.clause most q.0) (hints-fit clauses (negated_clause s.clause) s.hints few p.1)

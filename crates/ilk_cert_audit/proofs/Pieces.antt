@@ -6,7 +6,7 @@ use Rattle.std.proofs.lemmas.Bool.{eqb-true, or_from}
 use Rattle.std.proofs.lemmas.List.{append-nil, drop_more, take-append-drop}
 use Rattle.std.proofs.lemmas.List.Elements.{All-nil, All-cons, All-append}
 use Rattle.std.proofs.lemmas.List.Quantifiers.{position-Some}
-use Rattle.ilk_lines.specs.Lines.{after_lines, Bytes, last_part, lines_of, parts_at, parts_but_last}
+use Rattle.ilk_lines.specs.Lines.{unterminated_tail, Bytes, last_part, lines_of, parts_at, parts_but_last}
 use Rattle.ilk_lines.specs.Written.{has_byte, LacksByte, text_of}
 use Rattle.ilk_lines.proofs.Cuts.{parts-none, parts-some, parts_follow}
 use Rattle.ilk_lines.proofs.Lacking.{lacks_append}
@@ -34,42 +34,43 @@ last-lacks c [] all = refl
 last-lacks c (part ∷ []) all = all zero part (omega arith)
 last-lacks c (part ∷ (next ∷ more)) all = last-lacks c (next ∷ more) (λ k d within. all (suc k) d (omega arith))
 
-pub bytes-added : (bytes more : Bytes) → LacksByte 10 more → (lines_of (bytes ++ more) ≡ lines_of bytes) × (after_lines (bytes ++ more) ≡ after_lines bytes ++ more)
+pub bytes-added : (bytes more : Bytes) → LacksByte 10 more → (lines_of (bytes ++ more) ≡ lines_of bytes) × (unterminated_tail (bytes ++ more) ≡ unterminated_tail bytes ++ more)
 bytes-added bytes more lacks =
-    let whole : bytes ++ more ≡ text_of (lines_of bytes) ++ (after_lines bytes ++ more) = ap (λ (t : Bytes). t ++ more) (text-lines bytes) ∙ append_assoc (text_of (lines_of bytes)) (after_lines bytes) more in
-    let back = lines_then (lines_of bytes) (after_lines bytes ++ more) (but-last-lack 10 (parts_at 10 bytes) (parts-lack 10 bytes)) (lacks_append 10 (after_lines bytes) more (last-lacks 10 (parts_at 10 bytes) (parts-lack 10 bytes)) lacks) in
-    (ap lines_of whole ∙ back.0, ap after_lines whole ∙ back.1)
+    let whole : bytes ++ more ≡ text_of (lines_of bytes) ++ (unterminated_tail bytes ++ more) = ap (λ (t : Bytes). t ++ more) (text-lines bytes) ∙ append_assoc (text_of (lines_of bytes)) (unterminated_tail bytes) more in
+    let back = lines_then (lines_of bytes) (unterminated_tail bytes ++ more) (but-last-lack 10 (parts_at 10 bytes) (parts-lack 10 bytes))
+    (lacks_append 10 (unterminated_tail bytes) more (last-lacks 10 (parts_at 10 bytes) (parts-lack 10 bytes)) lacks) in
+    (ap lines_of whole ∙ back.0, ap unterminated_tail whole ∙ back.1)
 
-pub line-added : (bytes more : Bytes) → LacksByte 10 more → (lines_of (bytes ++ (more ++ 10 ∷ [])) ≡ lines_of bytes ++ (after_lines bytes ++ more) ∷ []) × (after_lines (bytes ++ (more ++ 10 ∷ [])) ≡ [])
+pub line-added : (bytes more : Bytes) → LacksByte 10 more → (lines_of (bytes ++ (more ++ 10 ∷ [])) ≡ lines_of bytes ++ (unterminated_tail bytes ++ more) ∷ []) × (unterminated_tail (bytes ++ (more ++ 10 ∷ [])) ≡ [])
 line-added bytes more lacks =
     let ls = lines_of bytes in
-    let line = after_lines bytes ++ more in
+    let line = unterminated_tail bytes ++ more in
     let text : text_of (ls ++ line ∷ []) ≡ text_of ls ++ (line ++ 10 ∷ []) = text_of-append ls (line ∷ []) ∙ ap (λ (t : Bytes). text_of ls ++ t) (append-nil (line ++ 10 ∷ [])) in
     let whole : bytes ++ (more ++ 10 ∷ []) ≡ text_of (ls ++ line ∷ []) ++ [] = ap (λ (t : Bytes). t ++ (more ++ 10 ∷ [])) (text-lines bytes)
-    ∙ append_assoc (text_of ls) (after_lines bytes) (more ++ 10 ∷ [])
-    ∙ ap (λ (t : Bytes). text_of ls ++ t) (sym (append_assoc (after_lines bytes) more (10 ∷ [])))
+    ∙ append_assoc (text_of ls) (unterminated_tail bytes) (more ++ 10 ∷ [])
+    ∙ ap (λ (t : Bytes). text_of ls ++ t) (sym (append_assoc (unterminated_tail bytes) more (10 ∷ [])))
     ∙ sym text
     ∙ sym (append-nil (text_of (ls ++ line ∷ []))) in
     let plain = All-append (LacksByte 10) ls (line ∷ [])
     (but-last-lack 10 (parts_at 10 bytes) (parts-lack 10 bytes))
     (All-cons (LacksByte 10) line []
-    (lacks_append 10 (after_lines bytes) more
+    (lacks_append 10 (unterminated_tail bytes) more
     (last-lacks 10 (parts_at 10 bytes) (parts-lack 10 bytes)) lacks)
     (All-nil (LacksByte 10))) in
     let back = lines_then (ls ++ line ∷ []) [] plain refl in
-    (ap lines_of whole ∙ back.0, ap after_lines whole ∙ back.1)
+    (ap lines_of whole ∙ back.0, ap unterminated_tail whole ∙ back.1)
 
 pub lines-more : (bytes more : Bytes) → (others : List Bytes) × (lines_of (bytes ++ more) ≡ lines_of bytes ++ others)
 lines-more bytes more =
     let ls = lines_of bytes in
-    let rest = after_lines bytes ++ more in
-    let whole : bytes ++ more ≡ text_of (ls ++ lines_of rest) ++ after_lines rest = ap (λ (t : Bytes). t ++ more) (text-lines bytes)
-    ∙ append_assoc (text_of ls) (after_lines bytes) more
+    let rest = unterminated_tail bytes ++ more in
+    let whole : bytes ++ more ≡ text_of (ls ++ lines_of rest) ++ unterminated_tail rest = ap (λ (t : Bytes). t ++ more) (text-lines bytes)
+    ∙ append_assoc (text_of ls) (unterminated_tail bytes) more
     ∙ ap (λ (t : Bytes). text_of ls ++ t) (text-lines rest)
-    ∙ sym (append_assoc (text_of ls) (text_of (lines_of rest)) (after_lines rest))
-    ∙ ap (λ (t : Bytes). t ++ after_lines rest) (sym (text_of-append ls (lines_of rest))) in
+    ∙ sym (append_assoc (text_of ls) (text_of (lines_of rest)) (unterminated_tail rest))
+    ∙ ap (λ (t : Bytes). t ++ unterminated_tail rest) (sym (text_of-append ls (lines_of rest))) in
     let plain = All-append (LacksByte 10) ls (lines_of rest) (but-last-lack 10 (parts_at 10 bytes) (parts-lack 10 bytes)) (but-last-lack 10 (parts_at 10 rest) (parts-lack 10 rest)) in
-    let back = lines_then (ls ++ lines_of rest) (after_lines rest) plain (last-lacks 10 (parts_at 10 rest) (parts-lack 10 rest)) in
+    let back = lines_then (ls ++ lines_of rest) (unterminated_tail rest) plain (last-lacks 10 (parts_at 10 rest) (parts-lack 10 rest)) in
     (lines_of rest, ap lines_of whole ∙ back.0)
 
 pub feed_lacks : (text : Bytes) (i : ℕ) → position (λ b. b == 10) text ≡ Some i → LacksByte 10 (take i text)

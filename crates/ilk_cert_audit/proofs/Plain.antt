@@ -7,13 +7,13 @@ use Rattle.std.proofs.lemmas.Bool.Decides.{nat_tests}
 use Rattle.std.proofs.lemmas.List.Elements.{All-nil, All-cons, All-append}
 use Rattle.ilk_cnf.specs.Literal.{Literal}
 use Rattle.ilk_lines.specs.Lines.{Bytes}
-use Rattle.ilk_lines.specs.Written.{has_byte, LacksByte, line_of, word_and_rest}
+use Rattle.ilk_lines.specs.Written.{has_byte, LacksByte, line_of, join_word_and_rest}
 use Rattle.ilk_lines.proofs.Lacking.{lacks_spaced}
 use Rattle.ilk_log.specs.declared.step.Step.{Step as LogStep}
 use Rattle.ilk_log.specs.StepText.{lit_word, step_text, step_words}
 use Rattle.ilk_unroll.specs.declared.queries.Wanted.{Wanted}
 use Rattle.ilk_unroll.specs.declared.queries.Wanted.TheVariants.{Hazard, Breach, Step}
-use Rattle.ilk_certificate.specs.CertificateText.{asked_lines, certificate_lines, query_line}
+use Rattle.ilk_certificate.specs.CertificateText.{query_and_log_lines, certificate_lines, query_header_line}
 use Rattle.ilk_certificate.specs.declared.asked.Asked.{Asked}
 use Rattle.ilk_cert_audit.specs.Grammar.{safe_line}
 
@@ -66,21 +66,21 @@ step-plain s = line-plain (step_words s)
 safe-plain : (k : ℕ) → LacksByte 10 (safe_line k)
 safe-plain k = lacks_spaced (codes "safe") (decimal k) refl (decimal-plain k)
 
-query-plain : (q : Wanted) → LacksByte 10 (query_line q)
-query-plain (Hazard n) = lacks_spaced (codes "query") (word_and_rest (codes "hazard") (decimal n)) refl (lacks_spaced (codes "hazard") (decimal n) refl (decimal-plain n))
-query-plain (Breach n) = lacks_spaced (codes "query") (word_and_rest (codes "breach") (decimal n)) refl (lacks_spaced (codes "breach") (decimal n) refl (decimal-plain n))
-query-plain (Step n) = lacks_spaced (codes "query") (word_and_rest (codes "step") (decimal n)) refl (lacks_spaced (codes "step") (decimal n) refl (decimal-plain n))
+query-plain : (q : Wanted) → LacksByte 10 (query_header_line q)
+query-plain (Hazard n) = lacks_spaced (codes "query") (join_word_and_rest (codes "hazard") (decimal n)) refl (lacks_spaced (codes "hazard") (decimal n) refl (decimal-plain n))
+query-plain (Breach n) = lacks_spaced (codes "query") (join_word_and_rest (codes "breach") (decimal n)) refl (lacks_spaced (codes "breach") (decimal n) refl (decimal-plain n))
+query-plain (Step n) = lacks_spaced (codes "query") (join_word_and_rest (codes "step") (decimal n)) refl (lacks_spaced (codes "step") (decimal n) refl (decimal-plain n))
 
 steps-plain : (log : List LogStep) → All (LacksByte 10) (map step_text log)
 steps-plain [] = All-nil (LacksByte 10)
 steps-plain (s ∷ log) = All-cons (LacksByte 10) (step_text s) (map step_text log) (step-plain s) (steps-plain log)
 
-asked-plain : (asked : List Asked) → All (LacksByte 10) (flat_map asked_lines asked)
+asked-plain : (asked : List Asked) → All (LacksByte 10) (flat_map query_and_log_lines asked)
 asked-plain [] = All-nil (LacksByte 10)
-asked-plain (a ∷ asked) = All-append (LacksByte 10) (asked_lines a) (flat_map asked_lines asked) (All-cons (LacksByte 10) (query_line a.query) (map step_text a.log) (query-plain a.query) (steps-plain a.log)) (asked-plain asked)
+asked-plain (a ∷ asked) = All-append (LacksByte 10) (query_and_log_lines a) (flat_map query_and_log_lines asked) (All-cons (LacksByte 10) (query_header_line a.query) (map step_text a.log) (query-plain a.query) (steps-plain a.log)) (asked-plain asked)
 
 pub certificate-plain : (k : ℕ) (asked : List Asked) → All (LacksByte 10) (certificate_lines (safe_line k) asked)
 certificate-plain k asked =
-    let last : List Bytes = flat_map asked_lines asked ++ codes "end" ∷ [] in
-    let plain = All-append (LacksByte 10) (flat_map asked_lines asked) (codes "end" ∷ []) (asked-plain asked) (All-cons (LacksByte 10) (codes "end") [] refl (All-nil (LacksByte 10))) in
+    let last : List Bytes = flat_map query_and_log_lines asked ++ codes "end" ∷ [] in
+    let plain = All-append (LacksByte 10) (flat_map query_and_log_lines asked) (codes "end" ∷ []) (asked-plain asked) (All-cons (LacksByte 10) (codes "end") [] refl (All-nil (LacksByte 10))) in
     All-cons (LacksByte 10) (codes "irv certificate 3") (safe_line k ∷ last) refl (All-cons (LacksByte 10) (safe_line k) last (safe-plain k) plain)

@@ -6,19 +6,19 @@ use Rattle.std.specs.Fmt.{decimal}
 use Rattle.std.proofs.lemmas.Bool.{and_parts, leb-true, ltb-true}
 use Rattle.std.proofs.lemmas.List.{append_cancel_left}
 use Rattle.std.proofs.lemmas.Option.{same_Some}
-use Rattle.ilk_ir.specs.System.{SystemTree}
+use Rattle.ilk_ir.specs.System.{PlainSystem}
 use Rattle.ilk_lines.specs.Decimal.{decimal_up_to}
 use Rattle.ilk_lines.specs.Lines.{Bytes}
 use Rattle.ilk_lines.proofs.Decimals.{decimal_back}
 use Rattle.ilk_log.specs.declared.step.Step.{Step as LogStep}
-use Rattle.ilk_log.specs.Derived.{is_empty}
+use Rattle.ilk_log.specs.Derived.{is_empty_clause}
 use Rattle.ilk_unroll.specs.declared.queries.Wanted.{Wanted}
 use Rattle.ilk_unroll.specs.declared.queries.Wanted.TheVariants as wanted
-use Rattle.ilk_unroll.specs.Goal.{GoalTree}
+use Rattle.ilk_unroll.specs.Goal.{PlainGoal}
 use Rattle.ilk_audit.specs.Audited.{AuditState}
 use Rattle.ilk_certificate.specs.Certificate.{base_queries, certified_queries}
-use Rattle.ilk_cert_audit.specs.Grammar.{IfElse, QueryLines, safe_line, StepLines, ToldLines}
-use Rattle.ilk_cert_audit.specs.Stages.{IsLineOfKind, is_valid_k, IsNext, queries_after, queries_from}
+use Rattle.ilk_cert_audit.specs.Grammar.{IfElse, QueryLines, safe_line, StepLines, LinesAfterHeader}
+use Rattle.ilk_cert_audit.specs.Stages.{IsStepLineOfKind, is_valid_k, IsNextStage, queries_after, queries_from}
 use Rattle.ilk_cert_audit.specs.declared.next.Line.TheVariants.{Bad, Closes, Follows}
 use Rattle.ilk_cert_audit.specs.declared.stage.Stage.TheVariants.{Told, Between, Within, Ended}
 
@@ -37,29 +37,29 @@ certified-first k =
     ap (λ (ns : List ℕ). flat_map base_queries ns ++ wanted.Step k ∷ []) more
     ∙ ap (λ n. wanted.Hazard 0 ∷ (wanted.Breach 0 ∷ (flat_map base_queries (range_with_len 1 n) ++ wanted.Step k ∷ []))) (sym rest)
 
-pub next-told : (s : SystemTree) (g : GoalTree) (line : Bytes) (m : ℕ) → line ≡ safe_line m → is_valid_k m ≡ true → IsNext s g Told line (Some (Between m (Some (wanted.Hazard 0))))
+pub next-told : (s : PlainSystem) (g : PlainGoal) (line : Bytes) (m : ℕ) → line ≡ safe_line m → is_valid_k m ≡ true → IsNextStage s g Told line (Some (Between m (Some (wanted.Hazard 0))))
 next-told s g line m e num may k lines =
     let p = number-parts m num in
     let Q : List Wanted → Type 0 = λ qs. QueryLines may s g qs lines in (
       λ h. (let same = safe-same k m h.2 p.1 (sym h.0 ∙ e) in
           let K : ℕ → Type 0 = λ n. QueryLines may s g (certified_queries n) lines in
           (same, subst Q (certified-first m) (subst K same h.3))),
-      λ h. (let K : ℕ → Type 0 = λ n. ToldLines may s g n (line ∷ lines) in
+      λ h. (let K : ℕ → Type 0 = λ n. LinesAfterHeader may s g n (line ∷ lines) in
           subst K (sym h.0) (e, p.0, p.1, subst Q (sym (certified-first m)) h.1)),
     )
 
-pub next-end : (s : SystemTree) (g : GoalTree) (m : ℕ) (line : Bytes) → line ≡ codes "end" → IsNext s g (Between m None) line (Some (Ended m))
+pub next-end : (s : PlainSystem) (g : PlainGoal) (m : ℕ) (line : Bytes) → line ≡ codes "end" → IsNextStage s g (Between m None) line (Some (Ended m))
 next-end s g m line e may k lines = ((λ h. (h.0, h.1.1)), (λ h. (h.0, (e, h.1))))
 
-pub bad-step : (s : SystemTree) (g : GoalTree) (m : ℕ) (q : Wanted) (a new : AuditState) (line : Bytes) → IsLineOfKind line a new Bad → IsNext s g (Within m q a) line None
+pub bad-step : (s : PlainSystem) (g : PlainGoal) (m : ℕ) (q : Wanted) (a new : AuditState) (line : Bytes) → IsStepLineOfKind line a new Bad → IsNextStage s g (Within m q a) line None
 bad-step s g m q a new line bad may k lines h = bad h.1.0 h.1.1 h.1.2
 
-pub next-good : (s : SystemTree) (g : GoalTree) (m : ℕ) (q : Wanted) (a new : AuditState) (line : Bytes) → IsLineOfKind line a new Follows → IsNext s g (Within m q a) line (Some (Within m q new))
+pub next-good : (s : PlainSystem) (g : PlainGoal) (m : ℕ) (q : Wanted) (a new : AuditState) (line : Bytes) → IsStepLineOfKind line a new Follows → IsNextStage s g (Within m q a) line (Some (Within m q new))
 next-good s g m q a new line taken may k lines =
     let f = taken.0 in
     let t = f.step in
     let After : List Bytes → Type 0 = QueryLines may s g (queries_after m q) in
-    let Rest : LogStep → Type 0 = λ u. IfElse (is_empty u.clause) (After lines) (StepLines may a.vars (a.clauses ++ u.clause ∷ []) After lines) in
+    let Rest : LogStep → Type 0 = λ u. IfElse (is_empty_clause u.clause) (After lines) (StepLines may a.vars (a.clauses ++ u.clause ∷ []) After lines) in
     let B : Bool → Type 0 = λ b. IfElse b (After lines) (StepLines may a.vars (a.clauses ++ t.clause ∷ []) After lines) in
     let A : AuditState → Type 0 = λ x. StepLines may x.vars x.clauses After lines in (
       λ h. (let same = f.only h.1.0 h.1.1 h.1.2 in (h.0, subst A (sym f.after) (subst B taken.1 (subst Rest (sym same) h.1.3)))),
@@ -67,15 +67,15 @@ next-good s g m q a new line taken may k lines =
     )
 
 pub next-closed :
-    (s : SystemTree) (g : GoalTree) (m : ℕ) (q : Wanted) (next : Option Wanted) (a new : AuditState)
+    (s : PlainSystem) (g : PlainGoal) (m : ℕ) (q : Wanted) (next : Option Wanted) (a new : AuditState)
     (line : Bytes) →
-    IsLineOfKind line a new Closes → queries_from m next ≡ queries_after m q →
-    IsNext s g (Within m q a) line (Some (Between m next))
+    IsStepLineOfKind line a new Closes → queries_from m next ≡ queries_after m q →
+    IsNextStage s g (Within m q a) line (Some (Between m next))
 next-closed s g m q next a new line taken left may k lines =
     let f = taken.0 in
     let t = f.step in
     let After : List Bytes → Type 0 = QueryLines may s g (queries_after m q) in
-    let Rest : LogStep → Type 0 = λ u. IfElse (is_empty u.clause) (After lines) (StepLines may a.vars (a.clauses ++ u.clause ∷ []) After lines) in
+    let Rest : LogStep → Type 0 = λ u. IfElse (is_empty_clause u.clause) (After lines) (StepLines may a.vars (a.clauses ++ u.clause ∷ []) After lines) in
     let B : Bool → Type 0 = λ b. IfElse b (After lines) (StepLines may a.vars (a.clauses ++ t.clause ∷ []) After lines) in
     let Q : List Wanted → Type 0 = λ qs. QueryLines may s g qs lines in (
       λ h. (let same = f.only h.1.0 h.1.1 h.1.2 in (h.0, subst Q (sym left) (subst B taken.1 (subst Rest (sym same) h.1.3)))),

@@ -3,17 +3,17 @@
 use Rattle.std.specs.Prelude.{ℕ, Bool, true, false, ◌≡◌, ◌<◌, ◌≤◌, List, [], ◌∷◌, ◌++◌, codes, IsTrue}
 use Rattle.std.specs.Fmt.{decimal}
 use Rattle.ilk_cnf.specs.Literal.{Literal}
-use Rattle.ilk_ir.specs.System.{SystemTree}
+use Rattle.ilk_ir.specs.System.{PlainSystem}
 use Rattle.ilk_lines.specs.Lines.{Bytes}
 use Rattle.ilk_lines.specs.Written.{line_of}
 use Rattle.ilk_log.specs.declared.step.Step.{Step as LogStep}
-use Rattle.ilk_log.specs.Derived.{is_derived, is_empty}
+use Rattle.ilk_log.specs.Derived.{is_derived, is_empty_clause}
 use Rattle.ilk_log.specs.StepText.{step_text}
 use Rattle.ilk_unroll.specs.declared.queries.Wanted.{Wanted}
-use Rattle.ilk_unroll.specs.Goal.{GoalTree}
+use Rattle.ilk_unroll.specs.Goal.{PlainGoal}
 use Rattle.ilk_unroll.specs.Query.{query_formula}
 use Rattle.ilk_certificate.specs.Certificate.{certified_queries}
-use Rattle.ilk_certificate.specs.CertificateText.{query_line}
+use Rattle.ilk_certificate.specs.CertificateText.{query_header_line}
 
 -- The first if the test passes, otherwise the second.
 abbrev pub IfElse : Bool → Type 0 → Type 0 → Type 0
@@ -25,27 +25,27 @@ IfElse false A B = B
 abbrev pub StepLines : Bool → ℕ → List (List Literal) → (List Bytes → Type 0) → List Bytes → Type 0
 StepLines may_stop n clauses After [] = IsTrue may_stop
 StepLines may_stop n clauses After (line ∷ lines) =
-    (s : LogStep) × (line ≡ step_text s) × IsTrue (is_derived n clauses s) × IfElse (is_empty s.clause) (After lines) (StepLines may_stop n (clauses ++ s.clause ∷ []) After lines)
+    (s : LogStep) × (line ≡ step_text s) × IsTrue (is_derived n clauses s) × IfElse (is_empty_clause s.clause) (After lines) (StepLines may_stop n (clauses ++ s.clause ∷ []) After lines)
 
 -- The lines of these queries, for each its own and those of its steps over its formula, then the
 -- line `end`.
-abbrev pub QueryLines : Bool → SystemTree → GoalTree → List Wanted → List Bytes → Type 0
+abbrev pub QueryLines : Bool → PlainSystem → PlainGoal → List Wanted → List Bytes → Type 0
 QueryLines may_stop s g [] [] = IsTrue may_stop
 QueryLines may_stop s g [] (line ∷ lines) = (line ≡ codes "end") × (lines ≡ [])
 QueryLines may_stop s g (q ∷ qs) [] = IsTrue may_stop
 QueryLines may_stop s g (q ∷ qs) (line ∷ lines) =
-    (line ≡ query_line q) × StepLines may_stop (query_formula s g q).vars (query_formula s g q).clauses (QueryLines may_stop s g qs) lines
+    (line ≡ query_header_line q) × StepLines may_stop (query_formula s g q).vars (query_formula s g q).clauses (QueryLines may_stop s g qs) lines
 
 -- The line that states that a system is safe at `k`.
 abbrev pub safe_line : ℕ → Bytes
 safe_line k = line_of (codes "safe" ∷ decimal k ∷ [])
 
 -- The lines after the header: the one that states `k`, from 1 to 16, and those of the queries.
-abbrev pub ToldLines : Bool → SystemTree → GoalTree → ℕ → List Bytes → Type 0
-ToldLines may_stop s g k [] = IsTrue may_stop
-ToldLines may_stop s g k (line ∷ lines) = (line ≡ safe_line k) × (0 < k) × (k ≤ 16) × QueryLines may_stop s g (certified_queries k) lines
+abbrev pub LinesAfterHeader : Bool → PlainSystem → PlainGoal → ℕ → List Bytes → Type 0
+LinesAfterHeader may_stop s g k [] = IsTrue may_stop
+LinesAfterHeader may_stop s g k (line ∷ lines) = (line ≡ safe_line k) × (0 < k) × (k ≤ 16) × QueryLines may_stop s g (certified_queries k) lines
 
 -- The lines of a certificate for `k`.
-abbrev pub CertificateLines : Bool → SystemTree → GoalTree → ℕ → List Bytes → Type 0
+abbrev pub CertificateLines : Bool → PlainSystem → PlainGoal → ℕ → List Bytes → Type 0
 CertificateLines may_stop s g k [] = IsTrue may_stop
-CertificateLines may_stop s g k (line ∷ lines) = (line ≡ codes "irv certificate 3") × ToldLines may_stop s g k lines
+CertificateLines may_stop s g k (line ∷ lines) = (line ≡ codes "irv certificate 3") × LinesAfterHeader may_stop s g k lines

@@ -9,7 +9,7 @@ use std::alloc::{AllocError, Global};
 
 /// An audit of a certificate of a system and a goal, fed in pieces.
 #[derive(Drop)]
-pub struct CertificateAudit {
+pub struct SystemCertAudit {
     lines: LineAudit,
     // The bytes after the last line feed; only the first ones if the line is bad whatever follows.
     unfinished: Vec<u8>,
@@ -34,22 +34,22 @@ fn cut_line(text: &[u8]) -> Option<(&[u8], &[u8])>
     }
 }
 
-impl CertificateAudit {
+impl SystemCertAudit {
     ghost use Rattle.std.specs.Prelude.{ℕ, List, ◌++◌, ◌∷◌, [], IfOk, OnOk, IsTrue};
-    ghost use Rattle.ilk_ir.specs.System.{SystemTree, system_tree, system_valid};
+    ghost use Rattle.ilk_ir.specs.System.{PlainSystem, plain_system, system_valid};
     ghost use Rattle.ilk_lines.specs.Written.{LacksByte};
-    ghost use Rattle.ilk_unroll.specs.Goal.{GoalTree, goal_tree, goal_valid};
-    ghost use Rattle.ilk_cert_audit.specs.Answers.{EndsAs, FedAs};
+    ghost use Rattle.ilk_unroll.specs.Goal.{PlainGoal, plain_goal, goal_valid};
+    ghost use Rattle.ilk_cert_audit.specs.Answers.{IsFinalAnswer, IsAnswerAfterBytes};
     ghost use Rattle.ilk_cert_audit.specs.Fed.{HasTakenBytes};
 
     /// Creates an audit without input. The system has to be valid, and the goal's forms valid over
     /// its ranges.
-    pub fn new(alloc: Global, system: System, goal: Goal) -> CertificateAudit
-        requires system { IsTrue (system_valid (system_tree system)) }
-        requires goal { IsTrue (goal_valid system.ranges (goal_tree goal)) }
-        ensures { HasTakenBytes (system_tree system) (goal_tree goal) result [] }
+    pub fn new(alloc: Global, system: System, goal: Goal) -> SystemCertAudit
+        requires system { IsTrue (system_valid (plain_system system)) }
+        requires goal { IsTrue (goal_valid system.ranges (plain_goal goal)) }
+        ensures { HasTakenBytes (plain_system system) (plain_goal goal) result [] }
     {
-        CertificateAudit {
+        SystemCertAudit {
             lines: LineAudit::new(alloc, system, goal),
             unfinished: Vec::new(alloc),
         }
@@ -59,13 +59,13 @@ impl CertificateAudit {
     fn end_line(&mut self, rest: &[u8]) -> Result<(), AllocError>
         requires { LacksByte 10 rest.now }
         ensures { OnOk result
-            ((s : SystemTree) (g : GoalTree) (bytes : List ℕ) → HasTakenBytes s g self.old bytes →
+            ((s : PlainSystem) (g : PlainGoal) (bytes : List ℕ) → HasTakenBytes s g self.old bytes →
             HasTakenBytes s g self.new (bytes ++ (rest.now ++ 10 ∷ []))) }
     {
         if self.lines.is_refused() {
             return Ok(());
         }
-        if self.lines.is_hopeless(self.unfinished.as_slice()) {
+        if self.lines.is_bad_line_prefix(self.unfinished.as_slice()) {
             self.lines.refuse();
             return Ok(());
         }
@@ -83,13 +83,13 @@ impl CertificateAudit {
     fn keep(&mut self, rest: &[u8]) -> Result<(), AllocError>
         requires { LacksByte 10 rest.now }
         ensures { OnOk result
-            ((s : SystemTree) (g : GoalTree) (bytes : List ℕ) → HasTakenBytes s g self.old bytes →
+            ((s : PlainSystem) (g : PlainGoal) (bytes : List ℕ) → HasTakenBytes s g self.old bytes →
             HasTakenBytes s g self.new (bytes ++ rest.now)) }
     {
         if self.lines.is_refused() {
             return Ok(());
         }
-        if self.lines.is_hopeless(self.unfinished.as_slice()) {
+        if self.lines.is_bad_line_prefix(self.unfinished.as_slice()) {
             return Ok(());
         }
         self.unfinished.extend_from_slice(rest)?;
@@ -98,7 +98,7 @@ impl CertificateAudit {
 
     fn split(&mut self, piece: &[u8]) -> Result<(), AllocError>
         ensures { OnOk result
-            ((s : SystemTree) (g : GoalTree) (bytes : List ℕ) → HasTakenBytes s g self.old bytes →
+            ((s : PlainSystem) (g : PlainGoal) (bytes : List ℕ) → HasTakenBytes s g self.old bytes →
             HasTakenBytes s g self.new (bytes ++ piece.now)) }
     {
         let mut left = piece;
@@ -113,20 +113,21 @@ impl CertificateAudit {
     /// how the bytes are divided. If memory runs out, the audit is unusable; its owner drops it.
     pub fn feed(&mut self, piece: &[u8]) -> Result<Fed, AllocError>
         ensures fed { OnOk result
-            ((s : SystemTree) (g : GoalTree) (bytes : List ℕ) → HasTakenBytes s g self.old bytes →
+            ((s : PlainSystem) (g : PlainGoal) (bytes : List ℕ) → HasTakenBytes s g self.old bytes →
             HasTakenBytes s g self.new (bytes ++ piece.now)) }
         ensures answer { IfOk result
-            (λ fed. (s : SystemTree) (g : GoalTree) (bytes : List ℕ) →
-            HasTakenBytes s g self.old bytes → FedAs s g (bytes ++ piece.now) fed) }
+            (λ fed. (s : PlainSystem) (g : PlainGoal) (bytes : List ℕ) →
+            HasTakenBytes s g self.old bytes → IsAnswerAfterBytes s g (bytes ++ piece.now) fed) }
     {
         self.split(piece)?;
-        Ok(self.lines.feed_answer())
+        Ok(self.lines.answer_so_far())
     }
 
     /// Returns whether the bytes are a certificate.
     pub fn end(self) -> Ended
-        ensures { (s : SystemTree) (g : GoalTree) (bytes : List ℕ) → HasTakenBytes s g self bytes →
-            EndsAs s g bytes result }
+        ensures { (s : PlainSystem) (g : PlainGoal) (bytes : List ℕ) →
+            HasTakenBytes s g self bytes →
+            IsFinalAnswer s g bytes result }
     {
         self.lines.end(self.unfinished.is_empty())
     }

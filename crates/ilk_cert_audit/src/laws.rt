@@ -1,21 +1,21 @@
 ghost use Rattle.std.specs.Prelude.{ℕ, ◌≡◌, ◌<◌, ◌^◌, length};
-ghost use Rattle.ilk_ir.specs.System.{SystemTree};
+ghost use Rattle.ilk_ir.specs.System.{PlainSystem};
 ghost use Rattle.ilk_lines.specs.Lines.{Bytes};
-ghost use Rattle.ilk_unroll.specs.Goal.{GoalTree};
+ghost use Rattle.ilk_unroll.specs.Goal.{PlainGoal};
 ghost use Rattle.ilk_certificate.specs.Certificate.{IsCertificate};
-ghost use Rattle.ilk_cert_audit.specs.Answers.{EndsAs};
+ghost use Rattle.ilk_cert_audit.specs.Answers.{IsFinalAnswer};
 ghost use Rattle.ilk_cert_audit.specs.FirstBad.{IsFirstBadOfText};
 ghost use Rattle.ilk_cert_audit.specs.declared.answers.Ended.TheVariants.{Rejected};
 
 /// Bytes are a certificate for at most one number. Proof only; no run-time effect.
 pub fn certificate_is_for_one_k()
-    ensures { (s : SystemTree) (g : GoalTree) (k m : ℕ) (bytes : Bytes) →
+    ensures { (s : PlainSystem) (g : PlainGoal) (k m : ℕ) (bytes : Bytes) →
         IsCertificate s g k bytes → IsCertificate s g m bytes → k ≡ m }
 {}
 
 /// If a text has fewer than 2^63 bytes, its line numbers fit into 64 bits, so a rejection names the
 /// first bad line. Proof only; no run-time effect.
 pub fn line_numbers_fit()
-    ensures { (s : SystemTree) (g : GoalTree) (bytes : Bytes) (n : ℕ) → length bytes < 2 ^ 63 →
-        EndsAs s g bytes (Rejected n) → IsFirstBadOfText s g bytes n }
+    ensures { (s : PlainSystem) (g : PlainGoal) (bytes : Bytes) (n : ℕ) → length bytes < 2 ^ 63 →
+        IsFinalAnswer s g bytes (Rejected n) → IsFirstBadOfText s g bytes n }
 {}

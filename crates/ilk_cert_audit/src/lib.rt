@@ -2,7 +2,7 @@
 //! a goal. An assessor relies on it and on no search.
 //!
 //! `ilk_certificate` defines a certificate, `specs/Grammar` its lines, and `specs/FirstBad` the
-//! first bad line of other bytes. A `CertificateAudit` takes the bytes in pieces of any length
+//! first bad line of other bytes. A `SystemCertAudit` takes the bytes in pieces of any length
 //! (`feed`) and gives its answer at the end (`end`), which depends only on the bytes. It keeps the
 //! unfinished line, or only its first bytes if it is too long for its position or, among steps,
 //! does not begin as a step. It also keeps the clauses of the current query until that is refuted.
@@ -20,5 +20,5 @@ mod queries;
 mod stage;
 
 pub use answers::{Ended, Fed};
-pub use audit::CertificateAudit;
+pub use audit::SystemCertAudit;
 pub use laws::{certificate_is_for_one_k, line_numbers_fit};

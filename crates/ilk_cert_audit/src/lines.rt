@@ -1,11 +1,11 @@
 ghost use Rattle.std.specs.Prelude.{◌≡◌, IsTrue, ◌||◌};
-ghost use Rattle.ilk_ir.specs.System.{system_tree, system_valid};
-ghost use Rattle.ilk_unroll.specs.Goal.{goal_tree, goal_valid};
+ghost use Rattle.ilk_ir.specs.System.{plain_system, system_valid};
+ghost use Rattle.ilk_unroll.specs.Goal.{plain_goal, goal_valid};
 ghost use Rattle.ilk_cert_audit.specs.Stages.{begins_no_step, is_refused, is_valid_stage};
 
 use crate::answers::{Ended, Fed};
 use crate::next::next_stage;
-use crate::stage::{MAX_PLAIN_LINE, Stage};
+use crate::stage::{MAX_NON_STEP_LINE, Stage};
 use ilk_ir::System;
 use ilk_log::StepLine;
 use ilk_unroll::Goal;
@@ -32,25 +32,25 @@ pub struct LineAudit {
     line: u64,
     // The step of the current line.
     step: StepLine,
-    ghost system_valid: { IsTrue (system_valid (system_tree system)) },
-    ghost goal_valid: { IsTrue (goal_valid system.ranges (goal_tree goal)) },
+    ghost system_valid: { IsTrue (system_valid (plain_system system)) },
+    ghost goal_valid: { IsTrue (goal_valid system.ranges (plain_goal goal)) },
     ghost staged: { IsTrue (is_refused stage || is_valid_stage stage) },
 }
 
 impl LineAudit {
     ghost use Rattle.std.specs.Prelude.{ℕ, List, ◌↔◌, ◌++◌, ◌∷◌, [], true, false, None, OnOk};
-    ghost use Rattle.ilk_ir.specs.System.{SystemTree};
-    ghost use Rattle.ilk_lines.specs.Lines.{Bytes, after_lines, lines_of};
-    ghost use Rattle.ilk_unroll.specs.Goal.{GoalTree};
-    ghost use Rattle.ilk_cert_audit.specs.Answers.{EndsAs, ReportsFirstBad};
+    ghost use Rattle.ilk_ir.specs.System.{PlainSystem};
+    ghost use Rattle.ilk_lines.specs.Lines.{Bytes, unterminated_tail, lines_of};
+    ghost use Rattle.ilk_unroll.specs.Goal.{PlainGoal};
+    ghost use Rattle.ilk_cert_audit.specs.Answers.{IsFinalAnswer, ReportsFirstBad};
     ghost use Rattle.ilk_cert_audit.specs.Fed.{HasTakenLines};
-    ghost use Rattle.ilk_cert_audit.specs.Stages.{IsNext, is_hopeless};
+    ghost use Rattle.ilk_cert_audit.specs.Stages.{IsNextStage, is_bad_line_prefix};
 
     /// Creates an audit without input.
     pub fn new(alloc: Global, system: System, goal: Goal) -> LineAudit
-        requires system { IsTrue (system_valid (system_tree system)) }
-        requires goal { IsTrue (goal_valid system.ranges (goal_tree goal)) }
-        ensures { HasTakenLines (system_tree system) (goal_tree goal) result [] }
+        requires system { IsTrue (system_valid (plain_system system)) }
+        requires goal { IsTrue (goal_valid system.ranges (plain_goal goal)) }
+        ensures { HasTakenLines (plain_system system) (plain_goal goal) result [] }
     {
         LineAudit {
             system,
@@ -70,20 +70,20 @@ impl LineAudit {
 
     /// Returns whether the next line is bad whatever follows, if it begins so. No more of it has to
     /// be kept then.
-    pub fn is_hopeless(&self, begun: &[u8]) -> bool
-        ensures { result ≡ is_hopeless self.now.stage begun.now }
+    pub fn is_bad_line_prefix(&self, begun: &[u8]) -> bool
+        ensures { result ≡ is_bad_line_prefix self.now.stage begun.now }
     {
         match self.stage {
             Stage::Within { .. } => begins_no_step(begun),
-            _ => begun.len() > MAX_PLAIN_LINE,
+            _ => begun.len() > MAX_NON_STEP_LINE,
         }
     }
 
     /// Refuses the next line, which is bad whatever its last bytes are.
     pub fn refuse(&mut self)
-        ensures bad { (s : SystemTree) (g : GoalTree) (lines : List Bytes) (line : Bytes)
+        ensures bad { (s : PlainSystem) (g : PlainGoal) (lines : List Bytes) (line : Bytes)
             → HasTakenLines s g self.old lines → is_refused self.old.stage ≡ false
-            → IsNext s g self.old.stage line None
+            → IsNextStage s g self.old.stage line None
             → HasTakenLines s g self.new (lines ++ line ∷ []) }
         ensures refused { is_refused self.new.stage ≡ true }
     {
@@ -95,7 +95,8 @@ impl LineAudit {
     /// unusable.
     pub fn take(&mut self, line: &[u8]) -> Result<(), AllocError>
         ensures { OnOk result
-            ((s : SystemTree) (g : GoalTree) (lines : List Bytes) → HasTakenLines s g self.old lines
+            ((s : PlainSystem) (g : PlainGoal) (lines : List Bytes) →
+            HasTakenLines s g self.old lines
             →
             HasTakenLines s g self.new (lines ++ line.now ∷ [])) }
     {
@@ -113,8 +114,8 @@ impl LineAudit {
     }
 
     /// Returns whether a line was bad, and which.
-    pub fn feed_answer(&self) -> Fed
-        ensures { (s : SystemTree) (g : GoalTree) (lines : List Bytes) →
+    pub fn answer_so_far(&self) -> Fed
+        ensures { (s : PlainSystem) (g : PlainGoal) (lines : List Bytes) →
             HasTakenLines s g self.now lines → ReportsFirstBad s g lines result }
     {
         match self.stage {
@@ -125,10 +126,11 @@ impl LineAudit {
 
     /// Returns the answer at the end; `is_whole` says that nothing follows the last line feed.
     pub fn end(&self, is_whole: bool) -> Ended
-        ensures { (s : SystemTree) (g : GoalTree) (bytes : List ℕ) →
+        ensures { (s : PlainSystem) (g : PlainGoal) (bytes : List ℕ) →
             HasTakenLines s g self.now (lines_of bytes) →
-            (is_refused self.now.stage ≡ false → (is_whole ≡ true) ↔ (after_lines bytes ≡ [])) →
-            EndsAs s g bytes result }
+            (is_refused self.now.stage ≡ false →
+            (is_whole ≡ true) ↔ (unterminated_tail bytes ≡ [])) →
+            IsFinalAnswer s g bytes result }
     {
         match self.stage {
             Stage::Refused { line } => Ended::Rejected { line },

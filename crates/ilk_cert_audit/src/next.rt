@@ -1,13 +1,13 @@
 //! The stage after a line.
 
 ghost use Rattle.std.specs.Prelude.{◌≡◌, false, Some, IfOk, IfSome, IsTrue};
-ghost use Rattle.ilk_certificate.specs.CertificateText.{query_line};
-ghost use Rattle.ilk_ir.specs.System.{SystemTree, system_tree, system_valid};
-ghost use Rattle.ilk_unroll.specs.Goal.{GoalTree, goal_tree, goal_valid};
-ghost use Rattle.ilk_cert_audit.specs.Stages.{IsLineOfKind, IsNext, is_valid_k, is_valid_stage, may_have_query};
+ghost use Rattle.ilk_certificate.specs.CertificateText.{query_header_line};
+ghost use Rattle.ilk_ir.specs.System.{PlainSystem, plain_system, system_valid};
+ghost use Rattle.ilk_unroll.specs.Goal.{PlainGoal, plain_goal, goal_valid};
+ghost use Rattle.ilk_cert_audit.specs.Stages.{IsStepLineOfKind, IsNextStage, is_valid_k, is_valid_stage, query_fits_k};
 ghost use Rattle.ilk_cert_audit.specs.declared.stage.Stage.TheVariants.{Between, Told, Within};
 
-use crate::queries::{is_query_line, query_after, safe_number};
+use crate::queries::{is_query_line, query_after, read_safe_line};
 use crate::stage::Stage;
 use ilk_audit::{Auditor, Taken};
 use ilk_ir::System;
@@ -23,14 +23,15 @@ fn after_query(
     k: u32,
     wanted: Wanted,
 ) -> Result<Stage, AllocError>
-    requires system { IsTrue (system_valid (system_tree system.now)) }
-    requires goal { IsTrue (goal_valid system.now.ranges (goal_tree goal.now)) }
+    requires system { IsTrue (system_valid (plain_system system.now)) }
+    requires goal { IsTrue (goal_valid system.now.ranges (plain_goal goal.now)) }
     requires number { IsTrue (is_valid_k k) }
-    requires asked { IsTrue (may_have_query k wanted) }
+    requires asked { IsTrue (query_fits_k k wanted) }
     ensures stage { IfOk result (λ stage. IsTrue (is_valid_stage stage)) }
     ensures next { IfOk result
-        (λ stage. IsNext (system_tree system.now) (goal_tree goal.now) (Between k (Some wanted))
-        (query_line wanted) (Some stage)) }
+        (λ stage. IsNextStage (plain_system system.now) (plain_goal goal.now)
+        (Between k (Some wanted))
+        (query_header_line wanted) (Some stage)) }
 {
     let cnf = query(alloc, system, goal, wanted)?;
     Ok(Stage::Within {
@@ -53,13 +54,13 @@ enum Line {
 // Takes the step whose line this is, if it follows.
 fn take_step(step: &mut StepLine, auditor: &mut Auditor, line: &[u8]) -> Result<Line, AllocError>
     requires unfinished { auditor.old.closed ≡ false }
-    ensures { IfOk result (IsLineOfKind line.now auditor.old auditor.new) }
+    ensures { IfOk result (IsStepLineOfKind line.now auditor.old auditor.new) }
 {
     let _ = auditor.closed();
     if !read_step_into(step, line)? {
         return Ok(Line::Bad);
     }
-    match auditor.take_parts(step.clause.as_slice(), step.hints.as_slice())? {
+    match auditor.audit_step_from_slices(step.clause.as_slice(), step.hints.as_slice())? {
         Taken::Good => Ok(Line::Follows),
         Taken::Closed => Ok(Line::Closes),
         Taken::Bad(_) => Ok(Line::Bad),
@@ -74,12 +75,12 @@ fn after_step(
     line: &[u8],
 ) -> Result<Option<Stage>, AllocError>
     requires number { IsTrue (is_valid_k k) }
-    requires asked { IsTrue (may_have_query k query) }
+    requires asked { IsTrue (query_fits_k k query) }
     requires unfinished { auditor.closed ≡ false }
     ensures stage { IfOk result (λ next. IfSome next (λ stage. IsTrue (is_valid_stage stage))) }
     ensures next { IfOk result
-        (λ next. (s : SystemTree) (g : GoalTree) →
-        IsNext s g (Within k query auditor) line.now next) }
+        (λ next. (s : PlainSystem) (g : PlainGoal) →
+        IsNextStage s g (Within k query auditor) line.now next) }
 {
     match take_step(step, &mut auditor, line)? {
         Line::Follows => Ok(Some(Stage::Within { k, query, auditor })),
@@ -93,9 +94,9 @@ fn after_step(
 
 fn after_told(line: &[u8]) -> Option<Stage>
     ensures stage { IfSome result (λ stage. IsTrue (is_valid_stage stage)) }
-    ensures next { (s : SystemTree) (g : GoalTree) → IsNext s g Told line.now result }
+    ensures next { (s : PlainSystem) (g : PlainGoal) → IsNextStage s g Told line.now result }
 {
-    let k = safe_number(line)?;
+    let k = read_safe_line(line)?;
     Some(Stage::Between {
         k,
         next: Some(Wanted::Hazard(0)),
@@ -111,12 +112,12 @@ pub fn next_stage(
     stage: Stage,
     line: &[u8],
 ) -> Result<Option<Stage>, AllocError>
-    requires system { IsTrue (system_valid (system_tree system.now)) }
-    requires goal { IsTrue (goal_valid system.now.ranges (goal_tree goal.now)) }
+    requires system { IsTrue (system_valid (plain_system system.now)) }
+    requires goal { IsTrue (goal_valid system.now.ranges (plain_goal goal.now)) }
     requires stage { IsTrue (is_valid_stage stage) }
     ensures stage { IfOk result (λ next. IfSome next (λ stage. IsTrue (is_valid_stage stage))) }
     ensures next { IfOk result
-        (IsNext (system_tree system.now) (goal_tree goal.now) stage line.now) }
+        (IsNextStage (plain_system system.now) (plain_goal goal.now) stage line.now) }
 {
     match stage {
         Stage::Head if line == b"irv certificate 3".as_slice() => Ok(Some(Stage::Told)),

@@ -1,9 +1,9 @@
 ghost use Rattle.std.specs.Prelude.{ℕ, ◌≡◌, ◌<◌, ◌≤◌, ◌↔◌, IfNone, IfSome, IsTrue};
 ghost use Rattle.std.specs.Fmt.{decimal};
-ghost use Rattle.ilk_certificate.specs.CertificateText.{query_line};
-ghost use Rattle.ilk_lines.specs.Written.{word_and_rest};
+ghost use Rattle.ilk_certificate.specs.CertificateText.{query_header_line};
+ghost use Rattle.ilk_lines.specs.Written.{join_word_and_rest};
 ghost use Rattle.ilk_cert_audit.specs.Grammar.{safe_line};
-ghost use Rattle.ilk_cert_audit.specs.Stages.{is_valid_k, may_have_query, queries_after, queries_from};
+ghost use Rattle.ilk_cert_audit.specs.Stages.{is_valid_k, query_fits_k, queries_after, queries_from};
 
 use ilk_lines::{decimal_up_to, strip_first_word};
 use ilk_unroll::Wanted;
@@ -11,9 +11,9 @@ use ilk_unroll::Wanted;
 /// Returns the query that follows one of a certificate for `k`, or `None` after the last.
 pub fn query_after(k: u32, query: Wanted) -> Option<Wanted>
     requires number { IsTrue (is_valid_k k) }
-    requires asked { IsTrue (may_have_query k query) }
+    requires asked { IsTrue (query_fits_k k query) }
     ensures next { queries_from k result ≡ queries_after k query }
-    ensures asked { IfSome result (λ next. IsTrue (may_have_query k next)) }
+    ensures asked { IfSome result (λ next. IsTrue (query_fits_k k next)) }
 {
     match query {
         Wanted::Hazard(n) => Some(Wanted::Breach(n)),
@@ -25,10 +25,10 @@ pub fn query_after(k: u32, query: Wanted) -> Option<Wanted>
 
 // Returns the number up to `limit` that follows `word` and a space at the end of the line.
 fn number_after(line: &[u8], word: &[u8], limit: u64) -> Option<u64>
-    ensures some { IfSome result (λ n. (line.now ≡ word_and_rest word.now (decimal n))
+    ensures some { IfSome result (λ n. (line.now ≡ join_word_and_rest word.now (decimal n))
         × (n ≤ limit)) }
     ensures none { IfNone result
-        ((n : ℕ) → n ≤ limit → ¬ (line.now ≡ word_and_rest word.now (decimal n))) }
+        ((n : ℕ) → n ≤ limit → ¬ (line.now ≡ join_word_and_rest word.now (decimal n))) }
 {
     let Some(rest) = strip_first_word(line, word) else {
         return None;
@@ -37,7 +37,7 @@ fn number_after(line: &[u8], word: &[u8], limit: u64) -> Option<u64>
 }
 
 fn is_numbered(line: &[u8], word: &[u8], number: u32) -> bool
-    ensures { IsTrue result ↔ (line.now ≡ word_and_rest word.now (decimal number)) }
+    ensures { IsTrue result ↔ (line.now ≡ join_word_and_rest word.now (decimal number)) }
 {
     match number_after(line, word, u32::MAX as u64) {
         Some(n) => n == number as u64,
@@ -47,7 +47,7 @@ fn is_numbered(line: &[u8], word: &[u8], number: u32) -> bool
 
 /// Returns whether a line is that of a query.
 pub fn is_query_line(line: &[u8], query: Wanted) -> bool
-    ensures { IsTrue result ↔ (line.now ≡ query_line query) }
+    ensures { IsTrue result ↔ (line.now ≡ query_header_line query) }
 {
     let Some(rest) = strip_first_word(line, b"query") else {
         return false;
@@ -61,7 +61,7 @@ pub fn is_query_line(line: &[u8], query: Wanted) -> bool
 
 /// Returns the number from 1 to 16 at which a line states that a system is safe, or `None` if it
 /// states none.
-pub fn safe_number(line: &[u8]) -> Option<u32>
+pub fn read_safe_line(line: &[u8]) -> Option<u32>
     ensures told { IfSome result (λ k. (line.now ≡ safe_line k) × IsTrue (is_valid_k k)) }
     ensures none { IfNone result ((k : ℕ) → 0 < k → k ≤ 16 → ¬ (line.now ≡ safe_line k)) }
 {

@@ -2,7 +2,7 @@ use ilk_audit::Auditor;
 use ilk_unroll::Wanted;
 
 /// The most bytes of a line that is not a step's; the longest such line names a query.
-pub const MAX_PLAIN_LINE: usize = 32;
+pub const MAX_NON_STEP_LINE: usize = 32;
 
 /// The position of a reader of a certificate.
 #[derive(Drop)]

@@ -1,19 +1,19 @@
 -- A certificate: its queries, and the refutation of each.
 use Rattle.std.specs.Prelude.{ℕ, ◌+◌, ◌≡◌, ◌<◌, ◌≤◌, List, [], ◌∷◌, ◌++◌, map, All, IsTrue}
 use Rattle.std.specs.List.{range_with_len, flat_map}
-use Rattle.ilk_ir.specs.System.{SystemTree}
+use Rattle.ilk_ir.specs.System.{PlainSystem}
 use Rattle.ilk_lines.specs.Lines.{Bytes}
 use Rattle.ilk_log.specs.declared.step.Step.{Step as LogStep}
 use Rattle.ilk_log.specs.Derived.{is_refutation}
 use Rattle.ilk_unroll.specs.declared.queries.Wanted.{Wanted}
 use Rattle.ilk_unroll.specs.declared.queries.Wanted.TheVariants.{Hazard, Breach, Step}
-use Rattle.ilk_unroll.specs.Goal.{GoalTree}
+use Rattle.ilk_unroll.specs.Goal.{PlainGoal}
 use Rattle.ilk_unroll.specs.Query.{query_formula}
 use Rattle.ilk_certificate.specs.declared.asked.Asked.{Asked}
 use Rattle.ilk_certificate.specs.CertificateText.{safe_text}
 
 -- Holds if the log refutes the query's formula.
-abbrev pub IsRefuted : SystemTree → GoalTree → Wanted → List LogStep → Type 0
+abbrev pub IsRefuted : PlainSystem → PlainGoal → Wanted → List LogStep → Type 0
 IsRefuted s g q log = IsTrue (is_refutation (query_formula s g q) log)
 
 -- The hazard query and the breach query for `n` steps.
@@ -27,7 +27,7 @@ certified_queries k = flat_map base_queries (range_with_len 0 (k + 1)) ++ Step k
 
 -- Holds if the bytes are the safe text for `k`, from 1 to 16, of the certified queries, each with a
 -- log that refutes it.
-pub record IsCertificate (s : SystemTree) (g : GoalTree) (k : ℕ) (bytes : Bytes) : Type 0 where
+pub record IsCertificate (s : PlainSystem) (g : PlainGoal) (k : ℕ) (bytes : Bytes) : Type 0 where
   pub asked : List Asked
   pub some : 0 < k
   pub most : k ≤ 16

@@ -5,26 +5,26 @@ use Rattle.std.specs.List.{flat_map, list_all, sum_by}
 use Rattle.ilk_lines.specs.Lines.{Bytes}
 use Rattle.ilk_lines.specs.Written.{line_of, text_of}
 use Rattle.ilk_log.specs.declared.step.Step.{Step as LogStep}
-use Rattle.ilk_log.specs.Conflicts.{conflicts_of}
+use Rattle.ilk_log.specs.Conflicts.{count_learned_clauses}
 use Rattle.ilk_log.specs.StepText.{step_text}
 use Rattle.ilk_unroll.specs.declared.queries.Wanted.{Wanted}
 use Rattle.ilk_unroll.specs.declared.queries.Wanted.TheVariants.{Hazard, Breach, Step}
 use Rattle.ilk_certificate.specs.declared.asked.Asked.{Asked}
 
 -- The line of a query: its kind and its number of steps.
-abbrev pub query_line : Wanted → Bytes
-query_line (Hazard n) = line_of (codes "query" ∷ codes "hazard" ∷ decimal n ∷ [])
-query_line (Breach n) = line_of (codes "query" ∷ codes "breach" ∷ decimal n ∷ [])
-query_line (Step n) = line_of (codes "query" ∷ codes "step" ∷ decimal n ∷ [])
+abbrev pub query_header_line : Wanted → Bytes
+query_header_line (Hazard n) = line_of (codes "query" ∷ codes "hazard" ∷ decimal n ∷ [])
+query_header_line (Breach n) = line_of (codes "query" ∷ codes "breach" ∷ decimal n ∷ [])
+query_header_line (Step n) = line_of (codes "query" ∷ codes "step" ∷ decimal n ∷ [])
 
 -- The lines of an asked query: its own, and that of each step of its log.
-abbrev pub asked_lines : Asked → List Bytes
-asked_lines a = query_line a.query ∷ map step_text a.log
+abbrev pub query_and_log_lines : Asked → List Bytes
+query_and_log_lines a = query_header_line a.query ∷ map step_text a.log
 
 -- The lines of a certificate: the header, the verdict, the lines of its queries in order, and
 -- `end`.
 abbrev pub certificate_lines : Bytes → List Asked → List Bytes
-certificate_lines told asked = codes "irv certificate 3" ∷ told ∷ (flat_map asked_lines asked ++ codes "end" ∷ [])
+certificate_lines told asked = codes "irv certificate 3" ∷ told ∷ (flat_map query_and_log_lines asked ++ codes "end" ∷ [])
 
 -- The text that states that a system is safe at `k`.
 abbrev pub safe_text : ℕ → List Asked → Bytes
@@ -35,8 +35,8 @@ abbrev pub spent_text : ℕ → List Asked → Bytes
 spent_text n asked = text_of (certificate_lines (line_of (codes "spent" ∷ decimal n ∷ [])) asked)
 
 -- The number of steps of all logs together that have a literal.
-abbrev pub all_conflicts : List Asked → ℕ
-all_conflicts asked = sum_by (λ (a : Asked). conflicts_of a.log) asked
+abbrev pub total_conflicts : List Asked → ℕ
+total_conflicts asked = sum_by (λ (a : Asked). count_learned_clauses a.log) asked
 
 -- Returns whether no hint of a step is 0.
 abbrev pub has_no_hint_zero : LogStep → Bool

@@ -11,7 +11,7 @@ is_step_query (Breach n) = false
 is_step_query (Step n) = true
 
 -- The queries without the step queries before the last query.
-abbrev pub without_early_steps : List Asked → List Asked
-without_early_steps [] = []
-without_early_steps (a ∷ []) = a ∷ []
-without_early_steps (a ∷ b ∷ asked) = if is_step_query a.query then without_early_steps (b ∷ asked) else a ∷ without_early_steps (b ∷ asked)
+abbrev pub drop_early_step_queries : List Asked → List Asked
+drop_early_step_queries [] = []
+drop_early_step_queries (a ∷ []) = a ∷ []
+drop_early_step_queries (a ∷ b ∷ asked) = if is_step_query a.query then drop_early_step_queries (b ∷ asked) else a ∷ drop_early_step_queries (b ∷ asked)

@@ -1,14 +1,14 @@
 ghost use Rattle.std.specs.Prelude.{◌≡◌, ◌++◌, ◌∷◌, [], codes, drop, flat_map, length, min, take, IfOk, OnOk};
 ghost use Rattle.std.specs.Fmt.{decimal};
-ghost use Rattle.ilk_lines.specs.Written.{word_and_rest, text_of};
-ghost use Rattle.ilk_certificate.specs.CertificateText.{all_conflicts, asked_lines, safe_text, spent_text};
-ghost use Rattle.ilk_certificate.specs.Kept.{without_early_steps};
-ghost use Rattle.ilk_certificate.specs.Writing.{asked_text, kept_text, untaken_bytes};
+ghost use Rattle.ilk_lines.specs.Written.{join_word_and_rest, text_of};
+ghost use Rattle.ilk_certificate.specs.CertificateText.{total_conflicts, query_and_log_lines, safe_text, spent_text};
+ghost use Rattle.ilk_certificate.specs.Kept.{drop_early_step_queries};
+ghost use Rattle.ilk_certificate.specs.Writing.{query_and_log_text, kept_text, untaken_bytes};
 
 use crate::asked::Asked;
 use crate::part::Part;
 use crate::text::{is_step, push_query};
-use crate::write::{all_conflicts, header_text};
+use crate::write::{header_text, total_conflicts};
 use ilk_base::Row;
 use ilk_lines::RemainingBytes;
 use ilk_log::LogText;
@@ -64,7 +64,7 @@ impl CertificateText {
     }
 
     fn add_asked(&mut self, alloc: Global, asked: Asked) -> Result<(), AllocError>
-        ensures { OnOk result (self.new ≡ self.old ++ asked_text asked) }
+        ensures { OnOk result (self.new ≡ self.old ++ query_and_log_text asked) }
     {
         let Asked { query, log } = asked;
         let mut line = String::new(alloc);
@@ -74,7 +74,8 @@ impl CertificateText {
     }
 
     fn add_all(&mut self, alloc: Global, asked: Row<Asked>) -> Result<(), AllocError>
-        ensures { OnOk result (self.new ≡ self.old ++ text_of (flat_map asked_lines asked)) }
+        ensures { OnOk result
+            (self.new ≡ self.old ++ text_of (flat_map query_and_log_lines asked)) }
     {
         let mut left = asked;
         'queries: while left.len() > 0 {
@@ -109,7 +110,8 @@ impl CertificateText {
     fn begun(alloc: Global, word: &str, number: u128) -> Result<CertificateText, AllocError>
         ensures { IfOk result
             (λ text. text
-            ≡ text_of (codes "irv certificate 3" ∷ word_and_rest word.now (decimal number) ∷ [])) }
+            ≡ text_of (codes "irv certificate 3" ∷ join_word_and_rest word.now
+            (decimal number) ∷ [])) }
     {
         let mut text = CertificateText::empty(alloc);
         text.add_lines(header_text(alloc, word, number)?.into_bytes())?;
@@ -127,7 +129,7 @@ impl CertificateText {
     /// the step queries before the last query, which were satisfied. Each line ends with one line
     /// feed. Fails only if memory runs out.
     pub fn safe(alloc: Global, k: u32, asked: Row<Asked>) -> Result<CertificateText, AllocError>
-        ensures { IfOk result (λ text. text ≡ safe_text k (without_early_steps asked)) }
+        ensures { IfOk result (λ text. text ≡ safe_text k (drop_early_step_queries asked)) }
     {
         let mut text = CertificateText::begun(alloc, "safe", k as u128)?;
         text.add_kept(alloc, asked)?;
@@ -138,9 +140,9 @@ impl CertificateText {
     /// Creates the text that states that all conflicts are spent, from the queries asked until
     /// then. Each line ends with one line feed. Fails only if memory runs out.
     pub fn spent(alloc: Global, asked: Row<Asked>) -> Result<CertificateText, AllocError>
-        ensures { IfOk result (λ text. text ≡ spent_text (all_conflicts asked) asked) }
+        ensures { IfOk result (λ text. text ≡ spent_text (total_conflicts asked) asked) }
     {
-        let count = all_conflicts(asked.as_slice());
+        let count = total_conflicts(asked.as_slice());
         let mut text = CertificateText::begun(alloc, "spent", count)?;
         text.add_all(alloc, asked)?;
         text.end(alloc)?;

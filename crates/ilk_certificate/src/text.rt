@@ -1,14 +1,14 @@
 ghost use Rattle.std.specs.Prelude.{◌≡◌, ◌++◌, ◌∷◌, [], map, OnOk, IsTrue, string_bytes};
 ghost use Rattle.std.specs.Fmt.{decimal};
 ghost use Rattle.std.specs.List.{list_all};
-ghost use Rattle.ilk_lines.specs.Written.{word_and_rest, text_of};
+ghost use Rattle.ilk_lines.specs.Written.{join_word_and_rest, text_of};
 ghost use Rattle.ilk_log.specs.StepText.{step_text};
-ghost use Rattle.ilk_certificate.specs.CertificateText.{has_no_hint_zero, query_line};
+ghost use Rattle.ilk_certificate.specs.CertificateText.{has_no_hint_zero, query_header_line};
 ghost use Rattle.ilk_certificate.specs.Kept.{is_step_query};
-ghost use Rattle.ilk_certificate.specs.Writing.{asked_text, text_unless_step, step_line_with_feed};
+ghost use Rattle.ilk_certificate.specs.Writing.{query_and_log_text, text_unless_step_query, step_line_with_feed};
 
 use crate::asked::Asked;
-use ilk_log::{Log, Step, push_step};
+use ilk_log::{Log, Step, push_step_text};
 use ilk_unroll::Wanted;
 use std::alloc::AllocError;
 
@@ -16,7 +16,7 @@ use std::alloc::AllocError;
 pub(crate) fn push_numbered(text: &mut String, word: &str, number: u128) -> Result<(), AllocError>
     ensures { OnOk result
         (string_bytes text.new
-        ≡ string_bytes text.old ++ (word_and_rest word.now (decimal number) ++ 10 ∷ [])) }
+        ≡ string_bytes text.old ++ (join_word_and_rest word.now (decimal number) ++ 10 ∷ [])) }
 {
     write!(text, "{word} {number}\n")
 }
@@ -24,7 +24,7 @@ pub(crate) fn push_numbered(text: &mut String, word: &str, number: u128) -> Resu
 /// Appends the line of a query.
 pub(crate) fn push_query(text: &mut String, query: Wanted) -> Result<(), AllocError>
     ensures { OnOk result
-        (string_bytes text.new ≡ string_bytes text.old ++ (query_line query ++ 10 ∷ [])) }
+        (string_bytes text.new ≡ string_bytes text.old ++ (query_header_line query ++ 10 ∷ [])) }
 {
     match query {
         Wanted::Hazard(n) => push_numbered(text, "query hazard", n as u128),
@@ -38,7 +38,7 @@ fn push_step_line(text: &mut String, step: &Step) -> Result<(), AllocError>
     ensures { OnOk result (string_bytes text.new
         ≡ string_bytes text.old ++ step_line_with_feed step.now) }
 {
-    push_step(text, step)?;
+    push_step_text(text, step)?;
     text.push_str("\n")
 }
 
@@ -57,7 +57,8 @@ fn push_steps(text: &mut String, log: &Log) -> Result<(), AllocError>
 /// Appends the lines of an asked query.
 pub(crate) fn push_asked(text: &mut String, asked: &Asked) -> Result<(), AllocError>
     requires { IsTrue (list_all has_no_hint_zero asked.now.log) }
-    ensures { OnOk result (string_bytes text.new ≡ string_bytes text.old ++ asked_text asked.now) }
+    ensures { OnOk result
+        (string_bytes text.new ≡ string_bytes text.old ++ query_and_log_text asked.now) }
 {
     push_query(text, asked.query)?;
     push_steps(text, &asked.log)
@@ -74,7 +75,7 @@ pub(crate) fn is_step(query: Wanted) -> bool
 pub(crate) fn push_unless_step(text: &mut String, asked: &Asked) -> Result<(), AllocError>
     requires { IsTrue (list_all has_no_hint_zero asked.now.log) }
     ensures { OnOk result (string_bytes text.new
-        ≡ string_bytes text.old ++ text_unless_step asked.now) }
+        ≡ string_bytes text.old ++ text_unless_step_query asked.now) }
 {
     match asked.query {
         Wanted::Step(_) => Ok(()),

@@ -5,7 +5,7 @@ use Rattle.std.proofs.lemmas.List.Folds.{list_all-append}
 use Rattle.std.proofs.lemmas.Bool.{and_parts, and_from, or_parts, or_from, cond_both, true≢false, eq-eqb, eqb-false, ne_eqb, not-true, not_from_false}
 use Rattle.ilk_base.proofs.Lists.{drop_at}
 use Rattle.ilk_cnf.specs.Literal.{Literal, has_lit, has_var, negated_lit}
-use Rattle.ilk_cnf.specs.Formula.{distinct, is_tautology, as_clause, is_clause_over, are_clauses_over}
+use Rattle.ilk_cnf.specs.Formula.{deduped_lits, is_tautology, clause_unless_tautology, is_clause_over, are_clauses_over}
 
 -- No variable of the first list occurs in the second.
 abbrev pub none_again : List Literal → List Literal → Bool
@@ -14,7 +14,7 @@ none_again ks ls = list_all (λ k. not (has_var k.var ls)) ks
 -- The state of the pass: the literals kept so far, and the rest.
 pub record Reading (ls kept rest : List Literal) : Type 0 where
   pub clash : is_tautology ls ≡ is_tautology rest
-  pub literals : distinct ls ≡ kept ++ distinct rest
+  pub literals : deduped_lits ls ≡ kept ++ deduped_lits rest
   pub apart : none_again kept rest ≡ true
 
 none_again-less : (ks : List Literal) (l : Literal) (ls : List Literal) → none_again ks (l ∷ ls) ≡ true → none_again ks ls ≡ true
@@ -65,16 +65,16 @@ reading_new ls kept l rest r = new kept r.apart
 pub reading_at : (ls kept : List Literal) (i : ℕ) (l : Literal) → i < length ls → l ≡ get_or ls i l → Reading ls kept (drop i ls) → Reading ls kept (l ∷ drop (i + 1) ls)
 reading_at ls kept i l h e r = let P : List Literal → Type 0 = λ rest. Reading ls kept rest in subst P (drop_at ls i l h e) r
 
-distinct_in : (n : ℕ) (ls : List Literal) → is_clause_over n ls ≡ true → is_clause_over n (distinct ls) ≡ true
+distinct_in : (n : ℕ) (ls : List Literal) → is_clause_over n ls ≡ true → is_clause_over n (deduped_lits ls) ≡ true
 distinct_in n [] h = refl
 distinct_in n (l ∷ ls) h =
     let parts = and_parts _ _ h in
     let rest = distinct_in n ls parts.1 in
-    cond_both (has_lit l ls) (distinct ls) (l ∷ distinct ls) (λ c. is_clause_over n c ≡ true) (λ _. rest) (λ _. and_from _ _ parts.0 rest)
+    cond_both (has_lit l ls) (deduped_lits ls) (l ∷ deduped_lits ls) (λ c. is_clause_over n c ≡ true) (λ _. rest) (λ _. and_from _ _ parts.0 rest)
 
-pub as_clause_in : (n : ℕ) (ls : List Literal) → is_clause_over n ls ≡ true → are_clauses_over n (as_clause ls) ≡ true
+pub as_clause_in : (n : ℕ) (ls : List Literal) → is_clause_over n ls ≡ true → are_clauses_over n (clause_unless_tautology ls) ≡ true
 as_clause_in n ls h =
-    cond_both (is_tautology ls) [] (distinct ls ∷ []) (λ cs. are_clauses_over n cs ≡ true) (λ _. refl) (λ _. and_from _ _ (distinct_in n ls h) refl)
+    cond_both (is_tautology ls) [] (deduped_lits ls ∷ []) (λ cs. are_clauses_over n cs ≡ true) (λ _. refl) (λ _. and_from _ _ (distinct_in n ls h) refl)
 
-pub of_in : (n : ℕ) (ls c : List Literal) (o : Option (List Literal)) → o ≡ Some c → option_to_list o ≡ as_clause ls → is_clause_over n ls ≡ true → is_clause_over n c ≡ true
+pub of_in : (n : ℕ) (ls c : List Literal) (o : Option (List Literal)) → o ≡ Some c → option_to_list o ≡ clause_unless_tautology ls → is_clause_over n ls ≡ true → is_clause_over n c ≡ true
 of_in n ls c o is e h = (and_parts _ _ (ap (λ (cs : List (List Literal)). are_clauses_over n cs) (sym (ap option_to_list is) ∙ e) ∙ as_clause_in n ls h)).0

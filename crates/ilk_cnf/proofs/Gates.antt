@@ -6,9 +6,9 @@ use Rattle.std.proofs.lemmas.List.{append-nil}
 use Rattle.std.proofs.lemmas.List.Folds.{list_all-append}
 use Rattle.std.proofs.lemmas.Bool.{and_parts, and_from, or_cases, eqb-true, le-leb, lt-ltb, false≢true, or_right}
 use Rattle.ilk_cnf.specs.Literal.{Literal, negated_lit, positive_lit, negative_lit, has_lit, same_lit}
-use Rattle.ilk_cnf.specs.Formula.{Formula, with_clauses, is_lit_over, is_clause_over, are_clauses_over, distinct, is_tautology, as_clause}
+use Rattle.ilk_cnf.specs.Formula.{Formula, with_clauses, is_lit_over, is_clause_over, are_clauses_over, deduped_lits, is_tautology, clause_unless_tautology}
 use Rattle.ilk_cnf.specs.Truth.{value, is_true, is_clause_true, satisfies}
-use Rattle.ilk_cnf.specs.Part.{Part, as_clauses, with_part, and_then, and_gate_clauses, and_gate_part, or_gate_part}
+use Rattle.ilk_cnf.specs.Part.{FormulaPart, clauses_from_lists, with_part, and_then, and_gate_clauses, and_gate_part, or_gate_part}
 use Rattle.ilk_cnf.proofs.Literals.{is_clause_over-more}
 
 pub is_true-negated_lit : (a : List Bool) (l : Literal) → is_true a (negated_lit l) ≡ not (is_true a l)
@@ -48,7 +48,7 @@ has-true a l (m ∷ ls) h t =
       | inr there ↦ or_right (is_true a m) (is_clause_true a ls) (has-true a l ls there t)
     ]
 
-is_clause_true-distinct : (a : List Bool) (ls : List Literal) → is_clause_true a (distinct ls) ≡ is_clause_true a ls
+is_clause_true-distinct : (a : List Bool) (ls : List Literal) → is_clause_true a (deduped_lits ls) ≡ is_clause_true a ls
 is_clause_true-distinct a [] = refl
 is_clause_true-distinct a (l ∷ ls) = by_case (has_lit l ls) refl (is_clause_true-distinct a ls)
   where
@@ -56,7 +56,7 @@ is_clause_true-distinct a (l ∷ ls) = by_case (has_lit l ls) refl (is_clause_tr
     skip true r h = h refl
     skip false r h = refl
 
-    by_case : (h : Bool) → has_lit l ls ≡ h → is_clause_true a (distinct ls) ≡ is_clause_true a ls → is_clause_true a (cond h (distinct ls) (l ∷ distinct ls)) ≡ (is_true a l || is_clause_true a ls)
+    by_case : (h : Bool) → has_lit l ls ≡ h → is_clause_true a (deduped_lits ls) ≡ is_clause_true a ls → is_clause_true a (cond h (deduped_lits ls) (l ∷ deduped_lits ls)) ≡ (is_true a l || is_clause_true a ls)
     by_case true h rest = rest ∙ skip (is_true a l) (is_clause_true a ls) (has-true a l ls h)
     by_case false h rest = ap (λ (r : Bool). is_true a l || r) rest
 
@@ -72,41 +72,42 @@ tautology-true a (l ∷ ls) h =
     by_case true t here = refl
     by_case false t here = has-true a (negated_lit l) ls here (is_true-negated_lit a l ∙ ap not t)
 
-pub satisfies-as_clause : (a : List Bool) (ls : List Literal) → satisfies a (as_clause ls) ≡ is_clause_true a ls
-satisfies-as_clause a ls = by_case (is_tautology ls) refl
+pub satisfies-clause_unless_tautology : (a : List Bool) (ls : List Literal) → satisfies a (clause_unless_tautology ls) ≡ is_clause_true a ls
+satisfies-clause_unless_tautology a ls = by_case (is_tautology ls) refl
   where
     end : (b : Bool) → (b && true) ≡ b
     end true = refl
     end false = refl
 
-    by_case : (t : Bool) → is_tautology ls ≡ t → satisfies a (cond t [] (distinct ls ∷ [])) ≡ is_clause_true a ls
+    by_case : (t : Bool) → is_tautology ls ≡ t → satisfies a (cond t [] (deduped_lits ls ∷ [])) ≡ is_clause_true a ls
     by_case true t = sym (tautology-true a ls t)
     by_case false t = end _ ∙ is_clause_true-distinct a ls
 
 -- The clauses of a part are equivalent to its lists of literals.
-pub satisfies-as_clauses : (a : List Bool) (lss : List (List Literal)) → satisfies a (as_clauses lss) ≡ satisfies a lss
-satisfies-as_clauses a [] = refl
-satisfies-as_clauses a (ls ∷ lss) =
-    list_all-append (is_clause_true a) (as_clause ls) (as_clauses lss) ∙ (let one = satisfies-as_clause a ls in let rest = satisfies-as_clauses a lss in rw (one, rest) refl)
+pub satisfies-clauses_from_lists : (a : List Bool) (lss : List (List Literal)) → satisfies a (clauses_from_lists lss) ≡ satisfies a lss
+satisfies-clauses_from_lists a [] = refl
+satisfies-clauses_from_lists a (ls ∷ lss) =
+    list_all-append (is_clause_true a) (clause_unless_tautology ls) (clauses_from_lists lss) ∙ (let one = satisfies-clause_unless_tautology a ls in let rest = satisfies-clauses_from_lists a lss in rw (one, rest) refl)
 
-pub as_clauses-append : (lss mss : List (List Literal)) → as_clauses (lss ++ mss) ≡ as_clauses lss ++ as_clauses mss
-as_clauses-append [] mss = refl
-as_clauses-append (ls ∷ lss) mss = ap (λ (cs : List (List Literal)). as_clause ls ++ cs) (as_clauses-append lss mss) ∙ sym (append_assoc (as_clause ls) (as_clauses lss) (as_clauses mss))
+pub clauses_from_lists-append : (lss mss : List (List Literal)) → clauses_from_lists (lss ++ mss) ≡ clauses_from_lists lss ++ clauses_from_lists mss
+clauses_from_lists-append [] mss = refl
+clauses_from_lists-append (ls ∷ lss) mss = ap (λ (cs : List (List Literal)). clause_unless_tautology ls ++ cs) (clauses_from_lists-append lss mss) ∙ sym (append_assoc (clause_unless_tautology ls) (clauses_from_lists lss) (clauses_from_lists mss))
 
-pub with_part-and_then : (f : Formula) (p : Part) (q : ℕ → Part) → with_part (with_part f p) (q p.vars) ≡ with_part f (and_then p q)
+pub with_part-and_then : (f : Formula) (p : FormulaPart) (q : ℕ → FormulaPart) → with_part (with_part f p) (q p.vars) ≡ with_part f (and_then p q)
 with_part-and_then f p q =
-    let joined = as_clauses-append p.clauses (q p.vars).clauses in
+    let joined = clauses_from_lists-append p.clauses (q p.vars).clauses in
     rw (joined, append_assoc) refl
 
 -- The same for lists of literals that add no variable.
-pub grown_more : (f g h : Formula) (lss mss : List (List Literal)) → g ≡ with_clauses f f.vars (as_clauses lss) → h ≡ with_clauses g g.vars (as_clauses mss) → h ≡ with_clauses f f.vars (as_clauses (lss ++ mss))
+pub grown_more : (f g h : Formula) (lss mss : List (List Literal)) → g ≡ with_clauses f f.vars (clauses_from_lists lss) → h ≡ with_clauses g g.vars (clauses_from_lists mss) → h ≡ with_clauses f f.vars (clauses_from_lists (lss ++ mss))
 grown_more f g h lss mss first next =
-    let joined = as_clauses-append lss mss in
+    let joined = clauses_from_lists-append lss mss in
     next ∙ rw (first, joined, append_assoc) refl
 
-pub grown_one : (f g h : Formula) (lss : List (List Literal)) (ls : List Literal) → g ≡ with_clauses f f.vars (as_clauses lss) → h ≡ with_clauses g g.vars (as_clause ls) → h ≡ with_clauses f f.vars (as_clauses (lss ++ ls ∷ []))
+pub grown_one : (f g h : Formula) (lss : List (List Literal)) (ls : List Literal) → g ≡ with_clauses f f.vars (clauses_from_lists lss) → h ≡ with_clauses g g.vars (clause_unless_tautology ls) →
+    h ≡ with_clauses f f.vars (clauses_from_lists (lss ++ ls ∷ []))
 grown_one f g h lss ls first next =
-    let whole : as_clause ls ≡ as_clause ls ++ [] = sym (append-nil (as_clause ls)) in
+    let whole : clause_unless_tautology ls ≡ clause_unless_tautology ls ++ [] = sym (append-nil (clause_unless_tautology ls)) in
     grown_more f g h lss (ls ∷ []) first (next ∙ ap (λ (cs : List (List Literal)). with_clauses g g.vars cs) whole)
 
 -- Gates

@@ -3,18 +3,18 @@ use Rattle.std.proofs.Common.{◌≡◌, ◌==◌, ◌<◌, ◌≤◌, ◌^◌, 
 use Rattle.std.specs.Prelude.{nat_le, nat_lt}
 use Rattle.std.proofs.lemmas.List.Folds.{list_any-append}
 use Rattle.std.proofs.lemmas.Bool.{and_parts, and_from, or_parts, or_from, eqb-false, ne_eqb, not-true, not_from_false, leb-true, ltb-true, le-leb}
-use Rattle.ilk_cnf.specs.Literal.{Literal, has_var, vars_differ}
+use Rattle.ilk_cnf.specs.Literal.{Literal, has_var, has_distinct_vars}
 use Rattle.ilk_cnf.specs.Formula.{is_lit_over, is_clause_over, are_clauses_over, Formula, IsFormula}
 
-pub vars_differ-push : (ls : List Literal) (l : Literal) → vars_differ ls ≡ true → has_var l.var ls ≡ false → vars_differ (ls ++ l ∷ []) ≡ true
-vars_differ-push [] l h k = refl
-vars_differ-push (m ∷ ls) l h k =
+pub has_distinct_vars-push : (ls : List Literal) (l : Literal) → has_distinct_vars ls ≡ true → has_var l.var ls ≡ false → has_distinct_vars (ls ++ l ∷ []) ≡ true
+has_distinct_vars-push [] l h k = refl
+has_distinct_vars-push (m ∷ ls) l h k =
     let parts = and_parts _ _ h in
     let away = or_parts _ _ k in
     let none : has_var m.var ls ≡ false = not-true (has_var m.var ls) parts.0 in
     let other : eqb l.var m.var ≡ false = ne_eqb l.var m.var (λ e. eqb-false m.var l.var away.0 (sym e)) in
     let both : has_var m.var (ls ++ l ∷ []) ≡ false = list_any-append (λ (x : Literal). x.var == m.var) ls (l ∷ []) ∙ or_from _ _ none (or_from _ _ other refl) in
-    and_from _ _ (not_from_false _ both) (vars_differ-push ls l parts.1 away.1)
+    and_from _ _ (not_from_false _ both) (has_distinct_vars-push ls l parts.1 away.1)
 
 pub is_lit_over-parts : (n : ℕ) (l : Literal) → is_lit_over n l ≡ true → (0 < l.var) × (l.var ≤ n)
 is_lit_over-parts n l h = (let p = and_parts (nat_lt 0 l.var) (nat_le l.var n) h in (ltb-true 0 l.var p.0, leb-true l.var n p.1))

@@ -5,9 +5,9 @@ use Rattle.std.proofs.lemmas.Bool.Decides.{Decides-eqb}
 use Rattle.std.proofs.lemmas.List.{take_more}
 use Rattle.std.proofs.lemmas.List.Folds.{list_any-append, list_any_at, list_all_at}
 use Rattle.std.proofs.Math.Bool.{or-false}
-use Rattle.ilk_cnf.specs.Literal.{Literal, negated_lit, has_lit, has_var, vars_differ}
-use Rattle.ilk_cnf.specs.Formula.{is_lit_over, is_clause_over, is_tautology, distinct, as_clause}
-use Rattle.ilk_cnf.proofs.Literals.{vars_differ-push}
+use Rattle.ilk_cnf.specs.Literal.{Literal, negated_lit, has_lit, has_var, has_distinct_vars}
+use Rattle.ilk_cnf.specs.Formula.{is_lit_over, is_clause_over, is_tautology, deduped_lits, clause_unless_tautology}
+use Rattle.ilk_cnf.proofs.Literals.{has_distinct_vars-push}
 
 vars-more : (ls : List Literal) (i : ℕ) (d : Literal) (v x : ℕ) → i < length ls → x ≡ (get_or ls i d).var → has_var v (take (i + 1) ls) ≡ (has_var v (take i ls) || (x == v))
 vars-more ls i d v x within is =
@@ -38,9 +38,9 @@ pub var-among : (ls : List Literal) (i : ℕ) (d : Literal) (x : ℕ) → i < le
 var-among ls i d x within is =
     list_any_at (λ (l : Literal). l.var == x) ls i d within ((Decides-eqb (get_or ls i d).var x).1 (sym is))
 
-pub differ-more : (ls : List Literal) (i : ℕ) (d : Literal) (x : ℕ) → i < length ls → x ≡ (get_or ls i d).var → vars_differ (take i ls) ≡ true → has_var x (take i ls) ≡ false → vars_differ (take (i + 1) ls) ≡ true
+pub differ-more : (ls : List Literal) (i : ℕ) (d : Literal) (x : ℕ) → i < length ls → x ≡ (get_or ls i d).var → has_distinct_vars (take i ls) ≡ true → has_var x (take i ls) ≡ false → has_distinct_vars (take (i + 1) ls) ≡ true
 differ-more ls i d x within is before away =
-    ap vars_differ (take_more ls i d within) ∙ vars_differ-push (take i ls) (get_or ls i d) before (ap (λ y. has_var y (take i ls)) (sym is) ∙ away)
+    ap has_distinct_vars (take_more ls i d within) ∙ has_distinct_vars-push (take i ls) (get_or ls i d) before (ap (λ y. has_var y (take i ls)) (sym is) ∙ away)
 
 pub var-from_1 : (n : ℕ) (ls : List Literal) (i : ℕ) (d : Literal) (x : ℕ) → is_clause_over n ls ≡ true → i < length ls → x ≡ (get_or ls i d).var → 0 < x
 var-from_1 n ls i d x inside within is = elim (cases_Bool (is_lit_over n (get_or ls i d))) [
@@ -53,14 +53,14 @@ never true = refl
 never false = refl
 
 -- If the next literal's variable is already marked, the variables don't all differ.
-pub differ-not : (ls : List Literal) (i : ℕ) (d : Literal) (x : ℕ) → i < length ls → x ≡ (get_or ls i d).var → has_var x (take i ls) ≡ true → vars_differ ls ≡ false
+pub differ-not : (ls : List Literal) (i : ℕ) (d : Literal) (x : ℕ) → i < length ls → x ≡ (get_or ls i d).var → has_var x (take i ls) ≡ true → has_distinct_vars ls ≡ false
 differ-not [] i d x within is met = absurd (omega (arith, within))
 differ-not (l ∷ ls) zero d x within is met = absurd (false≢true met)
 differ-not (l ∷ ls) (suc i) d x within is met =
     let rest : i < length ls = omega (arith, within) in
     by_test (var-among ls i d x rest is) (differ-not ls i d x rest is) (l.var == x) refl met
   where
-    by_test : has_var x ls ≡ true → (has_var x (take i ls) ≡ true → vars_differ ls ≡ false) → (b : Bool) → (l.var == x) ≡ b → (b || has_var x (take i ls)) ≡ true → vars_differ (l ∷ ls) ≡ false
+    by_test : has_var x ls ≡ true → (has_var x (take i ls) ≡ true → has_distinct_vars ls ≡ false) → (b : Bool) → (l.var == x) ≡ b → (b || has_var x (take i ls)) ≡ true → has_distinct_vars (l ∷ ls) ≡ false
     by_test among later true e k =
         let again : has_var l.var ls ≡ true = ap (λ y. has_var y ls) ((Decides-eqb l.var x).0 e) ∙ among in
         rw again refl
@@ -74,7 +74,7 @@ no-lit l (m ∷ ls) h =
     let rest = no-lit l ls parts.1 in
     (rw (other, rest.0) refl, rw (other, rest.1) refl)
 
-differ-plain : (ls : List Literal) → vars_differ ls ≡ true → (is_tautology ls ≡ false) × (distinct ls ≡ ls)
+differ-plain : (ls : List Literal) → has_distinct_vars ls ≡ true → (is_tautology ls ≡ false) × (deduped_lits ls ≡ ls)
 differ-plain [] h = (refl, refl)
 differ-plain (l ∷ ls) h =
     let parts = and_parts _ _ h in
@@ -82,5 +82,5 @@ differ-plain (l ∷ ls) h =
     let rest = differ-plain ls parts.1 in
     (rw (none.1, rest.0) refl, rw (none.0, rest.1) refl)
 
-pub differ-clause : (ls : List Literal) → vars_differ ls ≡ true → as_clause ls ≡ ls ∷ []
+pub differ-clause : (ls : List Literal) → has_distinct_vars ls ≡ true → clause_unless_tautology ls ≡ ls ∷ []
 differ-clause ls h = let plain = differ-plain ls h in rw (plain.0, plain.1) refl

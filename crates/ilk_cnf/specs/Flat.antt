@@ -3,11 +3,11 @@
 use Rattle.std.specs.Prelude.{ℕ, Bool, List, [], ◌∷◌, ◌==◌, ◌&&◌, nat_le, slice_range}
 
 -- The lists from item `start` on, each up to its end.
-abbrev pub cut_at : {X : Type 0} → ℕ → List ℕ → List X → List (List X)
-cut_at start [] xs = []
-cut_at start (end ∷ ends) xs = slice_range xs start end ∷ cut_at end ends xs
+abbrev pub split_at_ends : {X : Type 0} → ℕ → List ℕ → List X → List (List X)
+split_at_ends start [] xs = []
+split_at_ends start (end ∷ ends) xs = slice_range xs start end ∷ split_at_ends end ends xs
 
 -- Returns whether the ends ascend (equal ones allowed) from `start`, and the last one is n.
-abbrev pub are_ends : ℕ → List ℕ → ℕ → Bool
-are_ends start [] n = start == n
-are_ends start (end ∷ ends) n = nat_le start end && are_ends end ends n
+abbrev pub ends_ascend_to : ℕ → List ℕ → ℕ → Bool
+ends_ascend_to start [] n = start == n
+ends_ascend_to start (end ∷ ends) n = nat_le start end && ends_ascend_to end ends n

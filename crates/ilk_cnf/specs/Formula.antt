@@ -1,7 +1,7 @@
 -- A formula: the variables 1 to `vars`, and clauses over them.
 use Rattle.std.specs.Prelude.{ℕ, ◌≤◌, ◌^◌, nat_lt, nat_le, Bool, false, List, [], ◌∷◌, ◌++◌, ◌&&◌, ◌||◌, IsTrue, if◌then◌else◌}
 use Rattle.std.specs.List.{list_all}
-use Rattle.ilk_cnf.specs.Literal.{Literal, negated_lit, has_lit, vars_differ}
+use Rattle.ilk_cnf.specs.Literal.{Literal, negated_lit, has_lit, has_distinct_vars}
 
 pub record Formula : Type 0 where
   pub vars : ℕ
@@ -23,20 +23,20 @@ are_clauses_over n cs = list_all (is_clause_over n) cs
 pub record IsFormula (f : Formula) : Type 0 where
   pub numbered : f.vars ≤ 2 ^ 62
   pub within : IsTrue (are_clauses_over f.vars f.clauses)
-  pub differ : IsTrue (list_all vars_differ f.clauses)
+  pub differ : IsTrue (list_all has_distinct_vars f.clauses)
 
 -- The formula with n variables, and with these clauses added at the end.
 abbrev pub with_clauses : Formula → ℕ → List (List Literal) → Formula
 with_clauses f n cs = record { vars = n; clauses = f.clauses ++ cs }
 
 -- The same clauses with n variables.
-abbrev pub with_vars : Formula → ℕ → Formula
-with_vars f n = record { vars = n; clauses = f.clauses }
+abbrev pub with_var_count : Formula → ℕ → Formula
+with_var_count f n = record { vars = n; clauses = f.clauses }
 
 -- The literals without duplicates; the last occurrence of each is kept.
-abbrev pub distinct : List Literal → List Literal
-distinct [] = []
-distinct (l ∷ ls) = if has_lit l ls then distinct ls else l ∷ distinct ls
+abbrev pub deduped_lits : List Literal → List Literal
+deduped_lits [] = []
+deduped_lits (l ∷ ls) = if has_lit l ls then deduped_lits ls else l ∷ deduped_lits ls
 
 -- Returns whether the list has both literals of a variable, so that one of them is true.
 abbrev pub is_tautology : List Literal → Bool
@@ -44,5 +44,5 @@ is_tautology [] = false
 is_tautology (l ∷ ls) = has_lit (negated_lit l) ls || is_tautology ls
 
 -- The clause that demands that one of the literals is true, or no clause for a tautology.
-abbrev pub as_clause : List Literal → List (List Literal)
-as_clause ls = if is_tautology ls then [] else distinct ls ∷ []
+abbrev pub clause_unless_tautology : List Literal → List (List Literal)
+clause_unless_tautology ls = if is_tautology ls then [] else deduped_lits ls ∷ []

@@ -31,6 +31,6 @@ abbrev pub has_var : ℕ → List Literal → Bool
 has_var v ls = list_any (λ l. l.var == v) ls
 
 -- Returns whether the literals are over different variables.
-abbrev pub vars_differ : List Literal → Bool
-vars_differ [] = true
-vars_differ (l ∷ ls) = not (has_var l.var ls) && vars_differ ls
+abbrev pub has_distinct_vars : List Literal → Bool
+has_distinct_vars [] = true
+has_distinct_vars (l ∷ ls) = not (has_var l.var ls) && has_distinct_vars ls

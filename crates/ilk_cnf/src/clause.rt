@@ -1,6 +1,6 @@
 ghost use Rattle.std.specs.Prelude.{◌≡◌, ◌<◌, ◌+◌, drop, ◌++◌, ◌∷◌, [], length, slice_get, option_to_list, Some, OnOk, OnErr, IfOk, IsTrue, false};
-ghost use Rattle.ilk_cnf.specs.Formula.{as_clause};
-ghost use Rattle.ilk_cnf.specs.Literal.{has_lit, has_var, vars_differ};
+ghost use Rattle.ilk_cnf.specs.Formula.{clause_unless_tautology};
+ghost use Rattle.ilk_cnf.specs.Literal.{has_lit, has_var, has_distinct_vars};
 
 use crate::lit::Lit;
 use ilk_base::Row;
@@ -18,13 +18,13 @@ pub struct Clause {
 
 impl Model for Clause {
     ghost use Rattle.std.specs.Prelude.{List, IsTrue};
-    ghost use Rattle.ilk_cnf.specs.Literal.{Literal, vars_differ};
+    ghost use Rattle.ilk_cnf.specs.Literal.{Literal, has_distinct_vars};
 
     ghost Value = { List Literal };
 
     ghost view = { λ c. c.lits.items };
 
-    ghost invariant = { λ c. IsTrue (vars_differ c.lits.items) };
+    ghost invariant = { λ c. IsTrue (has_distinct_vars c.lits.items) };
 }
 
 impl Clause {
@@ -40,7 +40,7 @@ impl Clause {
     /// Creates the clause that has each of `lits` once. Returns `None` if the list has both
     /// literals of a variable, and so is always true.
     pub fn from_lits(alloc: Global, lits: &[Lit]) -> Result<Option<Clause>, AllocError>
-        ensures { IfOk result (λ clause. option_to_list clause ≡ as_clause lits.now) }
+        ensures { IfOk result (λ clause. option_to_list clause ≡ clause_unless_tautology lits.now) }
     {
         let mut clause = Clause::new(alloc);
         for (i, lit) in lits.iter().enumerate() {
@@ -89,7 +89,7 @@ impl Clause {
     /// Returns the literals.
     pub fn as_slice(&self) -> &[Lit]
         ensures items { result.now ≡ self.now }
-        ensures differ { IsTrue (vars_differ self.now) }
+        ensures differ { IsTrue (has_distinct_vars self.now) }
     {
         self.lits.as_slice()
     }

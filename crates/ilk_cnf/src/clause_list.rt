@@ -16,13 +16,13 @@ pub struct ClauseList {
 impl Model for ClauseList {
     ghost use Rattle.std.specs.Prelude.{List, IsTrue, length};
     ghost use Rattle.ilk_cnf.specs.Literal.{Literal};
-    ghost use Rattle.ilk_cnf.specs.Flat.{cut_at, are_ends};
+    ghost use Rattle.ilk_cnf.specs.Flat.{split_at_ends, ends_ascend_to};
 
     ghost Value = { List (List Literal) };
 
-    ghost view = { λ c. cut_at 0 c.ends.items c.lits.items };
+    ghost view = { λ c. split_at_ends 0 c.ends.items c.lits.items };
 
-    ghost invariant = { λ c. IsTrue (are_ends 0 c.ends.items (length c.lits.items)) };
+    ghost invariant = { λ c. IsTrue (ends_ascend_to 0 c.ends.items (length c.lits.items)) };
 }
 
 impl ClauseList {

@@ -1,13 +1,13 @@
 ghost use Rattle.std.specs.Prelude.{◌≡◌, ◌<◌, ◌≤◌, ◌+◌, ◌-◌, ◌^◌, ◌∷◌, [], length, slice_get, Some, OnOk, OnErr, IfOk, IsTrue};
-ghost use Rattle.ilk_cnf.specs.Formula.{with_clauses, as_clause, is_clause_over, IsFormula};
-ghost use Rattle.ilk_cnf.specs.Literal.{vars_differ};
+ghost use Rattle.ilk_cnf.specs.Formula.{with_clauses, clause_unless_tautology, is_clause_over, IsFormula};
+ghost use Rattle.ilk_cnf.specs.Literal.{has_distinct_vars};
 ghost use Rattle.ilk_cnf.specs.Truth.{satisfies};
 
 use crate::assignment::Assignment;
 use crate::clause::Clause;
 use crate::clause_list::ClauseList;
 use crate::lit::Lit;
-use crate::marks::vars_differ;
+use crate::marks::has_distinct_vars;
 use std::alloc::{AllocError, Global};
 use std::marker::Model;
 
@@ -18,8 +18,9 @@ const FEW: usize = 8;
 /// per clause and 8 per literal.
 #[derive(Drop)]
 pub struct Cnf {
-    // A mark for each variable, with which `vars_differ` finds duplicates; meaningless between its
-    // calls. No two bytes of memory have the same address, so there are at most 2^62 marks.
+    // A mark for each variable, with which `has_distinct_vars` finds duplicates; meaningless
+    // between its calls. No two bytes of memory have the same address, so there are at most 2^62
+    // marks.
     marks: Vec<u16>,
     clauses: ClauseList,
 }
@@ -70,7 +71,7 @@ impl Cnf {
     // Adds a list of literals over different variables as a clause.
     fn push(&mut self, lits: &[Lit]) -> Result<(), AllocError>
         requires within { IsTrue (is_clause_over self.old.vars lits.now) }
-        requires differ { IsTrue (vars_differ lits.now) }
+        requires differ { IsTrue (has_distinct_vars lits.now) }
         ensures ok { OnOk result (self.new ≡ with_clauses self.old self.old.vars (lits.now ∷ [])) }
         ensures err { OnErr result (self.new ≡ self.old) }
     {
@@ -78,23 +79,23 @@ impl Cnf {
     }
 
     // Returns whether the literals are over different variables.
-    fn vars_differ(&mut self, lits: &[Lit]) -> bool
+    fn has_distinct_vars(&mut self, lits: &[Lit]) -> bool
         requires { IsTrue (is_clause_over self.old.vars lits.now) }
-        ensures differ { result ≡ vars_differ lits.now }
+        ensures differ { result ≡ has_distinct_vars lits.now }
         ensures same { self.new ≡ self.old }
     {
-        vars_differ(&mut self.marks, lits)
+        has_distinct_vars(&mut self.marks, lits)
     }
 
     /// Adds the clause that has each of `lits` once, or nothing if the list has both literals of a
     /// variable. If memory runs out, the formula is unchanged.
-    pub fn add_clause_of(&mut self, lits: &[Lit]) -> Result<(), AllocError>
+    pub fn add_clause_from_lits(&mut self, lits: &[Lit]) -> Result<(), AllocError>
         requires { IsTrue (is_clause_over self.old.vars lits.now) }
         ensures ok { OnOk result (self.new
-            ≡ with_clauses self.old self.old.vars (as_clause lits.now)) }
+            ≡ with_clauses self.old self.old.vars (clause_unless_tautology lits.now)) }
         ensures err { OnErr result (self.new ≡ self.old) }
     {
-        if lits.len() > FEW && self.vars_differ(lits) {
+        if lits.len() > FEW && self.has_distinct_vars(lits) {
             return self.push(lits);
         }
         match Clause::from_lits(*self.marks.allocator(), lits)? {
@@ -125,7 +126,7 @@ impl Cnf {
         requires within { n ≤ length self.now.clauses }
         ensures clause { slice_get self.now.clauses (n - 1) ≡ Some result.now }
         ensures within { IsTrue (is_clause_over self.now.vars result.now) }
-        ensures differ { IsTrue (vars_differ result.now) }
+        ensures differ { IsTrue (has_distinct_vars result.now) }
     {
         self.clauses.at(n - 1)
     }

@@ -1,9 +1,9 @@
 ghost use Rattle.std.specs.Prelude.{◌≡◌, ◌+◌, ◌∷◌, [], List, Bool, map, length, OnOk, IfOk, IsTrue};
 ghost use Rattle.std.specs.List.{list_all};
-ghost use Rattle.ilk_cnf.specs.Extends.{PartExtends, IsExactly};
+ghost use Rattle.ilk_cnf.specs.Extends.{PartExtensionsAreExactly, AreExactValues};
 ghost use Rattle.ilk_cnf.specs.Formula.{is_clause_over, with_clauses};
 ghost use Rattle.ilk_cnf.specs.Literal.{negated_lit, positive_lit};
-ghost use Rattle.ilk_cnf.specs.Part.{with_part, as_clauses, and_gate_clauses, and_gate_part, or_gate_part};
+ghost use Rattle.ilk_cnf.specs.Part.{with_part, clauses_from_lists, and_gate_clauses, and_gate_part, or_gate_part};
 ghost use Rattle.ilk_cnf.specs.Truth.{is_true, is_clause_true};
 
 use crate::clause::Lits;
@@ -41,10 +41,10 @@ fn imply_each(cnf: &mut Cnf, gate: Lit, lits: &[Lit]) -> Result<(), AllocError>
     ensures { OnOk result
         (cnf.new
         ≡ with_clauses cnf.old cnf.old.vars
-        (as_clauses (map (λ l. negated_lit gate ∷ l ∷ []) lits.now))) }
+        (clauses_from_lists (map (λ l. negated_lit gate ∷ l ∷ []) lits.now))) }
 {
     for lit in lits {
-        cnf.add_clause_of(&[gate.negated(), *lit])?;
+        cnf.add_clause_from_lits(&[gate.negated(), *lit])?;
     }
     Ok(())
 }
@@ -61,11 +61,11 @@ pub fn define_and_gate(
     requires lits { IsTrue (is_clause_over cnf.old.vars lits.now) }
     ensures { OnOk result
         (cnf.new ≡ with_clauses cnf.old cnf.old.vars
-        (as_clauses (and_gate_clauses gate lits.now))) }
+        (clauses_from_lists (and_gate_clauses gate lits.now))) }
 {
     imply_each(cnf, gate, lits)?;
     let wide = gate_and_opposites(alloc, gate, lits)?;
-    cnf.add_clause_of(wide.as_slice())?;
+    cnf.add_clause_from_lits(wide.as_slice())?;
     Ok(())
 }
 
@@ -77,8 +77,8 @@ pub fn add_and_gate(alloc: Global, cnf: &mut Cnf, lits: &[Lit]) -> Result<Lit, A
     ensures made { OnOk result (cnf.new ≡ with_part cnf.old (and_gate_part lits.now cnf.old.vars)) }
     ensures law { OnOk result
         ((a : List Bool) → length a ≡ cnf.old.vars →
-        PartExtends a (and_gate_part lits.now cnf.old.vars)
-        (IsExactly (list_all (is_true a) lits.now ∷ []))) }
+        PartExtensionsAreExactly a (and_gate_part lits.now cnf.old.vars)
+        (AreExactValues (list_all (is_true a) lits.now ∷ []))) }
 {
     let gate = Lit::new(cnf.fresh()?, true);
     define_and_gate(alloc, cnf, gate, lits)?;
@@ -93,8 +93,8 @@ pub fn add_or_gate(alloc: Global, cnf: &mut Cnf, lits: &[Lit]) -> Result<Lit, Al
     ensures made { OnOk result (cnf.new ≡ with_part cnf.old (or_gate_part lits.now cnf.old.vars)) }
     ensures law { OnOk result
         ((a : List Bool) → length a ≡ cnf.old.vars →
-        PartExtends a (or_gate_part lits.now cnf.old.vars)
-        (IsExactly (is_clause_true a lits.now ∷ []))) }
+        PartExtensionsAreExactly a (or_gate_part lits.now cnf.old.vars)
+        (AreExactValues (is_clause_true a lits.now ∷ []))) }
 {
     let gate = Lit::new(cnf.fresh()?, true);
     let others = negated_lits(alloc, lits)?;

@@ -1,6 +1,6 @@
 ghost use Rattle.std.specs.Prelude.{ℕ, ◌≡◌, ◌==◌, ◌≤◌, ◌<◌, length, false, true, if◌then◌else◌, IsTrue};
 ghost use Rattle.ilk_cnf.specs.Formula.{is_clause_over};
-ghost use Rattle.ilk_cnf.specs.Literal.{has_var, vars_differ};
+ghost use Rattle.ilk_cnf.specs.Literal.{has_var, has_distinct_vars};
 ghost use Rattle.ilk_cnf.specs.Marks.{is_marked};
 
 use crate::lit::Lit;
@@ -38,10 +38,10 @@ fn unmark(marks: &mut [u16], lits: &[Lit])
 
 /// Returns whether the literals are over different variables. It uses one mark per variable, from
 /// 1. The marks may have any values before the call, and any after it.
-pub fn vars_differ(marks: &mut [u16], lits: &[Lit]) -> bool
+pub fn has_distinct_vars(marks: &mut [u16], lits: &[Lit]) -> bool
     requires { IsTrue (is_clause_over (length marks.old) lits.now) }
     ensures count { length marks.new ≡ length marks.old }
-    ensures differ { result ≡ vars_differ lits.now }
+    ensures differ { result ≡ has_distinct_vars lits.now }
 {
     unmark(marks, lits);
     for lit in lits {

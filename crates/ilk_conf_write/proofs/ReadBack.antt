@@ -11,7 +11,7 @@ use Rattle.serde_json.specs.Events.{items_len}
 use Rattle.serde_json.specs.Find.{as_str}
 use Rattle.serde_json.specs.View.{items_of}
 use Rattle.ilk_base.specs.Result.{try_map_numbered}
-use Rattle.ilk_plant.specs.Limits.{HasLimits, counts_are_allowed, route_has_limits, route_has_names, section_has_names}
+use Rattle.ilk_plant.specs.Limits.{WithinLimits, counts_are_allowed, route_within_limits, route_names_valid, section_names_valid}
 use Rattle.ilk_plant.specs.Name.{Name}
 use Rattle.ilk_plant.specs.declared.draft.KindDraft.{KindDraft}
 use Rattle.ilk_plant.specs.declared.draft.KindDraft.TheVariants.{Linear, Point}
@@ -22,16 +22,16 @@ use Rattle.ilk_plant.specs.declared.draft.SectionDraft.{SectionDraft}
 use Rattle.ilk_plant.specs.declared.draft.TableDraft.{TableDraft}
 use Rattle.ilk_plant.specs.declared.limits.TheConstants.{MAX_ROUTES, MAX_SECTIONS}
 use Rattle.ilk_plant.proofs.WordsBack.{direction_back, position_back}
-use Rattle.ilk_net_read.specs.Document.{DocumentParts, has_allowed_counts}
-use Rattle.ilk_net_read.specs.Member.{as_optional_text, all_entries_as, entries_of}
-use Rattle.ilk_net_read.specs.Network.{read_document, network_of, section_of}
+use Rattle.ilk_net_read.specs.Document.{VersionedDocument, has_allowed_counts}
+use Rattle.ilk_net_read.specs.Member.{as_optional_text, all_entries_as, array_entries}
+use Rattle.ilk_net_read.specs.Network.{read_document, network_from_data, read_section}
 use Rattle.ilk_net_read.specs.Section.{as_section}
 use Rattle.ilk_net_read.specs.declared.version.Version.{Version}
 use Rattle.ilk_net_read.specs.declared.version.Version.TheVariants.{First, Second}
-use Rattle.ilk_table_read.specs.Route.{as_listed, as_route}
-use Rattle.ilk_table_read.specs.Table.{drafts_of, route_of, table_of}
+use Rattle.ilk_table_read.specs.Route.{as_listed_point, as_route}
+use Rattle.ilk_table_read.specs.Table.{net_and_table_drafts, route_draft_from_value, table_draft_from_value}
 use Rattle.ilk_net_read.proofs.Values.{value_of-read}
-use Rattle.ilk_conf_write.specs.ConfigurationText.{configuration_text, configuration_value, fits_version, has_no_protection, listed_value, optional_value, route_value, section_value}
+use Rattle.ilk_conf_write.specs.ConfigurationText.{configuration_text, configuration_value, fits_version, has_no_protection, listed_point_value, optional_value, route_value, section_value}
 
 and-first : (a b : Bool) → (a && b) ≡ true → a ≡ true
 and-first true b e = refl
@@ -79,7 +79,7 @@ section-read s = by_kind s.kind
     by_kind (Linear down up board_down board_up) = rw (optional-read down, optional-read up, optional-read board_down, optional-read board_up) refl
     by_kind (Point stem plus minus faces) = rw (direction_back faces) refl
 
-listed-read : (l : ListedDraft) → as_listed (listed_value l) ≡ Some l
+listed-read : (l : ListedDraft) → as_listed_point (listed_point_value l) ≡ Some l
 listed-read l = rw (position_back l.at) refl
 
 -- Lists of values.
@@ -88,11 +88,11 @@ texts-read : (texts : List Name) → all_entries_as as_str (items_of (map string
 texts-read [] = refl
 texts-read (text ∷ texts) = rw (texts-read texts) refl
 
-points-read : (points : List ListedDraft) → all_entries_as as_listed (items_of (map listed_value points)) ≡ Some points
+points-read : (points : List ListedDraft) → all_entries_as as_listed_point (items_of (map listed_point_value points)) ≡ Some points
 points-read [] = refl
 points-read (point ∷ points) = rw (listed-read point, points-read points) refl
 
-entries : (ds : List Data) → entries_of (items_of ds) ≡ ds
+entries : (ds : List Data) → array_entries (items_of ds) ≡ ds
 entries [] = refl
 entries (d ∷ ds) = ap (λ rest. d ∷ rest) (entries ds)
 
@@ -113,53 +113,54 @@ route-read Second r none =
 
 -- Items in order.
 
-section-of-read : (i : ℕ) (s : SectionDraft) → section_has_names s ≡ true → section_of i (section_value s) ≡ Ok s
+section-of-read : (i : ℕ) (s : SectionDraft) → section_names_valid s ≡ true → read_section i (section_value s) ≡ Ok s
 section-of-read i s named = rw (section-read s, named) refl
 
-sections-read : (i : ℕ) (ss : List SectionDraft) → list_all section_has_names ss ≡ true → try_map_numbered section_of i (map section_value ss) ≡ Ok ss
+sections-read : (i : ℕ) (ss : List SectionDraft) → list_all section_names_valid ss ≡ true → try_map_numbered read_section i (map section_value ss) ≡ Ok ss
 sections-read i [] named = refl
 sections-read i (s ∷ ss) named =
-    rw (section-of-read i s (and-first (section_has_names s) (list_all section_has_names ss) named), sections-read (i + 1) ss (and-second (section_has_names s) (list_all section_has_names ss) named)) refl
+    rw (section-of-read i s (and-first (section_names_valid s) (list_all section_names_valid ss) named), sections-read (i + 1) ss (and-second (section_names_valid s) (list_all section_names_valid ss) named)) refl
 
-route-of-read : (version : Version) (i : ℕ) (r : RouteDraft) → IsRouteIn version r → route_has_names r ≡ true → route_has_limits r ≡ true → route_of version i (route_value version r) ≡ Ok r
+route-of-read : (version : Version) (i : ℕ) (r : RouteDraft) → IsRouteIn version r → route_names_valid r ≡ true → route_within_limits r ≡ true → route_draft_from_value version i (route_value version r) ≡ Ok r
 route-of-read version i r in_version named limited = rw (route-read version r in_version, named, limited) refl
 
-routes-read : (version : Version) (i : ℕ) (rs : List RouteDraft) → All (IsRouteIn version) rs → list_all route_has_names rs ≡ true → list_all route_has_limits rs ≡ true → try_map_numbered (route_of version) i (map (route_value version) rs) ≡ Ok rs
+routes-read : (version : Version) (i : ℕ) (rs : List RouteDraft) → All (IsRouteIn version) rs → list_all route_names_valid rs ≡ true → list_all route_within_limits rs ≡ true →
+    try_map_numbered (route_draft_from_value version) i (map (route_value version) rs) ≡ Ok rs
 routes-read version i [] in_version named limited = refl
 routes-read version i (r ∷ rs) in_version named limited =
-    let first : route_of version i (route_value version r) ≡ Ok r = route-of-read version i r
+    let first : route_draft_from_value version i (route_value version r) ≡ Ok r = route-of-read version i r
     (All-head (IsRouteIn version) r rs in_version)
-    (and-first (route_has_names r) (list_all route_has_names rs) named)
-    (and-first (route_has_limits r) (list_all route_has_limits rs) limited) in
-    let rest : try_map_numbered (route_of version) (i + 1) (map (route_value version) rs) ≡ Ok rs = routes-read
+    (and-first (route_names_valid r) (list_all route_names_valid rs) named)
+    (and-first (route_within_limits r) (list_all route_within_limits rs) limited) in
+    let rest : try_map_numbered (route_draft_from_value version) (i + 1) (map (route_value version) rs) ≡ Ok rs = routes-read
     version (i + 1) rs (All-tail (IsRouteIn version) r rs in_version)
-    (and-second (route_has_names r) (list_all route_has_names rs) named)
-    (and-second (route_has_limits r) (list_all route_has_limits rs) limited) in
+    (and-second (route_names_valid r) (list_all route_names_valid rs) named)
+    (and-second (route_within_limits r) (list_all route_within_limits rs) limited) in
     rw (first, rest) refl
 
 -- The document.
 
-abbrev parts_of : Version → NetDraft → TableDraft → DocumentParts
+abbrev parts_of : Version → NetDraft → TableDraft → VersionedDocument
 parts_of version net table = record {
   version = version;
   sections = items_of (map section_value net.sections);
   routes = items_of (map (route_value version) table.routes);
 }
 
-counts-read : (version : Version) (net : NetDraft) (table : TableDraft) → HasLimits net table → has_allowed_counts (parts_of version net table) ≡ true
+counts-read : (version : Version) (net : NetDraft) (table : TableDraft) → WithinLimits net table → has_allowed_counts (parts_of version net table) ≡ true
 counts-read version net table limits =
     ap₂ counts_are_allowed (count section_value net.sections) (count (route_value version) table.routes)
     ∙ rw (le-leb 1 (length net.sections) limits.of_network.some, le-leb (length net.sections) MAX_SECTIONS limits.of_network.few, le-leb (length table.routes) MAX_ROUTES limits.of_table.few) refl
 
-document-read : (version : Version) (net : NetDraft) (table : TableDraft) → HasLimits net table → read_document (configuration_value version net table) ≡ Ok (parts_of version net table)
+document-read : (version : Version) (net : NetDraft) (table : TableDraft) → WithinLimits net table → read_document (configuration_value version net table) ≡ Ok (parts_of version net table)
 document-read First net table limits = rw (counts-read First net table limits) refl
 document-read Second net table limits = rw (counts-read Second net table limits) refl
 
-network-read : (version : Version) (net : NetDraft) (table : TableDraft) → HasLimits net table → network_of (configuration_value version net table) ≡ Ok net
+network-read : (version : Version) (net : NetDraft) (table : TableDraft) → WithinLimits net table → network_from_data (configuration_value version net table) ≡ Ok net
 network-read version net table limits =
     rw (document-read version net table limits, entries (map section_value net.sections), sections-read 0 net.sections limits.of_network.named) refl
 
-table-read : (version : Version) (net : NetDraft) (table : TableDraft) → HasLimits net table → fits_version version table ≡ true → table_of (configuration_value version net table) ≡ Ok table
+table-read : (version : Version) (net : NetDraft) (table : TableDraft) → WithinLimits net table → fits_version version table ≡ true → table_draft_from_value (configuration_value version net table) ≡ Ok table
 table-read version net table limits in_version =
     rw (document-read version net table limits, entries (map (route_value version) table.routes), routes-read version 0 table.routes (each-in version table in_version) limits.of_table.named limits.of_table.each) refl
 
@@ -183,8 +184,8 @@ section-shallow s = by_kind s.kind
 texts-shallow : (texts : List Name) → items_depth (items_of (map string texts)) ≤ 0
 texts-shallow = items-shallow string 0 (λ x. omega arith)
 
-points-shallow : (points : List ListedDraft) → items_depth (items_of (map listed_value points)) ≤ 1
-points-shallow = items-shallow listed_value 1 (λ x. omega arith)
+points-shallow : (points : List ListedDraft) → items_depth (items_of (map listed_point_value points)) ≤ 1
+points-shallow = items-shallow listed_point_value 1 (λ x. omega arith)
 
 route-shallow : (version : Version) (r : RouteDraft) → depth (route_value version r) ≤ 3
 route-shallow First r = omega (arith, optional-flat r.destination, texts-shallow r.path, texts-shallow r.overlap, points-shallow r.points, texts-shallow r.conflicts)
@@ -196,8 +197,8 @@ depth-few version net table =
     omega (arith, items-shallow section_value 1 section-shallow net.sections, items-shallow (route_value version) 3 (route-shallow version) table.routes)
 
 pub text-read : (version : Version) (net : NetDraft) (table : TableDraft) (text : List ℕ) →
-    HasLimits net table → fits_version version table ≡ true → IsUtf8 text →
-    read text ≡ Some (configuration_value version net table) → drafts_of text ≡ Ok (net, table)
+    WithinLimits net table → fits_version version table ≡ true → IsUtf8 text →
+    read text ≡ Some (configuration_value version net table) → net_and_table_drafts text ≡ Ok (net, table)
 text-read version net table text limits in_version utf8 is =
     rw (value_of-read text (configuration_value version net table) utf8 is, network-read version net table limits, table-read version net table limits in_version) refl
 
@@ -221,8 +222,8 @@ section-whole s = by_kind s.kind
 texts-whole : (texts : List Name) → items_have_float (items_of (map string texts)) ≡ false
 texts-whole = items-whole string (λ x. refl)
 
-points-whole : (points : List ListedDraft) → items_have_float (items_of (map listed_value points)) ≡ false
-points-whole = items-whole listed_value (λ x. refl)
+points-whole : (points : List ListedDraft) → items_have_float (items_of (map listed_point_value points)) ≡ false
+points-whole = items-whole listed_point_value (λ x. refl)
 
 route-whole : (version : Version) (r : RouteDraft) → has_float (route_value version r) ≡ false
 route-whole First r = rw (optional-whole r.destination, texts-whole r.path, texts-whole r.overlap, points-whole r.points, texts-whole r.conflicts) refl
@@ -248,9 +249,9 @@ text-of bytes (Ok b) d version net table same told =
 pub read-of :
     {A E : Type 0} (bytes : A → List ℕ) (written : Result A E) (d : Data) (version : Version) (net : NetDraft)
     (table : TableDraft) →
-    HasLimits net table → fits_version version table ≡ true → d ≡ configuration_value version net table →
+    WithinLimits net table → fits_version version table ≡ true → d ≡ configuration_value version net table →
     IfOk written (λ b. IsUtf8 (bytes b)) → IfOk written (λ b. depth d ≤ max_depth → read (bytes b) ≡ Some d) →
-    IfOk written (λ b. drafts_of (bytes b) ≡ Ok (net, table))
+    IfOk written (λ b. net_and_table_drafts (bytes b) ≡ Ok (net, table))
 read-of bytes (Err e) d version net table limits in_version same utf8 told = tt
 read-of bytes (Ok b) d version net table limits in_version same utf8 told =
     let shallow : depth d ≤ max_depth = subst (λ (v : Data). depth v ≤ max_depth) (sym same) (depth-few version net table) in

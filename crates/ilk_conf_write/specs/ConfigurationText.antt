@@ -27,8 +27,8 @@ optional_value None = null
 optional_value (Some text) = string text
 
 -- A section with this name, by its kind.
-abbrev pub kind_value : Name → KindDraft → Data
-kind_value name (Linear down up board_down board_up) =
+abbrev pub section_value_by_kind : Name → KindDraft → Data
+section_value_by_kind name (Linear down up board_down board_up) =
     object
     (member (codes "board_down") (optional_value board_down)
     (member (codes "board_up") (optional_value board_up)
@@ -36,7 +36,7 @@ kind_value name (Linear down up board_down board_up) =
     (member (codes "kind") (string (codes "linear"))
     (member (codes "name") (string name)
     (member (codes "up") (optional_value up) no_members))))))
-kind_value name (Point stem plus minus faces) =
+section_value_by_kind name (Point stem plus minus faces) =
     object
     (member (codes "faces") (string (direction_word faces))
     (member (codes "kind") (string (codes "point"))
@@ -46,11 +46,11 @@ kind_value name (Point stem plus minus faces) =
     (member (codes "stem") (string stem) no_members))))))
 
 abbrev pub section_value : SectionDraft → Data
-section_value section = kind_value section.name section.kind
+section_value section = section_value_by_kind section.name section.kind
 
 -- A point with its required position.
-abbrev pub listed_value : ListedDraft → Data
-listed_value listed = object (member (codes "point") (string listed.point) (member (codes "position") (string (position_word listed.at)) no_members))
+abbrev pub listed_point_value : ListedDraft → Data
+listed_point_value listed = object (member (codes "point") (string listed.point) (member (codes "position") (string (position_word listed.at)) no_members))
 
 abbrev pub version_number : Version → ℕ
 version_number First = 1
@@ -65,7 +65,7 @@ route_value First route =
     (member (codes "name") (string route.name)
     (member (codes "overlap") (array_of string route.overlap)
     (member (codes "path") (array_of string route.path)
-    (member (codes "points") (array_of listed_value route.points)
+    (member (codes "points") (array_of listed_point_value route.points)
     (member (codes "source") (string route.source) no_members)))))))
 route_value Second route =
     object
@@ -74,11 +74,11 @@ route_value Second route =
     (member (codes "name") (string route.name)
     (member (codes "overlap") (array_of string route.overlap)
     (member (codes "path") (array_of string route.path)
-    (member (codes "points") (array_of listed_value route.points)
+    (member (codes "points") (array_of listed_point_value route.points)
     (member (codes "protecting_boards")
     (array_of string route.protecting_boards)
     (member (codes "protecting_points")
-    (array_of listed_value route.protecting_points)
+    (array_of listed_point_value route.protecting_points)
     (member (codes "source") (string route.source) no_members)))))))))
 
 -- The document of a network and an interlocking table.

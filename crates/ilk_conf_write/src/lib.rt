@@ -2,7 +2,7 @@
 //! back as exactly these drafts.
 //!
 //! `specs/ConfigurationText.antt` defines the value written for the drafts, member by member, in
-//! each of the two versions. `write_configuration` returns its text. The reader (`ilk_table_read`)
+//! each of the two versions. `configuration_json` returns its text. The reader (`ilk_table_read`)
 //! is separate: the two share only the names of members, the versions and the word tables. A clause
 //! of the call states that reading undoes writing.
 #![tactic(auto)]
@@ -11,4 +11,4 @@ mod value;
 mod write;
 
 pub use ilk_net_read::Version;
-pub use write::write_configuration;
+pub use write::configuration_json;

@@ -7,7 +7,7 @@ ghost use Rattle.ilk_conf_write.specs.ConfigurationText as written;
 
 use ilk_net_read::Version;
 use ilk_plant::{
-    KindDraft, ListedDraft, NetDraft, RouteDraft, Row, SectionDraft, TableDraft, Text, Worded,
+    HasWord, KindDraft, ListedDraft, NetDraft, RouteDraft, Row, SectionDraft, TableDraft, Text,
 };
 use serde_json::{Map, Value, json, put};
 use std::alloc::{AllocError, Global};
@@ -29,8 +29,8 @@ fn optional_value(alloc: Global, text: &Option<Text>) -> Result<Value, AllocErro
 }
 
 // Returns a section with this name.
-fn kind_value(alloc: Global, name: &Text, kind: &KindDraft) -> Result<Value, AllocError>
-    ensures { IfOk result (λ value. view value ≡ written.kind_value name.now kind.now) }
+fn section_value_by_kind(alloc: Global, name: &Text, kind: &KindDraft) -> Result<Value, AllocError>
+    ensures { IfOk result (λ value. view value ≡ written.section_value_by_kind name.now kind.now) }
 {
     let name = name.as_str();
     match kind {
@@ -71,7 +71,7 @@ fn sections_value(alloc: Global, sections: &[SectionDraft]) -> Result<Value, All
 {
     let mut values = Vec::new(alloc);
     for section in sections {
-        values.push(kind_value(alloc, &section.name, &section.kind)?)?;
+        values.push(section_value_by_kind(alloc, &section.name, &section.kind)?)?;
     }
     Ok(Value::Array(values))
 }
@@ -86,8 +86,8 @@ fn texts_value(alloc: Global, texts: &Row<Text>) -> Result<Value, AllocError>
     Ok(Value::Array(values))
 }
 
-fn listed_value(alloc: Global, listed: &ListedDraft) -> Result<Value, AllocError>
-    ensures { IfOk result (λ value. view value ≡ written.listed_value listed.now) }
+fn listed_point_value(alloc: Global, listed: &ListedDraft) -> Result<Value, AllocError>
+    ensures { IfOk result (λ value. view value ≡ written.listed_point_value listed.now) }
 {
     let point = listed.point.as_str();
     let position = listed.at.word();
@@ -95,11 +95,12 @@ fn listed_value(alloc: Global, listed: &ListedDraft) -> Result<Value, AllocError
 }
 
 fn points_value(alloc: Global, points: &[ListedDraft]) -> Result<Value, AllocError>
-    ensures { IfOk result (λ value. view value ≡ written.array_of written.listed_value points.now) }
+    ensures { IfOk result
+        (λ value. view value ≡ written.array_of written.listed_point_value points.now) }
 {
     let mut values = Vec::new(alloc);
     for listed in points {
-        values.push(listed_value(alloc, listed)?)?;
+        values.push(listed_point_value(alloc, listed)?)?;
     }
     Ok(Value::Array(values))
 }
@@ -157,7 +158,7 @@ fn put_points(
 ) -> Result<(), AllocError>
     ensures { OnOk result
         (members_view members.new.entries
-        ≡ with_member name.now (written.array_of written.listed_value points.now)
+        ≡ with_member name.now (written.array_of written.listed_point_value points.now)
         (members_view members.old.entries)) }
 {
     put(members, alloc, name, points_value(alloc, points)?)

@@ -1,6 +1,6 @@
 ghost use Rattle.std.specs.Prelude.{◌≡◌, IfOk, IsTrue, Ok};
-ghost use Rattle.ilk_plant.specs.Limits.{HasLimits};
-ghost use Rattle.ilk_table_read.specs.Table.{drafts_of};
+ghost use Rattle.ilk_plant.specs.Limits.{WithinLimits};
+ghost use Rattle.ilk_table_read.specs.Table.{net_and_table_drafts};
 ghost use Rattle.ilk_conf_write.specs.ConfigurationText.{configuration_text, fits_version};
 
 use crate::value::configuration_value;
@@ -12,16 +12,16 @@ use std::alloc::{AllocError, Global};
 /// spaces and without a line end. Both must be within the limits, and in version 1 no route may
 /// list protecting points or boards. The text is read back as exactly these drafts. Fails only if
 /// memory runs out.
-pub fn write_configuration(
+pub fn configuration_json(
     alloc: Global,
     version: Version,
     net: &NetDraft,
     table: &TableDraft,
 ) -> Result<Vec<u8>, AllocError>
-    requires limits { HasLimits net.now table.now }
+    requires limits { WithinLimits net.now table.now }
     requires version { IsTrue (fits_version version table.now) }
     ensures text { IfOk result (λ text. text.items ≡ configuration_text version net.now table.now) }
-    ensures read { IfOk result (λ text. drafts_of text.items ≡ Ok (net.now, table.now)) }
+    ensures read { IfOk result (λ text. net_and_table_drafts text.items ≡ Ok (net.now, table.now)) }
 {
     configuration_value(alloc, version, net, table)?.to_vec(alloc)
 }

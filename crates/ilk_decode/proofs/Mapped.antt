@@ -21,7 +21,7 @@ use Rattle.ilk_plant.specs.declared.state.Mode.TheVariants.{Free, Marked, Alloca
 use Rattle.ilk_plant.specs.declared.state.State.{State}
 use Rattle.ilk_layout.specs.Image.{image_of, occupancy_values}
 use Rattle.ilk_layout.specs.Occupancy.{occupancy_of}
-use Rattle.ilk_layout.specs.Values.{aspect_value, hold_value, lie_value, mode_value, occupancy_value, position_value}
+use Rattle.ilk_layout.specs.Values.{aspect_value, lock_value, detected_value, mode_value, occupancy_value, commanded_value}
 use Rattle.ilk_layout.specs.Variables.{detected_var, board_var, boards_begin, lock_var, locks_begin, mode_var, occupancies_begin, occupancy_var, points_begin, rel_var, seen_var, commanded_var}
 use Rattle.ilk_layout.specs.declared.values.Occupancy.{Occupancy}
 use Rattle.ilk_layout.specs.declared.values.Occupancy.TheVariants.{Vacant, Taken, Crash}
@@ -36,12 +36,12 @@ mode-numbered Allocating = refl
 mode-numbered Locked = refl
 mode-numbered Occupied = refl
 
-lie-numbered : (l : Lie) → lie_from_number (lie_value l) ≡ l
+lie-numbered : (l : Lie) → lie_from_number (detected_value l) ≡ l
 lie-numbered LiesPlus = refl
 lie-numbered LiesMinus = refl
 lie-numbered Moving = refl
 
-position-numbered : (d : Position) → position_from_number (position_value d) ≡ d
+position-numbered : (d : Position) → position_from_number (commanded_value d) ≡ d
 position-numbered Plus = refl
 position-numbered Minus = refl
 
@@ -49,7 +49,7 @@ aspect-numbered : (a : Aspect) → aspect_from_number (aspect_value a) ≡ a
 aspect-numbered Open = refl
 aspect-numbered Closed = refl
 
-hold-numbered : (h : Hold) → hold_from_number (hold_value h) ≡ h
+hold-numbered : (h : Hold) → hold_from_number (lock_value h) ≡ h
 hold-numbered FreeLock = refl
 hold-numbered LockedLock = refl
 hold-numbered UsedLock = refl
@@ -95,9 +95,9 @@ module _ (p : PlantLists) (s : State) (shape : HasShape p s) where
   pub points-back : map (decoded_point (image_of p s) (points_begin p)) (range_with_len 0 (point_count p)) ≡ s.points
   points-back =
       mapped-range (decoded_point (image_of p s) (points_begin p)) (point_count p) s.points shape.points (λ n point at. (
-      let lies : lie_from_number (get_or (image_of p s) (detected_var p n) 0) ≡ point.at = ap lie_from_number (value-is (detected_var p n) (lie_value point.at) (at-at p s (occupancy_values p s) shape n point at)) ∙ lie-numbered point.at in
+      let lies : lie_from_number (get_or (image_of p s) (detected_var p n) 0) ≡ point.at = ap lie_from_number (value-is (detected_var p n) (detected_value point.at) (at-at p s (occupancy_values p s) shape n point at)) ∙ lie-numbered point.at in
       let to : position_from_number (get_or (image_of p s) (commanded_var p n) 0) ≡ point.to =
-      ap position_from_number (value-is (commanded_var p n) (position_value point.to) (to-at p s (occupancy_values p s) shape n point at)) ∙ position-numbered point.to in
+      ap position_from_number (value-is (commanded_var p n) (commanded_value point.to) (to-at p s (occupancy_values p s) shape n point at)) ∙ position-numbered point.to in
       λ i. record { at = lies i; to = to i }))
 
   pub boards-back : map (decoded_board (image_of p s) (boards_begin p)) (range_with_len 0 (length p.boards)) ≡ s.boards
@@ -108,7 +108,7 @@ module _ (p : PlantLists) (s : State) (shape : HasShape p s) where
   pub locks-back : map (decoded_lock (image_of p s) (locks_begin p)) (range_with_len 0 (length p.sections)) ≡ s.locks
   locks-back =
       mapped-range (decoded_lock (image_of p s) (locks_begin p)) (length p.sections) s.locks shape.locks (λ x hold at.
-      ap hold_from_number (value-is (lock_var p x) (hold_value hold) (lock-at p s (occupancy_values p s) shape x hold at)) ∙ hold-numbered hold)
+      ap hold_from_number (value-is (lock_var p x) (lock_value hold) (lock-at p s (occupancy_values p s) shape x hold at)) ∙ hold-numbered hold)
 
   pub occupancies-back : map (decoded_occupancy (image_of p s) (occupancies_begin p)) (range_with_len 0 (length p.sections)) ≡ map (occupancy_of p s) (range_with_len 0 (length p.sections))
   occupancies-back =

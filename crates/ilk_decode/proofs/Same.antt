@@ -8,19 +8,19 @@ use Rattle.ilk_base.proofs.Options.{some-and}
 use Rattle.ilk_base.proofs.Ranges.{map-range-congr, range-at}
 use Rattle.ilk_ir.specs.System.{in_ranges}
 use Rattle.ilk_plant.specs.Plant.{IsPlant, PlantLists}
-use Rattle.ilk_plant.specs.Sound.{NoWalkReturns}
+use Rattle.ilk_plant.specs.Sound.{IsAcyclic}
 use Rattle.ilk_plant.specs.Shape.{HasShape}
 use Rattle.ilk_plant.specs.State.{detected_position}
 use Rattle.ilk_plant.specs.declared.network.Dir.{Dir}
 use Rattle.ilk_plant.specs.declared.state.State.{State}
 use Rattle.ilk_motion.specs.Ahead.{ahead}
-use Rattle.ilk_layout.specs.Decoded.{follow_steps, following_section, train_from_tail, trains_of}
+use Rattle.ilk_layout.specs.Decoded.{follow_steps, next_body_section, train_from_tail, trains_of}
 use Rattle.ilk_layout.specs.Image.{image_of}
-use Rattle.ilk_layout.specs.Laws.{AreImage, IsWellFormedAndSafe}
+use Rattle.ilk_layout.specs.Laws.{AreImageOfSafeState, IsWellFormedAndSafe}
 use Rattle.ilk_layout.specs.Occupancy.{occupancy_of}
 use Rattle.ilk_layout.specs.Values.{occupancy_value}
 use Rattle.ilk_layout.specs.Variables.{ranges_of_plant}
-use Rattle.ilk_layout.specs.Wellformed.{has_more_behind, is_wellformed, joined_section, section_fits}
+use Rattle.ilk_layout.specs.Wellformed.{has_more_behind, is_wellformed, mutual_section_ahead, occupancy_is_consistent}
 use Rattle.ilk_layout.specs.declared.values.Occupancy.{Occupancy}
 use Rattle.ilk_layout.specs.declared.values.Occupancy.TheVariants.{Vacant, Taken, Crash}
 use Rattle.ilk_layout.proofs.Made.{made-calm, made-occupancy, made-shape}
@@ -32,22 +32,22 @@ use Rattle.ilk_layout.proofs.Writes.{image_with}
 use Rattle.ilk_decode.specs.Read.{decoded, next_in_body, decoded_occupancies, train_with_tail, trains_by_tails, without_trains}
 use Rattle.ilk_decode.proofs.Mapped.{boards-back, locks-back, occupancies-back, points-back, routes-back}
 
-module _ (p : PlantLists) (plant : IsPlant p) (never : NoWalkReturns p) (s : State)
+module _ (p : PlantLists) (plant : IsPlant p) (never : IsAcyclic p) (s : State)
     (occupancies : List Occupancy) (long : length occupancies ≡ length p.sections)
     (fits : (x : ℕ) → x < length p.sections →
-    section_fits p (detected_position p s) (slice_get occupancies) x (slice_get occupancies x) ≡ true) where
+    occupancy_is_consistent p (detected_position p s) (slice_get occupancies) x (slice_get occupancies x) ≡ true) where
   -- Unless the head is there, the section ahead of a train's section is the next one of its body.
-  next-is : (x : ℕ) → next_in_body p s occupancies x ≡ following_section p (detected_position p s) (slice_get occupancies) x
+  next-is : (x : ℕ) → next_in_body p s occupancies x ≡ next_body_section p (detected_position p s) (slice_get occupancies) x
   next-is x = by_occupancy (slice_get occupancies x) refl
     where
-      ahead-is : (d : Dir) (tail : Bool) → slice_get occupancies x ≡ Some (Taken d tail false) → ahead p s x d ≡ joined_section p (detected_position p s) x d
+      ahead-is : (d : Dir) (tail : Bool) → slice_get occupancies x ≡ Some (Taken d tail false) → ahead p s x d ≡ mutual_section_ahead p (detected_position p s) x d
       ahead-is d tail at =
           let within = slice_get_within occupancies x (Taken d tail false) at in
-          let next = some-and (joined_section p (detected_position p s) x d) (λ y. is_some_and (slice_get occupancies y) (has_more_behind d))
+          let next = some-and (mutual_section_ahead p (detected_position p s) x d) (λ y. is_some_and (slice_get occupancies y) (has_more_behind d))
           (demands p plant never (detected_position p s) (slice_get occupancies) fits x d tail false (omega arith) at).1 in
           (joined-parts p (detected_position p s) x next.0 d next.1).0 ∙ sym next.1
 
-      by_occupancy : (o : Option Occupancy) → slice_get occupancies x ≡ o → next_in_body p s occupancies x ≡ following_section p (detected_position p s) (slice_get occupancies) x
+      by_occupancy : (o : Option Occupancy) → slice_get occupancies x ≡ o → next_in_body p s occupancies x ≡ next_body_section p (detected_position p s) (slice_get occupancies) x
       by_occupancy None at = rw at refl
       by_occupancy (Some Vacant) at = rw at refl
       by_occupancy (Some Crash) at = rw at refl
@@ -57,7 +57,7 @@ module _ (p : PlantLists) (plant : IsPlant p) (never : NoWalkReturns p) (s : Sta
   trains-are : trains_by_tails p s occupancies ≡ trains_of p (detected_position p s) (slice_get occupancies)
   trains-are = ap (λ f. filter_map f (range_with_len 0 (length p.sections))) same
     where
-      steps : next_in_body p s occupancies ≡ following_section p (detected_position p s) (slice_get occupancies)
+      steps : next_in_body p s occupancies ≡ next_body_section p (detected_position p s) (slice_get occupancies)
       steps i x = next-is x i
 
       same-train : (x : ℕ) → train_with_tail p s occupancies x ≡ train_from_tail p (detected_position p s) (slice_get occupancies) x (slice_get occupancies x)
@@ -69,14 +69,14 @@ module _ (p : PlantLists) (plant : IsPlant p) (never : NoWalkReturns p) (s : Sta
           by_occupancy (Some Crash) at = rw at refl
           by_occupancy (Some (Taken d false head)) at = rw at refl
           by_occupancy (Some (Taken d true head)) at =
-              let body : follow_steps (length p.sections) (next_in_body p s occupancies) x ≡ follow_steps (length p.sections) (following_section p (detected_position p s) (slice_get occupancies)) x =
+              let body : follow_steps (length p.sections) (next_in_body p s occupancies) x ≡ follow_steps (length p.sections) (next_body_section p (detected_position p s) (slice_get occupancies)) x =
               ap (λ f. follow_steps (length p.sections) f x) steps in
               rw at (ap (λ rest. Some (record { dir = d; body = x ∷ rest })) body)
 
       same : train_with_tail p s occupancies ≡ (λ x. train_from_tail p (detected_position p s) (slice_get occupancies) x (slice_get occupancies x))
       same i x = same-train x i
 
-module _ (p : PlantLists) (plant : IsPlant p) (never : NoWalkReturns p) (s : State) (calm : IsWellFormedAndSafe p s) where
+module _ (p : PlantLists) (plant : IsPlant p) (never : IsAcyclic p) (s : State) (calm : IsWellFormedAndSafe p s) where
   abbrev had : List Occupancy
   had = map (occupancy_of p s) (range_with_len 0 (length p.sections))
 
@@ -87,7 +87,7 @@ module _ (p : PlantLists) (plant : IsPlant p) (never : NoWalkReturns p) (s : Sta
   told : (x : ℕ) → x < length p.sections → slice_get had x ≡ Some (occupancy_of p s x)
   told x within = slice_get-map (occupancy_of p s) (range_with_len 0 (length p.sections)) x ∙ ap (option_map (occupancy_of p s)) (range-at (length p.sections) x within)
 
-  fit : (x : ℕ) → x < length p.sections → section_fits p (detected_position p s) (slice_get had) x (slice_get had x) ≡ true
+  fit : (x : ℕ) → x < length p.sections → occupancy_is_consistent p (detected_position p s) (slice_get had) x (slice_get had x) ≡ true
   fit = told-fits p plant never s calm.shape calm.no_hazard (slice_get had) told
 
   others : HasShape p (record s { trains = [] })
@@ -135,8 +135,8 @@ module _ (p : PlantLists) (plant : IsPlant p) (never : NoWalkReturns p) (s : Sta
   pub same-image : image_of p (decoded p (image_of p s)) ≡ image_of p s
   same-image = ap (image_of p) image-back ∙ tails-image
 
-module _ (p : PlantLists) (plant : IsPlant p) (never : NoWalkReturns p) (values : List ℕ) (h : in_ranges values (ranges_of_plant p) ≡ true) (fits : is_wellformed p values ≡ true) where
-  known : AreImage p values
+module _ (p : PlantLists) (plant : IsPlant p) (never : IsAcyclic p) (values : List ℕ) (h : in_ranges values (ranges_of_plant p) ≡ true) (fits : is_wellformed p values ≡ true) where
+  known : AreImageOfSafeState p values
   known = wellformed-image p plant never values h fits
 
   pub decoded-calm : IsWellFormedAndSafe p (decoded p values)

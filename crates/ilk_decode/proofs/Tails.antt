@@ -8,7 +8,7 @@ use Rattle.ilk_plant.specs.Plant.{PlantLists}
 use Rattle.ilk_plant.specs.declared.state.State.{State}
 use Rattle.ilk_layout.specs.declared.values.Occupancy.{Occupancy}
 use Rattle.ilk_layout.specs.declared.values.Occupancy.TheVariants.{Vacant, Taken, Crash}
-use Rattle.ilk_decode.specs.Order.{AreSortedByTail, tails_of}
+use Rattle.ilk_decode.specs.Order.{AreSortedByTail, tail_sections}
 use Rattle.ilk_decode.specs.Read.{train_with_tail, trains_by_tails}
 
 has_tail : Option Occupancy → Bool
@@ -25,15 +25,15 @@ range-rises n k within =
     omega (arith, here, next)
 
 module _ (p : PlantLists) (s : State) (occupancies : List Occupancy) where
-  tails-are : (xs : List ℕ) → tails_of (filter_map (train_with_tail p s occupancies) xs) ≡ filter (λ x. has_tail (slice_get occupancies x)) xs
+  tails-are : (xs : List ℕ) → tail_sections (filter_map (train_with_tail p s occupancies) xs) ≡ filter (λ x. has_tail (slice_get occupancies x)) xs
   unfolding has_tail
   tails-are [] = refl
   tails-are (x ∷ xs) = by_occupancy (slice_get occupancies x) refl (tails-are xs)
     where
       by_occupancy : (o : Option Occupancy) → slice_get occupancies x ≡ o →
-          tails_of (filter_map (train_with_tail p s occupancies) xs)
+          tail_sections (filter_map (train_with_tail p s occupancies) xs)
           ≡ filter (λ x. has_tail (slice_get occupancies x)) xs →
-          tails_of (filter_map (train_with_tail p s occupancies) (x ∷ xs))
+          tail_sections (filter_map (train_with_tail p s occupancies) (x ∷ xs))
           ≡ filter (λ x. has_tail (slice_get occupancies x)) (x ∷ xs)
       by_occupancy None at rest = rw at rest
       by_occupancy (Some Vacant) at rest = rw at rest

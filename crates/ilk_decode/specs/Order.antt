@@ -5,9 +5,9 @@ use Rattle.std.specs.List.Sorted.{IsStrictlyIncreasing}
 use Rattle.ilk_plant.specs.declared.state.Train.{Train}
 
 -- The section of each train's tail, in the order of the trains.
-abbrev pub tails_of : List Train → List ℕ
-tails_of trains = flat_map (λ train. take 1 train.body) trains
+abbrev pub tail_sections : List Train → List ℕ
+tail_sections trains = flat_map (λ train. take 1 train.body) trains
 
 -- Holds if the trains are in strictly ascending order of their tails' sections.
 abbrev pub AreSortedByTail : List Train → Type 0
-AreSortedByTail trains = IsStrictlyIncreasing (tails_of trains)
+AreSortedByTail trains = IsStrictlyIncreasing (tail_sections trains)

@@ -8,7 +8,7 @@
 //! An image does not determine the order of a state's trains. `state_of` lists them in ascending
 //! order of their tails' sections (`specs/Order`).
 //!
-//! `lists_conflict` reads the routes, points, boards, locks and occupancies by their variables
+//! `lists_as_conflict` reads the routes, points, boards, locks and occupancies by their variables
 //! (`numbers`). `trains` finds the trains, and `states` joins both. `specs/Read` defines the result
 //! for any values. `proofs/Same` shows that well-formed values give a well-formed state without
 //! hazard, and that they are its image.

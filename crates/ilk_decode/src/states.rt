@@ -59,8 +59,8 @@ pub fn state_of(alloc: Global, plant: &Plant, values: &Values) -> Result<State, 
     ensures image { IfOk result (λ s. image_of plant.now s ≡ values.now) }
     ensures order { IfOk result (λ s. AreSortedByTail s.trains) }
 {
-    plant.is_sound();
-    plant.is_from_drafts();
+    plant.prove_is_plant();
+    plant.prove_from_drafts();
     let s = decode(alloc, plant, values.as_slice())?;
     Ok(s)
 }

@@ -7,11 +7,11 @@ use Rattle.ilk_cnf.specs.Formula.{Formula}
 use Rattle.ilk_lines.specs.Lines.{Bytes}
 use Rattle.ilk_log.specs.StepText.{lit_word}
 use Rattle.ilk_dimacs.specs.DimacsText.{clause_words, dimacs_text, header_words}
-use Rattle.ilk_dimacs.specs.Left.{clauses_left, line_with_feed, clause_lines_text, lits_spaced}
+use Rattle.ilk_dimacs.specs.Left.{clauses_text_after_lits, line_with_feed, clause_lines_text, lits_spaced}
 use Rattle.ilk_dimacs.proofs.Lines.{line-lits, lines-line_with_feed}
 use Rattle.ilk_base.proofs.Lists.{drop_from}
 
-pub left_whole : (cs : List (List Literal)) → clauses_left 0 cs ≡ clause_lines_text cs
+pub left_whole : (cs : List (List Literal)) → clauses_text_after_lits 0 cs ≡ clause_lines_text cs
 left_whole [] = refl
 left_whole (c ∷ cs) =
     sym (append_assoc (lits_spaced c) (codes "0\n") (clause_lines_text cs)) ∙ ap (λ (t : Bytes). t ++ clause_lines_text cs) (line-fed c)
@@ -19,22 +19,23 @@ left_whole (c ∷ cs) =
     line-fed : (c : List Literal) → lits_spaced c ++ codes "0\n" ≡ line_with_feed (clause_words c)
     line-fed c = sym (append_assoc (lits_spaced c) (codes "0") (10 ∷ [])) ∙ ap (λ (t : Bytes). t ++ 10 ∷ []) (sym (line-lits c))
 
-pub left-literal : (cs : List (List Literal)) (i n : ℕ) (c : List Literal) (l : Literal) → slice_get cs (i + 1 - 1) ≡ Some c → slice_get c n ≡ Some l → (lit_word l ++ 32 ∷ []) ++ clauses_left (n + 1) (drop i cs) ≡ clauses_left n (drop i cs)
+pub left-literal : (cs : List (List Literal)) (i n : ℕ) (c : List Literal) (l : Literal) → slice_get cs (i + 1 - 1) ≡ Some c → slice_get c n ≡ Some l →
+    (lit_word l ++ 32 ∷ []) ++ clauses_text_after_lits (n + 1) (drop i cs) ≡ clauses_text_after_lits n (drop i cs)
 left-literal cs i n c l clause literal =
     let same : i ≡ i + 1 - 1 = omega arith in
     let here : drop i cs ≡ c ∷ drop (i + 1) cs = drop_from cs i c (ap (slice_get cs) same ∙ clause) in
-    ap (λ (ds : List (List Literal)). (lit_word l ++ 32 ∷ []) ++ clauses_left (n + 1) ds) here
+    ap (λ (ds : List (List Literal)). (lit_word l ++ 32 ∷ []) ++ clauses_text_after_lits (n + 1) ds) here
     ∙ sym (append_assoc (lit_word l ++ 32 ∷ []) (lits_spaced (drop (n + 1) c)) (codes "0\n" ++ clause_lines_text (drop (i + 1) cs)))
     ∙ ap (λ (ls : List Literal). lits_spaced ls ++ (codes "0\n" ++ clause_lines_text (drop (i + 1) cs))) (sym (drop_from c n l literal))
-    ∙ ap (clauses_left n) (sym here)
+    ∙ ap (clauses_text_after_lits n) (sym here)
 
-pub left-end : (cs : List (List Literal)) (i n : ℕ) (c : List Literal) → slice_get cs (i + 1 - 1) ≡ Some c → length c ≤ n → codes "0\n" ++ clauses_left 0 (drop (i + 1) cs) ≡ clauses_left n (drop i cs)
+pub left-end : (cs : List (List Literal)) (i n : ℕ) (c : List Literal) → slice_get cs (i + 1 - 1) ≡ Some c → length c ≤ n → codes "0\n" ++ clauses_text_after_lits 0 (drop (i + 1) cs) ≡ clauses_text_after_lits n (drop i cs)
 left-end cs i n c clause past =
     let same : i ≡ i + 1 - 1 = omega arith in
     let here : drop i cs ≡ c ∷ drop (i + 1) cs = drop_from cs i c (ap (slice_get cs) same ∙ clause) in
     ap (λ (t : Bytes). codes "0\n" ++ t) (left_whole (drop (i + 1) cs))
     ∙ ap (λ (ls : List Literal). lits_spaced ls ++ (codes "0\n" ++ clause_lines_text (drop (i + 1) cs))) (sym (drop_all n c past))
-    ∙ ap (clauses_left n) (sym here)
+    ∙ ap (clauses_text_after_lits n) (sym here)
 
 pub text_is : (f : Formula) (header rest : Bytes) → header ≡ line_with_feed (header_words f) → rest ≡ clause_lines_text f.clauses → header ++ rest ≡ dimacs_text f
 text_is f header rest first clauses =
@@ -43,15 +44,15 @@ text_is f header rest first clauses =
 pub literal-made :
     (cs : List (List Literal)) (i n : ℕ) (c : List Literal) (l : Literal) (made whole : Bytes) →
     slice_get cs (i + 1 - 1) ≡ Some c → slice_get c n ≡ Some l → made ≡ lit_word l ++ 32 ∷ [] →
-    clauses_left n (drop i cs) ≡ whole → made ++ clauses_left (n + 1) (drop i cs) ≡ whole
+    clauses_text_after_lits n (drop i cs) ≡ whole → made ++ clauses_text_after_lits (n + 1) (drop i cs) ≡ whole
 literal-made cs i n c l made whole clause literal is left =
-    ap (λ (t : Bytes). t ++ clauses_left (n + 1) (drop i cs)) is ∙ left-literal cs i n c l clause literal ∙ left
+    ap (λ (t : Bytes). t ++ clauses_text_after_lits (n + 1) (drop i cs)) is ∙ left-literal cs i n c l clause literal ∙ left
 
 pub end-made : (cs : List (List Literal)) (i n : ℕ) (c : List Literal) (before made whole : Bytes) →
     slice_get cs (i + 1 - 1) ≡ Some c → length c ≤ n → before ≡ [] → made ≡ codes "0\n" ++ before →
-    clauses_left n (drop i cs) ≡ whole → made ++ clauses_left 0 (drop (i + 1) cs) ≡ whole
+    clauses_text_after_lits n (drop i cs) ≡ whole → made ++ clauses_text_after_lits 0 (drop (i + 1) cs) ≡ whole
 end-made cs i n c before made whole clause past none is left =
-    ap (λ (t : Bytes). t ++ clauses_left 0 (drop (i + 1) cs)) (is ∙ ap (λ (t : Bytes). codes "0\n" ++ t) none) ∙ left-end cs i n c clause past ∙ left
+    ap (λ (t : Bytes). t ++ clauses_text_after_lits 0 (drop (i + 1) cs)) (is ∙ ap (λ (t : Bytes). codes "0\n" ++ t) none) ∙ left-end cs i n c clause past ∙ left
 
 pub first-taken : (token new rest into : Bytes) (k : ℕ) → take k into ≡ take k token → new ≡ drop k token → token ++ rest ≡ take k into ++ (new ++ rest)
 first-taken token new rest into k same left =

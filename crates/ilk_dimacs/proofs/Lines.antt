@@ -3,12 +3,12 @@ use Rattle.std.proofs.Common.{◌≡◌, List, [], ◌∷◌, ◌++◌, map, ref
 use Rattle.std.specs.Prelude.{codes}
 use Rattle.ilk_cnf.specs.Literal.{Literal}
 use Rattle.ilk_lines.specs.Lines.{Bytes}
-use Rattle.ilk_lines.specs.Written.{line_of, word_and_rest, text_of}
+use Rattle.ilk_lines.specs.Written.{line_of, join_word_and_rest, text_of}
 use Rattle.ilk_log.specs.StepText.{lit_word}
 use Rattle.ilk_dimacs.specs.DimacsText.{clause_words}
 use Rattle.ilk_dimacs.specs.Left.{line_with_feed, clause_lines_text, lits_spaced}
 
-word-led : (word : Bytes) (c : List Literal) → line_of (word ∷ clause_words c) ≡ word_and_rest word (line_of (clause_words c))
+word-led : (word : Bytes) (c : List Literal) → line_of (word ∷ clause_words c) ≡ join_word_and_rest word (line_of (clause_words c))
 word-led word [] = refl
 word-led word (l ∷ c) = refl
 

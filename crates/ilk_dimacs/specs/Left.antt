@@ -21,10 +21,10 @@ abbrev pub clause_lines_text : List (List Literal) → Bytes
 clause_lines_text cs = flat_map (λ c. line_with_feed (clause_words c)) cs
 
 -- The lines of clauses after the first `n` literals of the first.
-abbrev pub clauses_left : ℕ → List (List Literal) → Bytes
-clauses_left n [] = []
-clauses_left n (c ∷ cs) = lits_spaced (drop n c) ++ (codes "0\n" ++ clause_lines_text cs)
+abbrev pub clauses_text_after_lits : ℕ → List (List Literal) → Bytes
+clauses_text_after_lits n [] = []
+clauses_text_after_lits n (c ∷ cs) = lits_spaced (drop n c) ++ (codes "0\n" ++ clause_lines_text cs)
 
 -- The lines of a formula's clauses from a position on.
 abbrev pub bytes_left : Formula → Position → Bytes
-bytes_left f at = at.token ++ clauses_left at.literals (drop at.made f.clauses)
+bytes_left f at = at.token ++ clauses_text_after_lits at.literals (drop at.made f.clauses)

@@ -11,7 +11,7 @@ use Rattle.ilk_base.proofs.Positions.{position-cons}
 use Rattle.ilk_base.proofs.Tested.{all-pass, list_all-slice_get, list_any-none, none-pass}
 use Rattle.ilk_base.proofs.Truth.{fails}
 use Rattle.ilk_plant.specs.Plant.{PlantLists, board_of, point_number}
-use Rattle.ilk_plant.specs.State.{has_lock, is_clear, is_occupied}
+use Rattle.ilk_plant.specs.State.{has_lock_state, is_unlocked_and_vacant, is_occupied}
 use Rattle.ilk_plant.specs.TableRules.{sections_locked_for}
 use Rattle.ilk_plant.specs.declared.network.Dir.{Dir}
 use Rattle.ilk_plant.specs.declared.state.Aspect.TheVariants.{Closed}
@@ -24,11 +24,11 @@ use Rattle.ilk_plant.specs.declared.state.Train.{Train}
 use Rattle.ilk_plant.specs.declared.table.Listed.{Listed}
 use Rattle.ilk_plant.specs.declared.table.Route.{Route}
 use Rattle.ilk_motion.specs.Ahead.{ahead}
-use Rattle.ilk_motion.specs.Body.{has_head, has_tail_before_head, occupies_only}
+use Rattle.ilk_motion.specs.Body.{has_head_at, has_movable_tail_at, occupies_only}
 use Rattle.ilk_motion.specs.Trains.{after_head, after_leave, after_tail, has_neighbour, may_pass}
 use Rattle.ilk_routes.specs.Boards.{has_aspect, is_held_closed}
 use Rattle.ilk_routes.specs.Claims.{required_points}
-use Rattle.ilk_routes.specs.Lies.{is_moving, is_detected_as_listed}
+use Rattle.ilk_routes.specs.Lies.{is_detected_moving, is_detected_as_listed}
 use Rattle.ilk_routes.specs.Modes.{is_allocating_or_locked, same_mode}
 use Rattle.ilk_routes.specs.Points.{after_settle, after_throw}
 use Rattle.ilk_routes.specs.Routes.{after_allocate, after_finish, after_lock, after_release, after_sense, can_reserve_sections, can_lock}
@@ -52,7 +52,7 @@ in_occupation now = same_mode now.mode Occupied
 module _ (p : PlantLists) (s t : State) (q : ℕ) where
   pub allocate-back : StateBack s t q marked
       → ((route : Route) → slice_get p.routes q ≡ Some route → (k c : ℕ) → slice_get route.conflicts k ≡ Some c → is_allocating_or_locked t c ≡ false → is_allocating_or_locked s c ≡ false)
-      → ((route : Route) → slice_get p.routes q ≡ Some route → (k x : ℕ) → slice_get (sections_locked_for route) k ≡ Some x → is_clear t x ≡ true → is_clear s x ≡ true)
+      → ((route : Route) → slice_get p.routes q ≡ Some route → (k x : ℕ) → slice_get (sections_locked_for route) k ≡ Some x → is_unlocked_and_vacant t x ≡ true → is_unlocked_and_vacant s x ≡ true)
       → is_some (after_allocate p t q) ≡ true → is_some (after_allocate p s q) ≡ true
   allocate-back state conflicts clear h =
       let made = some-is (after_allocate p t q) h in
@@ -60,11 +60,11 @@ module _ (p : PlantLists) (s t : State) (q : ℕ) where
       option_and_then_some _ (slice_get t.routes q) made.0 e1 (λ now at e2.
       let done = cond_some _ _ made.0 e2 in
       let asked = and_parts (same_mode now.mode Marked) (can_reserve_sections t route) done.0 in
-      let parts = and_parts (not (list_any (is_allocating_or_locked t) route.conflicts)) (list_all (is_clear t) (sections_locked_for route)) asked.1 in
+      let parts = and_parts (not (list_any (is_allocating_or_locked t) route.conflicts)) (list_all (is_unlocked_and_vacant t) (sections_locked_for route)) asked.1 in
       let unclaimed : list_any (is_allocating_or_locked s) route.conflicts ≡ false =
       none-pass (is_allocating_or_locked s) route.conflicts (λ k c there. conflicts route known k c there (list_any-none (is_allocating_or_locked t) route.conflicts k c (fails (list_any (is_allocating_or_locked t) route.conflicts) parts.0) there)) in
-      let vacant : list_all (is_clear s) (sections_locked_for route) ≡ true =
-      all-pass (is_clear s) (sections_locked_for route) (λ k x there. clear route known k x there (list_all-slice_get (is_clear t) (sections_locked_for route) k x parts.1 there)) in
+      let vacant : list_all (is_unlocked_and_vacant s) (sections_locked_for route) ≡ true =
+      all-pass (is_unlocked_and_vacant s) (sections_locked_for route) (λ k x there. clear route known k x there (list_all-slice_get (is_unlocked_and_vacant t) (sections_locked_for route) k x parts.1 there)) in
       rw (known, state now at asked.0, asked.0, unclaimed, vacant) refl))
 
   pub lock-back : StateBack s t q allocating
@@ -93,8 +93,8 @@ module _ (p : PlantLists) (s t : State) (q : ℕ) where
       →
       ((route : Route) (now : RouteState) (x : ℕ) → slice_get p.routes q ≡ Some route →
       slice_get t.routes q ≡ Some now → slice_get route.path now.seen ≡ Some x →
-      is_occupied t x ≡ true → has_lock t x LockedLock ≡ true →
-      (is_occupied s x ≡ true) × (has_lock s x LockedLock ≡ true))
+      is_occupied t x ≡ true → has_lock_state t x LockedLock ≡ true →
+      (is_occupied s x ≡ true) × (has_lock_state s x LockedLock ≡ true))
       → is_some (after_sense p t q) ≡ true → is_some (after_sense p s q) ≡ true
   sense-back state taken h =
       let made = some-is (after_sense p t q) h in
@@ -107,8 +107,8 @@ module _ (p : PlantLists) (s t : State) (q : ℕ) where
       →
       ((route : Route) (now : RouteState) (x : ℕ) → slice_get p.routes q ≡ Some route →
       slice_get t.routes q ≡ Some now → slice_get route.path now.rel ≡ Some x →
-      is_occupied t x ≡ false → has_lock t x UsedLock ≡ true →
-      (is_occupied s x ≡ false) × (has_lock s x UsedLock ≡ true))
+      is_occupied t x ≡ false → has_lock_state t x UsedLock ≡ true →
+      (is_occupied s x ≡ false) × (has_lock_state s x UsedLock ≡ true))
       → is_some (after_release p t q) ≡ true → is_some (after_release p s q) ≡ true
   release-back state left_ h =
       let made = some-is (after_release p t q) h in
@@ -139,8 +139,8 @@ module _ (p : PlantLists) (s t : State) (x : ℕ) where
 
   pub settle-back :
       ((n : ℕ) (point : PointState) → point_number p x ≡ Some n → slice_get t.points n ≡ Some point →
-      is_moving point.at ≡ true →
-      (was : PointState) × (slice_get s.points n ≡ Some was) × (is_moving was.at ≡ true)) →
+      is_detected_moving point.at ≡ true →
+      (was : PointState) × (slice_get s.points n ≡ Some was) × (is_detected_moving was.at ≡ true)) →
       is_some (after_settle p t x) ≡ true → is_some (after_settle p s x) ≡ true
   settle-back same h =
       let made = some-is (after_settle p t x) h in
@@ -222,29 +222,29 @@ first_dir-remove f (one ∷ rest) (suc i) a at passes = ap (λ (o : Option Dir).
 
 -- Trains, by their sections
 module _ (p : PlantLists) (s t : State) (x : ℕ) where
-  pub head-back : first_dir (has_head x) t.trains ≡ first_dir (has_head x) s.trains
+  pub head-back : first_dir (has_head_at x) t.trains ≡ first_dir (has_head_at x) s.trains
       → ((d : Dir) (y : ℕ) → ahead p t x d ≡ Some y → is_some (ahead p s x d) ≡ true)
       → ((d : Dir) → may_pass t (board_of p x d) ≡ true → may_pass s (board_of p x d) ≡ true)
       → is_some (after_head p t x) ≡ true → is_some (after_head p s x) ≡ true
   head-back same leads passes h =
       let made = some-is (after_head p t x) h in
-      option_and_then_some _ (position (has_head x) t.trains) made.0 made.1 (λ i first e1.
+      option_and_then_some _ (position (has_head_at x) t.trains) made.0 made.1 (λ i first e1.
       option_and_then_some _ (slice_get t.trains i) made.0 e1 (λ train at e2.
       option_and_then_some _ (ahead p t x train.dir) made.0 e2 (λ y led e3.
       let done = cond_some _ _ made.0 e3 in
-      let there = first_dir-found (has_head x) s.trains train.dir (sym same ∙ first_dir-position (has_head x) t.trains i train first at) in
+      let there = first_dir-found (has_head_at x) s.trains train.dir (sym same ∙ first_dir-position (has_head_at x) t.trains i train first at) in
       let one : is_some (ahead p s x there.train.dir) ≡ true = subst (λ (d : Dir). is_some (ahead p s x d) ≡ true) (sym there.runs) (leads train.dir y led) in
       let way = some-is (ahead p s x there.train.dir) one in
       let pass : may_pass s (board_of p x there.train.dir) ≡ true = subst (λ (d : Dir). may_pass s (board_of p x d) ≡ true) (sym there.runs) (passes train.dir done.0) in
       rw (there.first, there.at, way.1, pass) refl)))
 
-  pub tail-back : first_dir (has_tail_before_head x) t.trains ≡ first_dir (has_tail_before_head x) s.trains → is_some (after_tail p t x) ≡ true → is_some (after_tail p s x) ≡ true
+  pub tail-back : first_dir (has_movable_tail_at x) t.trains ≡ first_dir (has_movable_tail_at x) s.trains → is_some (after_tail p t x) ≡ true → is_some (after_tail p s x) ≡ true
   tail-back same h =
       let made = some-is (after_tail p t x) h in
       option_and_then_some _ (slice_get p.sections x) made.0 made.1 (λ section known e0.
-      option_and_then_some _ (position (has_tail_before_head x) t.trains) made.0 e0 (λ i first e1.
+      option_and_then_some _ (position (has_movable_tail_at x) t.trains) made.0 e0 (λ i first e1.
       option_and_then_some _ (slice_get t.trains i) made.0 e1 (λ train at e2.
-      let there = first_dir-found (has_tail_before_head x) s.trains train.dir (sym same ∙ first_dir-position (has_tail_before_head x) t.trains i train first at) in
+      let there = first_dir-found (has_movable_tail_at x) s.trains train.dir (sym same ∙ first_dir-position (has_movable_tail_at x) t.trains i train first at) in
       rw (known, there.first, there.at) refl)))
 
   pub leave-back : first_dir (occupies_only x) t.trains ≡ first_dir (occupies_only x) s.trains → is_some (after_leave p t x) ≡ true → is_some (after_leave p s x) ≡ true

@@ -10,7 +10,7 @@ use Rattle.ilk_base.proofs.Options.{some-and}
 use Rattle.ilk_base.proofs.Truth.{either, fails}
 use Rattle.ilk_plant.specs.Network.{has_section}
 use Rattle.ilk_plant.specs.Plant.{PlantLists}
-use Rattle.ilk_plant.specs.State.{has_lock, is_clear, is_occupied, same_hold}
+use Rattle.ilk_plant.specs.State.{has_lock_state, is_unlocked_and_vacant, is_occupied, same_hold}
 use Rattle.ilk_plant.specs.declared.state.Hold.{Hold}
 use Rattle.ilk_plant.specs.declared.state.Hold.TheVariants.{Free as FreeLock}
 use Rattle.ilk_plant.specs.declared.state.Mode.TheVariants.{Allocating, Locked}
@@ -42,10 +42,10 @@ pub record GivesLock (s t : State) (hold : Hold) (changed : ℕ → Bool) : Type
   pub given : (x : ℕ) (lock : Hold) → changed x ≡ true → slice_get t.locks x ≡ Some lock → lock ≡ hold
 
 module _ (s t : State) (hold : Hold) (changed : ℕ → Bool) (gives : GivesLock s t hold changed) where
-  pub lock-same : (x : ℕ) (want : Hold) → changed x ≡ false → has_lock t x want ≡ true → has_lock s x want ≡ true
+  pub lock-same : (x : ℕ) (want : Hold) → changed x ≡ false → has_lock_state t x want ≡ true → has_lock_state s x want ≡ true
   lock-same x want out h = ap (λ (o : Option Hold). is_some_and o (λ lock. same_hold lock want)) (sym (gives.other x out)) ∙ h
 
-  pub lock-back : (x : ℕ) (want : Hold) → same_hold hold want ≡ false → has_lock t x want ≡ true → has_lock s x want ≡ true
+  pub lock-back : (x : ℕ) (want : Hold) → same_hold hold want ≡ false → has_lock_state t x want ≡ true → has_lock_state s x want ≡ true
   lock-back x want differs h = elim (cases_Bool (changed x)) [
     | inl e ↦
         let found = some-and (slice_get t.locks x) (λ lock. same_hold lock want) h in
@@ -146,7 +146,7 @@ module _ (p : PlantLists) (s t : State) (r : ℕ) (route : Route) (now new : Rou
   pub claims-other : (c : ℕ) → (c == r) ≡ false → is_allocating_or_locked t c ≡ false → is_allocating_or_locked s c ≡ false
   claims-other c out free = sym (claimed-alike s t c (state-other c (apart c r out))) ∙ free
 
-pub clear-back : (s t : State) (x : ℕ) → (has_lock t x FreeLock ≡ true → has_lock s x FreeLock ≡ true) → (is_occupied t x ≡ false → is_occupied s x ≡ false) → is_clear t x ≡ true → is_clear s x ≡ true
+pub clear-back : (s t : State) (x : ℕ) → (has_lock_state t x FreeLock ≡ true → has_lock_state s x FreeLock ≡ true) → (is_occupied t x ≡ false → is_occupied s x ≡ false) → is_unlocked_and_vacant t x ≡ true → is_unlocked_and_vacant s x ≡ true
 clear-back s t x lock vacant h =
-    let parts = and_parts (has_lock t x FreeLock) (not (is_occupied t x)) h in
+    let parts = and_parts (has_lock_state t x FreeLock) (not (is_occupied t x)) h in
     both_true (lock parts.0) (ap not (vacant (fails (is_occupied t x) parts.1)))

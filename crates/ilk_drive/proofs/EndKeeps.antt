@@ -12,7 +12,7 @@ use Rattle.ilk_plant.specs.declared.state.Mode.{Mode}
 use Rattle.ilk_plant.specs.declared.state.Mode.TheVariants.{Free, Marked, Allocating, Locked, Occupied}
 use Rattle.ilk_plant.specs.declared.state.State.{State}
 use Rattle.ilk_plant.specs.declared.table.Route.{Route}
-use Rattle.ilk_routes.specs.Claims.{sections_beside_path}
+use Rattle.ilk_routes.specs.Claims.{sections_outside_path}
 use Rattle.ilk_routes.specs.Locks.{with_locks}
 use Rattle.ilk_routes.specs.Modes.{same_mode}
 use Rattle.ilk_model.proofs.RouteFrames.{IsCancelled, IsFinished, IsReleased}
@@ -74,9 +74,9 @@ release-keeps p plant s t shape r it (Leave x) own out h = leave-stays p s t x i
 release-keeps p plant s t shape r it (Cancel q) own out h = cc
 
 -- Finish releases no section that the route doesn't lock.
-finished-other : (route : Route) (k x z : ℕ) → slice_get route.path k ≡ Some x → has_section z (sections_locked_for route) ≡ false → (z == x || has_section z (sections_beside_path route)) ≡ false
+finished-other : (route : Route) (k x z : ℕ) → slice_get route.path k ≡ Some x → has_section z (sections_locked_for route) ≡ false → (z == x || has_section z (sections_outside_path route)) ≡ false
 finished-other route k x z at out =
-    ap (λ (b : Bool). b || has_section z (sections_beside_path route)) (not-these (sections_locked_for route) z x out (path-locked_for route k x at)) ∙ beside-none z route out
+    ap (λ (b : Bool). b || has_section z (sections_outside_path route)) (not-these (sections_locked_for route) z x out (path-locked_for route k x at)) ∙ beside-none z route out
 
 pub finish-keeps : (p : PlantLists) → IsPlant p → (s t : State) → HasShape p s → (r : ℕ) → IsFinished p s t r → Keeps p s t (Finish r)
 finish-keeps p plant s t shape r it (Mark q) own out h = cc
@@ -87,8 +87,8 @@ finish-keeps p plant s t shape r it (Allocate q) own out h = allocate-back p s t
     (record { mode = Free; seen = 0; rel = 0 }) it.changes
     (inl (ap (λ (m : Mode). same_mode m Allocating || same_mode m Locked) it.was)) c free)
     (λ route known k x at. clear-back s t x
-    (lock-same s t FreeLock (λ z. z == it.x || has_section z (sections_beside_path it.route))
-    (locks-set_with s t it.x (sections_beside_path it.route) FreeLock it.locks) x FreeLock
+    (lock-same s t FreeLock (λ z. z == it.x || has_section z (sections_outside_path it.route))
+    (locks-set_with s t it.x (sections_outside_path it.route) FreeLock it.locks) x FreeLock
     (finished-other it.route it.now.rel it.x x it.last
     (not-shared it.route route
     (are-apart p r q it.route route it.changes.known known out).sections x
@@ -106,8 +106,8 @@ finish-keeps p plant s t shape r it (Sense q) own out h = sense-back p s t q
     is_locked_or_occupied (refl))
     (λ route now x known at next occupied locked. (
       occupied-stays s t it.trains x occupied,
-      other-lock-back s t FreeLock (λ z. z == it.x || has_section z (sections_beside_path it.route))
-          (locks-set_with s t it.x (sections_beside_path it.route) FreeLock it.locks) x LockedLock refl
+      other-lock-back s t FreeLock (λ z. z == it.x || has_section z (sections_outside_path it.route))
+          (locks-set_with s t it.x (sections_outside_path it.route) FreeLock it.locks) x LockedLock refl
           locked,
     )) h
 finish-keeps p plant s t shape r it (Release q) own out h = release-back p s t q
@@ -115,8 +115,8 @@ finish-keeps p plant s t shape r it (Release q) own out h = release-back p s t q
     in_occupation (refl))
     (λ route now x known at first vacant used. (
       vacant-stays s t it.trains x vacant,
-      other-lock-back s t FreeLock (λ z. z == it.x || has_section z (sections_beside_path it.route))
-          (locks-set_with s t it.x (sections_beside_path it.route) FreeLock it.locks) x UsedLock refl used,
+      other-lock-back s t FreeLock (λ z. z == it.x || has_section z (sections_outside_path it.route))
+          (locks-set_with s t it.x (sections_outside_path it.route) FreeLock it.locks) x UsedLock refl used,
     ))
     h
 finish-keeps p plant s t shape r it (Finish q) own out h = finish-back p s t q (states-back p s t r it.route it.now (record { mode = Free; seen = 0; rel = 0 }) it.changes q in_occupation (refl)) h

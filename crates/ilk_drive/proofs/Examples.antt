@@ -11,26 +11,26 @@ use Rattle.ilk_motion.specs.TwoSections.{two_sections}
 use Rattle.ilk_model.specs.declared.event.Event.{Event}
 use Rattle.ilk_model.specs.declared.event.Event.TheVariants.{Mark, Allocate, Lock, Sense, Finish, Enter, Head, Tail, Leave, Cancel}
 use Rattle.ilk_model.specs.declared.hazards.HazardAt.TheVariants.{Two}
-use Rattle.ilk_drive.specs.Drive.{Moment, Turn, first_moment, final_rest, next_turn}
+use Rattle.ilk_drive.specs.Drive.{DriveState, DriveStep, initial_drive_state, final_state_outcome, next_step}
 use Rattle.ilk_drive.specs.Scene.{scene_from_text}
 use Rattle.ilk_drive.specs.declared.outcome.Rest.{Rest}
 use Rattle.ilk_drive.specs.declared.outcome.Rest.TheVariants.{Driven, Stuck, Hazard}
 use Rattle.ilk_drive.specs.declared.scene.Scene.TheVariants.{Scene as IsScene, Bad}
 
 -- The drive from a moment on, if it ends within n turns.
-abbrev driven_in : ℕ → PlantLists → Moment → Option (List Event × Rest)
+abbrev driven_in : ℕ → PlantLists → DriveState → Option (List Event × Rest)
 driven_in zero p m = None
-driven_in (suc n) p m = after_turn (next_turn p m) (driven_in n p)
+driven_in (suc n) p m = after_turn (next_step p m) (driven_in n p)
   where
-    after_turn : Option Turn → (Moment → Option (List Event × Rest)) → Option (List Event × Rest)
-    after_turn None later = Some ([], final_rest p m)
+    after_turn : Option DriveStep → (DriveState → Option (List Event × Rest)) → Option (List Event × Rest)
+    after_turn None later = Some ([], final_state_outcome p m)
     after_turn (Some taken) later = do
       more ← later taken.1
       Some (taken.0 ∷ more.0, more.1)
 
 -- The drive of a scenario, within twenty turns.
 abbrev drive : PlantLists → List Event → Option (List Event × Rest)
-drive p scene = driven_in 20 p (first_moment p scene)
+drive p scene = driven_in 20 p (initial_drive_state p scene)
 
 abbrev board : ℕ → Dir → Board
 board x d = record { section = x; dir = d }

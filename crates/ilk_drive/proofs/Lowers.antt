@@ -5,14 +5,14 @@ use Rattle.std.specs.Prelude.{if◌then◌else◌}
 use Rattle.std.proofs.lemmas.Option.{slice_get_within}
 use Rattle.ilk_plant.specs.Plant.{IsPlant, PlantLists}
 use Rattle.ilk_plant.specs.Shape.{HasShape}
-use Rattle.ilk_plant.specs.Sound.{NoWalkReturns}
+use Rattle.ilk_plant.specs.Sound.{IsAcyclic}
 use Rattle.ilk_plant.specs.declared.state.Lie.TheVariants.{Moving}
 use Rattle.ilk_plant.specs.declared.state.Mode.{Mode}
 use Rattle.ilk_plant.specs.declared.state.Mode.TheVariants.{Free, Marked, Allocating, Locked, Occupied}
 use Rattle.ilk_plant.specs.declared.state.PointState.{PointState}
 use Rattle.ilk_plant.specs.declared.state.RouteState.{RouteState}
 use Rattle.ilk_plant.specs.declared.state.State.{State}
-use Rattle.ilk_motion.proofs.Shape.{ahead-next_to, border-known}
+use Rattle.ilk_motion.proofs.Shape.{ahead-next_to, section_inward_if_border-known}
 use Rattle.ilk_motion.specs.Body.{new_train_on, with_new_head, without_tail}
 use Rattle.ilk_motion.specs.Trains.{after_enter, after_head, after_leave, after_tail}
 use Rattle.ilk_routes.specs.Claims.{required_points}
@@ -30,7 +30,7 @@ use Rattle.ilk_drive.proofs.Potential.{left, path_left, point_left, points_left,
 use Rattle.ilk_drive.proofs.Walks.{far, far-few}
 use Rattle.ilk_drive.proofs.StillToDo.{commands-raise, head-lowers, in-use, only-left, settled, tail-lowers, wanted-few}
 
-module _ (p : PlantLists) (plant : IsPlant p) (never : NoWalkReturns p) (s t : State) (shape : HasShape p s) where
+module _ (p : PlantLists) (plant : IsPlant p) (never : IsAcyclic p) (s t : State) (shape : HasShape p s) where
   lowers-allocate : (r : ℕ) → after_allocate p s r ≡ Some t → left p t + 1 ≤ left p s
   lowers-allocate r e =
       let f = allocate-frame p s t r e in
@@ -166,7 +166,7 @@ module _ (p : PlantLists) (plant : IsPlant p) (never : NoWalkReturns p) (s t : S
   raises-enter : (x : ℕ) → after_enter p s x ≡ Some t → left p t + 1 ≤ left p s + 512
   raises-enter x e =
       let f = enter-frame p s t x e in
-      let known : x < length p.sections = border-known p x f.inward f.borders in
+      let known : x < length p.sections = section_inward_if_border-known p x f.inward f.borders in
       let few = far-few p never f.inward x known in
       let sections : length p.sections ≤ 256 = plant.few_sections in
       let sum = trains_left-push p s.trains (new_train_on x f.inward) in

@@ -32,7 +32,7 @@ use Rattle.ilk_plant.proofs.PointNumbers.{number-once}
 use Rattle.ilk_plant.proofs.InLists.{section-from}
 use Rattle.ilk_strict.proofs.Points.{lie-other, lies-new}
 use Rattle.ilk_strict.proofs.Table.{path-locked_for}
-use Rattle.ilk_drive.specs.Awakening.{neighbours_of, depends_on_section, is_board_at}
+use Rattle.ilk_drive.specs.Awakening.{neighbours_of, route_depends_by_number, is_board_on_section}
 use Rattle.ilk_drive.proofs.Back.{allocate-back, allocating, finish-back, head-back, in_occupation, leave-back, lock-back, marked, release-back, sense-back, settle-back, tail-back, throw-back}
 use Rattle.ilk_drive.proofs.Changes.{apart, clear-back, neither, states-stay, true-false}
 use Rattle.ilk_drive.proofs.TrainChanges.{enter-alone, enter-heads, enter-leaves, enter-tails, enter-was, head-alone, head-heads, head-leaves, head-tails, head-was, leave-alone, leave-heads, leave-leaves, leave-tails, leave-was, next-neighbours_of, tail-alone, tail-heads, tail-leaves, tail-tails, tail-was}
@@ -150,14 +150,14 @@ enter-keeps p plant s t shape x it (Cancel q) own out h = cc
 pub headed-neighbours_of : (p : PlantLists) (s t : State) (x : ℕ) → (it : IsHeaded p s t x) → has_section it.y (neighbours_of p x) ≡ true
 headed-neighbours_of p s t x it = next-neighbours_of p x it.y it.train.dir (ahead-next_to p s x it.y it.train.dir it.leads)
 
-headed-unasked : (p : PlantLists) (s t : State) (x q : ℕ) → (it : IsHeaded p s t x) → list_any (λ y. depends_on_section p y q) (neighbours_of p x) ≡ false → depends_on_section p it.y q ≡ false
+headed-unasked : (p : PlantLists) (s t : State) (x q : ℕ) → (it : IsHeaded p s t x) → list_any (λ y. route_depends_by_number p y q) (neighbours_of p x) ≡ false → route_depends_by_number p it.y q ≡ false
 headed-unasked p s t x q it out =
     let found = list_any-at (λ y. y == it.y) (neighbours_of p x) (headed-neighbours_of p s t x it) in
-    ap (λ (y : ℕ). depends_on_section p y q) (sym (eqb-true found.1 it.y found.3)) ∙ list_any-none (λ y. depends_on_section p y q) (neighbours_of p x) found.0 found.1 out found.2
+    ap (λ (y : ℕ). route_depends_by_number p y q) (sym (eqb-true found.1 it.y found.3)) ∙ list_any-none (λ y. route_depends_by_number p y q) (neighbours_of p x) found.0 found.1 out found.2
 
-headed-board : (p : PlantLists) → IsPlant p → (s t : State) (x : ℕ) → (it : IsHeaded p s t x) → (m : ℕ) → is_board_at p x m ≡ false → slice_get t.boards m ≡ slice_get s.boards m
+headed-board : (p : PlantLists) → IsPlant p → (s t : State) (x : ℕ) → (it : IsHeaded p s t x) → (m : ℕ) → is_board_on_section p x m ≡ false → slice_get t.boards m ≡ slice_get s.boards m
 headed-board p plant s t x it m off =
-    board-headed s t (board_of p x it.train.dir) it.boards m (λ e. true-false (is_board_at p x m) (stands-there p plant x m it.train.dir e) off)
+    board-headed s t (board_of p x it.train.dir) it.boards m (λ e. true-false (is_board_on_section p x m) (stands-there p plant x m it.train.dir e) off)
 
 pub head-keeps : (p : PlantLists) → IsPlant p → (s t : State) → HasShape p s → (x : ℕ) → IsHeaded p s t x → Keeps p s t (Head x)
 head-keeps p plant s t shape x it (Mark q) own out h = cc
@@ -169,7 +169,7 @@ head-keeps p plant s t shape x it (Lock q) own out h = lock-back p s t q
     (λ route known k listed at. lies-back p s t listed (lie-stays p s t it.points listed.point))
     (λ route known k m at. aspect-alike s t m Closed
     (headed-board p plant s t x it m
-    (list_any-none (is_board_at p x) route.protecting_boards k m
+    (list_any-none (is_board_on_section p x) route.protecting_boards k m
     (asks-not p x q route known out).board at)))
     (λ route known. protecting-stays p s t it.routes route.source) h
 head-keeps p plant s t shape x it (Sense q) own out h = sense-back p s t q

@@ -3,7 +3,7 @@ use Rattle.std.proofs.Common.{◌≡◌, ℕ, ◌+◌, Bool, true, false, not, �
 use Rattle.std.specs.Option.{option_or}
 use Rattle.std.specs.List.{list_any}
 use Rattle.std.proofs.lemmas.Bool.{and_parts, cases_Bool, eqb-true, false_from_ne_true}
-use Rattle.ilk_base.specs.Option.{only_if}
+use Rattle.ilk_base.specs.Option.{then_some}
 use Rattle.ilk_base.proofs.Numbered.{slice_get-map_numbered}
 use Rattle.ilk_base.proofs.Options.{mapped-Some}
 use Rattle.ilk_base.proofs.Tested.{list_all-slice_get, list_any-at, list_any-none}
@@ -11,7 +11,7 @@ use Rattle.ilk_base.proofs.Truth.{fails}
 use Rattle.ilk_plant.specs.Network.{has_section}
 use Rattle.ilk_plant.specs.Plant.{IsPlant, PlantLists, board_of, point_number}
 use Rattle.ilk_plant.specs.Shape.{HasShape}
-use Rattle.ilk_plant.specs.State.{has_lock, is_clear, is_occupied}
+use Rattle.ilk_plant.specs.State.{has_lock_state, is_unlocked_and_vacant, is_occupied}
 use Rattle.ilk_plant.specs.TableRules.{sections_locked_for}
 use Rattle.ilk_plant.specs.declared.network.Position.{Position}
 use Rattle.ilk_plant.specs.declared.state.Aspect.TheVariants.{Closed}
@@ -23,9 +23,9 @@ use Rattle.ilk_plant.specs.declared.state.RouteState.{RouteState}
 use Rattle.ilk_plant.specs.declared.state.State.{State}
 use Rattle.ilk_plant.specs.declared.table.Listed.{Listed}
 use Rattle.ilk_plant.specs.declared.table.Route.{Route}
-use Rattle.ilk_routes.specs.Boards.{is_held_closed, has_protecting_board}
+use Rattle.ilk_routes.specs.Boards.{is_held_closed, is_protecting_board}
 use Rattle.ilk_routes.specs.Claims.{required_points}
-use Rattle.ilk_routes.specs.Lies.{is_moving, listed_position, lists_point, with_commands}
+use Rattle.ilk_routes.specs.Lies.{is_detected_moving, listed_position, is_entry_for_point, with_commands}
 use Rattle.ilk_routes.specs.Modes.{same_mode}
 use Rattle.ilk_model.proofs.RouteFrames.{ChangesRoute, IsAllocated, IsLocked, IsMarked, IsSensed}
 use Rattle.ilk_model.specs.Event.{next}
@@ -33,7 +33,7 @@ use Rattle.ilk_model.specs.Holding.{is_locked_or_occupied}
 use Rattle.ilk_model.specs.declared.event.Event.{Event}
 use Rattle.ilk_model.specs.declared.event.Event.TheVariants.{Mark, Allocate, Lock, Sense, Release, Finish, Throw, Settle, Enter, Head, Tail, Leave, Cancel}
 use Rattle.ilk_strict.proofs.Points.{lie-kept, lists-named}
-use Rattle.ilk_drive.specs.Awakening.{has_source_at, may_enable, is_board_at, wants_point}
+use Rattle.ilk_drive.specs.Awakening.{has_source_on_section, may_enable, is_board_on_section, requires_point}
 use Rattle.ilk_drive.specs.Commands.{is_command}
 use Rattle.ilk_drive.proofs.Back.{allocate-back, allocating, finish-back, in_occupation, lock-back, marked, release-back, sense-back, settle-back, throw-back}
 use Rattle.ilk_drive.proofs.Changes.{apart, claims-back, claims-other, clear-back, lock-back as other-lock-back, lock-same, locks-set, locks-with, neither, states-back, states-other, true-false}
@@ -78,16 +78,16 @@ mark-keeps p plant s t shape r it (Cancel q) own out h = cc
 allocated-vacant : (p : PlantLists) (s t : State) (r : ℕ) → (it : IsAllocated p s t r) → (x : ℕ) → is_occupied s x ≡ true → has_section x (sections_locked_for it.route) ≡ false
 allocated-vacant p s t r it x occupied = false_from_ne_true (has_section x (sections_locked_for it.route)) (λ h.
     let found = list_any-at (λ y. y == x) (sections_locked_for it.route) h in
-    let clear : is_clear s found.1 ≡ true = list_all-slice_get (is_clear s) (sections_locked_for it.route) found.0 found.1 it.clear found.2 in
-    let vacant : is_occupied s found.1 ≡ false = fails (is_occupied s found.1) (and_parts (has_lock s found.1 FreeLock) (not (is_occupied s found.1)) clear).1 in
+    let clear : is_unlocked_and_vacant s found.1 ≡ true = list_all-slice_get (is_unlocked_and_vacant s) (sections_locked_for it.route) found.0 found.1 it.clear found.2 in
+    let vacant : is_occupied s found.1 ≡ false = fails (is_occupied s found.1) (and_parts (has_lock_state s found.1 FreeLock) (not (is_occupied s found.1)) clear).1 in
     true-false (is_occupied s x) occupied (ap (is_occupied s) (sym (eqb-true found.1 x found.3)) ∙ vacant))
 
 listed-none : (p : PlantLists) (x n : ℕ) → point_number p x ≡ Some n → (entries : List Listed) → list_any (λ listed. listed.point == x) entries ≡ false → listed_position p n entries ≡ None
 listed-none p x n number [] out = refl
 listed-none p x n number (listed ∷ rest) out =
     let parts = neither (listed.point == x) (list_any (λ one. one.point == x) rest) out in
-    let unlisted : lists_point p n listed ≡ false = false_from_ne_true (lists_point p n listed) (λ h. apart listed.point x parts.0 (lists-named p listed x n number h)) in
-    ap (λ (o : Option Position). option_or o (only_if (lists_point p n listed) listed.at)) (listed-none p x n number rest parts.1) ∙ ap (λ (b : Bool). option_or None (only_if b listed.at)) unlisted
+    let unlisted : is_entry_for_point p n listed ≡ false = false_from_ne_true (is_entry_for_point p n listed) (λ h. apart listed.point x parts.0 (lists-named p listed x n number h)) in
+    ap (λ (o : Option Position). option_or o (then_some (is_entry_for_point p n listed) listed.at)) (listed-none p x n number rest parts.1) ∙ ap (λ (b : Bool). option_or None (then_some b listed.at)) unlisted
 
 point-uncommanded : (o : Option PointState) (to : Option Position) → to ≡ None → option_map (λ (point : PointState). record point { to = unwrap_or to point.to }) o ≡ o
 point-uncommanded None to e = refl
@@ -102,17 +102,17 @@ points-after : (p : PlantLists) (s t : State) (entries : List Listed) →
 points-after p s t entries same n =
     ap (λ (l : List PointState). slice_get l n) same ∙ slice_get-map_numbered (λ k (point : PointState). record point { to = unwrap_or (listed_position p k entries) point.to }) s.points n
 
-allocated-throw : (p : PlantLists) (s t : State) (r x : ℕ) → (it : IsAllocated p s t r) → wants_point p r x ≡ false → (n : ℕ) → point_number p x ≡ Some n → slice_get t.points n ≡ slice_get s.points n
+allocated-throw : (p : PlantLists) (s t : State) (r x : ℕ) → (it : IsAllocated p s t r) → requires_point p r x ≡ false → (n : ℕ) → point_number p x ≡ Some n → slice_get t.points n ≡ slice_get s.points n
 allocated-throw p s t r x it out n number =
-    let same : wants_point p r x ≡ list_any (λ listed. listed.point == x) (required_points it.route) = rw it.changes.known refl in
+    let same : requires_point p r x ≡ list_any (λ listed. listed.point == x) (required_points it.route) = rw it.changes.known refl in
     points-after p s t (required_points it.route) it.points n ∙ point-uncommanded (slice_get s.points n) (listed_position p n (required_points it.route)) (listed-none p x n number (required_points it.route) (sym same ∙ out))
 
 allocated-settle : (p : PlantLists) (s t : State) (r : ℕ) → (it : IsAllocated p s t r) →
-    (n : ℕ) (point : PointState) → slice_get t.points n ≡ Some point → is_moving point.at ≡ true →
-    (was : PointState) × (slice_get s.points n ≡ Some was) × (is_moving was.at ≡ true)
+    (n : ℕ) (point : PointState) → slice_get t.points n ≡ Some point → is_detected_moving point.at ≡ true →
+    (was : PointState) × (slice_get s.points n ≡ Some was) × (is_detected_moving was.at ≡ true)
 allocated-settle p s t r it n point at moves =
     let found = mapped-Some (λ (one : PointState). record one { to = unwrap_or (listed_position p n (required_points it.route)) one.to }) (slice_get s.points n) point (sym (points-after p s t (required_points it.route) it.points n) ∙ at) in
-    (found.0, found.1, ap (λ (one : PointState). is_moving one.at) found.2 ∙ moves)
+    (found.0, found.1, ap (λ (one : PointState). is_detected_moving one.at) found.2 ∙ moves)
 
 pub allocate-keeps : (p : PlantLists) → IsPlant p → (s t : State) → HasShape p s → (r : ℕ) → IsAllocated p s t r → Keeps p s t (Allocate r)
 allocate-keeps p plant s t shape r it (Mark q) own out h = cc
@@ -157,9 +157,9 @@ allocate-keeps p plant s t shape r it (Tail x) own out h = tail-stays p s t x it
 allocate-keeps p plant s t shape r it (Leave x) own out h = leave-stays p s t x it.trains h
 allocate-keeps p plant s t shape r it (Cancel q) own out h = cc
 
-begins-not : (p : PlantLists) (r x : ℕ) (route : Route) → slice_get p.routes r ≡ Some route → has_source_at p r x ≡ false → is_board_at p x route.source ≡ false
+begins-not : (p : PlantLists) (r x : ℕ) (route : Route) → slice_get p.routes r ≡ Some route → has_source_on_section p r x ≡ false → is_board_on_section p x route.source ≡ false
 begins-not p r x route known out =
-    let same : has_source_at p r x ≡ is_board_at p x route.source = rw known refl in
+    let same : has_source_on_section p r x ≡ is_board_on_section p x route.source = rw known refl in
     sym same ∙ out
 
 pub lock-keeps : (p : PlantLists) → IsPlant p → (s t : State) → HasShape p s → (r : ℕ) → IsLocked p s t r → Keeps p s t (Lock r)
@@ -200,8 +200,8 @@ protecting-apart : (p : PlantLists) (s t : State) (r : ℕ) (route : Route) (now
     is_held_closed p s m ≡ false
 protecting-apart p s t r route now new changes m out = protecting-back p s t m (λ k locked protects. elim (cases_Bool (k == r)) [
   | inl here ↦
-      (let same : has_protecting_board p r m ≡ list_any (λ j. j == m) route.protecting_boards = rw changes.known refl in
-      true-false (has_protecting_board p r m) (ap (λ (i : ℕ). has_protecting_board p i m) (sym (eqb-true k r here)) ∙ protects) (same ∙ out))
+      (let same : is_protecting_board p r m ≡ list_any (λ j. j == m) route.protecting_boards = rw changes.known refl in
+      true-false (is_protecting_board p r m) (ap (λ (i : ℕ). is_protecting_board p i m) (sym (eqb-true k r here)) ∙ protects) (same ∙ out))
   | inr other ↦ mode-alike s t k Locked (stays-other p s t r route now new changes k other) locked
 ])
 

@@ -10,7 +10,7 @@ use Rattle.ilk_base.proofs.Options.{some-and}
 use Rattle.ilk_base.proofs.Tested.{list_any-none, none-pass}
 use Rattle.ilk_plant.specs.Network.{has_section}
 use Rattle.ilk_plant.specs.Plant.{IsPlant, PlantLists, board_of, point_number}
-use Rattle.ilk_plant.specs.State.{has_lock, is_occupied, detected_position}
+use Rattle.ilk_plant.specs.State.{has_lock_state, is_occupied, detected_position}
 use Rattle.ilk_plant.specs.TableRules.{protecting_points_of, sections_locked_for, sections_of}
 use Rattle.ilk_plant.specs.declared.network.Board.{Board}
 use Rattle.ilk_plant.specs.declared.network.Dir.{Dir}
@@ -26,11 +26,11 @@ use Rattle.ilk_plant.specs.declared.state.RouteState.{RouteState}
 use Rattle.ilk_plant.specs.declared.state.State.{State}
 use Rattle.ilk_plant.specs.declared.table.Listed.{Listed}
 use Rattle.ilk_plant.specs.declared.table.Route.{Route}
-use Rattle.ilk_motion.specs.Body.{has_head, has_tail_before_head, occupies_only}
+use Rattle.ilk_motion.specs.Body.{has_head_at, has_movable_tail_at, occupies_only}
 use Rattle.ilk_motion.specs.Ahead.{ahead, section_led_to}
 use Rattle.ilk_motion.specs.Trains.{is_open, may_pass, with_board_closed}
-use Rattle.ilk_routes.specs.Boards.{has_aspect, is_held_closed, has_protecting_board, same_aspect}
-use Rattle.ilk_routes.specs.Claims.{sections_beside_path, required_points}
+use Rattle.ilk_routes.specs.Boards.{has_aspect, is_held_closed, is_protecting_board, same_aspect}
+use Rattle.ilk_routes.specs.Claims.{sections_outside_path, required_points}
 use Rattle.ilk_routes.specs.Lies.{is_detected_as_listed, is_lie_at_position}
 use Rattle.ilk_routes.specs.Modes.{has_mode, is_allocating_or_locked, same_mode}
 use Rattle.ilk_model.proofs.RouteFrames.{ChangesRoute}
@@ -38,7 +38,7 @@ use Rattle.ilk_model.specs.Event.{next}
 use Rattle.ilk_model.specs.declared.event.Event.TheVariants.{Throw, Settle, Head, Tail, Leave}
 use Rattle.ilk_plant.proofs.InLists.{section-at}
 use Rattle.ilk_strict.proofs.After.{same-occupied}
-use Rattle.ilk_drive.specs.Awakening.{depends_on, may_affect, depends_on_section, starts_at_protecting_board, may_affect_route, share_section, is_board_at}
+use Rattle.ilk_drive.specs.Awakening.{route_depends_on_section, route_may_affect_route, route_depends_by_number, source_protects_route, route_may_affect_by_number, share_section, is_board_on_section}
 use Rattle.ilk_drive.proofs.Back.{first_dir, head-back, leave-back, settle-back, tail-back, throw-back}
 use Rattle.ilk_drive.proofs.Changes.{apart, claimed-alike, lock-same, locks-stay, neither, state-new, true-false}
 
@@ -48,15 +48,15 @@ use Rattle.ilk_drive.proofs.Changes.{apart, claimed-alike, lock-same, locks-stay
 pub record AreApart (r : ℕ) (route other : Route) : Type 0 where
   pub conflict : list_any (λ c. c == r) other.conflicts ≡ false
   pub sections : share_section route other ≡ false
-  pub guarded : starts_at_protecting_board route other ≡ false
-  pub guarding : starts_at_protecting_board other route ≡ false
+  pub guarded : source_protects_route route other ≡ false
+  pub guarding : source_protects_route other route ≡ false
 
-pub are-apart : (p : PlantLists) (r q : ℕ) (route other : Route) → slice_get p.routes r ≡ Some route → slice_get p.routes q ≡ Some other → may_affect_route p r q ≡ false → AreApart r route other
+pub are-apart : (p : PlantLists) (r q : ℕ) (route other : Route) → slice_get p.routes r ≡ Some route → slice_get p.routes q ≡ Some other → route_may_affect_by_number p r q ≡ false → AreApart r route other
 are-apart p r q route other known that out =
-    let same : may_affect_route p r q ≡ may_affect r route other = rw (known, that) refl in
-    let one = neither (list_any (λ c. c == r) other.conflicts) (share_section route other || (starts_at_protecting_board route other || starts_at_protecting_board other route)) (sym same ∙ out) in
-    let two = neither (share_section route other) (starts_at_protecting_board route other || starts_at_protecting_board other route) one.1 in
-    let three = neither (starts_at_protecting_board route other) (starts_at_protecting_board other route) two.1 in
+    let same : route_may_affect_by_number p r q ≡ route_may_affect_route r route other = rw (known, that) refl in
+    let one = neither (list_any (λ c. c == r) other.conflicts) (share_section route other || (source_protects_route route other || source_protects_route other route)) (sym same ∙ out) in
+    let two = neither (share_section route other) (source_protects_route route other || source_protects_route other route) one.1 in
+    let three = neither (source_protects_route route other) (source_protects_route other route) two.1 in
     record { conflict = one.0; sections = two.0; guarded = three.0; guarding = three.1 }
 
 pub not-shared : (a b : Route) → share_section a b ≡ false → (x : ℕ) → has_section x (sections_locked_for b) ≡ true → has_section x (sections_locked_for a) ≡ false
@@ -68,13 +68,13 @@ not-shared a b out x in_ = false_from_ne_true (has_section x (sections_locked_fo
 pub record AsksNot (p : PlantLists) (x : ℕ) (route : Route) : Type 0 where
   pub section : has_section x (sections_locked_for route) ≡ false
   pub point : list_any (λ listed. listed.point == x) (required_points route) ≡ false
-  pub board : list_any (is_board_at p x) route.protecting_boards ≡ false
+  pub board : list_any (is_board_on_section p x) route.protecting_boards ≡ false
 
-pub asks-not : (p : PlantLists) (x q : ℕ) (route : Route) → slice_get p.routes q ≡ Some route → depends_on_section p x q ≡ false → AsksNot p x route
+pub asks-not : (p : PlantLists) (x q : ℕ) (route : Route) → slice_get p.routes q ≡ Some route → route_depends_by_number p x q ≡ false → AsksNot p x route
 asks-not p x q route known out =
-    let same : depends_on_section p x q ≡ depends_on p x route = rw known refl in
-    let one = neither (has_section x (sections_locked_for route)) (list_any (λ listed. listed.point == x) (required_points route) || list_any (is_board_at p x) route.protecting_boards) (sym same ∙ out) in
-    let two = neither (list_any (λ listed. listed.point == x) (required_points route)) (list_any (is_board_at p x) route.protecting_boards) one.1 in
+    let same : route_depends_by_number p x q ≡ route_depends_on_section p x route = rw known refl in
+    let one = neither (has_section x (sections_locked_for route)) (list_any (λ listed. listed.point == x) (required_points route) || list_any (is_board_on_section p x) route.protecting_boards) (sym same ∙ out) in
+    let two = neither (list_any (λ listed. listed.point == x) (required_points route)) (list_any (is_board_on_section p x) route.protecting_boards) one.1 in
     record { section = one.0; point = two.0; board = two.1 }
 
 pub not-that : (xs : List ℕ) (x y : ℕ) → has_section x xs ≡ true → has_section y xs ≡ false → (x == y) ≡ false
@@ -123,13 +123,13 @@ aspect-opened s t c same m h =
       | inr it ↦ ap (λ (o : Option Aspect). is_some_and o (λ now. same_aspect now Closed)) it ∙ found.2
     ]
 
-pub protecting-back : (p : PlantLists) (s t : State) (m : ℕ) → ((k : ℕ) → has_mode s k Locked ≡ true → has_protecting_board p k m ≡ true → has_mode t k Locked ≡ true) → is_held_closed p t m ≡ false → is_held_closed p s m ≡ false
+pub protecting-back : (p : PlantLists) (s t : State) (m : ℕ) → ((k : ℕ) → has_mode s k Locked ≡ true → is_protecting_board p k m ≡ true → has_mode t k Locked ≡ true) → is_held_closed p t m ≡ false → is_held_closed p s m ≡ false
 protecting-back p s t m keeps free =
-    none-pass (λ k. has_mode s k Locked && has_protecting_board p k m) (range_with_len 0 (length p.routes)) (λ i k at.
-    false_from_ne_true (has_mode s k Locked && has_protecting_board p k m) (λ h.
-    let parts = and_parts (has_mode s k Locked) (has_protecting_board p k m) h in
-    true-false (has_mode t k Locked && has_protecting_board p k m) (both_true (keeps k parts.0 parts.1) parts.1)
-    (list_any-none (λ j. has_mode t j Locked && has_protecting_board p j m) (range_with_len 0 (length p.routes)) i k free at)))
+    none-pass (λ k. has_mode s k Locked && is_protecting_board p k m) (range_with_len 0 (length p.routes)) (λ i k at.
+    false_from_ne_true (has_mode s k Locked && is_protecting_board p k m) (λ h.
+    let parts = and_parts (has_mode s k Locked) (is_protecting_board p k m) h in
+    true-false (has_mode t k Locked && is_protecting_board p k m) (both_true (keeps k parts.0 parts.1) parts.1)
+    (list_any-none (λ j. has_mode t j Locked && is_protecting_board p j m) (range_with_len 0 (length p.routes)) i k free at)))
 
 pub mode-alike : (s t : State) (k : ℕ) (mode : Mode) → slice_get t.routes k ≡ slice_get s.routes k → has_mode s k mode ≡ true → has_mode t k mode ≡ true
 mode-alike s t k mode same h = ap (λ (o : Option RouteState). is_some_and o (λ now. same_mode now.mode mode)) same ∙ h
@@ -160,10 +160,10 @@ settle-stays p s t x same = settle-back p s t x (λ n point number at moves. (po
 pub head-stays : (p : PlantLists) (s t : State) (x : ℕ) → t.trains ≡ s.trains → detected_position p t x ≡ detected_position p s x →
     ((d : Dir) → may_pass t (board_of p x d) ≡ true → may_pass s (board_of p x d) ≡ true) →
     is_some (next p t (Head x)) ≡ true → is_some (next p s (Head x)) ≡ true
-head-stays p s t x same lies passes = head-back p s t x (ap (first_dir (has_head x)) same) (leads-back p s t x lies) passes
+head-stays p s t x same lies passes = head-back p s t x (ap (first_dir (has_head_at x)) same) (leads-back p s t x lies) passes
 
 pub tail-stays : (p : PlantLists) (s t : State) (x : ℕ) → t.trains ≡ s.trains → is_some (next p t (Tail x)) ≡ true → is_some (next p s (Tail x)) ≡ true
-tail-stays p s t x same = tail-back p s t x (ap (first_dir (has_tail_before_head x)) same)
+tail-stays p s t x same = tail-back p s t x (ap (first_dir (has_movable_tail_at x)) same)
 
 pub leave-stays : (p : PlantLists) (s t : State) (x : ℕ) → t.trains ≡ s.trains → is_some (next p t (Leave x)) ≡ true → is_some (next p s (Leave x)) ≡ true
 leave-stays p s t x same = leave-back p s t x (ap (first_dir (occupies_only x)) same)
@@ -186,7 +186,7 @@ none-either_list x (u ∷ xs) ys a b =
     let first = neither (u == x) (has_section x xs) a in
     ap (λ (c : Bool). c || has_section x (xs ++ ys)) first.0 ∙ none-either_list x xs ys first.1 b
 
-pub beside-none : (x : ℕ) (route : Route) → has_section x (sections_locked_for route) ≡ false → has_section x (sections_beside_path route) ≡ false
+pub beside-none : (x : ℕ) (route : Route) → has_section x (sections_locked_for route) ≡ false → has_section x (sections_outside_path route) ≡ false
 beside-none x route out =
     let outer = none-parts x (sections_of route) (protecting_points_of route) out in
     let inner = none-parts x route.path route.overlap outer.0 in
@@ -211,19 +211,19 @@ pub passes-headed : (s t : State) (closed : Option ℕ) → t.boards ≡ (with_b
 passes-headed s t None same = passes-same s t same
 passes-headed s t (Some c) same = passes-closed s t c same
 
-pub stands-there : (p : PlantLists) → IsPlant p → (x m : ℕ) (d : Dir) → board_of p x d ≡ Some m → is_board_at p x m ≡ true
+pub stands-there : (p : PlantLists) → IsPlant p → (x m : ℕ) (d : Dir) → board_of p x d ≡ Some m → is_board_on_section p x m ≡ true
 stands-there p plant x m d on =
     let board : Board = record { section = x; dir = d } in
     let known : slice_get p.boards m ≡ Some board = (plant.boards_listed x m d).0 on in
     ap (λ (o : Option Board). is_some_and o (λ b. b.section == x)) known ∙ eq-eqb x x refl
 
-pub passes-opened : (p : PlantLists) → IsPlant p → (s t : State) (c x : ℕ) (d : Dir) → t.boards ≡ set s.boards c Open → is_board_at p x c ≡ false → may_pass t (board_of p x d) ≡ true → may_pass s (board_of p x d) ≡ true
+pub passes-opened : (p : PlantLists) → IsPlant p → (s t : State) (c x : ℕ) (d : Dir) → t.boards ≡ set s.boards c Open → is_board_on_section p x c ≡ false → may_pass t (board_of p x d) ≡ true → may_pass s (board_of p x d) ≡ true
 passes-opened p plant s t c x d same off h = by_board (board_of p x d) refl h
   where
     by_board : (o : Option ℕ) → board_of p x d ≡ o → may_pass t o ≡ true → may_pass s o ≡ true
     by_board None e h = refl
     by_board (Some m) e h =
-        let other : m ≡ c → ⊥ = λ is. true-false (is_board_at p x c) (ap (is_board_at p x) (sym is) ∙ stands-there p plant x m d e) off in
+        let other : m ≡ c → ⊥ = λ is. true-false (is_board_on_section p x c) (ap (is_board_on_section p x) (sym is) ∙ stands-there p plant x m d e) off in
         ap (λ (o : Option Aspect). is_some_and o is_open) (sym (board-other s t c Open same m other)) ∙ h
 
 -- A route that ends or begins a claim
@@ -244,5 +244,5 @@ module _ (p : PlantLists) (s t : State) (r : ℕ) (route : Route) (now new : Rou
   pub protecting-keeps : ((same_mode now.mode Locked ≡ false) ⊎ (same_mode new.mode Locked ≡ true)) → (m : ℕ) → is_held_closed p t m ≡ false → is_held_closed p s m ≡ false
   protecting-keeps how m = protecting-back p s t m (λ k locked protects. modes-keep how k locked)
 
-pub locks-kept : (s t : State) → t.locks ≡ s.locks → (x : ℕ) (want : Hold) → has_lock t x want ≡ true → has_lock s x want ≡ true
+pub locks-kept : (s t : State) → t.locks ≡ s.locks → (x : ℕ) (want : Hold) → has_lock_state t x want ≡ true → has_lock_state s x want ≡ true
 locks-kept s t same x want = lock-same s t FreeLock (λ z. false) (locks-stay s t FreeLock same) x want refl

@@ -5,8 +5,8 @@ use Rattle.std.proofs.lemmas.Bool.{eqb-true}
 use Rattle.std.proofs.lemmas.List.{length-append}
 use Rattle.ilk_base.proofs.Lists.{item_at}
 use Rattle.ilk_plant.proofs.PointNumbers.{point_number-below}
-use Rattle.ilk_plant.specs.Plant.{IsPlant, IsRouteOf, PlantLists, point_count, point_number}
-use Rattle.ilk_plant.specs.Sound.{NoWalkReturns}
+use Rattle.ilk_plant.specs.Plant.{IsPlant, IsValidRouteOf, PlantLists, point_count, point_number}
+use Rattle.ilk_plant.specs.Sound.{IsAcyclic}
 use Rattle.ilk_plant.specs.declared.network.Dir.{Dir}
 use Rattle.ilk_plant.specs.declared.network.Position.{Position}
 use Rattle.ilk_plant.specs.declared.network.Position.TheVariants.{Plus, Minus}
@@ -19,7 +19,7 @@ use Rattle.ilk_plant.specs.declared.table.Route.{Route}
 use Rattle.ilk_motion.specs.Body.{is_first_of_several, is_last_section, is_only_section}
 use Rattle.ilk_routes.proofs.Commands.{length-with_commands, with_commands-after, with_commands-first, with_commands-no_point, with_commands-none}
 use Rattle.ilk_routes.specs.Claims.{required_points}
-use Rattle.ilk_routes.specs.Lies.{is_moving, lie_from_position, is_lie_at_position, with_commands}
+use Rattle.ilk_routes.specs.Lies.{is_detected_moving, lie_from_position, is_lie_at_position, with_commands}
 use Rattle.ilk_routes.specs.Modes.{same_mode}
 use Rattle.ilk_drive.proofs.Potential.{body_left, path_left, point_left, points_left, points_left-set, route_left_in}
 use Rattle.ilk_drive.proofs.Walks.{far, far-falls, is_step}
@@ -27,7 +27,7 @@ use Rattle.ilk_drive.proofs.Walks.{far, far-falls, is_step}
 -- Points
 
 point_left-most : (point : PointState) → point_left point ≤ 2
-point_left-most point = by_moving (is_moving point.at) (is_lie_at_position point.at point.to)
+point_left-most point = by_moving (is_detected_moving point.at) (is_lie_at_position point.at point.to)
   where
     by_moving : (moves lies : Bool) → (if moves then 1 else if lies then 0 else 2) ≤ 2
     by_moving true lies = omega arith
@@ -68,7 +68,7 @@ settled Minus = refl
 
 -- Trains
 
-pub head-lowers : (p : PlantLists) → IsPlant p → NoWalkReturns p → (d : Dir) (x y : ℕ) (body : List ℕ) → is_last_section x body ≡ true → is_step p d x y ≡ true → body_left p d (body ++ y ∷ []) + 1 ≤ body_left p d body
+pub head-lowers : (p : PlantLists) → IsPlant p → IsAcyclic p → (d : Dir) (x y : ℕ) (body : List ℕ) → is_last_section x body ≡ true → is_step p d x y ≡ true → body_left p d (body ++ y ∷ []) + 1 ≤ body_left p d body
 head-lowers p plant never d x y [] last step = cc
 head-lowers p plant never d x y (z ∷ []) last step =
     let falls = far-falls p plant never d x y step in
@@ -97,7 +97,7 @@ in-use route now Allocating use_ = cc
 in-use route now Locked use_ = refl
 in-use route now Occupied use_ = refl
 
-pub wanted-few : (p : PlantLists) (route : Route) → IsRouteOf p route → (length (required_points route) ≤ 48) × (length route.path ≤ 32)
+pub wanted-few : (p : PlantLists) (route : Route) → IsValidRouteOf p route → (length (required_points route) ≤ 48) × (length route.path ≤ 32)
 wanted-few p route known =
     let both : length (required_points route) ≡ length route.points + length route.protecting_points = length-append route.points route.protecting_points in
     let few : length route.points ≤ 40 = known.few_points in

@@ -6,14 +6,14 @@ use Rattle.std.proofs.lemmas.Option.{same_Some}
 use Rattle.ilk_base.proofs.Tested.{list_all-slice_get}
 use Rattle.ilk_plant.specs.Network.{has_section}
 use Rattle.ilk_plant.specs.Plant.{PlantLists, next_to}
-use Rattle.ilk_plant.specs.Shape.{HasShape, has_valid_body, is_connected}
+use Rattle.ilk_plant.specs.Shape.{HasShape, train_body_is_valid, is_connected_chain}
 use Rattle.ilk_plant.specs.State.{is_occupied}
 use Rattle.ilk_plant.specs.declared.network.Dir.{Dir}
 use Rattle.ilk_plant.specs.declared.network.Dir.TheVariants.{Up, Down}
 use Rattle.ilk_plant.specs.declared.state.State.{State}
 use Rattle.ilk_plant.specs.declared.state.Train.{Train}
 use Rattle.ilk_plant.proofs.InLists.{section-behind}
-use Rattle.ilk_motion.specs.Body.{has_head, has_tail_before_head, is_first_of_several, is_last_section, is_only_section, occupies_only, new_train_on, with_new_head, without_tail}
+use Rattle.ilk_motion.specs.Body.{has_head_at, has_movable_tail_at, is_first_of_several, is_last_section, is_only_section, occupies_only, new_train_on, with_new_head, without_tail}
 use Rattle.ilk_model.proofs.TrainFrames.{IsEntered, IsHeaded, IsLeft, IsTailed}
 use Rattle.ilk_strict.proofs.Trains.{enter-vacant, head-vacant, leave-vacant, tail-vacant}
 use Rattle.ilk_drive.specs.Awakening.{neighbours_of}
@@ -133,13 +133,13 @@ module _ (p : PlantLists) (s t : State) (x : ℕ) (it : IsHeaded p s t x) (z : �
   abbrev moved : Train
   moved = with_new_head it.y it.train
 
-  pub head-heads : (z == it.y) ≡ false → first_dir (has_head z) t.trains ≡ first_dir (has_head z) s.trains
+  pub head-heads : (z == it.y) ≡ false → first_dir (has_head_at z) t.trains ≡ first_dir (has_head_at z) s.trains
   head-heads ahead_ =
-      let same : has_head z moved ≡ has_head z it.train = last-pushed_is z it.y it.train.body ∙ flipped z it.y ahead_ ∙ sym (last-other x z it.train.body it.heads out) in
-      ap (first_dir (has_head z)) it.trains ∙ first_dir-set (has_head z) s.trains it.i it.train moved it.at same refl
+      let same : has_head_at z moved ≡ has_head_at z it.train = last-pushed_is z it.y it.train.body ∙ flipped z it.y ahead_ ∙ sym (last-other x z it.train.body it.heads out) in
+      ap (first_dir (has_head_at z)) it.trains ∙ first_dir-set (has_head_at z) s.trains it.i it.train moved it.at same refl
 
-  pub head-tails : first_dir (has_tail_before_head z) t.trains ≡ first_dir (has_tail_before_head z) s.trains
-  head-tails = ap (first_dir (has_tail_before_head z)) it.trains ∙ first_dir-set (has_tail_before_head z) s.trains it.i it.train moved it.at (first-pushed x it.y z it.train.body it.heads out) refl
+  pub head-tails : first_dir (has_movable_tail_at z) t.trains ≡ first_dir (has_movable_tail_at z) s.trains
+  head-tails = ap (first_dir (has_movable_tail_at z)) it.trains ∙ first_dir-set (has_movable_tail_at z) s.trains it.i it.train moved it.at (first-pushed x it.y z it.train.body it.heads out) refl
 
   pub head-alone : first_dir (occupies_only z) t.trains ≡ first_dir (occupies_only z) s.trains
   head-alone = ap (first_dir (occupies_only z)) it.trains ∙ first_dir-set (occupies_only z) s.trains it.i it.train moved it.at (only-pushed x it.y z it.train.body it.heads out) refl
@@ -160,40 +160,40 @@ next-neighbours_of p x y Up h = section-behind y (next_to p x Down) (next_to p x
 pub not-neighbours_of : (p : PlantLists) (x y z : ℕ) → has_section y (neighbours_of p x) ≡ true → has_section z (neighbours_of p x) ≡ false → (y == z) ≡ false
 not-neighbours_of p x y z in_ out = false_from_ne_true (y == z) (λ e. true-false (has_section z (neighbours_of p x)) (subst (λ (v : ℕ). has_section v (neighbours_of p x) ≡ true) (eqb-true y z e) in_) out)
 
-second-neighbours_of : (p : PlantLists) (d : Dir) (x u v : ℕ) (rest : List ℕ) → is_connected p d u (v ∷ rest) ≡ true → (u == x) ≡ true → has_section v (neighbours_of p x) ≡ true
+second-neighbours_of : (p : PlantLists) (d : Dir) (x u v : ℕ) (rest : List ℕ) → is_connected_chain p d u (v ∷ rest) ≡ true → (u == x) ≡ true → has_section v (neighbours_of p x) ≡ true
 second-neighbours_of p d x u v rest on is =
-    let here : has_section v (next_to p u d) ≡ true = (and_parts (has_section v (next_to p u d)) (is_connected p d v rest) on).0 in
+    let here : has_section v (next_to p u d) ≡ true = (and_parts (has_section v (next_to p u d)) (is_connected_chain p d v rest) on).0 in
     next-neighbours_of p x v d (subst (λ (w : ℕ). has_section v (next_to p w d) ≡ true) (eqb-true u x is) here)
 
 first-shorter : (p : PlantLists) (d : Dir) (x z : ℕ) (body : List ℕ) →
-    has_valid_body p (record { dir = d; body = body }) ≡ true → is_first_of_several x body ≡ true →
+    train_body_is_valid p (record { dir = d; body = body }) ≡ true → is_first_of_several x body ≡ true →
     (z == x) ≡ false → has_section z (neighbours_of p x) ≡ false →
     is_first_of_several z (remove body 0) ≡ is_first_of_several z body
 first-shorter p d x z [] made several out off = cc
 first-shorter p d x z (u ∷ []) made several out off = cc
 first-shorter p d x z (u ∷ v ∷ []) made several out off = sym (differs u x z several out)
 first-shorter p d x z (u ∷ v ∷ w ∷ rest) made several out off =
-    let on : is_connected p d u (v ∷ w ∷ rest) ≡ true = (and_parts _ (is_connected p d u (v ∷ w ∷ rest)) made).1 in
+    let on : is_connected_chain p d u (v ∷ w ∷ rest) ≡ true = (and_parts _ (is_connected_chain p d u (v ∷ w ∷ rest)) made).1 in
     not-neighbours_of p x v z (second-neighbours_of p d x u v (w ∷ rest) on several) off ∙ sym (differs u x z several out)
 
-only-shorter : (p : PlantLists) (d : Dir) (x z : ℕ) (body : List ℕ) → has_valid_body p (record { dir = d; body = body }) ≡ true → is_first_of_several x body ≡ true → has_section z (neighbours_of p x) ≡ false
+only-shorter : (p : PlantLists) (d : Dir) (x z : ℕ) (body : List ℕ) → train_body_is_valid p (record { dir = d; body = body }) ≡ true → is_first_of_several x body ≡ true → has_section z (neighbours_of p x) ≡ false
     → is_only_section z (remove body 0) ≡ is_only_section z body
 only-shorter p d x z [] made several off = cc
 only-shorter p d x z (u ∷ []) made several off = cc
 only-shorter p d x z (u ∷ v ∷ []) made several off =
-    let on : is_connected p d u (v ∷ []) ≡ true = (and_parts _ (is_connected p d u (v ∷ [])) made).1 in
+    let on : is_connected_chain p d u (v ∷ []) ≡ true = (and_parts _ (is_connected_chain p d u (v ∷ [])) made).1 in
     not-neighbours_of p x v z (second-neighbours_of p d x u v [] on several) off
 only-shorter p d x z (u ∷ v ∷ w ∷ rest) made several off = refl
 
 module _ (p : PlantLists) (s t : State) (shape : HasShape p s) (x : ℕ) (it : IsTailed p s t x) (z : ℕ) where
-  made_body : has_valid_body p it.train ≡ true
-  made_body = list_all-slice_get (has_valid_body p) s.trains it.i it.train shape.bodies it.at
+  made_body : train_body_is_valid p it.train ≡ true
+  made_body = list_all-slice_get (train_body_is_valid p) s.trains it.i it.train shape.bodies it.at
 
-  pub tail-heads : first_dir (has_head z) t.trains ≡ first_dir (has_head z) s.trains
-  tail-heads = ap (first_dir (has_head z)) it.trains ∙ first_dir-set (has_head z) s.trains it.i it.train (without_tail it.train) it.at (last-shorter_is x z it.train.body it.several) refl
+  pub tail-heads : first_dir (has_head_at z) t.trains ≡ first_dir (has_head_at z) s.trains
+  tail-heads = ap (first_dir (has_head_at z)) it.trains ∙ first_dir-set (has_head_at z) s.trains it.i it.train (without_tail it.train) it.at (last-shorter_is x z it.train.body it.several) refl
 
-  pub tail-tails : (z == x) ≡ false → has_section z (neighbours_of p x) ≡ false → first_dir (has_tail_before_head z) t.trains ≡ first_dir (has_tail_before_head z) s.trains
-  tail-tails out off = ap (first_dir (has_tail_before_head z)) it.trains ∙ first_dir-set (has_tail_before_head z) s.trains it.i it.train (without_tail it.train) it.at (first-shorter p it.train.dir x z it.train.body made_body it.several out off) refl
+  pub tail-tails : (z == x) ≡ false → has_section z (neighbours_of p x) ≡ false → first_dir (has_movable_tail_at z) t.trains ≡ first_dir (has_movable_tail_at z) s.trains
+  tail-tails out off = ap (first_dir (has_movable_tail_at z)) it.trains ∙ first_dir-set (has_movable_tail_at z) s.trains it.i it.train (without_tail it.train) it.at (first-shorter p it.train.dir x z it.train.body made_body it.several out off) refl
 
   pub tail-alone : has_section z (neighbours_of p x) ≡ false → first_dir (occupies_only z) t.trains ≡ first_dir (occupies_only z) s.trains
   tail-alone off = ap (first_dir (occupies_only z)) it.trains ∙ first_dir-set (occupies_only z) s.trains it.i it.train (without_tail it.train) it.at (only-shorter p it.train.dir x z it.train.body made_body it.several off) refl
@@ -214,21 +214,21 @@ only-only x z (u ∷ []) only out = differs u x z only out
 only-only x z (u ∷ v ∷ rest) only out = cc
 
 module _ (p : PlantLists) (s t : State) (x : ℕ) (it : IsLeft p s t x) (z : ℕ) where
-  pub leave-heads : (z == x) ≡ false → first_dir (has_head z) t.trains ≡ first_dir (has_head z) s.trains
-  leave-heads out = ap (first_dir (has_head z)) it.trains ∙ first_dir-remove (has_head z) s.trains it.i it.train it.at (only-last x z it.train.body it.alone out)
+  pub leave-heads : (z == x) ≡ false → first_dir (has_head_at z) t.trains ≡ first_dir (has_head_at z) s.trains
+  leave-heads out = ap (first_dir (has_head_at z)) it.trains ∙ first_dir-remove (has_head_at z) s.trains it.i it.train it.at (only-last x z it.train.body it.alone out)
 
-  pub leave-tails : first_dir (has_tail_before_head z) t.trains ≡ first_dir (has_tail_before_head z) s.trains
-  leave-tails = ap (first_dir (has_tail_before_head z)) it.trains ∙ first_dir-remove (has_tail_before_head z) s.trains it.i it.train it.at (only-first x z it.train.body it.alone)
+  pub leave-tails : first_dir (has_movable_tail_at z) t.trains ≡ first_dir (has_movable_tail_at z) s.trains
+  leave-tails = ap (first_dir (has_movable_tail_at z)) it.trains ∙ first_dir-remove (has_movable_tail_at z) s.trains it.i it.train it.at (only-first x z it.train.body it.alone)
 
   pub leave-alone : (z == x) ≡ false → first_dir (occupies_only z) t.trains ≡ first_dir (occupies_only z) s.trains
   leave-alone out = ap (first_dir (occupies_only z)) it.trains ∙ first_dir-remove (occupies_only z) s.trains it.i it.train it.at (only-only x z it.train.body it.alone out)
 
 module _ (p : PlantLists) (s t : State) (x : ℕ) (it : IsEntered p s t x) (z : ℕ) where
-  pub enter-heads : (z == x) ≡ false → first_dir (has_head z) t.trains ≡ first_dir (has_head z) s.trains
-  enter-heads out = ap (first_dir (has_head z)) it.trains ∙ first_dir-push (has_head z) s.trains (new_train_on x it.inward) (flipped z x out)
+  pub enter-heads : (z == x) ≡ false → first_dir (has_head_at z) t.trains ≡ first_dir (has_head_at z) s.trains
+  enter-heads out = ap (first_dir (has_head_at z)) it.trains ∙ first_dir-push (has_head_at z) s.trains (new_train_on x it.inward) (flipped z x out)
 
-  pub enter-tails : first_dir (has_tail_before_head z) t.trains ≡ first_dir (has_tail_before_head z) s.trains
-  enter-tails = ap (first_dir (has_tail_before_head z)) it.trains ∙ first_dir-push (has_tail_before_head z) s.trains (new_train_on x it.inward) refl
+  pub enter-tails : first_dir (has_movable_tail_at z) t.trains ≡ first_dir (has_movable_tail_at z) s.trains
+  enter-tails = ap (first_dir (has_movable_tail_at z)) it.trains ∙ first_dir-push (has_movable_tail_at z) s.trains (new_train_on x it.inward) refl
 
   pub enter-alone : (z == x) ≡ false → first_dir (occupies_only z) t.trains ≡ first_dir (occupies_only z) s.trains
   enter-alone out = ap (first_dir (occupies_only z)) it.trains ∙ first_dir-push (occupies_only z) s.trains (new_train_on x it.inward) (flipped z x out)

@@ -10,11 +10,11 @@ use Rattle.ilk_base.proofs.Ranges.{range-at}
 use Rattle.ilk_base.proofs.Truth.{either}
 use Rattle.ilk_plant.proofs.Leads.{leads-step, leads-through}
 use Rattle.ilk_plant.specs.Network.{has_section}
-use Rattle.ilk_plant.specs.NetworkRules.{leads_by}
+use Rattle.ilk_plant.specs.NetworkRules.{reaches_via_below}
 use Rattle.ilk_plant.specs.Once.{numbers_differ}
 use Rattle.ilk_plant.specs.Plant.{IsPlant, PlantLists, next_to}
-use Rattle.ilk_plant.specs.Shape.{is_connected}
-use Rattle.ilk_plant.specs.Sound.{NoWalkReturns}
+use Rattle.ilk_plant.specs.Shape.{is_connected_chain}
+use Rattle.ilk_plant.specs.Sound.{IsAcyclic}
 use Rattle.ilk_plant.specs.declared.network.Dir.{Dir}
 use Rattle.ilk_plant.proofs.InLists.{section-behind}
 
@@ -24,7 +24,7 @@ is_step p d x y = has_section y (next_to p x d)
 
 -- Returns whether a walk in direction d leads from x to y.
 abbrev pub reaches : PlantLists → Dir → ℕ → ℕ → Bool
-reaches p d x y = leads_by (is_step p d) (length p.sections) x y
+reaches p d x y = reaches_via_below (is_step p d) (length p.sections) x y
 
 -- The number of sections that walks in direction d reach from x.
 abbrev pub far : PlantLists → Dir → ℕ → ℕ
@@ -33,21 +33,21 @@ far p d x = count_by (reaches p d x) (range_with_len 0 (length p.sections))
 -- A walk in direction d from x to y, of one or more steps.
 record WalkTo (p : PlantLists) (d : Dir) (x y : ℕ) : Type 0 where
   walk : List ℕ
-  on : is_connected p d x walk ≡ true
+  on : is_connected_chain p d x walk ≡ true
   comes : has_section y walk ≡ true
   ends : last_or (Some x) walk ≡ Some y
 
-walk-joined : (p : PlantLists) (d : Dir) (x z : ℕ) (front back : List ℕ) → is_connected p d x front ≡ true → last_or (Some x) front ≡ Some z → is_connected p d z back ≡ true → is_connected p d x (front ++ back) ≡ true
-walk-joined p d x z [] back on ends next = subst (λ (v : ℕ). is_connected p d v back ≡ true) (sym (same_Some _ _ ends)) next
+walk-joined : (p : PlantLists) (d : Dir) (x z : ℕ) (front back : List ℕ) → is_connected_chain p d x front ≡ true → last_or (Some x) front ≡ Some z → is_connected_chain p d z back ≡ true → is_connected_chain p d x (front ++ back) ≡ true
+walk-joined p d x z [] back on ends next = subst (λ (v : ℕ). is_connected_chain p d v back ≡ true) (sym (same_Some _ _ ends)) next
 walk-joined p d x z (u ∷ front) back on ends next =
-    let goes = and_parts (has_section u (next_to p x d)) (is_connected p d u front) on in
+    let goes = and_parts (has_section u (next_to p x d)) (is_connected_chain p d u front) on in
     both_true goes.0 (walk-joined p d u z front back goes.1 ends next)
 
 ends-joined : (o : Option ℕ) (z : ℕ) (front back : List ℕ) → last_or o front ≡ Some z → last_or o (front ++ back) ≡ last_or (Some z) back
 ends-joined o z [] back e = ap (λ (v : Option ℕ). last_or v back) e
 ends-joined o z (u ∷ front) back e = ends-joined (Some u) z front back e
 
-walk-to : (p : PlantLists) (d : Dir) (n x y : ℕ) → leads_by (is_step p d) n x y ≡ true → WalkTo p d x y
+walk-to : (p : PlantLists) (d : Dir) (n x y : ℕ) → reaches_via_below (is_step p d) n x y ≡ true → WalkTo p d x y
 walk-to p d zero x y h = record {
   walk = y ∷ [];
   on = both_true h refl;
@@ -55,10 +55,10 @@ walk-to p d zero x y h = record {
   ends = refl;
 }
 walk-to p d (suc n) x y h =
-    elim (either (leads_by (is_step p d) n x y) (leads_by (is_step p d) n x n && leads_by (is_step p d) n n y) h) [
+    elim (either (reaches_via_below (is_step p d) n x y) (reaches_via_below (is_step p d) n x n && reaches_via_below (is_step p d) n n y) h) [
       | inl e ↦ walk-to p d n x y e
       | inr e ↦
-          let parts = and_parts (leads_by (is_step p d) n x n) (leads_by (is_step p d) n n y) e in
+          let parts = and_parts (reaches_via_below (is_step p d) n x n) (reaches_via_below (is_step p d) n n y) e in
           let a = walk-to p d n x n parts.0 in
           let b = walk-to p d n n y parts.1 in
           record {
@@ -72,7 +72,7 @@ walk-to p d (suc n) x y h =
     from-last : (z x : ℕ) → (b : WalkTo p d z y) → last_or (Some z) b.walk ≡ Some y
     from-last z x b = b.ends
 
-never-back : (p : PlantLists) → NoWalkReturns p → (d : Dir) (x : ℕ) → reaches p d x x ≡ false
+never-back : (p : PlantLists) → IsAcyclic p → (d : Dir) (x : ℕ) → reaches p d x x ≡ false
 never-back p never d x = false_from_ne_true (reaches p d x x) (λ h.
     let w = walk-to p d (length p.sections) x x h in
     let once : (not (has_section x w.walk) && numbers_differ w.walk) ≡ true = never d x w.walk w.on in
@@ -115,7 +115,7 @@ fewer-by_one f g more (x ∷ xs) (suc i) y at fails passes =
     let rest = fewer-by_one f g more xs i y at fails passes in
     omega (arith, one, other, here, first, second, rest)
 
-pub far-falls : (p : PlantLists) → IsPlant p → NoWalkReturns p → (d : Dir) (x y : ℕ) → is_step p d x y ≡ true → far p d y + 1 ≤ far p d x
+pub far-falls : (p : PlantLists) → IsPlant p → IsAcyclic p → (d : Dir) (x y : ℕ) → is_step p d x y ≡ true → far p d y + 1 ≤ far p d x
 far-falls p plant never d x y step =
     let known = plant.neighbours x y d step in
     let here = leads-step (is_step p d) (length p.sections) x y step in
@@ -124,7 +124,7 @@ far-falls p plant never d x y step =
     (range_with_len 0 (length p.sections)) y y (range-at (length p.sections) y known) (never-back p never d y) here in
     omega (arith, less)
 
-pub far-few : (p : PlantLists) → NoWalkReturns p → (d : Dir) (x : ℕ) → x < length p.sections → far p d x + 1 ≤ length p.sections
+pub far-few : (p : PlantLists) → IsAcyclic p → (d : Dir) (x : ℕ) → x < length p.sections → far p d x + 1 ≤ length p.sections
 far-few p never d x known =
     let less = fewer-by_one (reaches p d x) (λ z. true) (λ z h. refl) (range_with_len 0 (length p.sections)) x x (range-at (length p.sections) x known) (never-back p never d x) refl in
     let all = count_by-le-length (λ (z : ℕ). true) (range_with_len 0 (length p.sections)) in

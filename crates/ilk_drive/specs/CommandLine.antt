@@ -1,6 +1,6 @@
 -- The line of a command, as in a run text: its keyword, one space, and the name of its subject.
 use Rattle.std.specs.Prelude.{Option}
-use Rattle.ilk_base.specs.Option.{◌>>=◌, only_if}
+use Rattle.ilk_base.specs.Option.{◌>>=◌, then_some}
 use Rattle.ilk_lines.specs.Lines.{Bytes}
 use Rattle.ilk_plant.specs.Plant.{PlantLists}
 use Rattle.ilk_model.specs.declared.event.Event.{Event}
@@ -11,4 +11,4 @@ use Rattle.ilk_drive.specs.Commands.{is_command}
 abbrev pub command_from_line : PlantLists → Bytes → Option Event
 command_from_line p line = do
   event ← event_from_line p line
-  only_if (is_command event) event
+  then_some (is_command event) event

@@ -5,11 +5,11 @@ use Rattle.ilk_plant.specs.Plant.{PlantLists}
 use Rattle.ilk_plant.specs.declared.state.State.{State}
 use Rattle.ilk_model.specs.Event.{next}
 use Rattle.ilk_model.specs.declared.event.Event.{Event}
-use Rattle.ilk_drive.specs.Drive.{Moment, Turn, first_automatic}
+use Rattle.ilk_drive.specs.Drive.{DriveState, DriveStep, first_automatic}
 
 -- The moment after `given` commands of the scenario.
-abbrev pub moment_of : List Event → State → ℕ → Moment
-moment_of scene s given = record { state = s; commands = drop given scene; number = given + 1 }
+abbrev pub drive_state_after_commands : List Event → State → ℕ → DriveState
+drive_state_after_commands scene s given = record { state = s; commands = drop given scene; number = given + 1 }
 
 -- The state after the first enabled automatic event, or the same state if there is none.
 abbrev pub after_automatic : PlantLists → State → State
@@ -17,6 +17,6 @@ after_automatic p s = unwrap_or (first_automatic p s >>= next p s) s
 
 -- Holds if the event is that of the turn, which leads to this moment. Without an event, there is no
 -- turn and the moment is unchanged.
-abbrev pub IsTurnTaken : Option Turn → Moment → Moment → Option Event → Type 0
-IsTurnTaken taken m after None = (taken ≡ None) × (after ≡ m)
-IsTurnTaken taken m after (Some event) = taken ≡ Some (event, after)
+abbrev pub IsStepTaken : Option DriveStep → DriveState → DriveState → Option Event → Type 0
+IsStepTaken taken m after None = (taken ≡ None) × (after ≡ m)
+IsStepTaken taken m after (Some event) = taken ≡ Some (event, after)

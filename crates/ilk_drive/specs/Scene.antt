@@ -2,8 +2,8 @@
 -- may not occur at its place. A missing line, or one without a line feed, is bad at its number.
 use Rattle.std.specs.Prelude.{ℕ, ◌+◌, Result, Ok, Err, List, codes}
 use Rattle.ilk_base.specs.Result.{◌>>=◌}
-use Rattle.ilk_lines.specs.Lines.{Bytes, after_lines, lines_of}
-use Rattle.ilk_lines.specs.Reading.{lines_after, expect_end, leading_part}
+use Rattle.ilk_lines.specs.Lines.{Bytes, unterminated_tail, lines_of}
+use Rattle.ilk_lines.specs.Reading.{strip_first_line, expect_end, parsed_prefix}
 use Rattle.ilk_plant.specs.Plant.{PlantLists}
 use Rattle.ilk_model.specs.declared.event.Event.{Event}
 use Rattle.ilk_drive.specs.CommandLine.{command_from_line}
@@ -15,15 +15,15 @@ use Rattle.ilk_drive.specs.declared.scene.Scene.TheVariants.{Scene as IsScene, B
 -- lines are `drive 1`, one per command, and `end`, with nothing after it.
 abbrev pub commands_from_lines : PlantLists → List Bytes → Bytes → Result (List Event) ℕ
 commands_from_lines p lines bytes = do
-  second ← lines_after (codes "drive 1") 1 lines
-  commands ← Ok (leading_part (command_from_line p) 2 second)
-  more ← lines_after (codes "end") commands.number commands.lines
+  second ← strip_first_line (codes "drive 1") 1 lines
+  commands ← Ok (parsed_prefix (command_from_line p) 2 second)
+  more ← strip_first_line (codes "end") commands.number commands.lines
   none ← expect_end (commands.number + 1) more bytes
   Ok commands.values
 
 -- The result of reading a scenario's text.
 abbrev pub scene_from_text : PlantLists → Bytes → Scene
-scene_from_text p text = answer (commands_from_lines p (lines_of text) (after_lines text))
+scene_from_text p text = answer (commands_from_lines p (lines_of text) (unterminated_tail text))
   where
     answer : Result (List Event) ℕ → Scene
     answer (Ok commands) = IsScene commands

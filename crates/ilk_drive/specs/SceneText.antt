@@ -7,7 +7,7 @@ use Rattle.ilk_lines.specs.Written.{text_of}
 use Rattle.ilk_plant.specs.Plant.{PlantLists}
 use Rattle.ilk_model.specs.declared.event.Event.{Event}
 use Rattle.ilk_replay.specs.RunText.{event_line}
-use Rattle.ilk_replay.specs.Writable.{HasSubjectOf}
+use Rattle.ilk_replay.specs.Writable.{IsEventSubjectOfPlant}
 use Rattle.ilk_drive.specs.Commands.{AreCommands}
 use Rattle.ilk_drive.specs.Scene.{scene_from_text}
 use Rattle.ilk_drive.specs.declared.scene.Scene.TheVariants.{Bad}
@@ -21,13 +21,13 @@ abbrev pub scene_text : PlantLists → List Event → Bytes
 scene_text p commands = text_of (scene_lines p commands)
 
 -- Holds if each of these is a command whose subject is a route or section of the plant.
-pub record IsSceneOf (p : PlantLists) (commands : List Event) : Type 0 where
+pub record AreCommandsOfPlant (p : PlantLists) (commands : List Event) : Type 0 where
   pub commanded : AreCommands commands
-  pub about : All (HasSubjectOf p) commands
+  pub about : All (IsEventSubjectOfPlant p) commands
 
 -- Holds if the text is the one written for these commands over the plant.
 abbrev pub IsTextOfScene : PlantLists → List Event → Bytes → Type 0
-IsTextOfScene p commands text = IsSceneOf p commands × (text ≡ scene_text p commands)
+IsTextOfScene p commands text = AreCommandsOfPlant p commands × (text ≡ scene_text p commands)
 
 -- Holds if no line of the text is bad.
 abbrev pub HasNoBadLine : PlantLists → Bytes → Type 0
@@ -41,4 +41,4 @@ IsSceneText p text = (commands : List Event) × IsTextOfScene p commands text
 -- The lines before line n begin the text of some scenario. Together with line n, unless it is
 -- missing, they begin none.
 abbrev pub IsFirstBadLineOfScene : PlantLists → Bytes → ℕ → Type 0
-IsFirstBadLineOfScene p text n = IsFirstBadLine (IsSceneOf p) (scene_lines p) text n
+IsFirstBadLineOfScene p text n = IsFirstBadLine (AreCommandsOfPlant p) (scene_lines p) text n

@@ -16,10 +16,10 @@ abbrev pub IsRunFromStart : PlantLists → List Event → Type 0
 IsRunFromStart p events = (t : State) × (run p (start p) events ≡ Some t)
 
 -- The result of replaying a drive with this result: its hazard, or no hazard.
-abbrev pub replay_of_rest : Rest → Seen
-replay_of_rest (Hazard at) = SeenHazard at
-replay_of_rest Driven = NoHazard
-replay_of_rest (Stuck n) = NoHazard
+abbrev pub replay_result_of_outcome : Rest → Seen
+replay_result_of_outcome (Hazard at) = SeenHazard at
+replay_result_of_outcome Driven = NoHazard
+replay_result_of_outcome (Stuck n) = NoHazard
 
 -- Holds if the drive doesn't end in a hazard.
 abbrev pub EndsWithoutHazard : Rest → Type 0

@@ -2,7 +2,7 @@ ghost use Rattle.std.specs.Prelude.{ℕ, ◌≡◌, ◌++◌, ◌<◌, ◌^◌, 
 ghost use Rattle.std.specs.List.{range_with_len};
 ghost use Rattle.ilk_model.specs.declared.event.Event.{Event};
 ghost use Rattle.ilk_drive.specs.Drive.{automatic_events};
-ghost use Rattle.ilk_drive.specs.Places.{IsAutomaticOf, HasEnabledByEach};
+ghost use Rattle.ilk_drive.specs.Places.{IsEnablingGraphOf, HasEnabledByEach};
 ghost use Rattle.ilk_base.specs.Numbers.{has_number};
 
 use crate::candidates::Candidates;
@@ -76,7 +76,7 @@ fn woken_by_each(
 impl Automatic {
     /// Creates the automatic events of a plant.
     pub(crate) fn of(alloc: Global, plant: &Plant) -> Result<Automatic, AllocError>
-        ensures { IfOk result (IsAutomaticOf plant.now) }
+        ensures { IfOk result (IsEnablingGraphOf plant.now) }
     {
         let events = automatic_events(alloc, plant)?;
         let woken = woken_by_each(alloc, plant, &events)?;

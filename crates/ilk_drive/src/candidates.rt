@@ -17,11 +17,11 @@ impl Model for Candidates {
     ghost use Rattle.std.specs.Prelude.{List, ℕ, map};
     ghost use Rattle.std.specs.BinaryHeap.{IsHeap, heap_items};
     ghost use Rattle.std.specs.Ordering.{nat_cmp};
-    ghost use Rattle.ilk_drive.specs.Places.{place_of_rank};
+    ghost use Rattle.ilk_drive.specs.Places.{index_of_descending_rank};
 
     ghost Value = { List ℕ };
 
-    ghost view = { λ c. map place_of_rank (heap_items c.ranks) };
+    ghost view = { λ c. map index_of_descending_rank (heap_items c.ranks) };
 
     ghost invariant = { λ c. IsHeap nat_cmp (heap_items c.ranks) };
 }

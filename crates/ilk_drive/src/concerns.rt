@@ -5,7 +5,7 @@ ghost use Rattle.ilk_base.specs.Option.{is_some_and};
 ghost use Rattle.ilk_plant.specs.Network.{has_section};
 ghost use Rattle.ilk_plant.specs.TableRules.{sections_locked_for, sections_of};
 ghost use Rattle.ilk_routes.specs.Claims.{required_points};
-ghost use Rattle.ilk_drive.specs.Awakening.{neighbours_of, may_affect, has_source_at, depends_on_section, starts_at_protecting_board, may_affect_route, share_section, is_board_at, wants_point};
+ghost use Rattle.ilk_drive.specs.Awakening.{neighbours_of, route_may_affect_route, has_source_on_section, route_depends_by_number, source_protects_route, route_may_affect_by_number, share_section, is_board_on_section, requires_point};
 
 use ilk_base::has_number;
 use ilk_plant::{Dir, Listed, Plant, Route, Row, Section, has_section};
@@ -85,14 +85,14 @@ fn share_section(a: &Route, b: &Route) -> bool
 
 // Returns whether the source of `a` is a protecting board of `b`.
 fn is_guarded_by(a: &Route, b: &Route) -> bool
-    ensures { result ≡ starts_at_protecting_board a.now b.now }
+    ensures { result ≡ source_protects_route a.now b.now }
 {
     has_number(b.protecting_boards.as_slice(), a.source)
 }
 
 // Returns whether the state of route number `r` affects the allocation or locking of `other`.
 fn bears_on(r: u32, route: &Route, other: &Route) -> bool
-    ensures { result ≡ may_affect r route.now other.now }
+    ensures { result ≡ route_may_affect_route r route.now other.now }
 {
     has_number(other.conflicts.as_slice(), r)
         || (share_section(route, other)
@@ -100,8 +100,8 @@ fn bears_on(r: u32, route: &Route, other: &Route) -> bool
 }
 
 // Returns whether the state of route `r` affects the allocation or locking of route `q`.
-pub(crate) fn may_affect_route(plant: &Plant, r: u32, q: u32) -> bool
-    ensures { result ≡ may_affect_route plant.now r q }
+pub(crate) fn route_may_affect_by_number(plant: &Plant, r: u32, q: u32) -> bool
+    ensures { result ≡ route_may_affect_by_number plant.now r q }
 {
     if r >= plant.routes() || q >= plant.routes() {
         return false;
@@ -111,14 +111,14 @@ pub(crate) fn may_affect_route(plant: &Plant, r: u32, q: u32) -> bool
 
 // Returns whether board `m` is on section `x`.
 fn stands_at(plant: &Plant, x: u32, m: u32) -> bool
-    ensures { result ≡ is_board_at plant.now x m }
+    ensures { result ≡ is_board_on_section plant.now x m }
 {
     m < plant.boards() && plant.board(m).section == x
 }
 
 // Returns whether some of these boards is on section `x`.
 fn any_stands_at(plant: &Plant, boards: &Row<u32>, x: u32) -> bool
-    ensures { result ≡ list_any (is_board_at plant.now x) boards.now }
+    ensures { result ≡ list_any (is_board_on_section plant.now x) boards.now }
 {
     boards.as_slice().iter().any(|m| stands_at(plant, x, *m))
 }
@@ -132,8 +132,8 @@ fn wants(route: &Route, x: u32) -> bool
 
 // Returns whether route `q` depends on section `x`: it locks it, needs a point on it, or has a
 // protecting board on it.
-pub(crate) fn depends_on_section(plant: &Plant, x: u32, q: u32) -> bool
-    ensures { result ≡ depends_on_section plant.now x q }
+pub(crate) fn route_depends_by_number(plant: &Plant, x: u32, q: u32) -> bool
+    ensures { result ≡ route_depends_by_number plant.now x q }
 {
     if q >= plant.routes() {
         return false;
@@ -143,15 +143,15 @@ pub(crate) fn depends_on_section(plant: &Plant, x: u32, q: u32) -> bool
 }
 
 // Returns whether route `r` needs the point on section `x`.
-pub(crate) fn wants_point(plant: &Plant, r: u32, x: u32) -> bool
-    ensures { result ≡ wants_point plant.now r x }
+pub(crate) fn requires_point(plant: &Plant, r: u32, x: u32) -> bool
+    ensures { result ≡ requires_point plant.now r x }
 {
     r < plant.routes() && wants(plant.route(r), x)
 }
 
 // Returns whether the source of route `r` is on section `x`.
-pub(crate) fn has_source_at(plant: &Plant, r: u32, x: u32) -> bool
-    ensures { result ≡ has_source_at plant.now r x }
+pub(crate) fn has_source_on_section(plant: &Plant, r: u32, x: u32) -> bool
+    ensures { result ≡ has_source_on_section plant.now r x }
 {
     r < plant.routes() && stands_at(plant, x, plant.route(r).source)
 }
@@ -179,17 +179,17 @@ pub(crate) fn is_neighbour(plant: &Plant, x: u32, y: u32) -> bool
 
 // Returns whether route `q` depends on the section, if there is one.
 fn is_concerned_if(plant: &Plant, x: Option<u32>, q: u32) -> bool
-    ensures { result ≡ is_some_and x (λ y. depends_on_section plant.now y q) }
+    ensures { result ≡ is_some_and x (λ y. route_depends_by_number plant.now y q) }
 {
     match x {
-        Some(x) => depends_on_section(plant, x, q),
+        Some(x) => route_depends_by_number(plant, x, q),
         None => false,
     }
 }
 
 // Returns whether route `q` depends on a section next to section `x`.
 pub(crate) fn depends_on_neighbour(plant: &Plant, x: u32, q: u32) -> bool
-    ensures { result ≡ list_any (λ y. depends_on_section plant.now y q)
+    ensures { result ≡ list_any (λ y. route_depends_by_number plant.now y q)
         (neighbours_of plant.now x) }
 {
     if x >= plant.sections() {
@@ -206,12 +206,14 @@ pub(crate) fn depends_on_neighbour(plant: &Plant, x: u32, q: u32) -> bool
             faces,
         } => match faces {
             Dir::Up => {
-                depends_on_section(plant, stem, q)
-                    || (depends_on_section(plant, plus, q) || depends_on_section(plant, minus, q))
+                route_depends_by_number(plant, stem, q)
+                    || (route_depends_by_number(plant, plus, q)
+                        || route_depends_by_number(plant, minus, q))
             }
             Dir::Down => {
-                depends_on_section(plant, plus, q)
-                    || (depends_on_section(plant, minus, q) || depends_on_section(plant, stem, q))
+                route_depends_by_number(plant, plus, q)
+                    || (route_depends_by_number(plant, minus, q)
+                        || route_depends_by_number(plant, stem, q))
             }
         },
     }

@@ -8,9 +8,9 @@ ghost use Rattle.ilk_model.specs.Hazard.{hazard};
 ghost use Rattle.ilk_replay.specs.Writable.{IsRunOfPlant};
 ghost use Rattle.ilk_replay.specs.Told.{run_from_start};
 ghost use Rattle.ilk_strict.specs.IsStrict.{IsStrict};
-ghost use Rattle.ilk_drive.specs.Drive.{IsDriveOf, command_turn, first_automatic, is_done, final_rest, next_turn};
-ghost use Rattle.ilk_drive.specs.Progress.{IsTurnTaken, after_automatic, moment_of};
-ghost use Rattle.ilk_drive.specs.Places.{HasAllEnabled, HasAllEnabledWith, IsAutomaticOf, IsDone, IsFirst, IsLeast};
+ghost use Rattle.ilk_drive.specs.Drive.{IsDriveOf, command_step, first_automatic, is_done_and_plant_idle, final_state_outcome, next_step};
+ghost use Rattle.ilk_drive.specs.Progress.{IsStepTaken, after_automatic, drive_state_after_commands};
+ghost use Rattle.ilk_drive.specs.Places.{ContainsAllEnabled, ContainsAllEnabledExcept, IsEnablingGraphOf, IsEventApplied, IsFirstAutomatic, IsLeast};
 ghost use Rattle.ilk_drive.specs.Told.{IsRunFromStart, EndsWithoutHazard};
 ghost use Rattle.ilk_drive.specs.declared.limits.TheConstants.{MAX_EVENTS_PER_COMMAND};
 ghost use Rattle.ilk_base.specs.Numbers.{has_number};
@@ -59,16 +59,16 @@ fn try_place(
     place: u64,
 ) -> Result<Option<Event>, AllocError>
     requires shape { HasShape plant.now s.old }
-    requires all { IsAutomaticOf plant.now automatic.now }
-    requires covers { HasAllEnabledWith plant.now s.old place candidates.old }
+    requires all { IsEnablingGraphOf plant.now automatic.now }
+    requires covers { ContainsAllEnabledExcept plant.now s.old place candidates.old }
     requires least { IsLeast place candidates.old }
-    ensures first { IfOk result (IsFirst plant.now s.old) }
-    ensures next { IfOk result (IsDone plant.now s.old s.new) }
-    ensures covers { OnOk result (HasAllEnabled plant.now s.new candidates.new) }
+    ensures first { IfOk result (IsFirstAutomatic plant.now s.old) }
+    ensures next { IfOk result (IsEventApplied plant.now s.old s.new) }
+    ensures covers { OnOk result (ContainsAllEnabled plant.now s.new candidates.new) }
     ensures same { IfOk result (λ event. event ≡ None → candidates.new ≡ candidates.old) }
     ensures shape { HasShape plant.now s.new }
 {
-    plant.is_sound();
+    plant.prove_is_plant();
     let Some(event) = automatic.events.as_slice().get(place as usize) else {
         return Ok(None);
     };
@@ -90,11 +90,11 @@ fn do_automatic(
     s: &mut State,
 ) -> Result<Option<Event>, AllocError>
     requires shape { HasShape plant.now s.old }
-    requires all { IsAutomaticOf plant.now automatic.now }
-    requires covers { HasAllEnabled plant.now s.old candidates.old }
+    requires all { IsEnablingGraphOf plant.now automatic.now }
+    requires covers { ContainsAllEnabled plant.now s.old candidates.old }
     ensures first { IfOk result (λ event. event ≡ first_automatic plant.now s.old) }
     ensures next { OnOk result (s.new ≡ after_automatic plant.now s.old) }
-    ensures covers { OnOk result (HasAllEnabled plant.now s.new candidates.new) }
+    ensures covers { OnOk result (ContainsAllEnabled plant.now s.new candidates.new) }
     ensures shape { HasShape plant.now s.new }
 {
     while let Some(place) = candidates.pop() {
@@ -115,18 +115,19 @@ fn give_command(
     now: &mut Standing,
 ) -> Result<Option<Event>, AllocError>
     requires shape { HasShape plant.now now.old.state }
-    requires all { IsAutomaticOf plant.now automatic.now }
-    requires covers { HasAllEnabled plant.now now.old.state now.old.candidates }
-    ensures covers { OnOk result (HasAllEnabled plant.now now.new.state now.new.candidates) }
+    requires all { IsEnablingGraphOf plant.now automatic.now }
+    requires covers { ContainsAllEnabled plant.now now.old.state now.old.candidates }
+    ensures covers { OnOk result (ContainsAllEnabled plant.now now.new.state now.new.candidates) }
     ensures hazard { now.new.hazard ≡ now.old.hazard }
     ensures given { IfOk result
-        (IsTurnTaken (command_turn plant.now (moment_of scene.now now.old.state now.old.given))
-        (moment_of scene.now now.old.state now.old.given)
-        (moment_of scene.now now.new.state now.new.given)) }
+        (IsStepTaken (command_step plant.now
+        (drive_state_after_commands scene.now now.old.state now.old.given))
+        (drive_state_after_commands scene.now now.old.state now.old.given)
+        (drive_state_after_commands scene.now now.new.state now.new.given)) }
     ensures shape { HasShape plant.now now.new.state }
     ensures within { now.old.given ≤ length scene.now → now.new.given ≤ length scene.now }
 {
-    plant.is_sound();
+    plant.prove_is_plant();
     let Some(command) = scene.as_slice().get(now.given as usize) else {
         return Ok(None);
     };
@@ -149,15 +150,16 @@ fn go_on(
     now: &mut Standing,
 ) -> Result<Option<Event>, AllocError>
     requires shape { HasShape plant.now now.old.state }
-    requires all { IsAutomaticOf plant.now automatic.now }
-    requires covers { HasAllEnabled plant.now now.old.state now.old.candidates }
+    requires all { IsEnablingGraphOf plant.now automatic.now }
+    requires covers { ContainsAllEnabled plant.now now.old.state now.old.candidates }
     requires calm { hazard plant.now now.old.state ≡ None }
-    ensures covers { OnOk result (HasAllEnabled plant.now now.new.state now.new.candidates) }
+    ensures covers { OnOk result (ContainsAllEnabled plant.now now.new.state now.new.candidates) }
     ensures hazard { now.new.hazard ≡ now.old.hazard }
     ensures turn { IfOk result
-        (IsTurnTaken (next_turn plant.now (moment_of scene.now now.old.state now.old.given))
-        (moment_of scene.now now.old.state now.old.given)
-        (moment_of scene.now now.new.state now.new.given)) }
+        (IsStepTaken (next_step plant.now
+        (drive_state_after_commands scene.now now.old.state now.old.given))
+        (drive_state_after_commands scene.now now.old.state now.old.given)
+        (drive_state_after_commands scene.now now.new.state now.new.given)) }
     ensures shape { HasShape plant.now now.new.state }
     ensures within { now.old.given ≤ length scene.now → now.new.given ≤ length scene.now }
 {
@@ -183,15 +185,16 @@ fn take_turn(
     now: &mut Standing,
 ) -> Result<Option<Event>, AllocError>
     requires shape { HasShape plant.now now.old.state }
-    requires all { IsAutomaticOf plant.now automatic.now }
-    requires covers { HasAllEnabled plant.now now.old.state now.old.candidates }
+    requires all { IsEnablingGraphOf plant.now automatic.now }
+    requires covers { ContainsAllEnabled plant.now now.old.state now.old.candidates }
     requires hazard { now.old.hazard ≡ hazard plant.now now.old.state }
-    ensures covers { OnOk result (HasAllEnabled plant.now now.new.state now.new.candidates) }
+    ensures covers { OnOk result (ContainsAllEnabled plant.now now.new.state now.new.candidates) }
     ensures hazard { OnOk result (now.new.hazard ≡ hazard plant.now now.new.state) }
     ensures turn { IfOk result
-        (IsTurnTaken (next_turn plant.now (moment_of scene.now now.old.state now.old.given))
-        (moment_of scene.now now.old.state now.old.given)
-        (moment_of scene.now now.new.state now.new.given)) }
+        (IsStepTaken (next_step plant.now
+        (drive_state_after_commands scene.now now.old.state now.old.given))
+        (drive_state_after_commands scene.now now.old.state now.old.given)
+        (drive_state_after_commands scene.now now.new.state now.new.given)) }
     ensures shape { HasShape plant.now now.new.state }
     ensures within { now.old.given ≤ length scene.now → now.new.given ≤ length scene.now }
 {
@@ -216,8 +219,9 @@ fn all_free(s: &State) -> bool
 }
 
 // Returns whether all commands were given, no train is left and every route is Free.
-fn is_done(scene: &Row<Event>, now: &Standing) -> bool
-    ensures { result ≡ is_done (moment_of scene.now now.now.state now.now.given) }
+fn is_done_and_plant_idle(scene: &Row<Event>, now: &Standing) -> bool
+    ensures { result ≡ is_done_and_plant_idle
+        (drive_state_after_commands scene.now now.now.state now.now.given) }
 {
     now.given >= scene.len() && now.state.trains.len() == 0 && all_free(&now.state)
 }
@@ -226,12 +230,13 @@ fn is_done(scene: &Row<Event>, now: &Standing) -> bool
 fn rest_at(scene: &Row<Event>, now: &Standing) -> Rest
     requires within { now.now.given ≤ length scene.now }
     ensures { (p : PlantLists) → now.now.hazard ≡ hazard p now.now.state →
-        result ≡ final_rest p (moment_of scene.now now.now.state now.now.given) }
+        result ≡ final_state_outcome p
+        (drive_state_after_commands scene.now now.now.state now.now.given) }
 {
     if let Some(at) = now.hazard {
         return Rest::Hazard(at);
     }
-    if is_done(scene, now) {
+    if is_done_and_plant_idle(scene, now) {
         return Rest::Driven;
     }
     let _commands = scene.as_slice().len();
@@ -254,8 +259,8 @@ pub fn drive(alloc: Global, plant: &Plant, scene: &Row<Event>) -> Result<Driven,
         (λ driven. length driven.events ≤ MAX_EVENTS_PER_COMMAND * length scene.now) }
     ensures strict { IsStrict plant.now → IfOk result (λ driven. EndsWithoutHazard driven.rest) }
 {
-    plant.is_sound();
-    plant.is_from_drafts();
+    plant.prove_is_plant();
+    plant.prove_from_drafts();
     let automatic = Automatic::of(alloc, plant)?;
     let mut now = Standing {
         state: start(alloc, plant)?,

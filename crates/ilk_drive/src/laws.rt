@@ -11,7 +11,7 @@ ghost use Rattle.ilk_strict.specs.IsStrict.{IsStrict};
 ghost use Rattle.ilk_drive.specs.Drive.{IsDriveOf};
 ghost use Rattle.ilk_drive.specs.Scene.{scene_from_text};
 ghost use Rattle.ilk_drive.specs.SceneText.{HasNoBadLine, IsFirstBadLineOfScene, IsSceneText, IsTextOfScene};
-ghost use Rattle.ilk_drive.specs.Told.{IsRunFromStart, EndsWithoutHazard, replay_of_rest};
+ghost use Rattle.ilk_drive.specs.Told.{IsRunFromStart, EndsWithoutHazard, replay_result_of_outcome};
 ghost use Rattle.ilk_drive.specs.declared.limits.TheConstants.{MAX_EVENTS_PER_COMMAND};
 ghost use Rattle.ilk_drive.specs.declared.outcome.Driven.{Driven};
 ghost use Rattle.ilk_drive.specs.declared.scene.Scene.TheVariants.{Bad, Scene as IsScene};
@@ -31,22 +31,23 @@ pub fn drives_are_runs(plant: &Plant)
     ensures strict { IsStrict plant.now → (scene : List Event) (driven : Driven) →
         IsDriveOf plant.now scene driven → EndsWithoutHazard driven.rest }
 {
-    plant.is_sound();
-    plant.is_from_drafts();
+    plant.prove_is_plant();
+    plant.prove_from_drafts();
 }
 
 /// The run of a drive has a text, which says `start` and is read back as that run. Its replay shows
 /// the hazard in which the drive ends, or none. Proof only; no run-time effect.
-pub fn drives_are_read_again(plant: &Plant)
+pub fn drive_runs_round_trip(plant: &Plant)
     ensures writable { (scene : List Event) (driven : Driven) → IsDriveOf plant.now scene driven →
         IsRunOfPlant plant.now (run_from_start plant.now driven.events) }
     ensures read { (scene : List Event) (driven : Driven) → IsDriveOf plant.now scene driven →
         run_from_text plant.now (run_text plant.now (run_from_start plant.now driven.events))
         ≡ IsTold (run_from_start plant.now driven.events) }
     ensures seen { (scene : List Event) (driven : Driven) → IsDriveOf plant.now scene driven →
-        replay_result plant.now (start plant.now) driven.events ≡ replay_of_rest driven.rest }
+        replay_result plant.now (start plant.now) driven.events
+        ≡ replay_result_of_outcome driven.rest }
 {
-    plant.is_sound();
+    plant.prove_is_plant();
 }
 
 /// A text is read as commands if and only if it is the text written for them over the plant. So a
@@ -54,7 +55,7 @@ pub fn drives_are_read_again(plant: &Plant)
 /// and only if it is the text of some scenario. The reported bad line is the first: the lines
 /// before it begin the text of some scenario, and together with it they begin none. Proof only; no
 /// run-time effect.
-pub fn scenes_are_those_written(plant: &Plant, text: &[u8])
+pub fn scene_reading_is_exact(plant: &Plant, text: &[u8])
     ensures scene { (commands : List Event)
         → (scene_from_text plant.now text.now ≡ IsScene commands)
         ↔ IsTextOfScene plant.now commands text.now }
@@ -63,5 +64,5 @@ pub fn scenes_are_those_written(plant: &Plant, text: &[u8])
         → (scene_from_text plant.now text.now ≡ Bad n)
         ↔ IsFirstBadLineOfScene plant.now text.now n }
 {
-    plant.is_sound();
+    plant.prove_is_plant();
 }

@@ -10,8 +10,8 @@
 //! trains, routes and points still have. A command raises it by less than
 //! `MAX_EVENTS_PER_COMMAND` (`proofs/Potential.antt`). The theorems say that a scenario has one
 //! drive and that its events are a run from the start (`drives_are_runs`). Their text is read back
-//! and replayed to the same end (`drives_are_read_again`). A text is read as a scenario if and only
-//! if it is the one written for it (`scenes_are_those_written`).
+//! and replayed to the same end (`drive_runs_round_trip`). A text is read as a scenario if and only
+//! if it is the one written for it (`scene_reading_is_exact`).
 #![tactic(auto)]
 
 mod automatic;
@@ -27,7 +27,7 @@ mod touched;
 mod waking;
 
 pub use driving::drive;
-pub use laws::{drives_are_read_again, drives_are_runs, scenes_are_those_written};
+pub use laws::{drive_runs_round_trip, drives_are_runs, scene_reading_is_exact};
 pub use limits::MAX_EVENTS_PER_COMMAND;
 pub use outcome::{Driven, Rest};
 pub use scene::{Scene, read_scene};

@@ -1,6 +1,6 @@
 ghost use Rattle.std.specs.Prelude.{◌≡◌, IfOk};
 ghost use Rattle.ilk_lines.specs.Answers.{MatchesResult};
-ghost use Rattle.ilk_lines.specs.Lines.{after_lines, lines_of};
+ghost use Rattle.ilk_lines.specs.Lines.{unterminated_tail, lines_of};
 ghost use Rattle.ilk_drive.specs.CommandLine.{command_from_line};
 ghost use Rattle.ilk_drive.specs.Scene.{HasOnlyCommands, commands_from_lines, scene_from_text};
 
@@ -22,14 +22,14 @@ pub enum Scene {
 // Reads the commands of a text.
 fn read_commands(alloc: Global, plant: &Plant, text: &[u8]) -> Result<Row<Event>, LineFault>
     ensures { MatchesResult (commands_from_lines plant.now (lines_of text.now)
-        (after_lines text.now))
+        (unterminated_tail text.now))
         result }
 {
     let mut lines = Lines::from_text(text);
     lines.expect_line(b"drive 1")?;
     let commands = read_while_some(alloc, &mut lines, |line| Ok(command_from_line(plant, line)))?;
     lines.expect_line(b"end")?;
-    lines.finish()?;
+    lines.check_at_end()?;
     Ok(commands)
 }
 

@@ -1,9 +1,9 @@
 //! The hazard after an event, if there was none before. Only the sections that the event touches
 //! are checked, so the time doesn't grow with the plant.
 ghost use Rattle.std.specs.Prelude.{◌≡◌, [], ◌∷◌, option_to_list};
-ghost use Rattle.ilk_model.specs.Hazard.{is_hazardous, has_two_trains};
+ghost use Rattle.ilk_model.specs.Hazard.{is_section_hazardous, has_two_trains};
 ghost use Rattle.ilk_drive.specs.Awakening.{neighbours_of};
-ghost use Rattle.ilk_drive.specs.Touched.{IsHazardAfter, IsLeastHazardous, IsLeastWith, affected_sections};
+ghost use Rattle.ilk_drive.specs.Touched.{IsHazardCausedBy, IsFirstHazardous, ExtendsFirstHazardous, sections_at_risk};
 
 use ilk_model::{Event, HazardAt, is_wrong_under_train};
 use ilk_plant::{Plant, Section, State, has_section};
@@ -21,20 +21,20 @@ fn is_two(s: &State, x: u32) -> bool
 }
 
 // Returns whether two trains share `x`, or some train's body is wrong on it.
-fn is_hazardous(plant: &Plant, s: &State, x: u32) -> bool
-    ensures { result ≡ is_hazardous plant.now s.now x }
+fn is_section_hazardous(plant: &Plant, s: &State, x: u32) -> bool
+    ensures { result ≡ is_section_hazardous plant.now s.now x }
 {
     is_two(s, x) || is_wrong_under_train(plant, s, x)
 }
 
 // Returns `x` if it has a hazard and is less than `found`, and otherwise `found`.
 fn lesser(plant: &Plant, s: &State, x: u32, found: Option<u32>) -> Option<u32>
-    ensures { IsLeastWith plant.now s.now (x ∷ []) found result }
+    ensures { ExtendsFirstHazardous plant.now s.now (x ∷ []) found result }
 {
     if x >= plant.sections() {
         return found;
     }
-    if !is_hazardous(plant, s, x) {
+    if !is_section_hazardous(plant, s, x) {
         return found;
     }
     match found {
@@ -45,7 +45,7 @@ fn lesser(plant: &Plant, s: &State, x: u32, found: Option<u32>) -> Option<u32>
 
 // The same, if there is a section.
 fn lesser_if(plant: &Plant, s: &State, x: Option<u32>, found: Option<u32>) -> Option<u32>
-    ensures { IsLeastWith plant.now s.now (option_to_list x) found result }
+    ensures { ExtendsFirstHazardous plant.now s.now (option_to_list x) found result }
 {
     match x {
         Some(x) => lesser(plant, s, x, found),
@@ -55,7 +55,7 @@ fn lesser_if(plant: &Plant, s: &State, x: Option<u32>, found: Option<u32>) -> Op
 
 // Returns the least section with a hazard among those next to `x`.
 fn least_around(plant: &Plant, s: &State, x: u32) -> Option<u32>
-    ensures { IsLeastHazardous plant.now s.now (neighbours_of plant.now x) result }
+    ensures { IsFirstHazardous plant.now s.now (neighbours_of plant.now x) result }
 {
     if x >= plant.sections() {
         return None;
@@ -80,7 +80,7 @@ fn least_around(plant: &Plant, s: &State, x: u32) -> Option<u32>
 
 // Returns the least section with a hazard among those that the event touched.
 fn least_touched(plant: &Plant, s: &State, event: Event) -> Option<u32>
-    ensures { IsLeastHazardous plant.now s.now (affected_sections plant.now event) result }
+    ensures { IsFirstHazardous plant.now s.now (sections_at_risk plant.now event) result }
 {
     match event {
         Event::Throw(x) => lesser(plant, s, x, None),
@@ -95,7 +95,7 @@ fn least_touched(plant: &Plant, s: &State, event: Event) -> Option<u32>
 
 /// Returns the hazard of the state after `event`, if the state before it had none.
 pub(crate) fn hazard_after(plant: &Plant, s: &State, event: Event) -> Option<HazardAt>
-    ensures { IsHazardAfter plant.now s.now event result }
+    ensures { IsHazardCausedBy plant.now s.now event result }
 {
     let x = least_touched(plant, s, event)?;
     Some(if is_two(s, x) {

@@ -2,12 +2,12 @@
 ghost use Rattle.std.specs.Prelude.{◌≡◌, IfOk};
 ghost use Rattle.ilk_model.specs.declared.event.Event.TheVariants.{Mark, Allocate, Lock, Sense, Release, Finish, Throw, Settle, Enter, Head, Tail, Leave, Cancel};
 ghost use Rattle.ilk_drive.specs.Drive.{automatic_events};
-ghost use Rattle.ilk_drive.specs.Places.{HasAllEnabledBy};
-ghost use Rattle.ilk_drive.specs.Awakening.{has_source_at, depends_on_section, may_affect_route, may_enable, wants_point};
+ghost use Rattle.ilk_drive.specs.Places.{ContainsAllEnabledBy};
+ghost use Rattle.ilk_drive.specs.Awakening.{has_source_on_section, route_depends_by_number, route_may_affect_by_number, may_enable, requires_point};
 
 use crate::concerns::{
-    depends_on_neighbour, depends_on_section, has_source_at, is_neighbour, may_affect_route,
-    wants_point,
+    depends_on_neighbour, has_source_on_section, is_neighbour, requires_point,
+    route_depends_by_number, route_may_affect_by_number,
 };
 use ilk_model::Event;
 use ilk_plant::{Plant, Row};
@@ -19,7 +19,7 @@ fn allocate_may_enable(plant: &Plant, r: u32, other: Event) -> bool
 {
     match other {
         Event::Lock(q) => q == r,
-        Event::Throw(x) => wants_point(plant, r, x),
+        Event::Throw(x) => requires_point(plant, r, x),
         _ => false,
     }
 }
@@ -30,7 +30,7 @@ fn lock_may_enable(plant: &Plant, r: u32, other: Event) -> bool
 {
     match other {
         Event::Sense(q) => q == r,
-        Event::Head(x) => has_source_at(plant, r, x),
+        Event::Head(x) => has_source_on_section(plant, r, x),
         _ => false,
     }
 }
@@ -40,8 +40,8 @@ fn sense_may_enable(plant: &Plant, r: u32, other: Event) -> bool
     ensures { result ≡ may_enable plant.now (Sense r) other }
 {
     match other {
-        Event::Allocate(q) => may_affect_route(plant, r, q),
-        Event::Lock(q) => may_affect_route(plant, r, q),
+        Event::Allocate(q) => route_may_affect_by_number(plant, r, q),
+        Event::Lock(q) => route_may_affect_by_number(plant, r, q),
         Event::Sense(q) => q == r,
         Event::Release(q) => q == r,
         Event::Finish(q) => q == r,
@@ -54,7 +54,7 @@ fn release_may_enable(plant: &Plant, r: u32, other: Event) -> bool
     ensures { result ≡ may_enable plant.now (Release r) other }
 {
     match other {
-        Event::Allocate(q) => may_affect_route(plant, r, q),
+        Event::Allocate(q) => route_may_affect_by_number(plant, r, q),
         Event::Sense(q) => q == r,
         Event::Release(q) => q == r,
         Event::Finish(q) => q == r,
@@ -79,7 +79,7 @@ fn settle_may_enable(plant: &Plant, x: u32, other: Event) -> bool
     ensures { result ≡ may_enable plant.now (Settle x) other }
 {
     match other {
-        Event::Lock(q) => depends_on_section(plant, x, q),
+        Event::Lock(q) => route_depends_by_number(plant, x, q),
         Event::Throw(y) => y == x,
         Event::Settle(y) => y == x,
         Event::Head(y) => y == x,
@@ -92,7 +92,7 @@ fn enter_may_enable(plant: &Plant, x: u32, other: Event) -> bool
     ensures { result ≡ may_enable plant.now (Enter x) other }
 {
     match other {
-        Event::Sense(q) => depends_on_section(plant, x, q),
+        Event::Sense(q) => route_depends_by_number(plant, x, q),
         Event::Head(y) => y == x,
         Event::Leave(y) => y == x,
         _ => false,
@@ -104,7 +104,7 @@ fn head_may_enable(plant: &Plant, x: u32, other: Event) -> bool
     ensures { result ≡ may_enable plant.now (Head x) other }
 {
     match other {
-        Event::Lock(q) => depends_on_section(plant, x, q),
+        Event::Lock(q) => route_depends_by_number(plant, x, q),
         Event::Sense(q) => depends_on_neighbour(plant, x, q),
         Event::Head(y) => y == x || is_neighbour(plant, x, y),
         Event::Tail(y) => y == x,
@@ -118,8 +118,8 @@ fn tail_may_enable(plant: &Plant, x: u32, other: Event) -> bool
     ensures { result ≡ may_enable plant.now (Tail x) other }
 {
     match other {
-        Event::Allocate(q) => depends_on_section(plant, x, q),
-        Event::Release(q) => depends_on_section(plant, x, q),
+        Event::Allocate(q) => route_depends_by_number(plant, x, q),
+        Event::Release(q) => route_depends_by_number(plant, x, q),
         Event::Tail(y) => y == x || is_neighbour(plant, x, y),
         Event::Leave(y) => is_neighbour(plant, x, y),
         _ => false,
@@ -131,8 +131,8 @@ fn leave_may_enable(plant: &Plant, x: u32, other: Event) -> bool
     ensures { result ≡ may_enable plant.now (Leave x) other }
 {
     match other {
-        Event::Allocate(q) => depends_on_section(plant, x, q),
-        Event::Release(q) => depends_on_section(plant, x, q),
+        Event::Allocate(q) => route_depends_by_number(plant, x, q),
+        Event::Release(q) => route_depends_by_number(plant, x, q),
         Event::Head(y) => y == x,
         Event::Leave(y) => y == x,
         _ => false,
@@ -144,7 +144,7 @@ fn finish_may_enable(plant: &Plant, r: u32, other: Event) -> bool
     ensures { result ≡ may_enable plant.now (Finish r) other }
 {
     match other {
-        Event::Allocate(q) => may_affect_route(plant, r, q),
+        Event::Allocate(q) => route_may_affect_by_number(plant, r, q),
         _ => false,
     }
 }
@@ -154,7 +154,7 @@ fn cancel_may_enable(plant: &Plant, r: u32, other: Event) -> bool
     ensures { result ≡ may_enable plant.now (Cancel r) other }
 {
     match other {
-        Event::Allocate(q) => may_affect_route(plant, r, q),
+        Event::Allocate(q) => route_may_affect_by_number(plant, r, q),
         _ => false,
     }
 }
@@ -199,7 +199,7 @@ pub(crate) fn indices_enabled_by(
     event: Event,
 ) -> Result<Row<u64>, AllocError>
     requires { automatic.now ≡ automatic_events plant.now }
-    ensures { IfOk result (HasAllEnabledBy plant.now event) }
+    ensures { IfOk result (ContainsAllEnabledBy plant.now event) }
 {
     let mut places = Row::new(alloc);
     for (place, other) in automatic.as_slice().iter().enumerate() {

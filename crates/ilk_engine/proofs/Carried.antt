@@ -1,14 +1,14 @@
 -- A verdict's grounds carry over from runs of values to runs of events.
 use Rattle.std.proofs.Common.{◌≡◌, ℕ, ◌≤◌, true, arith}
 use Rattle.std.proofs.lemmas.Bool.{le-leb}
-use Rattle.ilk_unroll.specs.Goal.{wanted_valid}
+use Rattle.ilk_unroll.specs.Goal.{step_count_is_allowed}
 use Rattle.ilk_unroll.specs.declared.queries.Wanted.{Wanted}
 use Rattle.ilk_unroll.specs.declared.queries.Wanted.TheVariants.{Hazard, Breach, Step}
 use Rattle.ilk_unroll.specs.Evidence.{HoldsForNoneUpTo, ReachesHazard, ReachesBreach, IsInductiveAt}
 use Rattle.ilk_forever.proofs.CarriedForever.{step-valid}
-use Rattle.ilk_induct.specs.Right.{IsUnsafe, IsBreach, IsSafe, IsNotInductive}
+use Rattle.ilk_induct.specs.Right.{IsUnsafe, HasBreachWithoutHazard, IsSafeByInduction, IsNotInductive}
 
-module _ (Values Events : Wanted → Type 0) (to : (q : Wanted) → Events q → Values q) (from : (q : Wanted) → wanted_valid q ≡ true → Values q → Events q) where
+module _ (Values Events : Wanted → Type 0) (to : (q : Wanted) → Events q → Values q) (from : (q : Wanted) → step_count_is_allowed q ≡ true → Values q → Events q) where
   never-endangers : (depth : ℕ) → HoldsForNoneUpTo depth (ReachesHazard Values) → HoldsForNoneUpTo depth (ReachesHazard Events)
   never-endangers depth none n le has = none n le (to (Hazard n) has)
 
@@ -29,7 +29,7 @@ module _ (Values Events : Wanted → Type 0) (to : (q : Wanted) → Events q →
         };
       }
 
-  pub carried-breach : (depth b : ℕ) → depth ≤ 16 → IsBreach Values depth b → IsBreach Events depth b
+  pub carried-breach : (depth b : ℕ) → depth ≤ 16 → HasBreachWithoutHazard Values depth b → HasBreachWithoutHazard Events depth b
   carried-breach depth b few is =
       let within = is.breach.within in
       record {
@@ -41,7 +41,7 @@ module _ (Values Events : Wanted → Type 0) (to : (q : Wanted) → Events q →
         };
       }
 
-  pub carried-safe : (depth i : ℕ) → depth ≤ 16 → IsSafe Values depth i → IsSafe Events depth i
+  pub carried-safe : (depth i : ℕ) → depth ≤ 16 → IsSafeByInduction Values depth i → IsSafeByInduction Events depth i
   carried-safe depth i few is =
       let within = is.induction.within in
       record {

@@ -5,7 +5,7 @@ use Rattle.std.specs.List.{range_with_len}
 use Rattle.std.proofs.lemmas.Bool.{false≢true}
 use Rattle.std.proofs.lemmas.List.{drop_more}
 use Rattle.ilk_base.proofs.Truth.{fails}
-use Rattle.ilk_base.specs.Option.{◌>>=◌, is_some_and, only_if}
+use Rattle.ilk_base.specs.Option.{◌>>=◌, is_some_and, then_some}
 use Rattle.ilk_base.proofs.Options.{some-and}
 use Rattle.ilk_plant.specs.Plant.{PlantLists}
 use Rattle.ilk_plant.specs.Start.{start}
@@ -13,7 +13,7 @@ use Rattle.ilk_plant.specs.declared.state.State.{State}
 use Rattle.ilk_model.specs.Event.{next}
 use Rattle.ilk_model.specs.Families.{keeps_v1, keeps_v2, keeps_v3, keeps_v4, keeps_v5, keeps_v6, keeps_v7, keeps_v8, keeps_v9}
 use Rattle.ilk_model.specs.Hazard.{hazard}
-use Rattle.ilk_model.specs.Meets.{keeps_all, least_broken_family}
+use Rattle.ilk_model.specs.Meets.{keeps_all, first_broken_family}
 use Rattle.ilk_model.specs.Run.{run}
 use Rattle.ilk_model.specs.declared.event.Event.{Event}
 use Rattle.ilk_queries.specs.Asked.{ends_in_breach, ends_in_hazard}
@@ -27,11 +27,11 @@ run-next p s event rest whole some is = by_safe (is_none (hazard p s)) refl
 
     by_safe : (b : Bool) → is_none (hazard p s) ≡ b → run p (unwrap_or (next p s event) s) rest ≡ whole
     by_safe true safe =
-        let free : run p s (event ∷ rest) ≡ (next p s event >>= (λ t. run p t rest)) = ap (λ b. (only_if b s >>= (λ safe. next p safe event)) >>= (λ t. run p t rest)) safe in
+        let free : run p s (event ∷ rest) ≡ (next p s event >>= (λ t. run p t rest)) = ap (λ b. (then_some b s >>= (λ safe. next p safe event)) >>= (λ t. run p t rest)) safe in
         let there : is_some (next p s event >>= (λ t. run p t rest)) ≡ true = ap is_some (sym free ∙ is) ∙ some in
         by_next (next p s event) there ∙ sym free ∙ is
     by_safe false unsafe =
-        let stuck : run p s (event ∷ rest) ≡ None = ap (λ b. (only_if b s >>= (λ safe. next p safe event)) >>= (λ t. run p t rest)) unsafe in
+        let stuck : run p s (event ∷ rest) ≡ None = ap (λ b. (then_some b s >>= (λ safe. next p safe event)) >>= (λ t. run p t rest)) unsafe in
         absurd (false≢true (ap is_some (sym stuck ∙ is) ∙ some))
 
 pub hazard-run : (p : PlantLists) (s : State) (events : List Event) → ends_in_hazard p s events ≡ true → is_some (run p s events) ≡ true
@@ -53,7 +53,7 @@ nine true true true true true true true false i fails = refl
 nine true true true true true true true true false fails = refl
 nine true true true true true true true true true fails = absurd (false≢true (sym fails))
 
-least-some : (p : PlantLists) (t : State) → keeps_all p t ≡ false → is_some (least_broken_family p t) ≡ true
+least-some : (p : PlantLists) (t : State) → keeps_all p t ≡ false → is_some (first_broken_family p t) ≡ true
 least-some p t broken = nine (keeps_v1 p t) (keeps_v2 p t) (keeps_v3 p t) (keeps_v4 p t) (keeps_v5 p t) (keeps_v6 p t) (keeps_v7 p t) (keeps_v8 p t) (keeps_v9 p t) broken
 
 pub run-begins : (p : PlantLists) (s : State) (items events : List Event) → s ≡ start p → items ≡ events → run p s (drop 0 items) ≡ run p (start p) events

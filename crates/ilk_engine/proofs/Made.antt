@@ -1,104 +1,107 @@
 -- The verdict on a plant, made from that on its system.
 use Rattle.std.proofs.Common.{◌≡◌, ℕ, ◌<◌, ◌≤◌, true, Some, List, inl, inr, sym, subst, ◌∙◌}
 use Rattle.std.specs.Prelude.{◌⊎◌, is_some}
-use Rattle.ilk_ir.specs.System.{SystemTree, in_ranges}
+use Rattle.ilk_ir.specs.System.{PlainSystem, in_ranges}
 use Rattle.ilk_plant.specs.Plant.{IsPlant, PlantLists}
 use Rattle.ilk_plant.specs.Start.{start}
 use Rattle.ilk_plant.specs.declared.state.State.{State}
 use Rattle.ilk_model.specs.declared.event.Event.{Event}
 use Rattle.ilk_model.specs.declared.hazards.HazardAt.{HazardAt}
 use Rattle.ilk_layout.specs.Image.{image_of}
-use Rattle.ilk_layout.specs.Laws.{IsWellFormedAndSafe, WellformedAreImages}
+use Rattle.ilk_layout.specs.Laws.{IsWellFormedAndSafe, WellformedIffImage}
 use Rattle.ilk_layout.specs.Variables.{ranges_of_plant}
 use Rattle.ilk_layout.specs.Wellformed.{is_wellformed}
-use Rattle.ilk_behave.specs.Behaviour.{system_of}
-use Rattle.ilk_behave.specs.Steps.{StepsLikeEvents}
-use Rattle.ilk_unroll.specs.Goal.{GoalTree}
+use Rattle.ilk_behave.specs.Behaviour.{system_of_plant}
+use Rattle.ilk_behave.specs.Steps.{SystemMatchesEvents}
+use Rattle.ilk_unroll.specs.Goal.{PlainGoal}
 use Rattle.ilk_unroll.specs.declared.reading.Trace.{Trace}
 use Rattle.ilk_queries.specs.Asked.{ends_in_breach, ends_in_hazard}
-use Rattle.ilk_queries.specs.Goal.{goal_of}
-use Rattle.ilk_queries.specs.Lifting.{IsGoalOf, events_by_rules}
+use Rattle.ilk_queries.specs.Goal.{goal_of_plant}
+use Rattle.ilk_queries.specs.Lifting.{IsGoalOfPlant, events_by_rules}
 use Rattle.ilk_queries.proofs.Steps.{rules-step}
-use Rattle.ilk_induct.specs.Right.{IsRightSystemVerdict, SystemHoldsAtAnyLength}
+use Rattle.ilk_induct.specs.Right.{IsRightSystemVerdict, SystemVerdictHoldsAtAnyLength}
 use Rattle.ilk_induct.specs.declared.verdict.Verdict.{Verdict as SystemVerdict}
 use Rattle.ilk_induct.specs.declared.verdict.Verdict.TheVariants as system
-use Rattle.ilk_engine.specs.Lifted.{IsLiftedFrom}
+use Rattle.ilk_engine.specs.Lifted.{IsVerdictLiftedFrom}
 use Rattle.ilk_engine.specs.Right.{broken_family_after, hazard_after}
 use Rattle.ilk_engine.specs.declared.verdict.Verdict.TheVariants.{Safe, Unsafe, Breach, NotInductive, Spent}
 use Rattle.ilk_forever.proofs.OnPlant.{safe-forever}
 use Rattle.ilk_engine.proofs.Verdicts as on
 
-module _ (p : PlantLists) (plant : IsPlant p) (steps : StepsLikeEvents p) (goal : IsGoalOf p (goal_of p)) where
-  pub unsafe-fires : (depth : ℕ) (trace : Trace) → depth ≤ 16 → IsRightSystemVerdict (system_of p) (goal_of p) depth (system.Unsafe trace) → is_some (events_by_rules p trace.rules) ≡ true
-  unsafe-fires = on.unsafe-fires p (rules-step p plant steps) (goal_of p) goal
+module _ (p : PlantLists) (plant : IsPlant p) (steps : SystemMatchesEvents p) (goal : IsGoalOfPlant p (goal_of_plant p)) where
+  pub unsafe-fires : (depth : ℕ) (trace : Trace) → depth ≤ 16 → IsRightSystemVerdict (system_of_plant p) (goal_of_plant p) depth (system.Unsafe trace) → is_some (events_by_rules p trace.rules) ≡ true
+  unsafe-fires = on.unsafe-fires p (rules-step p plant steps) (goal_of_plant p) goal
 
-  pub unsafe-ends : (depth : ℕ) (trace : Trace) (events : List Event) → depth ≤ 16 → IsRightSystemVerdict (system_of p) (goal_of p) depth (system.Unsafe trace) → events_by_rules p trace.rules ≡ Some events → ends_in_hazard p (start p) events ≡ true
-  unsafe-ends = on.unsafe-ends p (rules-step p plant steps) (goal_of p) goal
+  pub unsafe-ends : (depth : ℕ) (trace : Trace) (events : List Event) → depth ≤ 16 → IsRightSystemVerdict (system_of_plant p) (goal_of_plant p) depth (system.Unsafe trace) → events_by_rules p trace.rules ≡ Some events →
+      ends_in_hazard p (start p) events ≡ true
+  unsafe-ends = on.unsafe-ends p (rules-step p plant steps) (goal_of_plant p) goal
 
   pub unsafe-made : (depth : ℕ) (trace : Trace) (events : List Event) (at : HazardAt) → depth ≤ 16 →
-      IsRightSystemVerdict (system_of p) (goal_of p) depth (system.Unsafe trace) → events_by_rules p trace.rules ≡ Some events →
-      hazard_after p events ≡ Some at → IsLiftedFrom p depth (system.Unsafe trace) (Unsafe events at)
+      IsRightSystemVerdict (system_of_plant p) (goal_of_plant p) depth (system.Unsafe trace) → events_by_rules p trace.rules ≡ Some events →
+      hazard_after p events ≡ Some at → IsVerdictLiftedFrom p depth (system.Unsafe trace) (Unsafe events at)
   unsafe-made depth trace events at few right by is = record {
-    right = inl (on.unsafe-right p (rules-step p plant steps) (goal_of p) goal depth trace events at few right by is);
+    right = inl (on.unsafe-right p (rules-step p plant steps) (goal_of_plant p) goal depth trace events at few right by is);
     lasts = tt;
     asked = λ conflicts asked was. (trace, by, was);
   }
 
-  pub breach-fires : (depth : ℕ) (trace : Trace) → depth ≤ 16 → IsRightSystemVerdict (system_of p) (goal_of p) depth (system.Breach trace) → is_some (events_by_rules p trace.rules) ≡ true
-  breach-fires = on.breach-fires p (rules-step p plant steps) (goal_of p) goal
+  pub breach-fires : (depth : ℕ) (trace : Trace) → depth ≤ 16 → IsRightSystemVerdict (system_of_plant p) (goal_of_plant p) depth (system.Breach trace) → is_some (events_by_rules p trace.rules) ≡ true
+  breach-fires = on.breach-fires p (rules-step p plant steps) (goal_of_plant p) goal
 
-  pub breach-ends : (depth : ℕ) (trace : Trace) (events : List Event) → depth ≤ 16 → IsRightSystemVerdict (system_of p) (goal_of p) depth (system.Breach trace) → events_by_rules p trace.rules ≡ Some events → ends_in_breach p (start p) events ≡ true
-  breach-ends = on.breach-ends p (rules-step p plant steps) (goal_of p) goal
+  pub breach-ends : (depth : ℕ) (trace : Trace) (events : List Event) → depth ≤ 16 → IsRightSystemVerdict (system_of_plant p) (goal_of_plant p) depth (system.Breach trace) → events_by_rules p trace.rules ≡ Some events →
+      ends_in_breach p (start p) events ≡ true
+  breach-ends = on.breach-ends p (rules-step p plant steps) (goal_of_plant p) goal
 
   pub breach-made : (depth : ℕ) (trace : Trace) (events : List Event) (family : ℕ) → depth ≤ 16 →
-      IsRightSystemVerdict (system_of p) (goal_of p) depth (system.Breach trace) → events_by_rules p trace.rules ≡ Some events →
-      broken_family_after p events ≡ Some family → IsLiftedFrom p depth (system.Breach trace) (Breach events family)
+      IsRightSystemVerdict (system_of_plant p) (goal_of_plant p) depth (system.Breach trace) → events_by_rules p trace.rules ≡ Some events →
+      broken_family_after p events ≡ Some family → IsVerdictLiftedFrom p depth (system.Breach trace) (Breach events family)
   breach-made depth trace events family few right by is = record {
-    right = inl (on.breach-right p (rules-step p plant steps) (goal_of p) goal depth trace events family few right by is);
+    right = inl (on.breach-right p (rules-step p plant steps) (goal_of_plant p) goal depth trace events family few right by is);
     lasts = tt;
     asked = λ conflicts asked was. (trace, by, was);
   }
 
-  pub first-in-range : (depth : ℕ) (trace : Trace) → IsRightSystemVerdict (system_of p) (goal_of p) depth (system.NotInductive trace) → in_ranges trace.first (ranges_of_plant p) ≡ true
-  first-in-range = on.first-in-range p (rules-step p plant steps) (goal_of p) goal
+  pub first-in-range : (depth : ℕ) (trace : Trace) → IsRightSystemVerdict (system_of_plant p) (goal_of_plant p) depth (system.NotInductive trace) → in_ranges trace.first (ranges_of_plant p) ≡ true
+  first-in-range = on.first-in-range p (rules-step p plant steps) (goal_of_plant p) goal
 
-  pub first-wellformed : (depth : ℕ) (trace : Trace) → WellformedAreImages p → 0 < depth → IsRightSystemVerdict (system_of p) (goal_of p) depth (system.NotInductive trace) → is_wellformed p trace.first ≡ true
-  first-wellformed = on.first-wellformed p (rules-step p plant steps) (goal_of p) goal
+  pub first-wellformed : (depth : ℕ) (trace : Trace) → WellformedIffImage p → 0 < depth → IsRightSystemVerdict (system_of_plant p) (goal_of_plant p) depth (system.NotInductive trace) → is_wellformed p trace.first ≡ true
+  first-wellformed = on.first-wellformed p (rules-step p plant steps) (goal_of_plant p) goal
 
-  pub out-fires : (depth : ℕ) (trace : Trace) (first : State) → IsWellFormedAndSafe p first → image_of p first ≡ trace.first → IsRightSystemVerdict (system_of p) (goal_of p) depth (system.NotInductive trace)
+  pub out-fires : (depth : ℕ) (trace : Trace) (first : State) → IsWellFormedAndSafe p first → image_of p first ≡ trace.first → IsRightSystemVerdict (system_of_plant p) (goal_of_plant p) depth (system.NotInductive trace)
       → is_some (events_by_rules p trace.rules) ≡ true
-  out-fires = on.out-fires p (rules-step p plant steps) (goal_of p) goal
+  out-fires = on.out-fires p (rules-step p plant steps) (goal_of_plant p) goal
 
   pub out-made : (depth : ℕ) (trace : Trace) (first : State) (events : List Event) → depth ≤ 16 →
       IsWellFormedAndSafe p first → image_of p first ≡ trace.first →
-      IsRightSystemVerdict (system_of p) (goal_of p) depth (system.NotInductive trace) →
+      IsRightSystemVerdict (system_of_plant p) (goal_of_plant p) depth (system.NotInductive trace) →
       events_by_rules p trace.rules ≡ Some events →
-      IsLiftedFrom p depth (system.NotInductive trace) (NotInductive first events)
+      IsVerdictLiftedFrom p depth (system.NotInductive trace) (NotInductive first events)
   out-made depth trace first events few calm image right by = record {
-    right = inl (on.out-right p (rules-step p plant steps) (goal_of p) goal depth trace first events few calm image right by);
+    right = inl (on.out-right p (rules-step p plant steps) (goal_of_plant p) goal depth trace first events few calm image right by);
     lasts = tt;
     asked = λ conflicts asked was. (trace, image, by, was);
   }
 
-  pub safe-made : (depth k : ℕ) → depth ≤ 16 → IsRightSystemVerdict (system_of p) (goal_of p) depth (system.Safe k) → SystemHoldsAtAnyLength (system_of p) (goal_of p) (system.Safe k) → IsLiftedFrom p depth (system.Safe k) (Safe k)
+  pub safe-made : (depth k : ℕ) → depth ≤ 16 → IsRightSystemVerdict (system_of_plant p) (goal_of_plant p) depth (system.Safe k) → SystemVerdictHoldsAtAnyLength (system_of_plant p) (goal_of_plant p) (system.Safe k) →
+      IsVerdictLiftedFrom p depth (system.Safe k) (Safe k)
   safe-made depth k few right never = record {
-    right = inl (on.safe-right p (rules-step p plant steps) (goal_of p) goal depth k few right);
-    lasts = safe-forever p (rules-step p plant steps) (goal_of p) goal never;
+    right = inl (on.safe-right p (rules-step p plant steps) (goal_of_plant p) goal depth k few right);
+    lasts = safe-forever p (rules-step p plant steps) (goal_of_plant p) goal never;
     asked = λ conflicts asked was. was;
   }
 
-pub right-safe : (s : SystemTree) (g : GoalTree) (depth : ℕ) (verdict : SystemVerdict) (k : ℕ) → verdict ≡ system.Safe k → IsRightSystemVerdict s g depth verdict ⊎ (verdict ≡ system.Spent) → IsRightSystemVerdict s g depth (system.Safe k)
+pub right-safe : (s : PlainSystem) (g : PlainGoal) (depth : ℕ) (verdict : SystemVerdict) (k : ℕ) → verdict ≡ system.Safe k → IsRightSystemVerdict s g depth verdict ⊎ (verdict ≡ system.Spent) → IsRightSystemVerdict s g depth (system.Safe k)
 right-safe s g depth verdict k same (inl right) = subst (IsRightSystemVerdict s g depth) same right
 right-safe s g depth verdict k same (inr spent) = let clash : system.Safe k ≡ system.Spent = sym same ∙ spent in absurd cc
 
-pub over : (P : SystemTree → GoalTree → Type 0) (s t : SystemTree) (g h : GoalTree) → s ≡ t → g ≡ h → P s g → P t h
-over P s t g h same also has = subst (λ (k : GoalTree). P t k) also (subst (λ (u : SystemTree). P u g) same has)
+pub over : (P : PlainSystem → PlainGoal → Type 0) (s t : PlainSystem) (g h : PlainGoal) → s ≡ t → g ≡ h → P s g → P t h
+over P s t g h same also has = subst (λ (k : PlainGoal). P t k) also (subst (λ (u : PlainSystem). P u g) same has)
 
 pub safe-lifted :
-    (p : PlantLists) (plant : IsPlant p) (steps : StepsLikeEvents p) (goal : IsGoalOf p (goal_of p)) (depth k : ℕ)
+    (p : PlantLists) (plant : IsPlant p) (steps : SystemMatchesEvents p) (goal : IsGoalOfPlant p (goal_of_plant p)) (depth k : ℕ)
     (found : SystemVerdict) → depth ≤ 16 →
-    found ≡ system.Safe k → IsRightSystemVerdict (system_of p) (goal_of p) depth found ⊎ (found ≡ system.Spent) →
-    SystemHoldsAtAnyLength (system_of p) (goal_of p) found → IsLiftedFrom p depth found (Safe k)
+    found ≡ system.Safe k → IsRightSystemVerdict (system_of_plant p) (goal_of_plant p) depth found ⊎ (found ≡ system.Spent) →
+    SystemVerdictHoldsAtAnyLength (system_of_plant p) (goal_of_plant p) found → IsVerdictLiftedFrom p depth found (Safe k)
 safe-lifted p plant steps goal depth k found few same right never =
-    subst (λ (v : SystemVerdict). IsLiftedFrom p depth v (Safe k)) (sym same)
-    (safe-made p plant steps goal depth k few (right-safe (system_of p) (goal_of p) depth found k same right) (subst (SystemHoldsAtAnyLength (system_of p) (goal_of p)) same never))
+    subst (λ (v : SystemVerdict). IsVerdictLiftedFrom p depth v (Safe k)) (sym same)
+    (safe-made p plant steps goal depth k few (right-safe (system_of_plant p) (goal_of_plant p) depth found k same right) (subst (SystemVerdictHoldsAtAnyLength (system_of_plant p) (goal_of_plant p)) same never))

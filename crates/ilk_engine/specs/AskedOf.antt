@@ -2,9 +2,9 @@
 use Rattle.std.specs.Prelude.{ℕ, ◌≡◌, Some, List}
 use Rattle.ilk_plant.specs.Plant.{PlantLists}
 use Rattle.ilk_layout.specs.Image.{image_of}
-use Rattle.ilk_behave.specs.Behaviour.{system_of}
+use Rattle.ilk_behave.specs.Behaviour.{system_of_plant}
 use Rattle.ilk_unroll.specs.declared.reading.Trace.{Trace}
-use Rattle.ilk_queries.specs.Goal.{goal_of}
+use Rattle.ilk_queries.specs.Goal.{goal_of_plant}
 use Rattle.ilk_queries.specs.Lifting.{events_by_rules}
 use Rattle.ilk_induct.specs.Asked.{AreQueriesOfVerdict}
 use Rattle.ilk_certificate.specs.declared.asked.Asked.{Asked}
@@ -15,19 +15,19 @@ use Rattle.ilk_engine.specs.declared.verdict.Verdict.TheVariants.{Safe, Unsafe, 
 
 -- Holds if `asked` are the queries for this verdict on the plant's system, in order, each with its
 -- log.
-abbrev pub AreSystemQueriesFor : PlantLists → ℕ → ℕ → SystemVerdict → List Asked → Type 0
-AreSystemQueriesFor p depth conflicts verdict asked = AreQueriesOfVerdict (system_of p) (goal_of p) depth conflicts verdict asked
+abbrev pub AreSystemVerdictQueries : PlantLists → ℕ → ℕ → SystemVerdict → List Asked → Type 0
+AreSystemVerdictQueries p depth conflicts verdict asked = AreQueriesOfVerdict (system_of_plant p) (goal_of_plant p) depth conflicts verdict asked
 
 -- Holds if `asked` are the queries for a verdict on the plant. Its run is that of the system's
 -- verdict, in states and events.
-abbrev pub AreQueriesFor : PlantLists → ℕ → ℕ → Verdict → List Asked → Type 0
-AreQueriesFor p depth conflicts (Safe k) asked = AreSystemQueriesFor p depth conflicts (system.Safe k) asked
+abbrev pub AreVerdictQueries : PlantLists → ℕ → ℕ → Verdict → List Asked → Type 0
+AreVerdictQueries p depth conflicts (Safe k) asked = AreSystemVerdictQueries p depth conflicts (system.Safe k) asked
 -- The rules of the system's run have these events, one after another.
-AreQueriesFor p depth conflicts (Unsafe events at) asked =
-    (trace : Trace) × (events_by_rules p trace.rules ≡ Some events) × AreSystemQueriesFor p depth conflicts (system.Unsafe trace) asked
-AreQueriesFor p depth conflicts (Breach events family) asked =
-    (trace : Trace) × (events_by_rules p trace.rules ≡ Some events) × AreSystemQueriesFor p depth conflicts (system.Breach trace) asked
+AreVerdictQueries p depth conflicts (Unsafe events at) asked =
+    (trace : Trace) × (events_by_rules p trace.rules ≡ Some events) × AreSystemVerdictQueries p depth conflicts (system.Unsafe trace) asked
+AreVerdictQueries p depth conflicts (Breach events family) asked =
+    (trace : Trace) × (events_by_rules p trace.rules ≡ Some events) × AreSystemVerdictQueries p depth conflicts (system.Breach trace) asked
 -- The system's run begins with the image of the first state.
-AreQueriesFor p depth conflicts (NotInductive first events) asked =
-    (trace : Trace) × (image_of p first ≡ trace.first) × (events_by_rules p trace.rules ≡ Some events) × AreSystemQueriesFor p depth conflicts (system.NotInductive trace) asked
-AreQueriesFor p depth conflicts Spent asked = AreSystemQueriesFor p depth conflicts system.Spent asked
+AreVerdictQueries p depth conflicts (NotInductive first events) asked =
+    (trace : Trace) × (image_of p first ≡ trace.first) × (events_by_rules p trace.rules ≡ Some events) × AreSystemVerdictQueries p depth conflicts (system.NotInductive trace) asked
+AreVerdictQueries p depth conflicts Spent asked = AreSystemVerdictQueries p depth conflicts system.Spent asked

@@ -6,9 +6,9 @@ use Rattle.ilk_engine.specs.declared.verdict.Verdict.TheVariants.{Safe, Unsafe, 
 
 -- A safe verdict says that the plant is safe for runs of any length; the others say nothing of
 -- them.
-abbrev pub HoldsAtAnyLength : PlantLists → Verdict → Type 0
-HoldsAtAnyLength p (Safe k) = IsAlwaysSafe p
-HoldsAtAnyLength p (Unsafe events at) = Unit {0}
-HoldsAtAnyLength p (Breach events family) = Unit {0}
-HoldsAtAnyLength p (NotInductive first events) = Unit {0}
-HoldsAtAnyLength p Spent = Unit {0}
+abbrev pub SafeVerdictMeansAlwaysSafe : PlantLists → Verdict → Type 0
+SafeVerdictMeansAlwaysSafe p (Safe k) = IsAlwaysSafe p
+SafeVerdictMeansAlwaysSafe p (Unsafe events at) = Unit {0}
+SafeVerdictMeansAlwaysSafe p (Breach events family) = Unit {0}
+SafeVerdictMeansAlwaysSafe p (NotInductive first events) = Unit {0}
+SafeVerdictMeansAlwaysSafe p Spent = Unit {0}

@@ -5,19 +5,19 @@ use Rattle.ilk_model.specs.declared.event.Event.{Event}
 use Rattle.ilk_behave.specs.Behaviour.{event_of_rule}
 use Rattle.ilk_certificate.specs.declared.asked.Asked.{Asked}
 use Rattle.ilk_induct.specs.declared.verdict.Verdict.{Verdict as SystemVerdict}
-use Rattle.ilk_engine.specs.AskedOf.{AreQueriesFor, AreSystemQueriesFor}
-use Rattle.ilk_engine.specs.Forever.{HoldsAtAnyLength}
+use Rattle.ilk_engine.specs.AskedOf.{AreVerdictQueries, AreSystemVerdictQueries}
+use Rattle.ilk_engine.specs.Forever.{SafeVerdictMeansAlwaysSafe}
 use Rattle.ilk_engine.specs.Right.{IsRightVerdict}
 use Rattle.ilk_engine.specs.declared.verdict.Verdict.{Verdict}
 use Rattle.ilk_engine.specs.declared.verdict.Verdict.TheVariants.{Spent}
 
 -- The events of fired rules, which are given by number. Rules without an event are left out.
-abbrev pub events_fired : PlantLists → List ℕ → List Event
-events_fired p rules = flat_map (λ i. option_to_list (event_of_rule p i)) rules
+abbrev pub events_of_fired_rules : PlantLists → List ℕ → List Event
+events_of_fired_rules p rules = flat_map (λ i. option_to_list (event_of_rule p i)) rules
 
 -- Holds if the verdict is right and holds at any length, and the queries asked for `found` on the
 -- system are those asked for it.
-pub record IsLiftedFrom (p : PlantLists) (depth : ℕ) (found : SystemVerdict) (verdict : Verdict) : Type 0 where
+pub record IsVerdictLiftedFrom (p : PlantLists) (depth : ℕ) (found : SystemVerdict) (verdict : Verdict) : Type 0 where
   pub right : IsRightVerdict p depth verdict ⊎ (verdict ≡ Spent)
-  pub lasts : HoldsAtAnyLength p verdict
-  pub asked : (conflicts : ℕ) (asked : List Asked) → AreSystemQueriesFor p depth conflicts found asked → AreQueriesFor p depth conflicts verdict asked
+  pub lasts : SafeVerdictMeansAlwaysSafe p verdict
+  pub asked : (conflicts : ℕ) (asked : List Asked) → AreSystemVerdictQueries p depth conflicts found asked → AreVerdictQueries p depth conflicts verdict asked

@@ -3,13 +3,13 @@ use Rattle.std.specs.Prelude.{ℕ, ◌≡◌, Option, Some, List, length, option
 use Rattle.ilk_plant.specs.Plant.{PlantLists}
 use Rattle.ilk_plant.specs.Start.{start}
 use Rattle.ilk_model.specs.Hazard.{hazard}
-use Rattle.ilk_model.specs.Meets.{least_broken_family}
+use Rattle.ilk_model.specs.Meets.{first_broken_family}
 use Rattle.ilk_model.specs.Run.{run}
 use Rattle.ilk_model.specs.declared.event.Event.{Event}
 use Rattle.ilk_model.specs.declared.hazards.HazardAt.{HazardAt}
 use Rattle.ilk_unroll.specs.declared.queries.Wanted.TheVariants.{Hazard, Breach as BreachQuery, Step}
 use Rattle.ilk_queries.specs.Asked.{HasQueriedRun, IsRunFor}
-use Rattle.ilk_induct.specs.Right.{IsUnsafe, IsBreach, IsSafe, IsNotInductive}
+use Rattle.ilk_induct.specs.Right.{IsUnsafe, HasBreachWithoutHazard, IsSafeByInduction, IsNotInductive}
 use Rattle.ilk_engine.specs.declared.verdict.Verdict.{Verdict}
 use Rattle.ilk_engine.specs.declared.verdict.Verdict.TheVariants.{Safe, Unsafe, Breach, NotInductive, Spent}
 
@@ -20,7 +20,7 @@ hazard_after p events = option_and_then (hazard p) (run p (start p) events)
 
 -- The least family that this state breaks, or `None` if the events are not a run or it keeps all.
 abbrev pub broken_family_after : PlantLists → List Event → Option ℕ
-broken_family_after p events = option_and_then (least_broken_family p) (run p (start p) events)
+broken_family_after p events = option_and_then (first_broken_family p) (run p (start p) events)
 
 -- Holds if a verdict is right for the plant's runs of at most `depth` events. `Spent` never is.
 abbrev pub IsRightVerdict : PlantLists → ℕ → Verdict → Type 0
@@ -28,10 +28,10 @@ abbrev pub IsRightVerdict : PlantLists → ℕ → Verdict → Type 0
 IsRightVerdict p depth (Unsafe events at) = IsUnsafe (HasQueriedRun p) depth (length events) × IsRunFor p (Hazard (length events)) (start p) events × (hazard_after p events ≡ Some at)
 -- No hazard is reached. A family is broken, by no fewer events than these. They run from the
 -- initial state to a state whose least broken family is this.
-IsRightVerdict p depth (Breach events family) = IsBreach (HasQueriedRun p) depth (length events) × IsRunFor p (BreachQuery (length events)) (start p) events × (broken_family_after p events ≡ Some family)
+IsRightVerdict p depth (Breach events family) = HasBreachWithoutHazard (HasQueriedRun p) depth (length events) × IsRunFor p (BreachQuery (length events)) (start p) events × (broken_family_after p events ≡ Some family)
 -- No hazard is reached and no family broken. k is the least number of events over which the
 -- invariant is inductive.
-IsRightVerdict p depth (Safe k) = IsSafe (HasQueriedRun p) depth k
+IsRightVerdict p depth (Safe k) = IsSafeByInduction (HasQueriedRun p) depth k
 -- No hazard is reached and no family broken; the invariant is inductive over no number of events.
 -- These events, as many as the depth, lead from the first state through states that meet it to one
 -- that doesn't.

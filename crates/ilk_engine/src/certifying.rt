@@ -25,7 +25,7 @@ pub fn certificate(alloc: Global, found: &Found) -> Result<Vec<u8>, AllocError>
 
 /// Returns the text of the certificate of `verdict`, to be taken in pieces. It owns the logs of
 /// `asked`, and is made from them as it is taken. Fails only if memory runs out.
-pub fn certificate_in_pieces(
+pub fn lazy_certificate_text(
     alloc: Global,
     verdict: &Verdict,
     asked: Row<Asked>,

@@ -1,8 +1,8 @@
 ghost use Rattle.std.specs.Prelude.{◌≡◌, ◌<◌, ◌≤◌, ◌⊎◌, IfOk, IsTrue};
-ghost use Rattle.ilk_certificate.specs.CertificateText.{all_conflicts, have_no_hint_zero};
-ghost use Rattle.ilk_engine.specs.AskedOf.{AreQueriesFor};
+ghost use Rattle.ilk_certificate.specs.CertificateText.{total_conflicts, have_no_hint_zero};
+ghost use Rattle.ilk_engine.specs.AskedOf.{AreVerdictQueries};
 ghost use Rattle.ilk_engine.specs.CertificateOf.{IsCertificateOf, certificate_text_of};
-ghost use Rattle.ilk_engine.specs.Forever.{HoldsAtAnyLength};
+ghost use Rattle.ilk_engine.specs.Forever.{SafeVerdictMeansAlwaysSafe};
 ghost use Rattle.ilk_engine.specs.Right.{IsRightVerdict};
 ghost use Rattle.ilk_strict.specs.IsStrict.{IsStrict};
 
@@ -30,15 +30,15 @@ pub fn decide(alloc: Global, plant: &Plant, depth: u32, conflicts: u64) -> Resul
         (λ found. IsRightVerdict plant.now depth found.verdict ⊎ (found.verdict ≡ Verdict.Spent)) }
 
     // A safe verdict holds for runs of any length.
-    ensures lasts { IfOk result (λ found. HoldsAtAnyLength plant.now found.verdict) }
+    ensures lasts { IfOk result (λ found. SafeVerdictMeansAlwaysSafe plant.now found.verdict) }
 
     // For a strict table the verdict is safe with k = 1, or all conflicts are spent.
     ensures strict { IfOk result
         (λ found. IsStrict plant.now →
         (found.verdict ≡ Verdict.Safe 1) ⊎ (found.verdict ≡ Verdict.Spent)) }
     ensures asked { IfOk result
-        (λ found. AreQueriesFor plant.now depth conflicts found.verdict found.asked) }
-    ensures few { IfOk result (λ found. all_conflicts found.asked ≤ conflicts) }
+        (λ found. AreVerdictQueries plant.now depth conflicts found.verdict found.asked) }
+    ensures few { IfOk result (λ found. total_conflicts found.asked ≤ conflicts) }
 
     // The text that `certificate` writes is the certificate of the verdict.
     ensures certified { IfOk result
@@ -46,7 +46,7 @@ pub fn decide(alloc: Global, plant: &Plant, depth: u32, conflicts: u64) -> Resul
         (certificate_text_of found.verdict found.asked)) }
     ensures hints { IfOk result (λ found. IsTrue (have_no_hint_zero found.asked)) }
 {
-    plant.is_sound();
+    plant.prove_is_plant();
     let system = behaviour(alloc, plant)?;
     let goal = goal(alloc, plant)?;
     let SystemFound { verdict, asked } = decide_system(alloc, &system, &goal, depth, conflicts)?;

@@ -1,7 +1,7 @@
 ghost use Rattle.std.specs.Prelude.{◌≡◌, ◌++◌, IfOk, IsTrue, OnOk, Some, is_some, option_to_list};
 ghost use Rattle.ilk_behave.specs.Behaviour.{event_of_rule};
 ghost use Rattle.ilk_queries.specs.Lifting.{events_by_rules};
-ghost use Rattle.ilk_engine.specs.Lifted.{events_fired};
+ghost use Rattle.ilk_engine.specs.Lifted.{events_of_fired_rules};
 
 use ilk_base::Row;
 use ilk_behave::event_of;
@@ -26,7 +26,7 @@ fn push_event(plant: &Plant, events: &mut Row<Event>, rule: u32) -> Result<(), A
 
 // Adds the events of the rules that have one.
 fn push_events(plant: &Plant, events: &mut Row<Event>, rules: &Rows) -> Result<(), AllocError>
-    ensures { OnOk result (events.new ≡ events.old ++ events_fired plant.now rules.now) }
+    ensures { OnOk result (events.new ≡ events.old ++ events_of_fired_rules plant.now rules.now) }
 {
     for rule in rules.as_slice() {
         push_event(plant, events, *rule)?;

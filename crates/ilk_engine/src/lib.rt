@@ -8,7 +8,7 @@
 //! `ilk_forever`).
 //!
 //! `certificate` writes the text that proves a verdict to others (`specs/CertificateOf`).
-//! `certificate_in_pieces` returns it in pieces, so that it is never held as a whole. `ilk_forever`
+//! `lazy_certificate_text` returns it in pieces, so that it is never held as a whole. `ilk_forever`
 //! says what a certificate shows, regardless of its origin.
 //!
 //! Re-exports: `formula` makes the formula of one query, an `Asked` is a query with the log of its
@@ -22,7 +22,7 @@ mod last;
 mod lifting;
 mod verdict;
 
-pub use certifying::{certificate, certificate_in_pieces};
+pub use certifying::{certificate, lazy_certificate_text};
 pub use deciding::decide;
 pub use ilk_certificate::{Asked, CertificateText};
 pub use ilk_plant_audit::{CertAudit, Ended, Fed};

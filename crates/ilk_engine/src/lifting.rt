@@ -1,18 +1,18 @@
 ghost use Rattle.std.specs.Prelude.{◌≡◌, ◌<◌, ◌≤◌, ◌⊎◌, IfOk};
-ghost use Rattle.ilk_behave.specs.Behaviour.{system_of};
-ghost use Rattle.ilk_behave.specs.Steps.{StepsLikeEvents};
-ghost use Rattle.ilk_induct.specs.Right.{IsRightSystemVerdict, SystemHoldsAtAnyLength};
+ghost use Rattle.ilk_behave.specs.Behaviour.{system_of_plant};
+ghost use Rattle.ilk_behave.specs.Steps.{SystemMatchesEvents};
+ghost use Rattle.ilk_induct.specs.Right.{IsRightSystemVerdict, SystemVerdictHoldsAtAnyLength};
 ghost use Rattle.ilk_induct.specs.declared.verdict.Verdict.TheVariants as system;
-ghost use Rattle.ilk_queries.specs.Goal.{goal_of};
-ghost use Rattle.ilk_queries.specs.Lifting.{IsGoalOf};
-ghost use Rattle.ilk_engine.specs.Lifted.{IsLiftedFrom};
+ghost use Rattle.ilk_queries.specs.Goal.{goal_of_plant};
+ghost use Rattle.ilk_queries.specs.Lifting.{IsGoalOfPlant};
+ghost use Rattle.ilk_engine.specs.Lifted.{IsVerdictLiftedFrom};
 
 use crate::events::events_of_rules;
 use crate::last::{broken_family_after, hazard_after};
 use crate::verdict::Verdict;
 use ilk_decode::state_of;
 use ilk_induct::Verdict as SystemVerdict;
-use ilk_layout::wellformed_are_images;
+use ilk_layout::wellformed_iff_image;
 use ilk_plant::Plant;
 use ilk_unroll::Trace;
 use std::alloc::{AllocError, Global};
@@ -24,14 +24,15 @@ fn lift_unsafe(
     depth: u32,
     trace: &Trace,
 ) -> Result<Verdict, AllocError>
-    requires steps { StepsLikeEvents plant.now }
-    requires goal { IsGoalOf plant.now (goal_of plant.now) }
+    requires steps { SystemMatchesEvents plant.now }
+    requires goal { IsGoalOfPlant plant.now (goal_of_plant plant.now) }
     requires depth { depth ≤ 16 }
-    requires right { IsRightSystemVerdict (system_of plant.now) (goal_of plant.now) depth
+    requires right { IsRightSystemVerdict (system_of_plant plant.now)
+        (goal_of_plant plant.now) depth
         (system.Unsafe trace.now) }
-    ensures { IfOk result (IsLiftedFrom plant.now depth (system.Unsafe trace.now)) }
+    ensures { IfOk result (IsVerdictLiftedFrom plant.now depth (system.Unsafe trace.now)) }
 {
-    plant.is_sound();
+    plant.prove_is_plant();
     let events = events_of_rules(alloc, plant, &trace.rules)?;
     let hazard = hazard_after(alloc, plant, &events)?;
     Ok(Verdict::Unsafe { events, hazard })
@@ -44,14 +45,15 @@ fn lift_breach(
     depth: u32,
     trace: &Trace,
 ) -> Result<Verdict, AllocError>
-    requires steps { StepsLikeEvents plant.now }
-    requires goal { IsGoalOf plant.now (goal_of plant.now) }
+    requires steps { SystemMatchesEvents plant.now }
+    requires goal { IsGoalOfPlant plant.now (goal_of_plant plant.now) }
     requires depth { depth ≤ 16 }
-    requires right { IsRightSystemVerdict (system_of plant.now) (goal_of plant.now) depth
+    requires right { IsRightSystemVerdict (system_of_plant plant.now)
+        (goal_of_plant plant.now) depth
         (system.Breach trace.now) }
-    ensures { IfOk result (IsLiftedFrom plant.now depth (system.Breach trace.now)) }
+    ensures { IfOk result (IsVerdictLiftedFrom plant.now depth (system.Breach trace.now)) }
 {
-    plant.is_sound();
+    plant.prove_is_plant();
     let events = events_of_rules(alloc, plant, &trace.rules)?;
     let family = broken_family_after(alloc, plant, &events)?;
     Ok(Verdict::Breach { events, family })
@@ -64,16 +66,17 @@ fn lift_not_inductive(
     depth: u32,
     trace: &Trace,
 ) -> Result<Verdict, AllocError>
-    requires steps { StepsLikeEvents plant.now }
-    requires goal { IsGoalOf plant.now (goal_of plant.now) }
+    requires steps { SystemMatchesEvents plant.now }
+    requires goal { IsGoalOfPlant plant.now (goal_of_plant plant.now) }
     requires some_depth { 0 < depth }
     requires depth { depth ≤ 16 }
-    requires right { IsRightSystemVerdict (system_of plant.now) (goal_of plant.now) depth
+    requires right { IsRightSystemVerdict (system_of_plant plant.now)
+        (goal_of_plant plant.now) depth
         (system.NotInductive trace.now) }
-    ensures { IfOk result (IsLiftedFrom plant.now depth (system.NotInductive trace.now)) }
+    ensures { IfOk result (IsVerdictLiftedFrom plant.now depth (system.NotInductive trace.now)) }
 {
-    plant.is_sound();
-    wellformed_are_images(plant);
+    plant.prove_is_plant();
+    wellformed_iff_image(plant);
     let first = state_of(alloc, plant, &trace.first)?;
     let events = events_of_rules(alloc, plant, &trace.rules)?;
     Ok(Verdict::NotInductive { first, events })
@@ -86,17 +89,19 @@ pub(crate) fn lift(
     depth: u32,
     verdict: &SystemVerdict,
 ) -> Result<Verdict, AllocError>
-    requires steps { StepsLikeEvents plant.now }
-    requires goal { IsGoalOf plant.now (goal_of plant.now) }
+    requires steps { SystemMatchesEvents plant.now }
+    requires goal { IsGoalOfPlant plant.now (goal_of_plant plant.now) }
     requires some_depth { 0 < depth }
     requires depth { depth ≤ 16 }
-    requires right { IsRightSystemVerdict (system_of plant.now) (goal_of plant.now) depth
+    requires right { IsRightSystemVerdict (system_of_plant plant.now)
+        (goal_of_plant plant.now) depth
         verdict.now
         ⊎ (verdict.now ≡ system.Spent) }
-    requires lasts { SystemHoldsAtAnyLength (system_of plant.now) (goal_of plant.now) verdict.now }
-    ensures { IfOk result (IsLiftedFrom plant.now depth verdict.now) }
+    requires lasts { SystemVerdictHoldsAtAnyLength (system_of_plant plant.now)
+        (goal_of_plant plant.now) verdict.now }
+    ensures { IfOk result (IsVerdictLiftedFrom plant.now depth verdict.now) }
 {
-    plant.is_sound();
+    plant.prove_is_plant();
     match verdict {
         SystemVerdict::Safe { k } => Ok(Verdict::Safe { k: *k }),
         SystemVerdict::Unsafe(trace) => lift_unsafe(alloc, plant, depth, trace),

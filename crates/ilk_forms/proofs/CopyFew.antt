@@ -7,11 +7,11 @@ use Rattle.std.proofs.lemmas.List.{length-take}
 use Rattle.std.proofs.lemmas.List.Sums.{sum_by-cons}
 use Rattle.ilk_base.proofs.Ranges.{find-within}
 use Rattle.ilk_cnf.specs.Literal.{Literal}
-use Rattle.ilk_cnf.specs.Part.{Part, empty_part, or_gate_part}
+use Rattle.ilk_cnf.specs.Part.{FormulaPart, empty_part, or_gate_part}
 use Rattle.ilk_ints.specs.Bits.{bit_count}
 use Rattle.ilk_ints.specs.AtMost.{at_most_part, at_most_lit, highest_bit_decides}
-use Rattle.ilk_ints.specs.Named.{values_part, bound_count, bounds_from, bounds_part}
-use Rattle.ilk_forms.specs.Copy.{numbers_part, column_part, columns_part, copy_part, total_bits}
+use Rattle.ilk_ints.specs.Named.{value_lits_part, bound_count, bound_lits_from, bound_lits_part}
+use Rattle.ilk_forms.specs.Copy.{numbers_part, column_part, columns_part, copy_part, copy_bit_count}
 use Rattle.ilk_forms.proofs.ColumnLaw.{numbers-end}
 use Rattle.ilk_ints.proofs.ValuesLaw.{values-low}
 
@@ -36,28 +36,28 @@ bit_count-below (suc (suc (suc (suc (suc (suc (suc (suc range)))))))) = (let few
 at_most-few : (range k n : ℕ) (below equal : Literal) → (at_most_part range k below equal n).vars ≤ n + 1
 at_most-few range k n below equal = by_case (highest_bit_decides range k)
   where
-    by_case : (b : Bool) → (cond {A = Part} b (empty_part n) (or_gate_part (below ∷ equal ∷ []) n)).vars ≤ n + 1
+    by_case : (b : Bool) → (cond {A = FormulaPart} b (empty_part n) (or_gate_part (below ∷ equal ∷ []) n)).vars ≤ n + 1
     by_case true = omega arith
     by_case false = omega arith
 
-bounds_from-few : (es : List Literal) (first range k n : ℕ) (below : Literal) → (bounds_from first range below k es n).part.vars ≤ n + length es
-bounds_from-few [] first range k n below = omega arith
-bounds_from-few (e ∷ es) first range k n below =
+bound_lits_from-few : (es : List Literal) (first range k n : ℕ) (below : Literal) → (bound_lits_from first range below k es n).part.vars ≤ n + length es
+bound_lits_from-few [] first range k n below = omega arith
+bound_lits_from-few (e ∷ es) first range k n below =
     let m = (at_most_part range k below e n).vars in
     let one = at_most-few range k n below e in
-    let rest = bounds_from-few es first range (k + 1) m (at_most_lit first range k n) in
+    let rest = bound_lits_from-few es first range (k + 1) m (at_most_lit first range k n) in
     omega arith
 
-bounds-few : (values : List Literal) (first range n : ℕ) → (bounds_part first range values n).part.vars ≤ n + bound_count range
+bounds-few : (values : List Literal) (first range n : ℕ) → (bound_lits_part first range values n).part.vars ≤ n + bound_count range
 bounds-few [] first range n = omega arith
 bounds-few (e ∷ es) first range n =
-    let few = bounds_from-few (take (bound_count range) es) first range 1 n e in
+    let few = bound_lits_from-few (take (bound_count range) es) first range 1 n e in
     omega (arith, few, length-take (bound_count range) es)
 
-values-two : (first range n : ℕ) → eqb range 2 ≡ true → (values_part first range n).part.vars ≡ n
+values-two : (first range n : ℕ) → eqb range 2 ≡ true → (value_lits_part first range n).part.vars ≡ n
 values-two first range n e = rw e refl
 
-values-all : (first range n : ℕ) → eqb range 2 ≡ false → (values_part first range n).part.vars ≡ n + range
+values-all : (first range n : ℕ) → eqb range 2 ≡ false → (value_lits_part first range n).part.vars ≡ n + range
 values-all first range n e = rw e (values-low range first range 0 n)
 
 least : (a b : ℕ) → (min a b ≤ a) × (min a b ≤ b)
@@ -67,13 +67,13 @@ column-few : (first range n : ℕ) → (column_part first range n).part.vars + b
 column-few first range n = by_case (eqb range 2) refl
   where
     m : ℕ
-    m = (values_part first range n).part.vars
+    m = (value_lits_part first range n).part.vars
 
     bits : bit_count range ≤ range
     bits = bit_count-below range
 
     few : (column_part first range n).part.vars ≤ m + bound_count range
-    few = bounds-few (values_part first range n).lits first range m
+    few = bounds-few (value_lits_part first range n).lits first range m
 
     by_case : (b : Bool) → eqb range 2 ≡ b → (column_part first range n).part.vars + bit_count range ≤ n + 2 * range
     by_case true h =
@@ -86,7 +86,7 @@ column-few first range n = by_case (eqb range 2) refl
         let bounds : bound_count range ≤ range - bit_count range = (least (range - 3) (range - bit_count range)).1 in
         omega (arith, all, few, bounds, bits)
 
-columns-few : (ranges : List ℕ) (first n : ℕ) → (columns_part ranges first n).part.vars + total_bits ranges ≤ n + 2 * sum ranges
+columns-few : (ranges : List ℕ) (first n : ℕ) → (columns_part ranges first n).part.vars + copy_bit_count ranges ≤ n + 2 * sum ranges
 columns-few [] first n = omega arith
 columns-few (range ∷ ranges) first n =
     let p = column_part first range n in

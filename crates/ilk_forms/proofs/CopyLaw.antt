@@ -3,22 +3,23 @@ use Rattle.std.proofs.Common.{◌≡◌, ℕ, ◌+◌, ◌^◌, ◌<◌, ◌≤�
 use Rattle.std.specs.List.{list_all}
 use Rattle.std.proofs.lemmas.List.{append-nil}
 use Rattle.std.proofs.lemmas.Bool.{and_parts, and_from, le-leb, ltb-true}
-use Rattle.ilk_cnf.specs.Formula.{Formula, with_clauses, with_vars}
-use Rattle.ilk_cnf.specs.Extends.{Extends, IsExactly, FollowedBy}
-use Rattle.ilk_cnf.specs.Part.{Part, with_part, as_clauses}
+use Rattle.ilk_cnf.specs.Formula.{Formula, with_clauses, with_var_count}
+use Rattle.ilk_cnf.specs.Extends.{ExtensionsAreExactly, AreExactValues, ValuesFollowedBy}
+use Rattle.ilk_cnf.specs.Part.{FormulaPart, with_part, clauses_from_lists}
 use Rattle.ilk_cnf.proofs.Parts.{in_turn, in_words}
 use Rattle.ilk_cnf.proofs.Gates.{with_part-and_then}
-use Rattle.ilk_forms.specs.declared.copy.Column.{Column}
+use Rattle.ilk_forms.specs.declared.copy.VarLits.{VarLits}
 use Rattle.ilk_ints.specs.Bits.{bit_count}
 use Rattle.ilk_ints.specs.Number.{number_part, non_value_clauses}
 use Rattle.ilk_ints.proofs.TableParts.{bit_count-enough}
-use Rattle.ilk_forms.specs.Copy.{numbers_part, columns_part, copy_part, numbers_bits, columns_bits, total_bits, column_part, HaveBits, IsCopy}
-use Rattle.ilk_forms.proofs.ColumnLaw.{AreValues, HaveBits-new, column-low, columns-law, columns-low, numbers-end, numbers-in, numbers-law, numbers-low, ranges_fit}
+use Rattle.ilk_forms.specs.Copy.{numbers_part, columns_part, copy_part, numbers_bits, columns_bits, copy_bit_count, column_part, BitsEncode, AreCopyBits}
+use Rattle.ilk_forms.proofs.ColumnLaw.{AreValues, BitsEncode-new, column-low, columns-law, columns-low, numbers-end, numbers-in, numbers-law, numbers-low, ranges_fit}
 
-pub number_there : (f g : Formula) (used range count : ℕ) → count ≡ bit_count range → g ≡ with_clauses f f.vars (as_clauses (non_value_clauses (used + 1) range)) → with_vars g (used + count) ≡ with_part (with_vars f used) (number_part range used)
+pub number_there : (f g : Formula) (used range count : ℕ) → count ≡ bit_count range → g ≡ with_clauses f f.vars (clauses_from_lists (non_value_clauses (used + 1) range)) →
+    with_var_count g (used + count) ≡ with_part (with_var_count f used) (number_part range used)
 number_there f g used range count counted made =
-    ap (λ (k : Formula). with_vars k (used + count)) made
-    ∙ ap (λ (k : ℕ). with_vars (with_clauses f f.vars (as_clauses (non_value_clauses (used + 1) range))) (used + k)) counted
+    ap (λ (k : Formula). with_var_count k (used + count)) made
+    ∙ ap (λ (k : ℕ). with_var_count (with_clauses f f.vars (clauses_from_lists (non_value_clauses (used + 1) range))) (used + k)) counted
 
 pub numbers_step : (f g : Formula) (range : ℕ) (all rest : List ℕ) → all ≡ range ∷ rest → g ≡ with_part f (number_part range f.vars) → with_part g (numbers_part rest g.vars) ≡ with_part f (numbers_part all f.vars)
 numbers_step f g range all rest split made =
@@ -27,11 +28,11 @@ numbers_step f g range all rest split made =
     ∙ ap (λ (rs : List ℕ). with_part f (numbers_part rs f.vars)) (sym split)
 
 pub columns_step :
-    (f g : Formula) (table whole : List Column) (column : Column) (first range : ℕ) (all rest : List ℕ) →
-    all ≡ range ∷ rest → first + total_bits all ≤ f.vars + 1 →
+    (f g : Formula) (table whole : List VarLits) (column : VarLits) (first range : ℕ) (all rest : List ℕ) →
+    all ≡ range ∷ rest → first + copy_bit_count all ≤ f.vars + 1 →
     column ≡ (column_part first range f.vars).column → g ≡ with_part f (column_part first range f.vars).part →
     table ++ (columns_part all first f.vars).columns ≡ whole →
-    (first + bit_count range + total_bits rest ≤ g.vars + 1) ×
+    (first + bit_count range + copy_bit_count rest ≤ g.vars + 1) ×
     ((table ++ column ∷ []) ++ (columns_part rest (first + bit_count range) g.vars).columns ≡ whole) ×
     (with_part g (columns_part rest (first + bit_count range) g.vars).part
     ≡ with_part f (columns_part all first f.vars).part)
@@ -40,10 +41,10 @@ columns_step f g table whole column first range all rest split high is made h =
     let next = first + bit_count range in
     let vars : g.vars ≡ p.part.vars = ap (λ (k : Formula). k.vars) made in
     let grows : f.vars ≤ p.part.vars = column-low first range f.vars in
-    let fits : first + (bit_count range + total_bits rest) ≤ f.vars + 1 = subst (λ (rs : List ℕ). first + total_bits rs ≤ f.vars + 1) split high in (
+    let fits : first + (bit_count range + copy_bit_count rest) ≤ f.vars + 1 = subst (λ (rs : List ℕ). first + copy_bit_count rs ≤ f.vars + 1) split high in (
       omega (arith, vars, grows, fits),
       append_assoc table (column ∷ []) (columns_part rest next g.vars).columns
-          ∙ ap (λ (c : Column). table ++ c ∷ (columns_part rest next g.vars).columns) is
+          ∙ ap (λ (c : VarLits). table ++ c ∷ (columns_part rest next g.vars).columns) is
           ∙ ap (λ (k : ℕ). table ++ p.column ∷ (columns_part rest next k).columns) vars
           ∙ ap (λ (rs : List ℕ). table ++ (columns_part rs first f.vars).columns) (sym split)
           ∙ h,
@@ -53,31 +54,31 @@ columns_step f g table whole column first range all rest split high is made h =
     )
 
 pub columns_step_counted :
-    (f g : Formula) (table whole : List Column) (column : Column) (first range count : ℕ) (all rest : List ℕ)
+    (f g : Formula) (table whole : List VarLits) (column : VarLits) (first range count : ℕ) (all rest : List ℕ)
     →
-    count ≡ bit_count range → all ≡ range ∷ rest → first + total_bits all ≤ f.vars + 1 →
+    count ≡ bit_count range → all ≡ range ∷ rest → first + copy_bit_count all ≤ f.vars + 1 →
     column ≡ (column_part first range f.vars).column → g ≡ with_part f (column_part first range f.vars).part →
     table ++ (columns_part all first f.vars).columns ≡ whole →
-    (first + count + total_bits rest ≤ g.vars + 1) ×
+    (first + count + copy_bit_count rest ≤ g.vars + 1) ×
     ((table ++ column ∷ []) ++ (columns_part rest (first + count) g.vars).columns ≡ whole) ×
     (with_part g (columns_part rest (first + count) g.vars).part
     ≡ with_part f (columns_part all first f.vars).part)
 columns_step_counted f g table whole column first range count all rest counted split high is made h =
     subst
-    (λ (k : ℕ). (first + k + total_bits rest ≤ g.vars + 1) ×
+    (λ (k : ℕ). (first + k + copy_bit_count rest ≤ g.vars + 1) ×
     ((table ++ column ∷ []) ++ (columns_part rest (first + k) g.vars).columns ≡ whole) ×
     (with_part g (columns_part rest (first + k) g.vars).part
     ≡ with_part f (columns_part all first f.vars).part)) (sym counted)
     (columns_step f g table whole column first range all rest split high is made h)
 
-pub first_fits : (first range m : ℕ) (all rest : List ℕ) → all ≡ range ∷ rest → first + total_bits all ≤ m → first + bit_count range ≤ m
+pub first_fits : (first range m : ℕ) (all rest : List ℕ) → all ≡ range ∷ rest → first + copy_bit_count all ≤ m → first + bit_count range ≤ m
 first_fits first range m all rest split h =
-    let fits : first + (bit_count range + total_bits rest) ≤ m = subst (λ (rs : List ℕ). first + total_bits rs ≤ m) split h in
+    let fits : first + (bit_count range + copy_bit_count rest) ≤ m = subst (λ (rs : List ℕ). first + copy_bit_count rs ≤ m) split h in
     omega arith
 
-pub columns_fit : (n m first : ℕ) (ranges rs : List ℕ) → first ≡ n → m ≡ (numbers_part ranges n).vars → rs ≡ ranges → first + 1 + total_bits rs ≤ m + 1
+pub columns_fit : (n m first : ℕ) (ranges rs : List ℕ) → first ≡ n → m ≡ (numbers_part ranges n).vars → rs ≡ ranges → first + 1 + copy_bit_count rs ≤ m + 1
 columns_fit n m first ranges rs is end same =
-    let all : total_bits rs ≡ total_bits ranges = ap total_bits same in
+    let all : copy_bit_count rs ≡ copy_bit_count ranges = ap copy_bit_count same in
     omega (arith, is, end, all, numbers-end ranges n)
 
 pub copy_made : (f g h : Formula) (ranges rs ss : List ℕ) (first : ℕ) → first ≡ f.vars → rs ≡ ranges →
@@ -97,32 +98,32 @@ ranges_fit-small (range ∷ ranges) h =
     let less : range < 256 = ltb-true range 256 parts.0 in
     and_from _ _ (le-leb range (2 ^ bit_count range) (bit_count-enough range (omega arith))) (ranges_fit-small ranges parts.1)
 
-pub copy-law : (ranges : List ℕ) (a : List Bool) (n : ℕ) → length a ≡ n → ranges_fit ranges ≡ true → Extends a (copy_part ranges n).part.vars (copy_part ranges n).part.clauses (IsCopy ranges)
+pub copy-law : (ranges : List ℕ) (a : List Bool) (n : ℕ) → length a ≡ n → ranges_fit ranges ≡ true → ExtensionsAreExactly a (copy_part ranges n).part.vars (copy_part ranges n).part.clauses (AreCopyBits ranges)
 copy-law ranges a n size fit =
-    in_words a (copy_part ranges n).part.vars (copy_part ranges n).part.clauses _ (IsCopy ranges) to from
+    in_words a (copy_part ranges n).part.vars (copy_part ranges n).part.clauses _ (AreCopyBits ranges) to from
     (in_turn a p.vars (copy_part ranges n).part.vars p.clauses
     (columns_part ranges (n + 1) p.vars).part.clauses (AreValues ranges) after
     (rw size (numbers-low ranges n)) (columns-low ranges (n + 1) p.vars) (numbers-in ranges n) first
     next)
   where
-    p : Part
+    p : FormulaPart
     p = numbers_part ranges n
 
     after : (b : List Bool) → AreValues ranges b → List Bool → Type 0
-    after b h = IsExactly (columns_bits ranges h.0)
+    after b h = AreExactValues (columns_bits ranges h.0)
 
-    first : Extends a p.vars p.clauses (AreValues ranges)
+    first : ExtensionsAreExactly a p.vars p.clauses (AreValues ranges)
     first = numbers-law ranges a n size fit
 
-    next : (b : List Bool) → (h : AreValues ranges b) → Extends (a ++ b) (columns_part ranges (n + 1) p.vars).part.vars (columns_part ranges (n + 1) p.vars).part.clauses (after b h)
+    next : (b : List Bool) → (h : AreValues ranges b) → ExtensionsAreExactly (a ++ b) (columns_part ranges (n + 1) p.vars).part.vars (columns_part ranges (n + 1) p.vars).part.clauses (after b h)
     next b h =
         let whole : a ++ (numbers_bits ranges h.0 ++ []) ≡ a ++ b = ap (λ (u : List Bool). a ++ u) (append-nil (numbers_bits ranges h.0) ∙ sym h.2) in
-        let has : HaveBits (a ++ b) (n + 1) ranges h.0 = subst (λ (u : List Bool). HaveBits u (n + 1) ranges h.0) whole (HaveBits-new ranges h.0 a [] (n + 1) (ap (λ (k : ℕ). k + 1) size) h.1) in
-        let reach : n + 1 + total_bits ranges ≤ p.vars + 1 = omega (arith, numbers-end ranges n) in
+        let has : BitsEncode (a ++ b) (n + 1) ranges h.0 = subst (λ (u : List Bool). BitsEncode u (n + 1) ranges h.0) whole (BitsEncode-new ranges h.0 a [] (n + 1) (ap (λ (k : ℕ). k + 1) size) h.1) in
+        let reach : n + 1 + copy_bit_count ranges ≤ p.vars + 1 = omega (arith, numbers-end ranges n) in
         columns-law ranges h.0 (a ++ b) (n + 1) p.vars (first.sized b h) (omega arith) reach fit h.1 has
 
-    to : (d : List Bool) → FollowedBy (AreValues ranges) after d → IsCopy ranges d
+    to : (d : List Bool) → ValuesFollowedBy (AreValues ranges) after d → AreCopyBits ranges d
     to d h = (h.3.0, h.3.1, h.2 ∙ ap (λ (u : List Bool). u ++ h.1) h.3.2 ∙ ap (λ (u : List Bool). numbers_bits ranges h.3.0 ++ u) h.4)
 
-    from : (d : List Bool) → IsCopy ranges d → FollowedBy (AreValues ranges) after d
+    from : (d : List Bool) → AreCopyBits ranges d → ValuesFollowedBy (AreValues ranges) after d
     from d h = (numbers_bits ranges h.0, columns_bits ranges h.0, h.2, (h.0, h.1, refl), refl)

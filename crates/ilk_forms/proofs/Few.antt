@@ -3,21 +3,21 @@ use Rattle.std.proofs.Common.{◌≡◌, ℕ, ◌+◌, ◌*◌, ◌≤◌, Bool,
 use Rattle.std.proofs.lemmas.List.{length-map}
 use Rattle.ilk_cnf.specs.Literal.{Literal, negated_lit, positive_lit, negative_lit}
 use Rattle.ilk_cnf.specs.Formula.{Formula}
-use Rattle.ilk_cnf.specs.Part.{Part, with_part, as_clauses, and_gate_clauses}
+use Rattle.ilk_cnf.specs.Part.{FormulaPart, with_part, clauses_from_lists, and_gate_clauses}
 use Rattle.ilk_ints.specs.Named.{PartWithLits}
-use Rattle.ilk_ints.proofs.OneOfLaw.{as_clauses-few}
+use Rattle.ilk_ints.proofs.OneOfLaw.{clauses_from_lists-few}
 use Rattle.ilk_ir.specs.Tree.{Tree, yes, no, is, all_of, any_of, negation, Trees, none, more}
-use Rattle.ilk_forms.specs.declared.copy.Column.{Column}
+use Rattle.ilk_forms.specs.declared.copy.VarLits.{VarLits}
 use Rattle.ilk_forms.specs.Size.{tree_size, trees_size}
-use Rattle.ilk_forms.specs.Bound.{or_bound_lit}
-use Rattle.ilk_forms.specs.Gathered.{bool_equals, no_literals, lit_or_else, append_part_lits, gate_part, combined_lit, combined, merged_into, form_lits, each_form_lits}
-use Rattle.ilk_forms.specs.Demand.{any_true_part, clause_or_else, demand_of, demand_each}
+use Rattle.ilk_forms.specs.Bound.{bound_lit_of_or_form}
+use Rattle.ilk_forms.specs.Gathered.{bool_equals, no_literals, lit_or_else, append_part_lits, gate_part, combined_lit, combined, merged_into, flatten_form, flatten_each_form}
+use Rattle.ilk_forms.specs.Demand.{joined_clause_part, clause_or_else, demand_of, demand_each}
 
 pub record Few (n k : ℕ) (g : PartWithLits) : Type 0 where
   pub vars : g.part.vars ≤ n + k
   pub clauses : length g.part.clauses + length g.lits ≤ 2 * k
 
-pub record PartFew (n k : ℕ) (p : Part) : Type 0 where
+pub record PartFew (n k : ℕ) (p : FormulaPart) : Type 0 where
   pub vars : p.vars ≤ n + k
   pub clauses : length p.clauses ≤ 2 * k
 
@@ -73,60 +73,60 @@ lit_or_else-few positive None n k g h = h
 lit_or_else-few positive (Some l) n k g h = record { vars = omega arith; clauses = omega arith }
 
 mutual
-  pub form_lits-few : (t : Tree) (columns : List Column) (all positive : Bool) (n : ℕ) → Few n (tree_size t) (form_lits columns all positive t n)
-  form_lits-few yes columns all positive n = merged_into-few all positive n 0 (no_literals n) (no_literals-few n)
-  form_lits-few no columns all positive n = merged_into-few all (not positive) n 0 (no_literals n) (no_literals-few n)
-  form_lits-few (is v c) columns all positive n = record { vars = omega arith; clauses = omega arith }
-  form_lits-few (all_of ts) columns all positive n = merged_into-few all positive n (trees_size ts) (each_form_lits columns positive positive ts n) (each_form_lits-few ts columns positive positive n)
-  form_lits-few (any_of ts) columns all positive n =
-      let g = each_form_lits columns (not positive) positive ts n in
-      lit_or_else-few positive (or_bound_lit columns ts) n (trees_size ts) (merged_into all (not positive) g) (merged_into-few all (not positive) n (trees_size ts) g (each_form_lits-few ts columns (not positive) positive n))
-  form_lits-few (negation t) columns all positive n =
-      let h = form_lits-few t columns all (not positive) n in
+  pub flatten_form-few : (t : Tree) (columns : List VarLits) (all positive : Bool) (n : ℕ) → Few n (tree_size t) (flatten_form columns all positive t n)
+  flatten_form-few yes columns all positive n = merged_into-few all positive n 0 (no_literals n) (no_literals-few n)
+  flatten_form-few no columns all positive n = merged_into-few all (not positive) n 0 (no_literals n) (no_literals-few n)
+  flatten_form-few (is v c) columns all positive n = record { vars = omega arith; clauses = omega arith }
+  flatten_form-few (all_of ts) columns all positive n = merged_into-few all positive n (trees_size ts) (flatten_each_form columns positive positive ts n) (flatten_each_form-few ts columns positive positive n)
+  flatten_form-few (any_of ts) columns all positive n =
+      let g = flatten_each_form columns (not positive) positive ts n in
+      lit_or_else-few positive (bound_lit_of_or_form columns ts) n (trees_size ts) (merged_into all (not positive) g) (merged_into-few all (not positive) n (trees_size ts) g (flatten_each_form-few ts columns (not positive) positive n))
+  flatten_form-few (negation t) columns all positive n =
+      let h = flatten_form-few t columns all (not positive) n in
       let v = h.vars in
       let c = h.clauses in
       record { vars = omega arith; clauses = omega arith }
 
-  pub each_form_lits-few : (ts : Trees) (columns : List Column) (all positive : Bool) (n : ℕ) → Few n (trees_size ts) (each_form_lits columns all positive ts n)
-  each_form_lits-few none columns all positive n = no_literals-few n
-  each_form_lits-few (more t ts) columns all positive n =
-      let g = form_lits columns all positive t n in
-      then-few n (tree_size t) (trees_size ts) g (each_form_lits columns all positive ts) (form_lits-few t columns all positive n) (each_form_lits-few ts columns all positive g.part.vars)
+  pub flatten_each_form-few : (ts : Trees) (columns : List VarLits) (all positive : Bool) (n : ℕ) → Few n (trees_size ts) (flatten_each_form columns all positive ts n)
+  flatten_each_form-few none columns all positive n = no_literals-few n
+  flatten_each_form-few (more t ts) columns all positive n =
+      let g = flatten_form columns all positive t n in
+      then-few n (tree_size t) (trees_size ts) g (flatten_each_form columns all positive ts) (flatten_form-few t columns all positive n) (flatten_each_form-few ts columns all positive g.part.vars)
 
-some-few : (first : List Literal) (n k : ℕ) (g : PartWithLits) → Few n k g → PartFew n (k + 1) (any_true_part first g)
+some-few : (first : List Literal) (n k : ℕ) (g : PartWithLits) → Few n k g → PartFew n (k + 1) (joined_clause_part first g)
 some-few first n k g h =
     let v = h.vars in
     let c = h.clauses in
     record { vars = omega arith; clauses = omega (arith, length-append g.part.clauses ((first ++ g.lits) ∷ [])) }
 
-wider : (n k : ℕ) (p : Part) → PartFew n k p → PartFew n (k + 1) p
+wider : (n k : ℕ) (p : FormulaPart) → PartFew n k p → PartFew n (k + 1) p
 wider n k p h =
     let v = h.vars in
     let c = h.clauses in
     record { vars = omega arith; clauses = omega arith }
 
-clause_or_else-few : (first : List Literal) (positive : Bool) (o : Option Literal) (n k : ℕ) (p : Part) → PartFew n (k + 1) p → PartFew n (k + 1) (clause_or_else first positive o n p)
+clause_or_else-few : (first : List Literal) (positive : Bool) (o : Option Literal) (n k : ℕ) (p : FormulaPart) → PartFew n (k + 1) p → PartFew n (k + 1) (clause_or_else first positive o n p)
 clause_or_else-few first positive None n k p h = h
 clause_or_else-few first positive (Some l) n k p h = record { vars = omega arith; clauses = omega arith }
 
 mutual
-  pub demand_of-few : (t : Tree) (columns : List Column) (first : List Literal) (positive : Bool) (n : ℕ) → PartFew n (tree_size t) (demand_of columns first positive t n)
+  pub demand_of-few : (t : Tree) (columns : List VarLits) (first : List Literal) (positive : Bool) (n : ℕ) → PartFew n (tree_size t) (demand_of columns first positive t n)
   demand_of-few yes columns first true n = record { vars = omega arith; clauses = omega arith }
   demand_of-few yes columns first false n = record { vars = omega arith; clauses = omega arith }
   demand_of-few no columns first true n = record { vars = omega arith; clauses = omega arith }
   demand_of-few no columns first false n = record { vars = omega arith; clauses = omega arith }
   demand_of-few (is v c) columns first positive n = record { vars = omega arith; clauses = omega arith }
   demand_of-few (all_of ts) columns first true n = wider n (trees_size ts) (demand_each columns first true ts n) (demand_each-few ts columns first true n)
-  demand_of-few (all_of ts) columns first false n = some-few first n (trees_size ts) (each_form_lits columns false false ts n) (each_form_lits-few ts columns false false n)
+  demand_of-few (all_of ts) columns first false n = some-few first n (trees_size ts) (flatten_each_form columns false false ts n) (flatten_each_form-few ts columns false false n)
   demand_of-few (any_of ts) columns first true n =
-      let g = each_form_lits columns false true ts n in
-      clause_or_else-few first true (or_bound_lit columns ts) n (trees_size ts) (any_true_part first g) (some-few first n (trees_size ts) g (each_form_lits-few ts columns false true n))
+      let g = flatten_each_form columns false true ts n in
+      clause_or_else-few first true (bound_lit_of_or_form columns ts) n (trees_size ts) (joined_clause_part first g) (some-few first n (trees_size ts) g (flatten_each_form-few ts columns false true n))
   demand_of-few (any_of ts) columns first false n =
       let p = demand_each columns first false ts n in
-      clause_or_else-few first false (or_bound_lit columns ts) n (trees_size ts) p (wider n (trees_size ts) p (demand_each-few ts columns first false n))
+      clause_or_else-few first false (bound_lit_of_or_form columns ts) n (trees_size ts) p (wider n (trees_size ts) p (demand_each-few ts columns first false n))
   demand_of-few (negation t) columns first positive n = wider n (tree_size t) (demand_of columns first (not positive) t n) (demand_of-few t columns first (not positive) n)
 
-  pub demand_each-few : (ts : Trees) (columns : List Column) (first : List Literal) (positive : Bool) (n : ℕ) → PartFew n (trees_size ts) (demand_each columns first positive ts n)
+  pub demand_each-few : (ts : Trees) (columns : List VarLits) (first : List Literal) (positive : Bool) (n : ℕ) → PartFew n (trees_size ts) (demand_each columns first positive ts n)
   demand_each-few none columns first positive n = record { vars = omega arith; clauses = omega arith }
   demand_each-few (more t ts) columns first positive n =
       let p = demand_of columns first positive t n in
@@ -139,5 +139,5 @@ mutual
       let d = two.clauses in
       record { vars = omega arith; clauses = omega (arith, length-append p.clauses q.clauses) }
 
-pub with_part-few : (f : Formula) (p : Part) (k : ℕ) → length p.clauses ≤ k → length (with_part f p).clauses ≤ length f.clauses + k
-with_part-few f p k h = omega (arith, h, length-append f.clauses (as_clauses p.clauses), as_clauses-few p.clauses)
+pub with_part-few : (f : Formula) (p : FormulaPart) (k : ℕ) → length p.clauses ≤ k → length (with_part f p).clauses ≤ length f.clauses + k
+with_part-few f p k h = omega (arith, h, length-append f.clauses (clauses_from_lists p.clauses), clauses_from_lists-few p.clauses)

@@ -7,7 +7,7 @@ use Rattle.std.proofs.lemmas.Bool.{and_from, or_cases, or_parts, ne_eqb, false�
 use Rattle.ilk_cnf.specs.Literal.{Literal}
 use Rattle.ilk_cnf.specs.Formula.{Formula, is_clause_over}
 use Rattle.ilk_cnf.specs.Truth.{is_true}
-use Rattle.ilk_cnf.specs.Extends.{Extends, IsExactlyIf}
+use Rattle.ilk_cnf.specs.Extends.{ExtensionsAreExactly, PassesWithExactValues}
 use Rattle.ilk_cnf.specs.Part.{empty_part, with_part, and_then}
 use Rattle.ilk_cnf.proofs.Literals.{are_clauses_over-more}
 use Rattle.ilk_cnf.proofs.Extending.{no_more_if, if_from_only, if_then_if}
@@ -16,25 +16,25 @@ use Rattle.ilk_ints.specs.Named.{PartWithLits}
 use Rattle.ilk_ir.specs.Tree.{Tree, yes, no, is, all_of, any_of, negation, Trees, none, more, tree_holds, each_holds, some_holds, tree_valid}
 use Rattle.ilk_ir.specs.Form.{trees_of}
 use Rattle.ilk_ir.specs.declared.form.Form.{Form}
-use Rattle.ilk_forms.specs.declared.copy.Column.{Column}
-use Rattle.ilk_forms.specs.Leaf.{columns_in, ranges_of}
-use Rattle.ilk_forms.specs.Bound.{or_bound_lit}
-use Rattle.ilk_forms.specs.Gathered.{bool_equals, combined, lit_or_else, merged_into, append_part_lits, form_lits, each_form_lits}
+use Rattle.ilk_forms.specs.declared.copy.VarLits.{VarLits}
+use Rattle.ilk_forms.specs.Leaf.{has_lits_within_vars, ranges_of}
+use Rattle.ilk_forms.specs.Bound.{bound_lit_of_or_form}
+use Rattle.ilk_forms.specs.Gathered.{bool_equals, combined, lit_or_else, merged_into, append_part_lits, flatten_form, flatten_each_form}
 use Rattle.ilk_forms.specs.Truths.{Truths, truths}
 use Rattle.ilk_forms.specs.Size.{tree_size, trees_size}
-use Rattle.ilk_forms.specs.Violated.{first_violated_part, first_violated_bits, no_trees, is_trivially_false, has_trivially_false, violated_part, violated_bits}
+use Rattle.ilk_forms.specs.Violated.{some_lit_false_part, some_lit_false_bits, has_no_trees, is_trivially_false, has_trivially_false, violated_part, violated_bits}
 use Rattle.ilk_forms.proofs.Reading.{Reads}
-use Rattle.ilk_forms.proofs.GatheredFits.{Fits, form_lits-fits}
-use Rattle.ilk_forms.proofs.GatheredLaw.{Says, here, form_lits-says}
+use Rattle.ilk_forms.proofs.GatheredFits.{Fits, flatten_form-fits}
+use Rattle.ilk_forms.proofs.GatheredLaw.{Says, here, flatten_form-says}
 use Rattle.ilk_forms.proofs.TruthsMean.{truths-mean}
 use Rattle.ilk_forms.proofs.DemandLaw.{PartFits}
 use Rattle.ilk_forms.proofs.ViolatedLaw.{first_violated-fits, first_violated-law, first_violated-few}
-use Rattle.ilk_forms.proofs.Few.{combined_lit-few, each_form_lits-few}
+use Rattle.ilk_forms.proofs.Few.{combined_lit-few, flatten_each_form-few}
 
-named-fits : (n : ℕ) (g : PartWithLits) → Fits n g → PartFits n (record { vars = (first_violated_part g.lits g.part.vars).vars; clauses = g.part.clauses ++ (first_violated_part g.lits g.part.vars).clauses })
+named-fits : (n : ℕ) (g : PartWithLits) → Fits n g → PartFits n (record { vars = (some_lit_false_part g.lits g.part.vars).vars; clauses = g.part.clauses ++ (some_lit_false_part g.lits g.part.vars).clauses })
 named-fits n g h =
     let m = g.part.vars in
-    let q = first_violated_part g.lits m in
+    let q = some_lit_false_part g.lits m in
     let next = first_violated-fits g.lits m h.lits in
     let one = h.low in
     let two = next.low in
@@ -44,36 +44,36 @@ named-fits n g h =
     }
 
 named-law : (a : List Bool) (n : ℕ) (g : PartWithLits) (s : Truths) → length a ≡ n → Fits n g → Says a g s →
-    Extends a (first_violated_part g.lits g.part.vars).vars
-    (g.part.clauses ++ (first_violated_part g.lits g.part.vars).clauses)
-    (IsExactlyIf (not (list_all (λ q. q) s.lits)) (s.bits ++ first_violated_bits s.lits))
+    ExtensionsAreExactly a (some_lit_false_part g.lits g.part.vars).vars
+    (g.part.clauses ++ (some_lit_false_part g.lits g.part.vars).clauses)
+    (PassesWithExactValues (not (list_all (λ q. q) s.lits)) (s.bits ++ some_lit_false_bits s.lits))
 named-law a n g s size fits says =
     let m = g.part.vars in
-    let q = first_violated_part g.lits m in
+    let q = some_lit_false_part g.lits m in
     let b = a ++ s.bits in
     let ok = not (list_all (λ (p : Bool). p) s.lits) in
     let long : length b ≡ m = says.part.sized s.bits refl in
     let all : list_all (is_true b) g.lits ≡ list_all (λ (p : Bool). p) s.lits = sym (list_all-map (λ (p : Bool). p) (is_true b) g.lits) ∙ ap (λ (ps : List Bool). list_all (λ (p : Bool). p) ps) says.means in
-    let law : Extends b q.vars q.clauses (IsExactlyIf (not (list_all (is_true b) g.lits)) (first_violated_bits (map (is_true b) g.lits))) = first_violated-law g.lits b m long fits.lits in
-    let next : Extends b q.vars q.clauses (IsExactlyIf ok (first_violated_bits s.lits)) = subst
-    (λ (ps : List Bool). Extends b q.vars q.clauses (IsExactlyIf ok (first_violated_bits ps))) says.means
+    let law : ExtensionsAreExactly b q.vars q.clauses (PassesWithExactValues (not (list_all (is_true b) g.lits)) (some_lit_false_bits (map (is_true b) g.lits))) = first_violated-law g.lits b m long fits.lits in
+    let next : ExtensionsAreExactly b q.vars q.clauses (PassesWithExactValues ok (some_lit_false_bits s.lits)) = subst
+    (λ (ps : List Bool). ExtensionsAreExactly b q.vars q.clauses (PassesWithExactValues ok (some_lit_false_bits ps))) says.means
     (subst
-    (λ (p : Bool). Extends b q.vars q.clauses
-    (IsExactlyIf (not p) (first_violated_bits (map (is_true b) g.lits)))) all law) in
+    (λ (p : Bool). ExtensionsAreExactly b q.vars q.clauses
+    (PassesWithExactValues (not p) (some_lit_false_bits (map (is_true b) g.lits)))) all law) in
     let low : length a ≤ m = rw size fits.low in
-    if_then_if a s.bits (first_violated_bits s.lits) true ok m q.vars g.part.clauses q.clauses low (first_violated-fits g.lits m fits.lits).low fits.inside (if_from_only a m g.part.clauses s.bits says.part) (λ _. next)
+    if_then_if a s.bits (some_lit_false_bits s.lits) true ok m q.vars g.part.clauses q.clauses low (first_violated-fits g.lits m fits.lits).low fits.inside (if_from_only a m g.part.clauses s.bits says.part) (λ _. next)
 
-pub violated-fits : (t : Tree) (columns : List Column) (n : ℕ) → columns_in n columns ≡ true → tree_valid (ranges_of columns) t ≡ true → PartFits n (violated_part columns t n)
+pub violated-fits : (t : Tree) (columns : List VarLits) (n : ℕ) → has_lits_within_vars n columns ≡ true → tree_valid (ranges_of columns) t ≡ true → PartFits n (violated_part columns t n)
 violated-fits t columns n h k = by_case (is_trivially_false true t)
   where
     g : PartWithLits
-    g = form_lits columns true true t n
+    g = flatten_form columns true true t n
 
-    by_case : (b : Bool) → PartFits n (cond b (empty_part n) (and_then g.part (first_violated_part g.lits)))
+    by_case : (b : Bool) → PartFits n (cond b (empty_part n) (and_then g.part (some_lit_false_part g.lits)))
     by_case true = record { low = omega arith; inside = refl }
-    by_case false = named-fits n g (form_lits-fits t columns true true n h k)
+    by_case false = named-fits n g (flatten_form-fits t columns true true n h k)
 
-none-holds : (ts : Trees) (ws : List ℕ) → no_trees ts ≡ true → (each_holds ws ts ≡ true) × (some_holds ws ts ≡ false)
+none-holds : (ts : Trees) (ws : List ℕ) → has_no_trees ts ≡ true → (each_holds ws ts ≡ true) × (some_holds ws ts ≡ false)
 none-holds none ws h = (refl, refl)
 none-holds (more t ts) ws h = absurd (false≢true h)
 
@@ -116,26 +116,27 @@ mutual
         | inr later ↦ right_true (tree_holds ws t) (some_holds ws ts) (has_trivially_false-means ts ws false later)
       ]
 
-pub violated-law : (t : Tree) (columns : List Column) (ranges ws : List ℕ) (a : List Bool) (n : ℕ) →
+pub violated-law : (t : Tree) (columns : List VarLits) (ranges ws : List ℕ) (a : List Bool) (n : ℕ) →
     length a ≡ n → Reads a columns ranges ws → tree_valid (ranges_of columns) t ≡ true →
-    Extends a (violated_part columns t n).vars (violated_part columns t n).clauses
-    (IsExactlyIf (not (tree_holds ws t)) (violated_bits ranges ws t))
+    ExtensionsAreExactly a (violated_part columns t n).vars (violated_part columns t n).clauses
+    (PassesWithExactValues (not (tree_holds ws t)) (violated_bits ranges ws t))
 violated-law t columns ranges ws a n size r k = by_case (is_trivially_false true t) refl
   where
     g : PartWithLits
-    g = form_lits columns true true t n
+    g = flatten_form columns true true t n
 
     s : Truths
     s = truths ranges ws true true t
 
     by_case : (b : Bool) → is_trivially_false true t ≡ b →
-        Extends a (cond b (empty_part n) (and_then g.part (first_violated_part g.lits))).vars
-        (cond b (empty_part n) (and_then g.part (first_violated_part g.lits))).clauses
-        (IsExactlyIf (not (tree_holds ws t)) (cond b [] (s.bits ++ first_violated_bits s.lits)))
+        ExtensionsAreExactly a (cond b (empty_part n) (and_then g.part (some_lit_false_part g.lits))).vars
+        (cond b (empty_part n) (and_then g.part (some_lit_false_part g.lits))).clauses
+        (PassesWithExactValues (not (tree_holds ws t)) (cond b [] (s.bits ++ some_lit_false_bits s.lits)))
     by_case true h = no_more_if a n [] (not (tree_holds ws t)) size (sym (ap not (never-means t ws true h)))
     by_case false h =
-        let law = named-law a n g s size (form_lits-fits t columns true true n (here columns ranges ws a n size r) k) (form_lits-says t columns ranges ws true true a n size r k) in
-        subst (λ (b : Bool). Extends a (and_then g.part (first_violated_part g.lits)).vars (and_then g.part (first_violated_part g.lits)).clauses (IsExactlyIf (not b) (s.bits ++ first_violated_bits s.lits))) (truths-mean t ranges ws true true) law
+        let law = named-law a n g s size (flatten_form-fits t columns true true n (here columns ranges ws a n size r) k) (flatten_form-says t columns ranges ws true true a n size r k) in
+        subst (λ (b : Bool). ExtensionsAreExactly a (and_then g.part (some_lit_false_part g.lits)).vars (and_then g.part (some_lit_false_part g.lits)).clauses (PassesWithExactValues (not b) (s.bits ++ some_lit_false_bits s.lits)))
+        (truths-mean t ranges ws true true) law
 
 size-some : (t : Tree) → 0 < tree_size t
 size-some yes = omega arith
@@ -145,7 +146,7 @@ size-some (all_of ts) = omega arith
 size-some (any_of ts) = omega arith
 size-some (negation t) = omega arith
 
-sizes-some : (ts : Trees) → no_trees ts ≡ false → 0 < trees_size ts
+sizes-some : (ts : Trees) → has_no_trees ts ≡ false → 0 < trees_size ts
 sizes-some none h = absurd (false≢true (sym h))
 sizes-some (more t ts) h = (let some = size-some t in omega arith)
 
@@ -163,44 +164,44 @@ lit_or_else-weight positive None n k g h = h
 lit_or_else-weight positive (Some l) n k g h = omega arith
 
 mutual
-  form_lits-weight : (t : Tree) (columns : List Column) (positive : Bool) (n : ℕ) → is_trivially_false positive t ≡ false → weight_of (form_lits columns true positive t n) ≤ n + 2 * tree_size t
-  form_lits-weight yes columns true n h = omega arith
-  form_lits-weight yes columns false n h = absurd (false≢true (sym h))
-  form_lits-weight no columns true n h = absurd (false≢true (sym h))
-  form_lits-weight no columns false n h = omega arith
-  form_lits-weight (is v c) columns positive n h = omega arith
-  form_lits-weight (all_of ts) columns true n h = (let w = each_form_lits-weight ts columns true n h in omega arith)
-  form_lits-weight (all_of ts) columns false n h = one-weight false n (trees_size ts) (each_form_lits columns false false ts n) (each_form_lits-few ts columns false false n).vars (sizes-some ts h)
-  form_lits-weight (any_of ts) columns true n h =
-      let g = each_form_lits columns false true ts n in
-      lit_or_else-weight true (or_bound_lit columns ts) n (trees_size ts) (merged_into true false g) (one-weight false n (trees_size ts) g (each_form_lits-few ts columns false true n).vars (sizes-some ts h))
-  form_lits-weight (any_of ts) columns false n h =
-      let g = each_form_lits columns true false ts n in
-      let w = each_form_lits-weight ts columns false n h in
-      lit_or_else-weight false (or_bound_lit columns ts) n (trees_size ts) (merged_into true true g) (omega arith)
-  form_lits-weight (negation t) columns positive n h = (let w = form_lits-weight t columns (not positive) n h in omega arith)
+  flatten_form-weight : (t : Tree) (columns : List VarLits) (positive : Bool) (n : ℕ) → is_trivially_false positive t ≡ false → weight_of (flatten_form columns true positive t n) ≤ n + 2 * tree_size t
+  flatten_form-weight yes columns true n h = omega arith
+  flatten_form-weight yes columns false n h = absurd (false≢true (sym h))
+  flatten_form-weight no columns true n h = absurd (false≢true (sym h))
+  flatten_form-weight no columns false n h = omega arith
+  flatten_form-weight (is v c) columns positive n h = omega arith
+  flatten_form-weight (all_of ts) columns true n h = (let w = flatten_each_form-weight ts columns true n h in omega arith)
+  flatten_form-weight (all_of ts) columns false n h = one-weight false n (trees_size ts) (flatten_each_form columns false false ts n) (flatten_each_form-few ts columns false false n).vars (sizes-some ts h)
+  flatten_form-weight (any_of ts) columns true n h =
+      let g = flatten_each_form columns false true ts n in
+      lit_or_else-weight true (bound_lit_of_or_form columns ts) n (trees_size ts) (merged_into true false g) (one-weight false n (trees_size ts) g (flatten_each_form-few ts columns false true n).vars (sizes-some ts h))
+  flatten_form-weight (any_of ts) columns false n h =
+      let g = flatten_each_form columns true false ts n in
+      let w = flatten_each_form-weight ts columns false n h in
+      lit_or_else-weight false (bound_lit_of_or_form columns ts) n (trees_size ts) (merged_into true true g) (omega arith)
+  flatten_form-weight (negation t) columns positive n h = (let w = flatten_form-weight t columns (not positive) n h in omega arith)
 
-  each_form_lits-weight : (ts : Trees) (columns : List Column) (positive : Bool) (n : ℕ) → has_trivially_false positive ts ≡ false → weight_of (each_form_lits columns true positive ts n) ≤ n + 2 * trees_size ts
-  each_form_lits-weight none columns positive n h = omega arith
-  each_form_lits-weight (more t ts) columns positive n h =
+  flatten_each_form-weight : (ts : Trees) (columns : List VarLits) (positive : Bool) (n : ℕ) → has_trivially_false positive ts ≡ false → weight_of (flatten_each_form columns true positive ts n) ≤ n + 2 * trees_size ts
+  flatten_each_form-weight none columns positive n h = omega arith
+  flatten_each_form-weight (more t ts) columns positive n h =
       let parts = or_parts (is_trivially_false positive t) (has_trivially_false positive ts) h in
-      let g = form_lits columns true positive t n in
+      let g = flatten_form columns true positive t n in
       let m = g.part.vars in
-      let rest = each_form_lits columns true positive ts m in
-      let one = form_lits-weight t columns positive n parts.0 in
-      let two = each_form_lits-weight ts columns positive m parts.1 in
+      let rest = flatten_each_form columns true positive ts m in
+      let one = flatten_form-weight t columns positive n parts.0 in
+      let two = flatten_each_form-weight ts columns positive m parts.1 in
       omega (arith, one, two, length-append g.lits rest.lits)
 
-pub violated-few : (t : Tree) (columns : List Column) (n : ℕ) → (violated_part columns t n).vars ≤ n + 2 * tree_size t
+pub violated-few : (t : Tree) (columns : List VarLits) (n : ℕ) → (violated_part columns t n).vars ≤ n + 2 * tree_size t
 violated-few t columns n = by_case (is_trivially_false true t) refl
   where
     g : PartWithLits
-    g = form_lits columns true true t n
+    g = flatten_form columns true true t n
 
-    by_case : (b : Bool) → is_trivially_false true t ≡ b → (cond b (empty_part n) (and_then g.part (first_violated_part g.lits))).vars ≤ n + 2 * tree_size t
+    by_case : (b : Bool) → is_trivially_false true t ≡ b → (cond b (empty_part n) (and_then g.part (some_lit_false_part g.lits))).vars ≤ n + 2 * tree_size t
     by_case true h = omega arith
     by_case false h =
-        let w = form_lits-weight t columns true n h in
+        let w = flatten_form-weight t columns true n h in
         let few = (first_violated-few g.lits g.part.vars).0 in
         omega arith
 
@@ -210,24 +211,24 @@ more-lits f h g q ls ms made same other = ap (λ (ks : List Literal). ks ++ ms) 
 pub more-made : (f h e : Formula) (g : PartWithLits) (q : ℕ → PartWithLits) → h ≡ with_part f g.part → e ≡ with_part h (q h.vars).part → e ≡ with_part f (append_part_lits g q).part
 more-made f h e g q made last = last ∙ ap (λ (k : Formula). with_part k (q k.vars).part) made ∙ with_part-and_then f g.part (λ m. (q m).part)
 
-pub violated-made : (f h e : Formula) (t : Tree) (columns : List Column) (ls : List Literal) →
-    is_trivially_false true t ≡ false → h ≡ with_part f (form_lits columns true true t f.vars).part →
-    ls ≡ (form_lits columns true true t f.vars).lits → e ≡ with_part h (first_violated_part ls h.vars) →
+pub violated-made : (f h e : Formula) (t : Tree) (columns : List VarLits) (ls : List Literal) →
+    is_trivially_false true t ≡ false → h ≡ with_part f (flatten_form columns true true t f.vars).part →
+    ls ≡ (flatten_form columns true true t f.vars).lits → e ≡ with_part h (some_lit_false_part ls h.vars) →
     e ≡ with_part f (violated_part columns t f.vars)
 violated-made f h e t columns ls kept made same last =
-    let g = form_lits columns true true t f.vars in
+    let g = flatten_form columns true true t f.vars in
     last
-    ∙ ap (λ (ks : List Literal). with_part h (first_violated_part ks h.vars)) same
-    ∙ ap (λ (k : Formula). with_part k (first_violated_part g.lits k.vars)) made
-    ∙ with_part-and_then f g.part (first_violated_part g.lits)
-    ∙ ap (λ (b : Bool). with_part f (cond b (empty_part f.vars) (and_then g.part (first_violated_part g.lits)))) (sym kept)
+    ∙ ap (λ (ks : List Literal). with_part h (some_lit_false_part ks h.vars)) same
+    ∙ ap (λ (k : Formula). with_part k (some_lit_false_part g.lits k.vars)) made
+    ∙ with_part-and_then f g.part (some_lit_false_part g.lits)
+    ∙ ap (λ (b : Bool). with_part f (cond b (empty_part f.vars) (and_then g.part (some_lit_false_part g.lits)))) (sym kept)
 
-pub never-made : (f : Formula) (t : Tree) (columns : List Column) → is_trivially_false true t ≡ true → f ≡ with_part f (violated_part columns t f.vars)
+pub never-made : (f : Formula) (t : Tree) (columns : List VarLits) → is_trivially_false true t ≡ true → f ≡ with_part f (violated_part columns t f.vars)
 never-made f t columns never =
-    let g = form_lits columns true true t f.vars in
+    let g = flatten_form columns true true t f.vars in
     ap (λ (cs : List (List Literal)). record { vars = f.vars; clauses = cs }) (sym (append-nil f.clauses))
-    ∙ ap (λ (b : Bool). with_part f (cond b (empty_part f.vars) (and_then g.part (first_violated_part g.lits)))) (sym never)
+    ∙ ap (λ (b : Bool). with_part f (cond b (empty_part f.vars) (and_then g.part (some_lit_false_part g.lits)))) (sym never)
 
-pub no_trees-empty : (fs : List Form) → eqb (length fs) 0 ≡ no_trees (trees_of fs)
-no_trees-empty [] = refl
-no_trees-empty (f ∷ fs) = ne_eqb (length (f ∷ fs)) 0 (λ e. absurd (omega arith))
+pub has_no_trees-empty : (fs : List Form) → eqb (length fs) 0 ≡ has_no_trees (trees_of fs)
+has_no_trees-empty [] = refl
+has_no_trees-empty (f ∷ fs) = ne_eqb (length (f ∷ fs)) 0 (λ e. absurd (omega arith))

@@ -8,12 +8,12 @@ use Rattle.ilk_cnf.proofs.Literals.{is_clause_over-more, are_clauses_over-more}
 use Rattle.ilk_cnf.proofs.Gates.{new-in, all_of-in, any_of-in}
 use Rattle.ilk_ints.specs.Named.{PartWithLits}
 use Rattle.ilk_ir.specs.Tree.{Tree, yes, no, is, all_of, any_of, negation, Trees, none, more, tree_valid, each_valid}
-use Rattle.ilk_forms.specs.declared.copy.Column.{Column}
-use Rattle.ilk_forms.specs.Leaf.{value_lit, columns_in, ranges_of}
-use Rattle.ilk_forms.specs.Bound.{or_bound_lit}
-use Rattle.ilk_forms.specs.Gathered.{PartWithLit, bool_equals, signed, no_literals, one_literal, lit_or_else, append_part_lits, gate_part, combined_lit, combined, merged_into, form_lits, each_form_lits}
+use Rattle.ilk_forms.specs.declared.copy.VarLits.{VarLits}
+use Rattle.ilk_forms.specs.Leaf.{value_lit, has_lits_within_vars, ranges_of}
+use Rattle.ilk_forms.specs.Bound.{bound_lit_of_or_form}
+use Rattle.ilk_forms.specs.Gathered.{PartWithLit, bool_equals, with_sign, no_literals, one_literal, lit_or_else, append_part_lits, gate_part, combined_lit, combined, merged_into, flatten_form, flatten_each_form}
 use Rattle.ilk_forms.proofs.BoundLaw.{any-in}
-use Rattle.ilk_forms.proofs.Reading.{columns_in-more, value_lit-in}
+use Rattle.ilk_forms.proofs.Reading.{has_lits_within_vars-more, value_lit-in}
 
 pub record Fits (n : ℕ) (g : PartWithLits) : Type 0 where
   pub low : n ≤ g.part.vars
@@ -75,7 +75,7 @@ merged_into-fits outer inner n g h = by_case (bool_equals outer inner)
         let s = combined-fits inner n g h in
         record { low = s.low; inside = s.inside; lits = and_from _ _ s.lit refl }
 
-pub signed-in : (positive : Bool) (n : ℕ) (l : Literal) → is_lit_over n l ≡ true → is_lit_over n (signed positive l) ≡ true
+pub signed-in : (positive : Bool) (n : ℕ) (l : Literal) → is_lit_over n l ≡ true → is_lit_over n (with_sign positive l) ≡ true
 signed-in true n l h = h
 signed-in false n l h = h
 
@@ -87,20 +87,20 @@ lit_or_else-fits positive None n g inside h = h
 lit_or_else-fits positive (Some l) n g inside h = one_literal-fits positive l n (inside l refl)
 
 mutual
-  pub form_lits-fits : (t : Tree) (columns : List Column) (all positive : Bool) (n : ℕ) → columns_in n columns ≡ true → tree_valid (ranges_of columns) t ≡ true → Fits n (form_lits columns all positive t n)
-  form_lits-fits yes columns all positive n h k = merged_into-fits all positive n (no_literals n) (no_literals-fits n)
-  form_lits-fits no columns all positive n h k = merged_into-fits all (not positive) n (no_literals n) (no_literals-fits n)
-  form_lits-fits (is v c) columns all positive n h k = one_literal-fits positive (value_lit columns v c) n (value_lit-in columns v c n h k)
-  form_lits-fits (all_of ts) columns all positive n h k = merged_into-fits all positive n (each_form_lits columns positive positive ts n) (each_form_lits-fits ts columns positive positive n h k)
-  form_lits-fits (any_of ts) columns all positive n h k =
-      let g = each_form_lits columns (not positive) positive ts n in
-      lit_or_else-fits positive (or_bound_lit columns ts) n (merged_into all (not positive) g) (λ l e. any-in ts columns n l h e) (merged_into-fits all (not positive) n g (each_form_lits-fits ts columns (not positive) positive n h k))
-  form_lits-fits (negation t) columns all positive n h k = form_lits-fits t columns all (not positive) n h k
+  pub flatten_form-fits : (t : Tree) (columns : List VarLits) (all positive : Bool) (n : ℕ) → has_lits_within_vars n columns ≡ true → tree_valid (ranges_of columns) t ≡ true → Fits n (flatten_form columns all positive t n)
+  flatten_form-fits yes columns all positive n h k = merged_into-fits all positive n (no_literals n) (no_literals-fits n)
+  flatten_form-fits no columns all positive n h k = merged_into-fits all (not positive) n (no_literals n) (no_literals-fits n)
+  flatten_form-fits (is v c) columns all positive n h k = one_literal-fits positive (value_lit columns v c) n (value_lit-in columns v c n h k)
+  flatten_form-fits (all_of ts) columns all positive n h k = merged_into-fits all positive n (flatten_each_form columns positive positive ts n) (flatten_each_form-fits ts columns positive positive n h k)
+  flatten_form-fits (any_of ts) columns all positive n h k =
+      let g = flatten_each_form columns (not positive) positive ts n in
+      lit_or_else-fits positive (bound_lit_of_or_form columns ts) n (merged_into all (not positive) g) (λ l e. any-in ts columns n l h e) (merged_into-fits all (not positive) n g (flatten_each_form-fits ts columns (not positive) positive n h k))
+  flatten_form-fits (negation t) columns all positive n h k = flatten_form-fits t columns all (not positive) n h k
 
-  pub each_form_lits-fits : (ts : Trees) (columns : List Column) (all positive : Bool) (n : ℕ) → columns_in n columns ≡ true → each_valid (ranges_of columns) ts ≡ true → Fits n (each_form_lits columns all positive ts n)
-  each_form_lits-fits none columns all positive n h k = no_literals-fits n
-  each_form_lits-fits (more t ts) columns all positive n h k =
+  pub flatten_each_form-fits : (ts : Trees) (columns : List VarLits) (all positive : Bool) (n : ℕ) → has_lits_within_vars n columns ≡ true → each_valid (ranges_of columns) ts ≡ true → Fits n (flatten_each_form columns all positive ts n)
+  flatten_each_form-fits none columns all positive n h k = no_literals-fits n
+  flatten_each_form-fits (more t ts) columns all positive n h k =
       let parts = and_parts _ _ k in
-      let first = form_lits-fits t columns all positive n h parts.0 in
-      let m = (form_lits columns all positive t n).part.vars in
-      then-fits n (form_lits columns all positive t n) (each_form_lits columns all positive ts) first (each_form_lits-fits ts columns all positive m (columns_in-more n m columns first.low h) parts.1)
+      let first = flatten_form-fits t columns all positive n h parts.0 in
+      let m = (flatten_form columns all positive t n).part.vars in
+      then-fits n (flatten_form columns all positive t n) (flatten_each_form columns all positive ts) first (flatten_each_form-fits ts columns all positive m (has_lits_within_vars-more n m columns first.low h) parts.1)

@@ -9,12 +9,12 @@ use Rattle.ilk_cnf.proofs.Gates.{with_part-and_then}
 use Rattle.ilk_cnf.proofs.Literals.{is_clause_over-more}
 use Rattle.ilk_ints.specs.Named.{PartWithLits}
 use Rattle.ilk_ir.specs.Tree.{Tree, Trees, more, each_valid}
-use Rattle.ilk_forms.specs.declared.copy.Column.{Column}
-use Rattle.ilk_forms.specs.Leaf.{columns_in, ranges_of}
-use Rattle.ilk_forms.specs.Gathered.{bool_equals, combined_lit, combined, merged_into, form_lits, each_form_lits}
-use Rattle.ilk_forms.specs.Demand.{one_clause, any_true_part, demand_of, demand_each}
-use Rattle.ilk_forms.proofs.Reading.{columns_in-more}
-use Rattle.ilk_forms.proofs.GatheredFits.{Fits, form_lits-fits}
+use Rattle.ilk_forms.specs.declared.copy.VarLits.{VarLits}
+use Rattle.ilk_forms.specs.Leaf.{has_lits_within_vars, ranges_of}
+use Rattle.ilk_forms.specs.Gathered.{bool_equals, combined_lit, combined, merged_into, flatten_form, flatten_each_form}
+use Rattle.ilk_forms.specs.Demand.{one_clause, joined_clause_part, demand_of, demand_each}
+use Rattle.ilk_forms.proofs.Reading.{has_lits_within_vars-more}
+use Rattle.ilk_forms.proofs.GatheredFits.{Fits, flatten_form-fits}
 use Rattle.ilk_forms.proofs.DemandLaw.{demand_of-fits}
 
 pub merged_into-lits : (outer inner : Bool) (f h : Formula) (g : PartWithLits) (ls : List Literal) → h ≡ with_part f g.part → ls ≡ g.lits
@@ -60,54 +60,54 @@ merged_into-made outer inner f h k g ls made is last = last ∙ by_case (bool_eq
 pub lits-in : (n : ℕ) (f h : Formula) (g : PartWithLits) (ls : List Literal) → Fits n g → h ≡ with_part f g.part → ls ≡ g.lits → is_clause_over h.vars ls ≡ true
 lits-in n f h g ls fits made is = ap (λ (k : Formula). is_clause_over k.vars ls) made ∙ ap (is_clause_over g.part.vars) is ∙ fits.lits
 
-pub record Gathering (columns : List Column) (all positive : Bool) (g : Formula) (done : List Literal) (rest : Trees) (whole : List Literal) (end : Formula) : Type 0 where
-  pub within : columns_in g.vars columns ≡ true
+pub record Gathering (columns : List VarLits) (all positive : Bool) (g : Formula) (done : List Literal) (rest : Trees) (whole : List Literal) (end : Formula) : Type 0 where
+  pub within : has_lits_within_vars g.vars columns ≡ true
   pub valid : each_valid (ranges_of columns) rest ≡ true
-  pub lits : done ++ (each_form_lits columns all positive rest g.vars).lits ≡ whole
-  pub made : with_part g (each_form_lits columns all positive rest g.vars).part ≡ end
+  pub lits : done ++ (flatten_each_form columns all positive rest g.vars).lits ≡ whole
+  pub made : with_part g (flatten_each_form columns all positive rest g.vars).part ≡ end
 
-pub form_lits-step :
-    (columns : List Column) (all positive : Bool) (f g : Formula)
+pub flatten_form-step :
+    (columns : List VarLits) (all positive : Bool) (f g : Formula)
     (lits slice next longer whole : List Literal) (end : Formula) (t : Tree) (ts ss : Trees) →
-    ss ≡ more t ts → slice ≡ next → next ≡ (form_lits columns all positive t f.vars).lits →
-    g ≡ with_part f (form_lits columns all positive t f.vars).part → longer ≡ lits ++ slice →
+    ss ≡ more t ts → slice ≡ next → next ≡ (flatten_form columns all positive t f.vars).lits →
+    g ≡ with_part f (flatten_form columns all positive t f.vars).part → longer ≡ lits ++ slice →
     Gathering columns all positive f lits ss whole end → Gathering columns all positive g longer ts whole end
-form_lits-step columns all positive f g lits slice next longer whole end t ts ss split seen is made pushed h =
+flatten_form-step columns all positive f g lits slice next longer whole end t ts ss split seen is made pushed h =
     let n = f.vars in
-    let p = form_lits columns all positive t n in
+    let p = flatten_form columns all positive t n in
     let valid : each_valid (ranges_of columns) (more t ts) ≡ true = ap (each_valid (ranges_of columns)) (sym split) ∙ h.valid in
     let parts = and_parts _ _ valid in
-    let fits = form_lits-fits t columns all positive n h.within parts.0 in
+    let fits = flatten_form-fits t columns all positive n h.within parts.0 in
     let vars : p.part.vars ≡ g.vars = sym (ap (λ (k : Formula). k.vars) made) in
     record {
-      within = ap (λ (k : ℕ). columns_in k columns) (sym vars) ∙ columns_in-more n p.part.vars columns fits.low h.within;
+      within = ap (λ (k : ℕ). has_lits_within_vars k columns) (sym vars) ∙ has_lits_within_vars-more n p.part.vars columns fits.low h.within;
       valid = parts.1;
       lits =
-          ap (λ (ks : List Literal). ks ++ (each_form_lits columns all positive ts g.vars).lits) pushed
-          ∙ ap (λ (ks : List Literal). (lits ++ ks) ++ (each_form_lits columns all positive ts g.vars).lits) (seen ∙ is)
-          ∙ append_assoc lits p.lits (each_form_lits columns all positive ts g.vars).lits
-          ∙ ap (λ (k : ℕ). lits ++ (p.lits ++ (each_form_lits columns all positive ts k).lits)) (sym vars)
-          ∙ ap (λ (rs : Trees). lits ++ (each_form_lits columns all positive rs n).lits) (sym split)
+          ap (λ (ks : List Literal). ks ++ (flatten_each_form columns all positive ts g.vars).lits) pushed
+          ∙ ap (λ (ks : List Literal). (lits ++ ks) ++ (flatten_each_form columns all positive ts g.vars).lits) (seen ∙ is)
+          ∙ append_assoc lits p.lits (flatten_each_form columns all positive ts g.vars).lits
+          ∙ ap (λ (k : ℕ). lits ++ (p.lits ++ (flatten_each_form columns all positive ts k).lits)) (sym vars)
+          ∙ ap (λ (rs : Trees). lits ++ (flatten_each_form columns all positive rs n).lits) (sym split)
           ∙ h.lits;
       made =
-          ap (λ (k : Formula). with_part k (each_form_lits columns all positive ts k.vars).part) made
-          ∙ with_part-and_then f p.part (λ m. (each_form_lits columns all positive ts m).part)
-          ∙ ap (λ (rs : Trees). with_part f (each_form_lits columns all positive rs n).part) (sym split)
+          ap (λ (k : Formula). with_part k (flatten_each_form columns all positive ts k.vars).part) made
+          ∙ with_part-and_then f p.part (λ m. (flatten_each_form columns all positive ts m).part)
+          ∙ ap (λ (rs : Trees). with_part f (flatten_each_form columns all positive rs n).part) (sym split)
           ∙ h.made;
     }
 
-pub record Demanding (columns : List Column) (heads : List Literal) (positive : Bool) (g : Formula) (rest : Trees) (end : Formula) : Type 0 where
-  pub within : columns_in g.vars columns ≡ true
+pub record Demanding (columns : List VarLits) (heads : List Literal) (positive : Bool) (g : Formula) (rest : Trees) (end : Formula) : Type 0 where
+  pub within : has_lits_within_vars g.vars columns ≡ true
   pub first : is_clause_over g.vars heads ≡ true
   pub valid : each_valid (ranges_of columns) rest ≡ true
   pub made : with_part g (demand_each columns heads positive rest g.vars) ≡ end
 
-pub demand-step :
-    (columns : List Column) (first : List Literal) (positive : Bool) (f g end : Formula) (t : Tree)
+pub demand_lit_or_form-step :
+    (columns : List VarLits) (first : List Literal) (positive : Bool) (f g end : Formula) (t : Tree)
     (ts ss : Trees) → ss ≡ more t ts →
     g ≡ with_part f (demand_of columns first positive t f.vars) → Demanding columns first positive f ss end →
     Demanding columns first positive g ts end
-demand-step columns first positive f g end t ts ss split made h =
+demand_lit_or_form-step columns first positive f g end t ts ss split made h =
     let n = f.vars in
     let p = demand_of columns first positive t n in
     let valid : each_valid (ranges_of columns) (more t ts) ≡ true = ap (each_valid (ranges_of columns)) (sym split) ∙ h.valid in
@@ -115,7 +115,7 @@ demand-step columns first positive f g end t ts ss split made h =
     let fits = demand_of-fits t columns first positive n h.within h.first parts.0 in
     let vars : p.vars ≡ g.vars = sym (ap (λ (k : Formula). k.vars) made) in
     record {
-      within = ap (λ (k : ℕ). columns_in k columns) (sym vars) ∙ columns_in-more n p.vars columns fits.low h.within;
+      within = ap (λ (k : ℕ). has_lits_within_vars k columns) (sym vars) ∙ has_lits_within_vars-more n p.vars columns fits.low h.within;
       first = ap (λ (k : ℕ). is_clause_over k first) (sym vars) ∙ is_clause_over-more n p.vars first fits.low h.first;
       valid = parts.1;
       made =
@@ -128,7 +128,7 @@ demand-step columns first positive f g end t ts ss split made h =
 pub first-in : (n : ℕ) (f h : Formula) (g : PartWithLits) (first : List Literal) → Fits n g → is_clause_over n first ≡ true → h ≡ with_part f g.part → is_clause_over h.vars first ≡ true
 first-in n f h g first fits inside made = ap (λ (k : Formula). is_clause_over k.vars first) made ∙ is_clause_over-more n g.part.vars first fits.low inside
 
-pub some-made : (f h k : Formula) (g : PartWithLits) (first ls : List Literal) → h ≡ with_part f g.part → ls ≡ g.lits → k ≡ with_part h (one_clause (first ++ ls) h.vars) → k ≡ with_part f (any_true_part first g)
+pub some-made : (f h k : Formula) (g : PartWithLits) (first ls : List Literal) → h ≡ with_part f g.part → ls ≡ g.lits → k ≡ with_part h (one_clause (first ++ ls) h.vars) → k ≡ with_part f (joined_clause_part first g)
 some-made f h k g first ls made is last =
     last
     ∙ ap (λ (ks : List Literal). with_part h (one_clause (first ++ ks) h.vars)) is

@@ -3,7 +3,7 @@ use Rattle.std.proofs.Common.{◌≡◌, ℕ, Bool, true, false, not, ◌&&◌, 
 use Rattle.std.proofs.lemmas.List.Folds.{list_all-append, list_any-append}
 use Rattle.ilk_ir.specs.Tree.{Tree, yes, no, is, all_of, any_of, negation, Trees, none, more, tree_holds, each_holds, some_holds}
 use Rattle.ilk_forms.specs.Gathered.{bool_equals}
-use Rattle.ilk_forms.specs.Bound.{has_or_bound_lit}
+use Rattle.ilk_forms.specs.Bound.{has_bound_lit_of_or_form}
 use Rattle.ilk_forms.specs.Truths.{Truths, no_truths, single_truth, gate_truth, merged_truths, truths, truths_each}
 
 abbrev pub both_or_one : Bool → Bool → Bool → Bool
@@ -78,7 +78,8 @@ mutual
   truths-mean (all_of ts) ranges ws all positive = taken_in-means all positive (truths_each ranges ws positive positive ts) ∙ truths_each-mean ts ranges ws positive positive ∙ all-are ws positive ts
   truths-mean (any_of ts) ranges ws all positive =
       let g = merged_truths all (not positive) (truths_each ranges ws (not positive) positive ts) in
-      one_or-means all (has_or_bound_lit ranges ts) positive (some_holds ws ts) g (taken_in-means all (not positive) (truths_each ranges ws (not positive) positive ts) ∙ truths_each-mean ts ranges ws (not positive) positive ∙ some-are ws positive ts)
+      one_or-means all (has_bound_lit_of_or_form ranges ts) positive (some_holds ws ts) g
+      (taken_in-means all (not positive) (truths_each ranges ws (not positive) positive ts) ∙ truths_each-mean ts ranges ws (not positive) positive ∙ some-are ws positive ts)
   truths-mean (negation t) ranges ws all positive = truths-mean t ranges ws all (not positive) ∙ turned positive (tree_holds ws t)
 
   pub truths_each-mean : (ts : Trees) (ranges ws : List ℕ) (all positive : Bool) → gate_truth all (truths_each ranges ws all positive ts).lits ≡ forms_are ws all positive ts

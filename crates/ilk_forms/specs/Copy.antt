@@ -2,39 +2,39 @@
 -- values and bounds.
 use Rattle.std.specs.Prelude.{ℕ, ◌+◌, Bool, true, List, [], ◌∷◌, ◌++◌, ◌≡◌, map}
 use Rattle.ilk_cnf.specs.Truth.{is_true}
-use Rattle.ilk_cnf.specs.Part.{Part, empty_part, and_then}
+use Rattle.ilk_cnf.specs.Part.{FormulaPart, empty_part, and_then}
 use Rattle.ilk_ints.specs.Bits.{bit_count, bits_of, bits_at}
 use Rattle.ilk_ints.specs.Number.{number_part}
-use Rattle.ilk_ints.specs.Named.{values_part, bounds_part, lit_var_count, value_vars_bits, bound_vars_bits, bound_count, value_bits, bound_bits}
+use Rattle.ilk_ints.specs.Named.{value_lits_part, bound_lits_part, value_bound_var_count, one_hot_var_bits, bound_vars_bits, bound_count, one_hot_bits, bound_bits}
 use Rattle.ilk_ir.specs.System.{in_ranges}
-use Rattle.ilk_forms.specs.declared.copy.Column.{Column}
+use Rattle.ilk_forms.specs.declared.copy.VarLits.{VarLits}
 
 -- The bits of an integer for each range, after `n` variables.
-abbrev pub numbers_part : List ℕ → ℕ → Part
+abbrev pub numbers_part : List ℕ → ℕ → FormulaPart
 numbers_part [] n = empty_part n
 numbers_part (range ∷ ranges) n = and_then (number_part range n) (numbers_part ranges)
 
 -- A part, and the literals of each of its variables.
 pub record PartWithColumns : Type 0 where
-  pub part : Part
-  pub columns : List Column
+  pub part : FormulaPart
+  pub columns : List VarLits
 
 -- The number of bits of integers with these ranges.
-abbrev pub total_bits : List ℕ → ℕ
-total_bits [] = 0
-total_bits (range ∷ ranges) = bit_count range + total_bits ranges
+abbrev pub copy_bit_count : List ℕ → ℕ
+copy_bit_count [] = 0
+copy_bit_count (range ∷ ranges) = bit_count range + copy_bit_count ranges
 
 -- A part, and the literals of its one variable.
 pub record PartWithColumn : Type 0 where
-  pub part : Part
-  pub column : Column
+  pub part : FormulaPart
+  pub column : VarLits
 
 -- The literals of one variable whose bits begin at `first`, after `n` variables.
 abbrev pub column_part : ℕ → ℕ → ℕ → PartWithColumn
 column_part first range n =
     record {
-      part = and_then (values_part first range n).part (λ m. (bounds_part first range (values_part first range n).lits m).part);
-      column = record { values = (values_part first range n).lits; bounds = (bounds_part first range (values_part first range n).lits (values_part first range n).part.vars).lits };
+      part = and_then (value_lits_part first range n).part (λ m. (bound_lits_part first range (value_lits_part first range n).lits m).part);
+      column = record { values = (value_lits_part first range n).lits; bounds = (bound_lits_part first range (value_lits_part first range n).lits (value_lits_part first range n).part.vars).lits };
     }
 
 -- The literals of the variables with these ranges, whose bits begin at `first`.
@@ -47,13 +47,13 @@ columns_part (range ∷ ranges) first n =
     }
 
 -- The number of variables for the literals of all values and bounds of a copy.
-abbrev pub total_lit_var_count : List ℕ → ℕ
-total_lit_var_count [] = 0
-total_lit_var_count (range ∷ ranges) = lit_var_count range + total_lit_var_count ranges
+abbrev pub copy_value_bound_vars : List ℕ → ℕ
+copy_value_bound_vars [] = 0
+copy_value_bound_vars (range ∷ ranges) = value_bound_var_count range + copy_value_bound_vars ranges
 
 -- The number of variables of a copy.
 abbrev pub copy_var_count : List ℕ → ℕ
-copy_var_count ranges = total_bits ranges + total_lit_var_count ranges
+copy_var_count ranges = copy_bit_count ranges + copy_value_bound_vars ranges
 
 -- The bits of every variable, then the literals of every variable.
 abbrev pub copy_part : List ℕ → ℕ → PartWithColumns
@@ -74,29 +74,29 @@ abbrev pub columns_bits : List ℕ → List ℕ → List Bool
 columns_bits [] ws = []
 columns_bits (range ∷ ranges) [] = []
 columns_bits (range ∷ ranges) (w ∷ ws) =
-    value_vars_bits range w ++ (bound_vars_bits range w 1 (bound_count range) ++ columns_bits ranges ws)
+    one_hot_var_bits range w ++ (bound_vars_bits range w 1 (bound_count range) ++ columns_bits ranges ws)
 
 -- The truth values of a copy's variables, if the system's variables have the values `ws`.
 abbrev pub copy_bits : List ℕ → List ℕ → List Bool
 copy_bits ranges ws = numbers_bits ranges ws ++ columns_bits ranges ws
 
 -- Holds if `b` is a copy of some values in range.
-abbrev pub IsCopy : List ℕ → List Bool → Type 0
-IsCopy ranges b = (ws : List ℕ) × (in_ranges ws ranges ≡ true) × (b ≡ copy_bits ranges ws)
+abbrev pub AreCopyBits : List ℕ → List Bool → Type 0
+AreCopyBits ranges b = (ws : List ℕ) × (in_ranges ws ranges ≡ true) × (b ≡ copy_bits ranges ws)
 
 -- Holds if the variables from `first` on have the bits of the values.
-abbrev pub HaveBits : List Bool → ℕ → List ℕ → List ℕ → Type 0
-HaveBits a first [] ws = Unit {0}
-HaveBits a first (range ∷ ranges) [] = ⊥
-HaveBits a first (range ∷ ranges) (w ∷ ws) =
-    (bits_at a first (bit_count range) ≡ bits_of (bit_count range) w) × HaveBits a (first + bit_count range) ranges ws
+abbrev pub BitsEncode : List Bool → ℕ → List ℕ → List ℕ → Type 0
+BitsEncode a first [] ws = Unit {0}
+BitsEncode a first (range ∷ ranges) [] = ⊥
+BitsEncode a first (range ∷ ranges) (w ∷ ws) =
+    (bits_at a first (bit_count range) ≡ bits_of (bit_count range) w) × BitsEncode a (first + bit_count range) ranges ws
 
 -- Holds if each variable's literals say its value and its bounds.
-abbrev pub LiteralsEncode : List Bool → List Column → List ℕ → List ℕ → Type 0
+abbrev pub LiteralsEncode : List Bool → List VarLits → List ℕ → List ℕ → Type 0
 LiteralsEncode a [] ranges ws = Unit {0}
 LiteralsEncode a (column ∷ columns) [] ws = ⊥
 LiteralsEncode a (column ∷ columns) (range ∷ ranges) [] = ⊥
 LiteralsEncode a (column ∷ columns) (range ∷ ranges) (w ∷ ws) =
-    (map (is_true a) column.values ≡ value_bits w 0 range)
+    (map (is_true a) column.values ≡ one_hot_bits w 0 range)
     × (map (is_true a) column.bounds ≡ bound_bits w 1 (bound_count range))
     × LiteralsEncode a columns ranges ws

@@ -2,8 +2,8 @@
 -- copy.
 use Rattle.std.specs.Prelude.{ℕ, Bool, true, false, not, List, [], ◌∷◌, ◌++◌, if◌then◌else◌}
 use Rattle.std.specs.List.{list_any, list_all}
-use Rattle.ilk_ir.specs.Tree.{Tree, yes, no, is, all_of, any_of, negation, Trees, none, more, has_value, some_holds}
-use Rattle.ilk_forms.specs.Bound.{has_or_bound_lit}
+use Rattle.ilk_ir.specs.Tree.{Tree, yes, no, is, all_of, any_of, negation, Trees, none, more, var_has_value, some_holds}
+use Rattle.ilk_forms.specs.Bound.{has_bound_lit_of_or_form}
 use Rattle.ilk_forms.specs.Gathered.{bool_equals}
 
 -- The values of new variables, and of the literals that represent a form.
@@ -39,10 +39,10 @@ abbrev mutual
   pub truths : List ℕ → List ℕ → Bool → Bool → Tree → Truths
   truths ranges ws all positive yes = merged_truths all positive no_truths
   truths ranges ws all positive no = merged_truths all (not positive) no_truths
-  truths ranges ws all positive (is v c) = single_truth positive (has_value ws v c)
+  truths ranges ws all positive (is v c) = single_truth positive (var_has_value ws v c)
   truths ranges ws all positive (all_of ts) = merged_truths all positive (truths_each ranges ws positive positive ts)
   truths ranges ws all positive (any_of ts) =
-      if has_or_bound_lit ranges ts
+      if has_bound_lit_of_or_form ranges ts
       then single_truth positive (some_holds ws ts)
       else merged_truths all (not positive) (truths_each ranges ws (not positive) positive ts)
   truths ranges ws all positive (negation t) = truths ranges ws all (not positive) t
@@ -59,15 +59,15 @@ abbrev mutual
   demand_of_bits ranges ws positive (is v c) = []
   demand_of_bits ranges ws true (all_of ts) = demand_each_bits ranges ws true ts
   demand_of_bits ranges ws false (all_of ts) = (truths_each ranges ws false false ts).bits
-  demand_of_bits ranges ws true (any_of ts) = if has_or_bound_lit ranges ts then [] else (truths_each ranges ws false true ts).bits
-  demand_of_bits ranges ws false (any_of ts) = if has_or_bound_lit ranges ts then [] else demand_each_bits ranges ws false ts
+  demand_of_bits ranges ws true (any_of ts) = if has_bound_lit_of_or_form ranges ts then [] else (truths_each ranges ws false true ts).bits
+  demand_of_bits ranges ws false (any_of ts) = if has_bound_lit_of_or_form ranges ts then [] else demand_each_bits ranges ws false ts
   demand_of_bits ranges ws positive (negation t) = demand_of_bits ranges ws (not positive) t
 
   pub demand_each_bits : List ℕ → List ℕ → Bool → Trees → List Bool
   demand_each_bits ranges ws positive none = []
   demand_each_bits ranges ws positive (more t ts) = demand_of_bits ranges ws positive t ++ demand_each_bits ranges ws positive ts
 
--- The values of the new variables of `demand_part`, if the copy has these ranges and the values
--- `ws`.
-abbrev pub demand_bits : List ℕ → List ℕ → Tree → List Bool
-demand_bits ranges ws t = demand_of_bits ranges ws true t
+-- The values of the new variables of `lit_or_form_part`, if the copy has these ranges and the
+-- values `ws`.
+abbrev pub lit_or_form_bits : List ℕ → List ℕ → Tree → List Bool
+lit_or_form_bits ranges ws t = demand_of_bits ranges ws true t

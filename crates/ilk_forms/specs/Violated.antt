@@ -1,50 +1,50 @@
 -- The demand that some instance is violated, by the first one that is.
 use Rattle.std.specs.Prelude.{ℕ, ◌+◌, Bool, true, false, not, List, [], ◌∷◌, ◌++◌, ◌&&◌, ◌||◌, if◌then◌else◌}
 use Rattle.ilk_cnf.specs.Literal.{Literal, positive_lit, negative_lit, negated_lit}
-use Rattle.ilk_cnf.specs.Part.{Part, empty_part, and_then, and_gate_part, or_gate_part}
+use Rattle.ilk_cnf.specs.Part.{FormulaPart, empty_part, and_then, and_gate_part, or_gate_part}
 use Rattle.ilk_ints.specs.Named.{PartWithLits}
 use Rattle.ilk_ir.specs.Tree.{Tree, yes, no, is, all_of, any_of, negation, Trees, none, more}
-use Rattle.ilk_forms.specs.declared.copy.Column.{Column}
-use Rattle.ilk_forms.specs.Gathered.{no_literals, append_part_lits, form_lits}
-use Rattle.ilk_forms.specs.Demand.{one_clause, any_true_part}
+use Rattle.ilk_forms.specs.declared.copy.VarLits.{VarLits}
+use Rattle.ilk_forms.specs.Gathered.{no_literals, append_part_lits, flatten_form}
+use Rattle.ilk_forms.specs.Demand.{one_clause, joined_clause_part}
 use Rattle.ilk_forms.specs.Truths.{Truths, no_truths, append_truths, truths}
 
 -- Two new variables after `n`. One is false exactly if this instance is the first violated one, the
 -- other true exactly if each so far is satisfied. `before` says so of the earlier instances, `kept`
 -- of this one.
-abbrev pub next_violated : Literal → Literal → ℕ → PartWithLits
-next_violated before kept n =
+abbrev pub next_first_violated_lits : Literal → Literal → ℕ → PartWithLits
+next_first_violated_lits before kept n =
     record {
       part = and_then (or_gate_part (negated_lit before ∷ kept ∷ []) n) (and_gate_part (before ∷ kept ∷ []));
       lits = negative_lit (n + 1) ∷ [];
     }
 
 -- For each further instance, the literal that says that it is the first violated one.
-abbrev pub violated_after : Literal → List Literal → ℕ → PartWithLits
-violated_after before [] n = no_literals n
-violated_after before (kept ∷ others) n = append_part_lits (next_violated before kept n) (violated_after (positive_lit (n + 1 + 1)) others)
+abbrev pub first_violated_lits : Literal → List Literal → ℕ → PartWithLits
+first_violated_lits before [] n = no_literals n
+first_violated_lits before (kept ∷ others) n = append_part_lits (next_first_violated_lits before kept n) (first_violated_lits (positive_lit (n + 1 + 1)) others)
 
 -- The demand, after `n` variables, that one of the instances is the first violated one; false if
 -- there are none.
-abbrev pub first_violated_part : List Literal → ℕ → Part
-first_violated_part [] n = one_clause [] n
-first_violated_part (kept ∷ others) n = any_true_part (negated_lit kept ∷ []) (violated_after kept others n)
+abbrev pub some_lit_false_part : List Literal → ℕ → FormulaPart
+some_lit_false_part [] n = one_clause [] n
+some_lit_false_part (kept ∷ others) n = joined_clause_part (negated_lit kept ∷ []) (first_violated_lits kept others n)
 
 -- The values of the new variables and literals, if it is known whether each instance is satisfied.
-abbrev pub next_truths : Bool → Bool → Truths
-next_truths before kept = record { bits = not (before && not kept) ∷ (before && kept) ∷ []; lits = (before && not kept) ∷ [] }
+abbrev pub next_first_violated_truths : Bool → Bool → Truths
+next_first_violated_truths before kept = record { bits = not (before && not kept) ∷ (before && kept) ∷ []; lits = (before && not kept) ∷ [] }
 
-abbrev pub truths_after : Bool → List Bool → Truths
-truths_after before [] = no_truths
-truths_after before (kept ∷ others) = append_truths (next_truths before kept) (truths_after (before && kept) others)
+abbrev pub first_violated_truths : Bool → List Bool → Truths
+first_violated_truths before [] = no_truths
+first_violated_truths before (kept ∷ others) = append_truths (next_first_violated_truths before kept) (first_violated_truths (before && kept) others)
 
-abbrev pub first_violated_bits : List Bool → List Bool
-first_violated_bits [] = []
-first_violated_bits (kept ∷ others) = (truths_after kept others).bits
+abbrev pub some_lit_false_bits : List Bool → List Bool
+some_lit_false_bits [] = []
+some_lit_false_bits (kept ∷ others) = (first_violated_truths kept others).bits
 
-abbrev pub no_trees : Trees → Bool
-no_trees none = true
-no_trees (more t ts) = false
+abbrev pub has_no_trees : Trees → Bool
+has_no_trees none = true
+has_no_trees (more t ts) = false
 
 -- Returns whether some instance of the form (`positive`) or of its negation is trivially
 -- unsatisfiable: No, or Or of nothing.
@@ -54,8 +54,8 @@ abbrev mutual
   is_trivially_false positive no = positive
   is_trivially_false positive (is v c) = false
   is_trivially_false true (all_of ts) = has_trivially_false true ts
-  is_trivially_false false (all_of ts) = no_trees ts
-  is_trivially_false true (any_of ts) = no_trees ts
+  is_trivially_false false (all_of ts) = has_no_trees ts
+  is_trivially_false true (any_of ts) = has_no_trees ts
   is_trivially_false false (any_of ts) = has_trivially_false false ts
   is_trivially_false positive (negation t) = is_trivially_false (not positive) t
 
@@ -65,13 +65,13 @@ abbrev mutual
 
 -- The demand, after `n` variables, that the form fails, by its first violated instance. The
 -- instances are the parts of And at its top. Nothing is demanded if one is trivially unsatisfiable.
-abbrev pub violated_part : List Column → Tree → ℕ → Part
+abbrev pub violated_part : List VarLits → Tree → ℕ → FormulaPart
 violated_part columns t n =
     if is_trivially_false true t
     then empty_part n
-    else and_then (form_lits columns true true t n).part (first_violated_part (form_lits columns true true t n).lits)
+    else and_then (flatten_form columns true true t n).part (some_lit_false_part (flatten_form columns true true t n).lits)
 
 -- The values of the new variables, if the copy has these ranges and the values `ws`.
 abbrev pub violated_bits : List ℕ → List ℕ → Tree → List Bool
 violated_bits ranges ws t =
-    if is_trivially_false true t then [] else (truths ranges ws true true t).bits ++ first_violated_bits (truths ranges ws true true t).lits
+    if is_trivially_false true t then [] else (truths ranges ws true true t).bits ++ some_lit_false_bits (truths ranges ws true true t).lits

@@ -1,5 +1,5 @@
 ghost use Rattle.std.specs.Prelude.{◌≡◌, ℕ, ◌+◌, ◌*◌, ◌≤◌, ◌++◌, List, Bool, false, length, ◌||◌, OnOk, IsTrue};
-ghost use Rattle.ilk_cnf.specs.Extends.{PartExtends, IsExactlyIf};
+ghost use Rattle.ilk_cnf.specs.Extends.{PartExtensionsAreExactly, PassesWithExactValues};
 ghost use Rattle.ilk_cnf.specs.Formula.{is_clause_over};
 ghost use Rattle.ilk_cnf.specs.Part.{with_part};
 ghost use Rattle.ilk_cnf.specs.Truth.{is_clause_true};
@@ -7,15 +7,15 @@ ghost use Rattle.ilk_ir.specs.Form.{tree_of, trees_of};
 ghost use Rattle.ilk_ir.specs.Tree.{tree_holds, tree_valid, each_valid};
 ghost use Rattle.ilk_ir.specs.System.{in_ranges};
 ghost use Rattle.ilk_forms.specs.Copy.{LiteralsEncode};
-ghost use Rattle.ilk_forms.specs.Leaf.{columns_in, ranges_of};
-ghost use Rattle.ilk_forms.specs.Gathered.{each_form_lits};
-ghost use Rattle.ilk_forms.specs.Demand.{one_clause, any_true_part, demand_of, demand_each, demand_part};
+ghost use Rattle.ilk_forms.specs.Leaf.{has_lits_within_vars, ranges_of};
+ghost use Rattle.ilk_forms.specs.Gathered.{flatten_each_form};
+ghost use Rattle.ilk_forms.specs.Demand.{one_clause, joined_clause_part, demand_of, demand_each, lit_or_form_part};
 ghost use Rattle.ilk_forms.specs.Size.{tree_size};
-ghost use Rattle.ilk_forms.specs.Truths.{demand_bits};
+ghost use Rattle.ilk_forms.specs.Truths.{lit_or_form_bits};
 
-use crate::bound::or_bound_lit;
-use crate::copy::Table;
-use crate::literals::{each_form_lits, push_all, signed, value_lit};
+use crate::bound::bound_lit_of_or_form;
+use crate::copy::CopyLits;
+use crate::literals::{flatten_each_form, push_all, value_lit, with_sign};
 use ilk_cnf::{Cnf, Lit, Lits};
 use ilk_ir::Form;
 use std::alloc::{AllocError, Global};
@@ -35,43 +35,43 @@ pub fn add_joined_clause(
     let mut lits = Lits::new(alloc);
     push_all(&mut lits, first)?;
     push_all(&mut lits, others)?;
-    cnf.add_clause_of(lits.as_slice())
+    cnf.add_clause_from_lits(lits.as_slice())
 }
 
 // Demands that a literal of `first` is true, or some form holds (`positive`) or fails.
 fn demand_some(
     alloc: Global,
     cnf: &mut Cnf,
-    table: &Table,
+    table: &CopyLits,
     first: &[Lit],
     positive: bool,
     forms: &[Form],
 ) -> Result<(), AllocError>
-    requires within { IsTrue (columns_in cnf.old.vars table.now) }
+    requires within { IsTrue (has_lits_within_vars cnf.old.vars table.now) }
     requires first { IsTrue (is_clause_over cnf.old.vars first.now) }
     requires valid { IsTrue (each_valid (ranges_of table.now) (trees_of forms.now)) }
     ensures { OnOk result
         (cnf.new
         ≡ with_part cnf.old
-        (any_true_part first.now
-        (each_form_lits table.now false positive (trees_of forms.now) cnf.old.vars))) }
+        (joined_clause_part first.now
+        (flatten_each_form table.now false positive (trees_of forms.now) cnf.old.vars))) }
 {
-    let lits = each_form_lits(alloc, cnf, table, false, positive, forms)?;
+    let lits = flatten_each_form(alloc, cnf, table, false, positive, forms)?;
     add_joined_clause(alloc, cnf, first, lits.as_slice())?;
     Ok(())
 }
 
 // Demands that a literal of `first` is true, or the form holds (`positive`) or fails.
-#[cycle(demand)]
+#[cycle(demand_lit_or_form)]
 fn demand_of(
     alloc: Global,
     cnf: &mut Cnf,
-    table: &Table,
+    table: &CopyLits,
     first: &[Lit],
     positive: bool,
     form: &Form,
 ) -> Result<(), AllocError>
-    requires within { IsTrue (columns_in cnf.old.vars table.now) }
+    requires within { IsTrue (has_lits_within_vars cnf.old.vars table.now) }
     requires first { IsTrue (is_clause_over cnf.old.vars first.now) }
     requires valid { IsTrue (tree_valid (ranges_of table.now) (tree_of form.now)) }
     ensures { OnOk result
@@ -81,17 +81,17 @@ fn demand_of(
 {
     match form {
         Form::Yes if positive => Ok(()),
-        Form::Yes => cnf.add_clause_of(first),
-        Form::No if positive => cnf.add_clause_of(first),
+        Form::Yes => cnf.add_clause_from_lits(first),
+        Form::No if positive => cnf.add_clause_from_lits(first),
         Form::No => Ok(()),
         Form::Is(v, c) => {
-            let lit = signed(positive, value_lit(table, *v, *c));
+            let lit = with_sign(positive, value_lit(table, *v, *c));
             add_joined_clause(alloc, cnf, first, &[lit])
         }
         Form::And(forms) if positive => demand_each(alloc, cnf, table, first, true, forms),
         Form::And(forms) => demand_some(alloc, cnf, table, first, false, forms),
-        Form::Or(forms) => match or_bound_lit(table, forms) {
-            Some(lit) => add_joined_clause(alloc, cnf, first, &[signed(positive, lit)]),
+        Form::Or(forms) => match bound_lit_of_or_form(table, forms) {
+            Some(lit) => add_joined_clause(alloc, cnf, first, &[with_sign(positive, lit)]),
             None if positive => demand_some(alloc, cnf, table, first, true, forms),
             None => demand_each(alloc, cnf, table, first, false, forms),
         },
@@ -99,16 +99,16 @@ fn demand_of(
     }
 }
 
-#[cycle(demand)]
+#[cycle(demand_lit_or_form)]
 fn demand_each(
     alloc: Global,
     cnf: &mut Cnf,
-    table: &Table,
+    table: &CopyLits,
     first: &[Lit],
     positive: bool,
     forms: &[Form],
 ) -> Result<(), AllocError>
-    requires within { IsTrue (columns_in cnf.old.vars table.now) }
+    requires within { IsTrue (has_lits_within_vars cnf.old.vars table.now) }
     requires first { IsTrue (is_clause_over cnf.old.vars first.now) }
     requires valid { IsTrue (each_valid (ranges_of table.now) (trees_of forms.now)) }
     ensures { OnOk result
@@ -127,28 +127,30 @@ fn demand_each(
 /// within it. An Or of a variable's values up to one is the copy's literal for that bound, if there
 /// is one. A part that is not a literal gets a new variable, true exactly if the part holds. The
 /// form has to be valid over the copy's variables. If memory runs out, `cnf` may have grown.
-pub fn demand(
+pub fn demand_lit_or_form(
     alloc: Global,
     cnf: &mut Cnf,
-    table: &Table,
+    table: &CopyLits,
     first: &[Lit],
     form: &Form,
 ) -> Result<(), AllocError>
-    requires within { IsTrue (columns_in cnf.old.vars table.now) }
+    requires within { IsTrue (has_lits_within_vars cnf.old.vars table.now) }
     requires first { IsTrue (is_clause_over cnf.old.vars first.now) }
     requires valid { IsTrue (tree_valid (ranges_of table.now) (tree_of form.now)) }
     ensures made { OnOk result
         (cnf.new
-        ≡ with_part cnf.old (demand_part table.now first.now (tree_of form.now) cnf.old.vars)) }
+        ≡ with_part cnf.old (lit_or_form_part table.now first.now
+        (tree_of form.now) cnf.old.vars)) }
 
     // If the copy's literals say the values `ws`, an assignment extends over the part exactly if a
     // literal of `first` is true or the form holds of `ws`. Each new variable then has one value.
     ensures law { OnOk result
         ((a : List Bool) (ranges ws : List ℕ) → length a ≡ cnf.old.vars →
         LiteralsEncode a table.now ranges ws → IsTrue (in_ranges ws ranges) →
-        PartExtends a (demand_part table.now first.now (tree_of form.now) cnf.old.vars)
-        (IsExactlyIf (is_clause_true a first.now || tree_holds ws (tree_of form.now))
-        (demand_bits ranges ws (tree_of form.now)))) }
+        PartExtensionsAreExactly a
+        (lit_or_form_part table.now first.now (tree_of form.now) cnf.old.vars)
+        (PassesWithExactValues (is_clause_true a first.now || tree_holds ws (tree_of form.now))
+        (lit_or_form_bits ranges ws (tree_of form.now)))) }
     ensures more { OnOk result (cnf.old.vars ≤ cnf.new.vars) }
     ensures vars { OnOk result (cnf.new.vars ≤ cnf.old.vars + tree_size (tree_of form.now)) }
     ensures clauses { OnOk result

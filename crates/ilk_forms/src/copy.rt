@@ -1,18 +1,18 @@
 ghost use Rattle.std.specs.Prelude.{◌≡◌, ℕ, ◌+◌, ◌*◌, ◌<◌, ◌≤◌, ◌++◌, List, Bool, nat_lt, sum, length, OnOk, IfOk, IsTrue};
 ghost use Rattle.std.specs.List.{list_all};
-ghost use Rattle.ilk_cnf.specs.Extends.{PartExtends};
-ghost use Rattle.ilk_cnf.specs.Formula.{with_clauses, with_vars};
-ghost use Rattle.ilk_cnf.specs.Part.{with_part, as_clauses};
+ghost use Rattle.ilk_cnf.specs.Extends.{PartExtensionsAreExactly};
+ghost use Rattle.ilk_cnf.specs.Formula.{with_clauses, with_var_count};
+ghost use Rattle.ilk_cnf.specs.Part.{with_part, clauses_from_lists};
 ghost use Rattle.ilk_ints.specs.Bits.{bit_count};
-ghost use Rattle.ilk_ints.specs.Named.{lit_var_count};
+ghost use Rattle.ilk_ints.specs.Named.{value_bound_var_count};
 ghost use Rattle.ilk_ir.specs.System.{in_ranges};
-ghost use Rattle.ilk_forms.specs.Copy.{numbers_part, columns_part, column_part, copy_part, total_bits, total_lit_var_count, copy_var_count, copy_bits, IsCopy, LiteralsEncode};
+ghost use Rattle.ilk_forms.specs.Copy.{numbers_part, columns_part, column_part, copy_part, copy_bit_count, copy_value_bound_vars, copy_var_count, copy_bits, AreCopyBits, LiteralsEncode};
 
 use ilk_base::Row;
 use ilk_cnf::{Cnf, Lits};
 use ilk_ints::{
     Bounded, add_bound_lits, add_number_clauses, add_value_lits, bit_count, reserve_number,
-    reserve_value_lits,
+    reserve_value_bound_lits,
 };
 use ilk_ir::Ranges;
 use std::alloc::{AllocError, Global};
@@ -20,16 +20,17 @@ use std::alloc::{AllocError, Global};
 /// The literals of one variable of a copy: one for each of its values, and one for each bound that
 /// has its own.
 #[derive(Drop)]
-pub struct Column {
+pub struct VarLits {
     pub values: Lits,
     pub bounds: Lits,
 }
 
 /// The literals of all variables of a copy.
-pub type Table = Row<Column>;
+pub type CopyLits = Row<VarLits>;
 
 fn take_numbers(cnf: &mut Cnf, ranges: &[u8]) -> Result<(), AllocError>
-    ensures { OnOk result (cnf.new ≡ with_vars cnf.old (cnf.old.vars + total_bits ranges.now)) }
+    ensures { OnOk result
+        (cnf.new ≡ with_var_count cnf.old (cnf.old.vars + copy_bit_count ranges.now)) }
 {
     for range in ranges {
         reserve_number(cnf, *range)?;
@@ -38,11 +39,11 @@ fn take_numbers(cnf: &mut Cnf, ranges: &[u8]) -> Result<(), AllocError>
 }
 
 fn take_columns(cnf: &mut Cnf, ranges: &[u8]) -> Result<(), AllocError>
-    ensures { OnOk result (cnf.new ≡ with_vars cnf.old
-        (cnf.old.vars + total_lit_var_count ranges.now)) }
+    ensures { OnOk result (cnf.new ≡ with_var_count cnf.old
+        (cnf.old.vars + copy_value_bound_vars ranges.now)) }
 {
     for range in ranges {
-        reserve_value_lits(cnf, *range)?;
+        reserve_value_bound_lits(cnf, *range)?;
     }
     Ok(())
 }
@@ -51,7 +52,7 @@ fn take_columns(cnf: &mut Cnf, ranges: &[u8]) -> Result<(), AllocError>
 /// have grown.
 pub fn reserve_copy(cnf: &mut Cnf, ranges: &Ranges) -> Result<(), AllocError>
     ensures taken { OnOk result
-        (cnf.new ≡ with_vars cnf.old (cnf.old.vars + copy_var_count ranges.now)) }
+        (cnf.new ≡ with_var_count cnf.old (cnf.old.vars + copy_var_count ranges.now)) }
 
     // At most two variables for each value of a variable.
     ensures vars { OnOk result (cnf.new.vars ≤ cnf.old.vars + 2 * sum ranges.now) }
@@ -68,11 +69,11 @@ fn add_numbers(
     used: &mut u64,
     ranges: &[u8],
 ) -> Result<(), AllocError>
-    requires there { used.old + total_bits ranges.now ≤ cnf.old.vars }
+    requires there { used.old + copy_bit_count ranges.now ≤ cnf.old.vars }
     ensures vars { OnOk result (cnf.new.vars ≡ cnf.old.vars) }
     ensures made { OnOk result
-        (with_vars cnf.new used.new
-        ≡ with_part (with_vars cnf.old used.old) (numbers_part ranges.now used.old)) }
+        (with_var_count cnf.new used.new
+        ≡ with_part (with_var_count cnf.old used.old) (numbers_part ranges.now used.old)) }
 {
     for range in ranges {
         let _ = cnf.vars();
@@ -92,20 +93,20 @@ fn add_column(
     cnf: &mut Cnf,
     used: &mut u64,
     n: Bounded,
-) -> Result<Column, AllocError>
+) -> Result<VarLits, AllocError>
     requires from_1 { 0 < n.first }
     requires within { n.first + bit_count n.range ≤ used.old + 1 }
-    requires there { used.old + lit_var_count n.range ≤ cnf.old.vars }
+    requires there { used.old + value_bound_var_count n.range ≤ cnf.old.vars }
     ensures column { IfOk result
         (λ column. column ≡ (column_part n.first n.range used.old).column) }
     ensures vars { OnOk result (cnf.new.vars ≡ cnf.old.vars) }
     ensures made { OnOk result
-        (with_vars cnf.new used.new
-        ≡ with_part (with_vars cnf.old used.old) (column_part n.first n.range used.old).part) }
+        (with_var_count cnf.new used.new
+        ≡ with_part (with_var_count cnf.old used.old) (column_part n.first n.range used.old).part) }
 {
     let values = add_value_lits(alloc, cnf, used, n)?;
     let bounds = add_bound_lits(alloc, cnf, used, n, values.as_slice())?;
-    Ok(Column { values, bounds })
+    Ok(VarLits { values, bounds })
 }
 
 // Adds the clauses of the literals of all variables, whose bits begin at `first`.
@@ -115,19 +116,19 @@ fn add_columns(
     used: &mut u64,
     first: u64,
     ranges: &[u8],
-) -> Result<Table, AllocError>
+) -> Result<CopyLits, AllocError>
     requires from_1 { 0 < first }
-    requires within { first + total_bits ranges.now ≤ used.old + 1 }
-    requires there { used.old + total_lit_var_count ranges.now ≤ cnf.old.vars }
+    requires within { first + copy_bit_count ranges.now ≤ used.old + 1 }
+    requires there { used.old + copy_value_bound_vars ranges.now ≤ cnf.old.vars }
     ensures table { IfOk result
         (λ table. table ≡ (columns_part ranges.now first used.old).columns) }
     ensures vars { OnOk result (cnf.new.vars ≡ cnf.old.vars) }
     ensures made { OnOk result
-        (with_vars cnf.new used.new
-        ≡ with_part (with_vars cnf.old used.old)
+        (with_var_count cnf.new used.new
+        ≡ with_part (with_var_count cnf.old used.old)
         (columns_part ranges.now first used.old).part) }
 {
-    let mut table = Table::new(alloc);
+    let mut table = CopyLits::new(alloc);
     let mut first = first;
     for range in ranges {
         let _ = cnf.vars();
@@ -150,17 +151,17 @@ pub fn add_copy(
     cnf: &mut Cnf,
     ranges: &Ranges,
     before: u64,
-) -> Result<Table, AllocError>
+) -> Result<CopyLits, AllocError>
     requires { before + copy_var_count ranges.now ≤ cnf.old.vars }
     ensures table { IfOk result (λ table. table ≡ (copy_part ranges.now before).columns) }
     ensures made { OnOk result
         (cnf.new
         ≡ with_clauses cnf.old cnf.old.vars
-        (as_clauses (copy_part ranges.now before).part.clauses)) }
+        (clauses_from_lists (copy_part ranges.now before).part.clauses)) }
     ensures law { OnOk result
         ((a : List Bool) → length a ≡ before →
         IsTrue (list_all (λ range. nat_lt range 256) ranges.now) →
-        PartExtends a (copy_part ranges.now before).part (IsCopy ranges.now)) }
+        PartExtensionsAreExactly a (copy_part ranges.now before).part (AreCopyBits ranges.now)) }
 
     // The literals of each variable then say its value, regardless of what follows the copy.
     ensures exact { OnOk result

@@ -4,27 +4,28 @@ ghost use Rattle.ilk_cnf.specs.Literal.{positive_lit};
 ghost use Rattle.ilk_cnf.specs.Part.{with_part, empty_part};
 ghost use Rattle.ilk_ir.specs.Form.{tree_of, trees_of};
 ghost use Rattle.ilk_ir.specs.Tree.{tree_valid, each_valid, value_valid};
-ghost use Rattle.ilk_forms.specs.Leaf.{value_lit, columns_in, ranges_of};
-ghost use Rattle.ilk_forms.specs.Gathered.{signed, gate_part, combined_lit, merged_into, form_lits, each_form_lits};
+ghost use Rattle.ilk_forms.specs.Leaf.{value_lit, has_lits_within_vars, ranges_of};
+ghost use Rattle.ilk_forms.specs.Gathered.{with_sign, gate_part, combined_lit, merged_into, flatten_form, flatten_each_form};
 
-use crate::bound::or_bound_lit;
-use crate::copy::Table;
+use crate::bound::bound_lit_of_or_form;
+use crate::copy::CopyLits;
 use ilk_cnf::{Cnf, Lit, Lits, add_and_gate, add_or_gate};
 use ilk_ir::Form;
 use std::alloc::{AllocError, Global};
 
 /// Returns the literal that says that variable `v` has the value `c`.
-pub fn value_lit(table: &Table, v: u32, c: u8) -> Lit
+pub fn value_lit(table: &CopyLits, v: u32, c: u8) -> Lit
     requires { IsTrue (value_valid (ranges_of table.now) v c) }
     ensures leaf { result ≡ value_lit table.now v c }
-    ensures within { (n : ℕ) → IsTrue (columns_in n table.now) → IsTrue (is_lit_over n result) }
+    ensures within { (n : ℕ) → IsTrue (has_lits_within_vars n table.now) →
+        IsTrue (is_lit_over n result) }
 {
     *table.at(u64::from(v)).values.at(u64::from(c))
 }
 
 /// Returns `lit` if `positive`, otherwise its negation.
-pub fn signed(positive: bool, lit: Lit) -> Lit
-    ensures { result ≡ signed positive lit }
+pub fn with_sign(positive: bool, lit: Lit) -> Lit
+    ensures { result ≡ with_sign positive lit }
 {
     if positive { lit } else { lit.negated() }
 }
@@ -102,91 +103,92 @@ pub fn push_all(lits: &mut Lits, more: &[Lit]) -> Result<(), AllocError>
 
 /// Returns literals for `form` if `positive`, otherwise for its negation. If `all`, that formula
 /// holds if and only if all literals are true, otherwise if and only if at least one is.
-#[cycle(form_lits)]
-pub fn form_lits(
+#[cycle(flatten_form)]
+pub fn flatten_form(
     alloc: Global,
     cnf: &mut Cnf,
-    table: &Table,
+    table: &CopyLits,
     all: bool,
     positive: bool,
     form: &Form,
 ) -> Result<Lits, AllocError>
-    requires within { IsTrue (columns_in cnf.old.vars table.now) }
+    requires within { IsTrue (has_lits_within_vars cnf.old.vars table.now) }
     requires valid { IsTrue (tree_valid (ranges_of table.now) (tree_of form.now)) }
     ensures lits { IfOk result
-        (λ lits. lits ≡ (form_lits table.now all positive (tree_of form.now) cnf.old.vars).lits) }
+        (λ lits. lits ≡ (flatten_form table.now all positive
+        (tree_of form.now) cnf.old.vars).lits) }
     ensures made { OnOk result
         (cnf.new
         ≡ with_part cnf.old
-        (form_lits table.now all positive (tree_of form.now) cnf.old.vars).part) }
+        (flatten_form table.now all positive (tree_of form.now) cnf.old.vars).part) }
 {
     match form {
         Form::Yes => take_in(alloc, cnf, all, positive, Lits::new(alloc)),
         Form::No => take_in(alloc, cnf, all, !positive, Lits::new(alloc)),
-        Form::Is(v, c) => one(alloc, signed(positive, value_lit(table, *v, *c))),
+        Form::Is(v, c) => one(alloc, with_sign(positive, value_lit(table, *v, *c))),
         Form::And(forms) => join(alloc, cnf, table, all, positive, positive, forms),
-        Form::Or(forms) => match or_bound_lit(table, forms) {
-            Some(lit) => one(alloc, signed(positive, lit)),
+        Form::Or(forms) => match bound_lit_of_or_form(table, forms) {
+            Some(lit) => one(alloc, with_sign(positive, lit)),
             None => join(alloc, cnf, table, all, !positive, positive, forms),
         },
-        Form::Not(f) => form_lits(alloc, cnf, table, all, !positive, f),
+        Form::Not(f) => flatten_form(alloc, cnf, table, all, !positive, f),
     }
 }
 
 // Does the same for each (`inner`) or some of the forms.
-#[cycle(form_lits)]
+#[cycle(flatten_form)]
 fn join(
     alloc: Global,
     cnf: &mut Cnf,
-    table: &Table,
+    table: &CopyLits,
     all: bool,
     inner: bool,
     positive: bool,
     forms: &[Form],
 ) -> Result<Lits, AllocError>
-    requires within { IsTrue (columns_in cnf.old.vars table.now) }
+    requires within { IsTrue (has_lits_within_vars cnf.old.vars table.now) }
     requires valid { IsTrue (each_valid (ranges_of table.now) (trees_of forms.now)) }
     ensures lits { IfOk result
         (λ lits. lits
         ≡
         (merged_into all inner
-        (each_form_lits table.now inner positive (trees_of forms.now)
+        (flatten_each_form table.now inner positive (trees_of forms.now)
         cnf.old.vars)).lits) }
     ensures made { OnOk result
         (cnf.new
         ≡ with_part cnf.old
         (merged_into all inner
-        (each_form_lits table.now inner positive (trees_of forms.now)
+        (flatten_each_form table.now inner positive (trees_of forms.now)
         cnf.old.vars)).part) }
 {
-    let lits = each_form_lits(alloc, cnf, table, inner, positive, forms)?;
+    let lits = flatten_each_form(alloc, cnf, table, inner, positive, forms)?;
     let taken = take_in(alloc, cnf, all, inner, lits)?;
     Ok(taken)
 }
 
-/// Returns the literals of each form, in order (see `form_lits`).
-#[cycle(form_lits)]
-pub fn each_form_lits(
+/// Returns the literals of each form, in order (see `flatten_form`).
+#[cycle(flatten_form)]
+pub fn flatten_each_form(
     alloc: Global,
     cnf: &mut Cnf,
-    table: &Table,
+    table: &CopyLits,
     all: bool,
     positive: bool,
     forms: &[Form],
 ) -> Result<Lits, AllocError>
-    requires within { IsTrue (columns_in cnf.old.vars table.now) }
+    requires within { IsTrue (has_lits_within_vars cnf.old.vars table.now) }
     requires valid { IsTrue (each_valid (ranges_of table.now) (trees_of forms.now)) }
     ensures lits { IfOk result
         (λ lits. lits
-        ≡ (each_form_lits table.now all positive (trees_of forms.now) cnf.old.vars).lits) }
+        ≡ (flatten_each_form table.now all positive (trees_of forms.now) cnf.old.vars).lits) }
     ensures made { OnOk result
         (cnf.new
         ≡ with_part cnf.old
-        (each_form_lits table.now all positive (trees_of forms.now) cnf.old.vars).part) }
+        (flatten_each_form table.now all positive (trees_of forms.now) cnf.old.vars).part) }
 {
     let mut lits = Lits::new(alloc);
     for form in forms {
-        let more = form_lits(alloc, cnf, table, all, positive, form)?;
+        let more = flatten_form(alloc, cnf, table, all, positive, form)?;
         push_all(&mut lits, more.as_slice())?;
     }
     Ok(lits)

@@ -1,6 +1,6 @@
 ghost use Rattle.std.specs.Prelude.{◌≡◌, ℕ, ◌+◌, ◌*◌, ◌≤◌, ◌∷◌, [], List, Bool, true, ◌&&◌, not, length, map, OnOk, IfOk, IsTrue};
 ghost use Rattle.std.specs.List.{list_all};
-ghost use Rattle.ilk_cnf.specs.Extends.{PartExtends, IsExactlyIf};
+ghost use Rattle.ilk_cnf.specs.Extends.{PartExtensionsAreExactly, PassesWithExactValues};
 ghost use Rattle.ilk_cnf.specs.Formula.{is_clause_over};
 ghost use Rattle.ilk_cnf.specs.Literal.{positive_lit, negative_lit, negated_lit};
 ghost use Rattle.ilk_cnf.specs.Part.{with_part};
@@ -9,14 +9,14 @@ ghost use Rattle.ilk_ir.specs.Form.{tree_of, trees_of};
 ghost use Rattle.ilk_ir.specs.Tree.{all_of, negation, more, tree_holds, each_holds, tree_valid, each_valid};
 ghost use Rattle.ilk_ir.specs.System.{in_ranges};
 ghost use Rattle.ilk_forms.specs.Copy.{LiteralsEncode};
-ghost use Rattle.ilk_forms.specs.Leaf.{columns_in, ranges_of};
-ghost use Rattle.ilk_forms.specs.Demand.{any_true_part};
+ghost use Rattle.ilk_forms.specs.Leaf.{has_lits_within_vars, ranges_of};
+ghost use Rattle.ilk_forms.specs.Demand.{joined_clause_part};
 ghost use Rattle.ilk_forms.specs.Size.{tree_size};
-ghost use Rattle.ilk_forms.specs.Violated.{next_violated, violated_after, first_violated_part, first_violated_bits, no_trees, is_trivially_false, has_trivially_false, violated_part, violated_bits};
+ghost use Rattle.ilk_forms.specs.Violated.{next_first_violated_lits, first_violated_lits, some_lit_false_part, some_lit_false_bits, has_no_trees, is_trivially_false, has_trivially_false, violated_part, violated_bits};
 
 use crate::clauses::add_joined_clause;
-use crate::copy::Table;
-use crate::literals::{each_form_lits, form_lits, push_all};
+use crate::copy::CopyLits;
+use crate::literals::{flatten_each_form, flatten_form, push_all};
 use ilk_cnf::{Cnf, Lit, Lits, add_and_gate, add_or_gate};
 use ilk_ir::Form;
 use std::alloc::{AllocError, Global};
@@ -36,7 +36,7 @@ fn add_next(alloc: Global, cnf: &mut Cnf, before: Lit, kept: Lit) -> Result<Next
     ensures first { IfOk result (λ next. next.first ≡ negative_lit (cnf.old.vars + 1)) }
     ensures before { IfOk result (λ next. next.before ≡ positive_lit (cnf.old.vars + 1 + 1)) }
     ensures made { OnOk result
-        (cnf.new ≡ with_part cnf.old (next_violated before kept cnf.old.vars).part) }
+        (cnf.new ≡ with_part cnf.old (next_first_violated_lits before kept cnf.old.vars).part) }
 {
     let other = add_or_gate(alloc, cnf, &[before.negated(), kept])?;
     let before = add_and_gate(alloc, cnf, &[before, kept])?;
@@ -47,7 +47,7 @@ fn add_next(alloc: Global, cnf: &mut Cnf, before: Lit, kept: Lit) -> Result<Next
 }
 
 // Returns, for each instance, the literal that says that it is the first violated one.
-fn violated_after(
+fn first_violated_lits(
     alloc: Global,
     cnf: &mut Cnf,
     before: Lit,
@@ -55,9 +55,9 @@ fn violated_after(
 ) -> Result<Lits, AllocError>
     requires { IsTrue (is_clause_over cnf.old.vars (before ∷ others.now)) }
     ensures lits { IfOk result
-        (λ lits. lits ≡ (violated_after before others.now cnf.old.vars).lits) }
+        (λ lits. lits ≡ (first_violated_lits before others.now cnf.old.vars).lits) }
     ensures made { OnOk result
-        (cnf.new ≡ with_part cnf.old (violated_after before others.now cnf.old.vars).part) }
+        (cnf.new ≡ with_part cnf.old (first_violated_lits before others.now cnf.old.vars).part) }
 {
     let mut before = before;
     let mut lits = Lits::new(alloc);
@@ -74,9 +74,10 @@ fn some_violated(alloc: Global, cnf: &mut Cnf, kept: Lit, others: &[Lit]) -> Res
     ensures { OnOk result
         (cnf.new
         ≡ with_part cnf.old
-        (any_true_part (negated_lit kept ∷ []) (violated_after kept others.now cnf.old.vars))) }
+        (joined_clause_part (negated_lit kept ∷ [])
+        (first_violated_lits kept others.now cnf.old.vars))) }
 {
-    let lits = violated_after(alloc, cnf, kept, others)?;
+    let lits = first_violated_lits(alloc, cnf, kept, others)?;
     add_joined_clause(alloc, cnf, &[kept.negated()], lits.as_slice())?;
     Ok(())
 }
@@ -84,10 +85,10 @@ fn some_violated(alloc: Global, cnf: &mut Cnf, kept: Lit, others: &[Lit]) -> Res
 fn add_first_violated(alloc: Global, cnf: &mut Cnf, kept: &[Lit]) -> Result<(), AllocError>
     requires { IsTrue (is_clause_over cnf.old.vars kept.now) }
     ensures { OnOk result
-        (cnf.new ≡ with_part cnf.old (first_violated_part kept.now cnf.old.vars)) }
+        (cnf.new ≡ with_part cnf.old (some_lit_false_part kept.now cnf.old.vars)) }
 {
     match kept {
-        [] => cnf.add_clause_of(&[])?,
+        [] => cnf.add_clause_from_lits(&[])?,
         [first, rest @ ..] => some_violated(alloc, cnf, *first, rest)?,
     }
     Ok(())
@@ -97,15 +98,15 @@ fn add_first_violated(alloc: Global, cnf: &mut Cnf, kept: &[Lit]) -> Result<(), 
 /// satisfied. Each but the first gets two new variables. One is false exactly if the instance is
 /// the first violated one, the other is true exactly if each so far is satisfied. One clause says
 /// that some instance is the first violated one. If memory runs out, `cnf` may have grown.
-pub fn demand_some_violated(alloc: Global, cnf: &mut Cnf, kept: &[Lit]) -> Result<(), AllocError>
+pub fn demand_some_lit_false(alloc: Global, cnf: &mut Cnf, kept: &[Lit]) -> Result<(), AllocError>
     requires { IsTrue (is_clause_over cnf.old.vars kept.now) }
     ensures made { OnOk result
-        (cnf.new ≡ with_part cnf.old (first_violated_part kept.now cnf.old.vars)) }
+        (cnf.new ≡ with_part cnf.old (some_lit_false_part kept.now cnf.old.vars)) }
     ensures law { OnOk result
         ((a : List Bool) → length a ≡ cnf.old.vars →
-        PartExtends a (first_violated_part kept.now cnf.old.vars)
-        (IsExactlyIf (not (list_all (is_true a) kept.now))
-        (first_violated_bits (map (is_true a) kept.now)))) }
+        PartExtensionsAreExactly a (some_lit_false_part kept.now cnf.old.vars)
+        (PassesWithExactValues (not (list_all (is_true a) kept.now))
+        (some_lit_false_bits (map (is_true a) kept.now)))) }
     ensures more { OnOk result (cnf.old.vars ≤ cnf.new.vars) }
     ensures vars { OnOk result (cnf.new.vars ≤ cnf.old.vars + 2 * length kept.now) }
     ensures clauses { OnOk result
@@ -116,7 +117,7 @@ pub fn demand_some_violated(alloc: Global, cnf: &mut Cnf, kept: &[Lit]) -> Resul
 }
 
 fn no_forms(forms: &[Form]) -> bool
-    ensures { result ≡ no_trees (trees_of forms.now) }
+    ensures { result ≡ has_no_trees (trees_of forms.now) }
 {
     forms.is_empty()
 }
@@ -154,10 +155,10 @@ fn some_never(positive: bool, forms: &[Form]) -> bool
 fn add_some_fails(
     alloc: Global,
     cnf: &mut Cnf,
-    table: &Table,
+    table: &CopyLits,
     forms: &[Form],
 ) -> Result<(), AllocError>
-    requires within { IsTrue (columns_in cnf.old.vars table.now) }
+    requires within { IsTrue (has_lits_within_vars cnf.old.vars table.now) }
     requires valid { IsTrue (each_valid (ranges_of table.now) (trees_of forms.now)) }
     ensures { OnOk result
         (cnf.new
@@ -167,8 +168,8 @@ fn add_some_fails(
     if some_never(true, forms) {
         return Ok(());
     }
-    let kept = each_form_lits(alloc, cnf, table, true, true, forms)?;
-    demand_some_violated(alloc, cnf, kept.as_slice())?;
+    let kept = flatten_each_form(alloc, cnf, table, true, true, forms)?;
+    demand_some_lit_false(alloc, cnf, kept.as_slice())?;
     Ok(())
 }
 
@@ -179,10 +180,10 @@ fn add_some_fails(
 pub fn demand_some_fails(
     alloc: Global,
     cnf: &mut Cnf,
-    table: &Table,
+    table: &CopyLits,
     forms: &[Form],
 ) -> Result<(), AllocError>
-    requires within { IsTrue (columns_in cnf.old.vars table.now) }
+    requires within { IsTrue (has_lits_within_vars cnf.old.vars table.now) }
     requires valid { IsTrue (each_valid (ranges_of table.now) (trees_of forms.now)) }
     ensures made { OnOk result
         (cnf.new
@@ -194,8 +195,9 @@ pub fn demand_some_fails(
     ensures law { OnOk result
         ((a : List Bool) (ranges ws : List ℕ) → length a ≡ cnf.old.vars →
         LiteralsEncode a table.now ranges ws → IsTrue (in_ranges ws ranges) →
-        PartExtends a (violated_part table.now (all_of (trees_of forms.now)) cnf.old.vars)
-        (IsExactlyIf (not (each_holds ws (trees_of forms.now)))
+        PartExtensionsAreExactly a
+        (violated_part table.now (all_of (trees_of forms.now)) cnf.old.vars)
+        (PassesWithExactValues (not (each_holds ws (trees_of forms.now)))
         (violated_bits ranges ws (all_of (trees_of forms.now))))) }
     ensures more { OnOk result (cnf.old.vars ≤ cnf.new.vars) }
     ensures vars { OnOk result
@@ -215,11 +217,11 @@ fn either_never(form: &Form, forms: &[Form]) -> bool
 fn add_holds_or_some_fails(
     alloc: Global,
     cnf: &mut Cnf,
-    table: &Table,
+    table: &CopyLits,
     form: &Form,
     forms: &[Form],
 ) -> Result<(), AllocError>
-    requires within { IsTrue (columns_in cnf.old.vars table.now) }
+    requires within { IsTrue (has_lits_within_vars cnf.old.vars table.now) }
     requires form { IsTrue (tree_valid (ranges_of table.now) (tree_of form.now)) }
     requires valid { IsTrue (each_valid (ranges_of table.now) (trees_of forms.now)) }
     ensures { OnOk result
@@ -232,10 +234,10 @@ fn add_holds_or_some_fails(
     if either_never(form, forms) {
         return Ok(());
     }
-    let mut kept = form_lits(alloc, cnf, table, true, false, form)?;
-    let others = each_form_lits(alloc, cnf, table, true, true, forms)?;
+    let mut kept = flatten_form(alloc, cnf, table, true, false, form)?;
+    let others = flatten_each_form(alloc, cnf, table, true, true, forms)?;
     push_all(&mut kept, others.as_slice())?;
-    demand_some_violated(alloc, cnf, kept.as_slice())?;
+    demand_some_lit_false(alloc, cnf, kept.as_slice())?;
     Ok(())
 }
 
@@ -243,14 +245,14 @@ fn add_holds_or_some_fails(
 /// does. An instance of `form` is a part of Or at its top, satisfied if that part fails. An Or of a
 /// variable's values up to one is one instance if there is a literal for it. If memory runs out,
 /// `cnf` may have grown.
-pub fn demand_holds_or_fails(
+pub fn demand_form_or_some_fail(
     alloc: Global,
     cnf: &mut Cnf,
-    table: &Table,
+    table: &CopyLits,
     form: &Form,
     forms: &[Form],
 ) -> Result<(), AllocError>
-    requires within { IsTrue (columns_in cnf.old.vars table.now) }
+    requires within { IsTrue (has_lits_within_vars cnf.old.vars table.now) }
     requires form { IsTrue (tree_valid (ranges_of table.now) (tree_of form.now)) }
     requires valid { IsTrue (each_valid (ranges_of table.now) (trees_of forms.now)) }
     ensures made { OnOk result
@@ -262,11 +264,11 @@ pub fn demand_holds_or_fails(
     ensures law { OnOk result
         ((a : List Bool) (ranges ws : List ℕ) → length a ≡ cnf.old.vars →
         LiteralsEncode a table.now ranges ws → IsTrue (in_ranges ws ranges) →
-        PartExtends a
+        PartExtensionsAreExactly a
         (violated_part table.now
         (all_of (more (negation (tree_of form.now)) (trees_of forms.now)))
         cnf.old.vars)
-        (IsExactlyIf
+        (PassesWithExactValues
         (not
         (not (tree_holds ws (tree_of form.now))
         && each_holds ws (trees_of forms.now)))

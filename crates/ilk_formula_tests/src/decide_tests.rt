@@ -1,5 +1,5 @@
 ghost use Rattle.std.specs.Prelude.{◌<◌, ◌≤◌, [], ◌∷◌, IfOk, IsTrue};
-ghost use Rattle.ilk_unroll.specs.Goal.{goal_tree, goal_valid};
+ghost use Rattle.ilk_unroll.specs.Goal.{plain_goal, goal_valid};
 
 use crate::query_tests::{switch, switch_goal};
 use ilk_induct::{Verdict, decide};
@@ -10,7 +10,7 @@ use std::test::Fail;
 
 // The switch starts at 0, there is no hazard, and the family always holds.
 fn harmless_goal(alloc: Global) -> Result<Goal, AllocError>
-    ensures { IfOk result (λ g. IsTrue (goal_valid (2 ∷ []) (goal_tree g))) }
+    ensures { IfOk result (λ g. IsTrue (goal_valid (2 ∷ []) (plain_goal g))) }
 {
     let mut families = Forms::new(alloc);
     families.push(Form::Yes)?;
@@ -24,7 +24,7 @@ fn harmless_goal(alloc: Global) -> Result<Goal, AllocError>
 
 // The same, with the family that it stays at 0.
 fn broken_goal(alloc: Global) -> Result<Goal, AllocError>
-    ensures { IfOk result (λ g. IsTrue (goal_valid (2 ∷ []) (goal_tree g))) }
+    ensures { IfOk result (λ g. IsTrue (goal_valid (2 ∷ []) (plain_goal g))) }
 {
     let mut families = Forms::new(alloc);
     families.push(Form::Is(0, 0))?;
@@ -38,7 +38,7 @@ fn broken_goal(alloc: Global) -> Result<Goal, AllocError>
 
 // The same, without an initial state.
 fn unreached_goal(alloc: Global) -> Result<Goal, AllocError>
-    ensures { IfOk result (λ g. IsTrue (goal_valid (2 ∷ []) (goal_tree g))) }
+    ensures { IfOk result (λ g. IsTrue (goal_valid (2 ∷ []) (plain_goal g))) }
 {
     let mut families = Forms::new(alloc);
     families.push(Form::Is(0, 0))?;
@@ -88,7 +88,7 @@ fn verdict_name(verdict: &Verdict) -> &'static str {
 }
 
 fn answer(alloc: Global, goal: &Goal, depth: u32, conflicts: u64) -> Result<String, AllocError>
-    requires goal { IsTrue (goal_valid (2 ∷ []) (goal_tree goal.now)) }
+    requires goal { IsTrue (goal_valid (2 ∷ []) (plain_goal goal.now)) }
     requires some_depth { 0 < depth }
     requires depth { depth ≤ 16 }
 {

@@ -3,7 +3,7 @@ ghost use Rattle.ilk_cnf.specs.Formula.{is_clause_over};
 
 use ilk_base::{Row, Text};
 use ilk_cnf::{Clause, Cnf, Lit, add_and_gate, add_or_gate, negated_lits};
-use ilk_forms::{add_copy, demand_some_violated, reserve_copy};
+use ilk_forms::{add_copy, demand_some_lit_false, reserve_copy};
 use ilk_ints::one_of;
 use std::alloc::{AllocError, Global};
 use std::test::Fail;
@@ -23,7 +23,7 @@ fn demanded(alloc: Global, lits: &[Lit]) -> Result<u64, AllocError>
     requires { IsTrue (is_clause_over 3 lits.now) }
 {
     let mut cnf = formula(alloc)?;
-    cnf.add_clause_of(lits)?;
+    cnf.add_clause_from_lits(lits)?;
     Ok(cnf.clauses())
 }
 
@@ -37,7 +37,7 @@ fn made_of(alloc: Global, lits: &[Lit]) -> Result<(), AllocError>
     let mut cnf = formula(alloc)?;
     let _ = add_or_gate(alloc, &mut cnf, lits)?;
     let mut cnf = formula(alloc)?;
-    demand_some_violated(alloc, &mut cnf, lits)
+    demand_some_lit_false(alloc, &mut cnf, lits)
 }
 
 #[test]

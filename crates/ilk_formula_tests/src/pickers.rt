@@ -6,7 +6,7 @@ use ilk_solver::{Picker, View};
 use std::alloc::{AllocError, Global};
 
 /// Picks the negative literal of the least unset variable.
-pub fn least(view: &View) -> Lit
+pub fn pick_least_negative(view: &View) -> Lit
     ensures unset { (v : ℕ) → IsTrue (is_unset view.now v) → IsTrue (is_unset view.now result.var) }
     ensures negative { result.positive ≡ false }
 {
@@ -19,7 +19,7 @@ pub fn least(view: &View) -> Lit
 }
 
 /// Picks the positive literal of the greatest unset variable.
-pub fn greatest(view: &View) -> Lit
+pub fn pick_greatest_positive(view: &View) -> Lit
     ensures unset { (v : ℕ) → IsTrue (is_unset view.now v) → IsTrue (is_unset view.now result.var) }
     ensures positive { result.positive ≡ true }
 {
@@ -34,7 +34,7 @@ pub fn greatest(view: &View) -> Lit
 }
 
 /// Picks the negative literal of the heaviest unset variable.
-pub fn heaviest(view: &View) -> Lit
+pub fn pick_heaviest_negative(view: &View) -> Lit
     ensures unset { (v : ℕ) → IsTrue (is_unset view.now v) → IsTrue (is_unset view.now result.var) }
     ensures negative { result.positive ≡ false }
 {
@@ -46,44 +46,44 @@ pub fn heaviest(view: &View) -> Lit
 }
 
 /// Picks the negative literal of the heaviest unset variable if it occurs in a step, or else the
-/// literal of `least`.
-pub fn heaviest_in_steps(view: &View) -> Lit
+/// literal of `pick_least_negative`.
+pub fn pick_heaviest_or_least(view: &View) -> Lit
     ensures unset { (v : ℕ) → IsTrue (is_unset view.now v) → IsTrue (is_unset view.now result.var) }
     ensures negative { result.positive ≡ false }
 {
     let _ = view.vars();
     match view.heaviest() {
         Some(v) if view.weight(v) > 0 => Lit::new(v, false),
-        _ => least(view),
+        _ => pick_least_negative(view),
     }
 }
 
-/// Creates the picker `heaviest_in_steps`.
-pub fn by_weighed(alloc: Global) -> Result<Picker, AllocError> {
-    Ok(Picker::new(Box::new(alloc, heaviest_in_steps)?))
+/// Creates the picker `pick_heaviest_or_least`.
+pub fn heaviest_or_least_picker(alloc: Global) -> Result<Picker, AllocError> {
+    Ok(Picker::new(Box::new(alloc, pick_heaviest_or_least)?))
 }
 
-/// Creates the picker `least`.
-pub fn by_least(alloc: Global) -> Result<Picker, AllocError> {
-    Ok(Picker::new(Box::new(alloc, least)?))
+/// Creates the picker `pick_least_negative`.
+pub fn least_negative_picker(alloc: Global) -> Result<Picker, AllocError> {
+    Ok(Picker::new(Box::new(alloc, pick_least_negative)?))
 }
 
-/// Creates the picker `greatest`.
-pub fn by_greatest(alloc: Global) -> Result<Picker, AllocError> {
-    Ok(Picker::new(Box::new(alloc, greatest)?))
+/// Creates the picker `pick_greatest_positive`.
+pub fn greatest_positive_picker(alloc: Global) -> Result<Picker, AllocError> {
+    Ok(Picker::new(Box::new(alloc, pick_greatest_positive)?))
 }
 
-/// Creates the picker `heaviest`.
-pub fn by_heaviest(alloc: Global) -> Result<Picker, AllocError> {
-    Ok(Picker::new(Box::new(alloc, heaviest)?))
+/// Creates the picker `pick_heaviest_negative`.
+pub fn heaviest_negative_picker(alloc: Global) -> Result<Picker, AllocError> {
+    Ok(Picker::new(Box::new(alloc, pick_heaviest_negative)?))
 }
 
 /// Restarts after each step.
-pub fn always(_: u64) -> bool {
+pub fn restart_always(_: u64) -> bool {
     true
 }
 
 /// Never restarts.
-pub fn never(_: u64) -> bool {
+pub fn restart_never(_: u64) -> bool {
     false
 }

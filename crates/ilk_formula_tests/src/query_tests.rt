@@ -1,6 +1,6 @@
 ghost use Rattle.std.specs.Prelude.{◌≡◌, [], ◌∷◌, IfOk, IsTrue};
-ghost use Rattle.ilk_ir.specs.System.{system_tree, system_valid};
-ghost use Rattle.ilk_unroll.specs.Goal.{goal_tree, goal_valid, wanted_valid};
+ghost use Rattle.ilk_ir.specs.System.{plain_system, system_valid};
+ghost use Rattle.ilk_unroll.specs.Goal.{plain_goal, goal_valid, step_count_is_allowed};
 
 use crate::assignments::assignment_of;
 use ilk_ir::{Form, Forms, Ranges, Rule, Rules, Sets, Setting, System};
@@ -11,7 +11,7 @@ use std::test::Fail;
 /// Creates a system with one variable of two values, and one rule that sets it from 0 to 1.
 pub fn switch(alloc: Global) -> Result<System, AllocError>
     ensures ranges { IfOk result (λ s. s.ranges ≡ 2 ∷ []) }
-    ensures valid { IfOk result (λ s. IsTrue (system_valid (system_tree s))) }
+    ensures valid { IfOk result (λ s. IsTrue (system_valid (plain_system s))) }
 {
     let mut ranges = Ranges::new(alloc);
     ranges.push(2)?;
@@ -28,7 +28,7 @@ pub fn switch(alloc: Global) -> Result<System, AllocError>
 /// Creates the goal of the switch. It starts at 0, the hazard is 1, and the only family always
 /// holds.
 pub fn switch_goal(alloc: Global) -> Result<Goal, AllocError>
-    ensures { IfOk result (λ g. IsTrue (goal_valid (2 ∷ []) (goal_tree g))) }
+    ensures { IfOk result (λ g. IsTrue (goal_valid (2 ∷ []) (plain_goal g))) }
 {
     let mut families = Forms::new(alloc);
     families.push(Form::Yes)?;
@@ -49,7 +49,7 @@ struct Found {
 }
 
 fn ask(alloc: Global, q: Wanted, patterns: u64) -> Result<Found, AllocError>
-    requires { IsTrue (wanted_valid q) }
+    requires { IsTrue (step_count_is_allowed q) }
 {
     let system = switch(alloc)?;
     let goal = switch_goal(alloc)?;

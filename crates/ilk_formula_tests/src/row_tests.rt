@@ -1,4 +1,7 @@
-use crate::pickers::{always, by_greatest, by_heaviest, by_least, never};
+use crate::pickers::{
+    greatest_positive_picker, heaviest_negative_picker, least_negative_picker, restart_always,
+    restart_never,
+};
 use ilk_cnf::{Assignment, Cnf, Lit};
 use ilk_log::Log;
 use ilk_solver::{Answer, Picker, Restart, Solver};
@@ -11,7 +14,7 @@ pub fn formula(alloc: Global, clauses: u8) -> Result<Cnf, AllocError> {
     cnf.fresh()?;
     cnf.fresh()?;
     for i in 0..clauses {
-        cnf.add_clause_of(&[Lit::new(1, i < 2), Lit::new(2, i % 2 == 0)])?;
+        cnf.add_clause_from_lits(&[Lit::new(1, i < 2), Lit::new(2, i % 2 == 0)])?;
     }
     Ok(cnf)
 }
@@ -36,7 +39,7 @@ fn push_sizes(text: &mut String, log: &Log) -> Result<(), AllocError> {
 }
 
 /// Returns the answer of a search, and the sizes of its steps.
-pub fn search_of(
+pub fn search_report(
     alloc: Global,
     cnf: &Cnf,
     picker: Picker,
@@ -58,7 +61,7 @@ pub fn search_of(
 }
 
 /// Returns the answer of a search over the first `clauses` clauses, and the sizes of its steps.
-pub fn search(
+pub fn first_clauses_search_report(
     alloc: Global,
     clauses: u8,
     picker: Picker,
@@ -66,7 +69,7 @@ pub fn search(
     budget: u64,
 ) -> Result<String, AllocError> {
     let cnf = formula(alloc, clauses)?;
-    search_of(alloc, &cnf, picker, restart, budget)
+    search_report(alloc, &cnf, picker, restart, budget)
 }
 
 // The four clauses are unsatisfiable. Each search learns one unit clause, and then the empty one.
@@ -77,43 +80,43 @@ fn four_clauses(rt: HostRuntime) -> Result<(), Fail> {
         (1, "unsat unit empty"),
         (9, "unsat unit empty"),
     ] {
-        let a = search(
+        let a = first_clauses_search_report(
             rt.alloc(),
             4,
-            by_least(rt.alloc())?,
-            Restart::new(Box::new(rt.alloc(), never)?),
+            least_negative_picker(rt.alloc())?,
+            Restart::new(Box::new(rt.alloc(), restart_never)?),
             budget,
         )?;
         assert_eq!(rt; a.as_str(), answer, "least, never, {budget}");
-        let a = search(
+        let a = first_clauses_search_report(
             rt.alloc(),
             4,
-            by_least(rt.alloc())?,
-            Restart::new(Box::new(rt.alloc(), always)?),
+            least_negative_picker(rt.alloc())?,
+            Restart::new(Box::new(rt.alloc(), restart_always)?),
             budget,
         )?;
         assert_eq!(rt; a.as_str(), answer, "least, always, {budget}");
-        let a = search(
+        let a = first_clauses_search_report(
             rt.alloc(),
             4,
-            by_greatest(rt.alloc())?,
-            Restart::new(Box::new(rt.alloc(), never)?),
+            greatest_positive_picker(rt.alloc())?,
+            Restart::new(Box::new(rt.alloc(), restart_never)?),
             budget,
         )?;
         assert_eq!(rt; a.as_str(), answer, "greatest, never, {budget}");
-        let a = search(
+        let a = first_clauses_search_report(
             rt.alloc(),
             4,
-            by_greatest(rt.alloc())?,
-            Restart::new(Box::new(rt.alloc(), always)?),
+            greatest_positive_picker(rt.alloc())?,
+            Restart::new(Box::new(rt.alloc(), restart_always)?),
             budget,
         )?;
         assert_eq!(rt; a.as_str(), answer, "greatest, always, {budget}");
-        let a = search(
+        let a = first_clauses_search_report(
             rt.alloc(),
             4,
-            by_heaviest(rt.alloc())?,
-            Restart::new(Box::new(rt.alloc(), never)?),
+            heaviest_negative_picker(rt.alloc())?,
+            Restart::new(Box::new(rt.alloc(), restart_never)?),
             budget,
         )?;
         assert_eq!(rt; a.as_str(), answer, "heaviest, never, {budget}");
@@ -125,19 +128,19 @@ fn four_clauses(rt: HostRuntime) -> Result<(), Fail> {
 // learns a unit on the way, the other none.
 #[test]
 fn three_clauses(rt: HostRuntime) -> Result<(), Fail> {
-    let a = search(
+    let a = first_clauses_search_report(
         rt.alloc(),
         3,
-        by_least(rt.alloc())?,
-        Restart::new(Box::new(rt.alloc(), never)?),
+        least_negative_picker(rt.alloc())?,
+        Restart::new(Box::new(rt.alloc(), restart_never)?),
         9,
     )?;
     assert_eq!(rt; a.as_str(), "sat true true unit");
-    let a = search(
+    let a = first_clauses_search_report(
         rt.alloc(),
         3,
-        by_greatest(rt.alloc())?,
-        Restart::new(Box::new(rt.alloc(), always)?),
+        greatest_positive_picker(rt.alloc())?,
+        Restart::new(Box::new(rt.alloc(), restart_always)?),
         0,
     )?;
     assert_eq!(rt; a.as_str(), "sat true true");
@@ -146,11 +149,11 @@ fn three_clauses(rt: HostRuntime) -> Result<(), Fail> {
 
 #[test]
 fn no_clause(rt: HostRuntime) -> Result<(), Fail> {
-    let a = search(
+    let a = first_clauses_search_report(
         rt.alloc(),
         0,
-        by_least(rt.alloc())?,
-        Restart::new(Box::new(rt.alloc(), never)?),
+        least_negative_picker(rt.alloc())?,
+        Restart::new(Box::new(rt.alloc(), restart_never)?),
         0,
     )?;
     assert_eq!(rt; a.as_str(), "sat false false");

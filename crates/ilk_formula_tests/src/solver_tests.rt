@@ -1,8 +1,11 @@
 ghost use Rattle.std.specs.Prelude.{◌≡◌, ℕ, false, IsTrue};
 ghost use Rattle.ilk_solver.specs.View.{is_unset};
 
-use crate::pickers::{always, by_heaviest, by_least, by_weighed, least, never};
-use crate::row_tests::{search, search_of};
+use crate::pickers::{
+    heaviest_negative_picker, heaviest_or_least_picker, least_negative_picker, pick_least_negative,
+    restart_always, restart_never,
+};
+use crate::row_tests::{first_clauses_search_report, search_report};
 use ilk_cnf::{Cnf, Lit};
 use ilk_solver::{Picker, Restart, Solver, View};
 use std::alloc::{AllocError, Global};
@@ -19,7 +22,7 @@ fn first_of(order: &[u64], view: &View) -> Lit
             return Lit::new(*v, false);
         }
     }
-    least(view)
+    pick_least_negative(view)
 }
 
 // A closure with an order of variables decides. Over the clause (1 2) the variable decided first is
@@ -29,8 +32,8 @@ fn decisions_by_an_order(rt: HostRuntime) -> Result<(), Fail> {
     for (order, answer) in [([1, 2], "sat false true"), ([2, 1], "sat true false")] {
         let by_order = move |view: &View| first_of(&order, view);
         let picker = Picker::new(Box::new(rt.alloc(), by_order)?);
-        let restart = Restart::new(Box::new(rt.alloc(), never)?);
-        let a = search(rt.alloc(), 1, picker, restart, 0)?;
+        let restart = Restart::new(Box::new(rt.alloc(), restart_never)?);
+        let a = first_clauses_search_report(rt.alloc(), 1, picker, restart, 0)?;
         assert_eq!(rt; a.as_str(), answer);
     }
     Ok(())
@@ -43,9 +46,9 @@ fn weighing(alloc: Global) -> Result<Cnf, AllocError> {
     cnf.fresh()?;
     cnf.fresh()?;
     cnf.fresh()?;
-    cnf.add_clause_of(&[Lit::new(2, true), Lit::new(3, true), Lit::new(4, true)])?;
-    cnf.add_clause_of(&[Lit::new(2, true), Lit::new(3, true), Lit::new(4, false)])?;
-    cnf.add_clause_of(&[Lit::new(1, true), Lit::new(3, false)])?;
+    cnf.add_clause_from_lits(&[Lit::new(2, true), Lit::new(3, true), Lit::new(4, true)])?;
+    cnf.add_clause_from_lits(&[Lit::new(2, true), Lit::new(3, true), Lit::new(4, false)])?;
+    cnf.add_clause_from_lits(&[Lit::new(1, true), Lit::new(3, false)])?;
     Ok(cnf)
 }
 
@@ -59,10 +62,10 @@ fn restarts_at_a_number(rt: HostRuntime) -> Result<(), Fail> {
         (2, "sat false true false false longer"),
     ] {
         let at_number = move |steps: u64| steps == number;
-        let picker = by_heaviest(rt.alloc())?;
+        let picker = heaviest_negative_picker(rt.alloc())?;
         let restart = Restart::new(Box::new(rt.alloc(), at_number)?);
         let cnf = weighing(rt.alloc())?;
-        let a = search_of(rt.alloc(), &cnf, picker, restart, 9)?;
+        let a = search_report(rt.alloc(), &cnf, picker, restart, 9)?;
         assert_eq!(rt; a.as_str(), answer, "restart at {number}");
     }
     Ok(())
@@ -72,8 +75,14 @@ fn restarts_at_a_number(rt: HostRuntime) -> Result<(), Fail> {
 #[test]
 fn decisions_by_weights(rt: HostRuntime) -> Result<(), Fail> {
     let cnf = weighing(rt.alloc())?;
-    let restart = Restart::new(Box::new(rt.alloc(), always)?);
-    let a = search_of(rt.alloc(), &cnf, by_weighed(rt.alloc())?, restart, 9)?;
+    let restart = Restart::new(Box::new(rt.alloc(), restart_always)?);
+    let a = search_report(
+        rt.alloc(),
+        &cnf,
+        heaviest_or_least_picker(rt.alloc())?,
+        restart,
+        9,
+    )?;
     assert_eq!(rt; a.as_str(), "sat true false true false longer");
     Ok(())
 }
@@ -83,10 +92,10 @@ fn forcing(alloc: Global, refuted: bool) -> Result<Cnf, AllocError> {
     let mut cnf = Cnf::new(alloc);
     cnf.fresh()?;
     cnf.fresh()?;
-    cnf.add_clause_of(&[Lit::new(1, true)])?;
-    cnf.add_clause_of(&[Lit::new(1, false), Lit::new(2, true)])?;
+    cnf.add_clause_from_lits(&[Lit::new(1, true)])?;
+    cnf.add_clause_from_lits(&[Lit::new(1, false), Lit::new(2, true)])?;
     if refuted {
-        cnf.add_clause_of(&[Lit::new(1, false), Lit::new(2, false)])?;
+        cnf.add_clause_from_lits(&[Lit::new(1, false), Lit::new(2, false)])?;
     }
     Ok(cnf)
 }
@@ -96,8 +105,8 @@ fn forcing(alloc: Global, refuted: bool) -> Result<Cnf, AllocError> {
 fn propagation_of_a_solver(rt: HostRuntime) -> Result<(), Fail> {
     for refuted in [false, true] {
         let cnf = forcing(rt.alloc(), refuted)?;
-        let picker = by_least(rt.alloc())?;
-        let restart = Restart::new(Box::new(rt.alloc(), never)?);
+        let picker = least_negative_picker(rt.alloc())?;
+        let restart = Restart::new(Box::new(rt.alloc(), restart_never)?);
         let mut solver = Solver::new(rt.alloc(), &cnf, picker, restart)?;
         assert_eq!(rt; solver.propagate().is_some(), refuted);
     }

@@ -8,7 +8,7 @@ use Rattle.ilk_plant.specs.declared.draft.RouteDraft.{RouteDraft}
 use Rattle.ilk_plant.specs.declared.draft.TableDraft.{TableDraft}
 use Rattle.ilk_plant.specs.declared.network.Position.{Position}
 use Rattle.ilk_plant.specs.declared.network.Position.TheVariants.{Plus, Minus}
-use Rattle.ilk_gen.specs.Stations.{down_board, down_point, line, line_down_board, line_up_board, track, up_board, up_point}
+use Rattle.ilk_gen.specs.Stations.{down_board_name, down_point_name, line, line_down_board, line_up_board, track_name, up_board_name, up_point_name}
 
 -- The name of route k of station j.
 abbrev pub route_name : ℕ → ℕ → Name
@@ -31,21 +31,21 @@ route_over_point name source destination point at behind = record {
 
 -- Route k of station j, by the track at a position: up into the station from the line below.
 abbrev pub up_route_into : ℕ → ℕ → Position → RouteDraft
-up_route_into j k at = route_over_point (route_name j k) (up_board (line (j - 1))) (Some (up_board (track j at))) (down_point j) at (track j at)
+up_route_into j k at = route_over_point (route_name j k) (up_board_name (line (j - 1))) (Some (up_board_name (track_name j at))) (down_point_name j) at (track_name j at)
 
 -- Up out of station j of n, to the line above. If that is the last line, the route has no
 -- destination board.
 abbrev pub up_route_out_of : ℕ → ℕ → ℕ → Position → RouteDraft
-up_route_out_of n j k at = route_over_point (route_name j k) (up_board (track j at)) (line_up_board n j) (up_point j) at (line j)
+up_route_out_of n j k at = route_over_point (route_name j k) (up_board_name (track_name j at)) (line_up_board n j) (up_point_name j) at (line j)
 
 -- Down into the station from the line above.
 abbrev pub down_route_into : ℕ → ℕ → Position → RouteDraft
-down_route_into j k at = route_over_point (route_name j k) (down_board (line j)) (Some (down_board (track j at))) (up_point j) at (track j at)
+down_route_into j k at = route_over_point (route_name j k) (down_board_name (line j)) (Some (down_board_name (track_name j at))) (up_point_name j) at (track_name j at)
 
 -- Down out of the station, to the line below. If that is line 0, the route has no destination
 -- board.
 abbrev pub down_route_out_of : ℕ → ℕ → Position → RouteDraft
-down_route_out_of j k at = route_over_point (route_name j k) (down_board (track j at)) (line_down_board (j - 1)) (down_point j) at (line (j - 1))
+down_route_out_of j k at = route_over_point (route_name j k) (down_board_name (track_name j at)) (line_down_board (j - 1)) (down_point_name j) at (line (j - 1))
 
 -- The routes of station j of n.
 abbrev pub station_routes : ℕ → ℕ → List RouteDraft

@@ -11,7 +11,7 @@
 -- boards.
 use Rattle.std.specs.Prelude.{ℕ, ◌+◌, ◌-◌, Option, Some, List, [], ◌∷◌, ◌++◌, codes, decimal, flat_map, nat_lt}
 use Rattle.std.specs.List.{range_with_len}
-use Rattle.ilk_base.specs.Option.{only_if}
+use Rattle.ilk_base.specs.Option.{then_some}
 use Rattle.ilk_plant.specs.Name.{Name}
 use Rattle.ilk_plant.specs.declared.draft.KindDraft.TheVariants.{Linear, Point}
 use Rattle.ilk_plant.specs.declared.draft.NetDraft.{NetDraft}
@@ -25,58 +25,58 @@ abbrev pub line : ℕ → Name
 line j = codes "l" ++ decimal j
 
 -- The point at the down end of station j.
-abbrev pub down_point : ℕ → Name
-down_point j = codes "p" ++ decimal j
+abbrev pub down_point_name : ℕ → Name
+down_point_name j = codes "p" ++ decimal j
 
 -- The track of station j on the legs of its points at a position.
-abbrev pub track : ℕ → Position → Name
-track j Plus = codes "t" ++ decimal j
-track j Minus = codes "u" ++ decimal j
+abbrev pub track_name : ℕ → Position → Name
+track_name j Plus = codes "t" ++ decimal j
+track_name j Minus = codes "u" ++ decimal j
 
 -- The point at the up end of station j.
-abbrev pub up_point : ℕ → Name
-up_point j = codes "q" ++ decimal j
+abbrev pub up_point_name : ℕ → Name
+up_point_name j = codes "q" ++ decimal j
 
 -- The boards on a section, for up trains and for down trains.
-abbrev pub up_board : Name → Name
-up_board section = section ++ codes "U"
+abbrev pub up_board_name : Name → Name
+up_board_name section = section ++ codes "U"
 
-abbrev pub down_board : Name → Name
-down_board section = section ++ codes "D"
+abbrev pub down_board_name : Name → Name
+down_board_name section = section ++ codes "D"
 
 -- The boards on line j of n stations: an up board unless the line is the last, a down board unless
 -- it is line 0.
 abbrev pub line_up_board : ℕ → ℕ → Option Name
-line_up_board n j = only_if (nat_lt j n) (up_board (line j))
+line_up_board n j = then_some (nat_lt j n) (up_board_name (line j))
 
 abbrev pub line_down_board : ℕ → Option Name
-line_down_board j = only_if (nat_lt 0 j) (down_board (line j))
+line_down_board j = then_some (nat_lt 0 j) (down_board_name (line j))
 
 -- The neighbours of line j of n stations. The down one is a point of station j, unless j is 0. The
 -- up one is a point of station j + 1, unless the line is the last.
-abbrev pub neighbour_down_of : ℕ → Option Name
-neighbour_down_of j = only_if (nat_lt 0 j) (up_point j)
+abbrev pub line_down_neighbour : ℕ → Option Name
+line_down_neighbour j = then_some (nat_lt 0 j) (up_point_name j)
 
-abbrev pub neighbour_up_of : ℕ → ℕ → Option Name
-neighbour_up_of n j = only_if (nat_lt j n) (down_point (j + 1))
+abbrev pub line_up_neighbour : ℕ → ℕ → Option Name
+line_up_neighbour n j = then_some (nat_lt j n) (down_point_name (j + 1))
 
 -- Line j of n stations.
 abbrev pub line_section : ℕ → ℕ → SectionDraft
-line_section n j = record { name = line j; kind = Linear (neighbour_down_of j) (neighbour_up_of n j) (line_down_board j) (line_up_board n j) }
+line_section n j = record { name = line j; kind = Linear (line_down_neighbour j) (line_up_neighbour n j) (line_down_board j) (line_up_board n j) }
 
 -- A track of station j.
 abbrev pub track_section : ℕ → Position → SectionDraft
 track_section j at = record {
-  name = track j at;
-  kind = Linear (Some (down_point j)) (Some (up_point j)) (Some (down_board (track j at))) (Some (up_board (track j at)));
+  name = track_name j at;
+  kind = Linear (Some (down_point_name j)) (Some (up_point_name j)) (Some (down_board_name (track_name j at))) (Some (up_board_name (track_name j at)));
 }
 
 -- The points of station j. They face its tracks.
 abbrev pub down_point_section : ℕ → SectionDraft
-down_point_section j = record { name = down_point j; kind = Point (line (j - 1)) (track j Plus) (track j Minus) Up }
+down_point_section j = record { name = down_point_name j; kind = Point (line (j - 1)) (track_name j Plus) (track_name j Minus) Up }
 
 abbrev pub up_point_section : ℕ → SectionDraft
-up_point_section j = record { name = up_point j; kind = Point (line j) (track j Plus) (track j Minus) Down }
+up_point_section j = record { name = up_point_name j; kind = Point (line j) (track_name j Plus) (track_name j Minus) Down }
 
 -- The sections of station j, and the line above it.
 abbrev pub station_sections : ℕ → ℕ → List SectionDraft

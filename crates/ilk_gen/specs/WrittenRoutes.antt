@@ -28,8 +28,8 @@ conflicts_down_out_of j own = route_names_if (nat_lt 1 j) (j - 1) (3 ∷ 4 ∷ [
 abbrev pub with_listed_conflicts : List Name → RouteDraft → RouteDraft
 with_listed_conflicts names route = record route { conflicts = names }
 
-abbrev pub constant_routes : ℕ → ℕ → List RouteDraft
-constant_routes n j =
+abbrev pub explicit_station_routes : ℕ → ℕ → List RouteDraft
+explicit_station_routes n j =
     with_listed_conflicts (route_names j (2 ∷ 5 ∷ 7 ∷ 8 ∷ [])) (up_route_into j 1 Plus)
     ∷ with_listed_conflicts (route_names j (1 ∷ 6 ∷ 7 ∷ 8 ∷ [])) (up_route_into j 2 Minus)
     ∷ with_listed_conflicts (conflicts_up_out_of n j (4 ∷ 5 ∷ 6 ∷ [])) (up_route_out_of n j 3 Plus)
@@ -40,5 +40,5 @@ constant_routes n j =
     ∷ with_listed_conflicts (conflicts_down_out_of j (1 ∷ 2 ∷ 7 ∷ [])) (down_route_out_of j 8 Minus)
     ∷ []
 
-abbrev pub all_constant_routes : ℕ → List RouteDraft
-all_constant_routes n = flat_map (constant_routes n) (range_with_len 1 n)
+abbrev pub all_explicit_routes : ℕ → List RouteDraft
+all_explicit_routes n = flat_map (explicit_station_routes n) (range_with_len 1 n)

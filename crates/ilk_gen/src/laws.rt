@@ -3,10 +3,10 @@
 ghost use Rattle.std.specs.Prelude.{◌≡◌, ◌≤◌, ◌+◌, ◌*◌, Ok, [], length};
 ghost use Rattle.ilk_plant.specs.ColumnRules.{column_rules_broken};
 ghost use Rattle.ilk_plant.specs.Draft.{plant_from_drafts};
-ghost use Rattle.ilk_plant.specs.Limits.{HasLimits};
+ghost use Rattle.ilk_plant.specs.Limits.{WithinLimits};
 ghost use Rattle.ilk_plant.specs.NetworkRules.{network_rules_broken};
 ghost use Rattle.ilk_plant.specs.TableRules.{table_rules_broken};
-ghost use Rattle.ilk_table_read.specs.Table.{drafts_of};
+ghost use Rattle.ilk_table_read.specs.Table.{net_and_table_drafts};
 ghost use Rattle.ilk_gen.specs.StationsText.{stations_text};
 ghost use Rattle.ilk_gen.specs.StationRoutes.{stations_table};
 ghost use Rattle.ilk_gen.specs.Stations.{stations_net};
@@ -17,7 +17,7 @@ ghost use Rattle.ilk_gen.specs.declared.making.TheConstants.{MAX_STATIONS};
 pub fn stations_are_read(n: u32)
     requires some { 1 ≤ n }
     requires few { n ≤ MAX_STATIONS }
-    ensures { drafts_of (stations_text n) ≡ Ok (stations_net n, stations_table n) }
+    ensures { net_and_table_drafts (stations_text n) ≡ Ok (stations_net n, stations_table n) }
 {}
 
 /// The drafts of 1 to `MAX_STATIONS` stations are within the limits, and violate no rule of the
@@ -25,7 +25,7 @@ pub fn stations_are_read(n: u32)
 pub fn stations_break_no_rule(n: u32)
     requires some { 1 ≤ n }
     requires few { n ≤ MAX_STATIONS }
-    ensures limits { HasLimits (stations_net n) (stations_table n) }
+    ensures limits { WithinLimits (stations_net n) (stations_table n) }
     ensures network { network_rules_broken (stations_net n) ≡ [] }
     ensures table { table_rules_broken (stations_net n) (stations_table n) ≡ [] }
     ensures columns { column_rules_broken (plant_from_drafts (stations_net n) (stations_table n))

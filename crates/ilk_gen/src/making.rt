@@ -7,7 +7,7 @@ ghost use Rattle.ilk_gen.specs.Stations.{stations_net};
 use crate::routes::stations_table;
 use crate::sections::stations_net;
 use crate::{stations_are_counted, stations_break_no_rule};
-use ilk_conf_write::{Version, write_configuration};
+use ilk_conf_write::{Version, configuration_json};
 use ilk_plant::Plant;
 use std::alloc::{AllocError, Global};
 
@@ -25,7 +25,7 @@ pub fn stations(alloc: Global, n: u32) -> Result<Vec<u8>, AllocError>
     let net = stations_net(alloc, n)?;
     let table = stations_table(alloc, n)?;
     stations_break_no_rule(n);
-    write_configuration(alloc, Version::First, &net, &table)
+    configuration_json(alloc, Version::First, &net, &table)
 }
 
 /// Creates the plant of a line of `n` stations, 1 to `MAX_STATIONS`, as in the configuration from

@@ -14,15 +14,15 @@ pub(crate) fn line(alloc: Global, j: u32) -> Result<Text, AllocError>
 }
 
 // Returns the name of the point at the down end of station `j`.
-pub(crate) fn down_point(alloc: Global, j: u32) -> Result<Text, AllocError>
-    ensures { IfOk result (λ name. name ≡ stations.down_point j) }
+pub(crate) fn down_point_name(alloc: Global, j: u32) -> Result<Text, AllocError>
+    ensures { IfOk result (λ name. name ≡ stations.down_point_name j) }
 {
     Ok(Text::of(format!(in alloc; "p{j}")?))
 }
 
 // Returns the name of station `j`'s track on the legs at position `at`.
-pub(crate) fn track(alloc: Global, j: u32, at: Position) -> Result<Text, AllocError>
-    ensures { IfOk result (λ name. name ≡ stations.track j at) }
+pub(crate) fn track_name(alloc: Global, j: u32, at: Position) -> Result<Text, AllocError>
+    ensures { IfOk result (λ name. name ≡ stations.track_name j at) }
 {
     match at {
         Position::Plus => Ok(Text::of(format!(in alloc; "t{j}")?)),
@@ -31,21 +31,21 @@ pub(crate) fn track(alloc: Global, j: u32, at: Position) -> Result<Text, AllocEr
 }
 
 // Returns the name of the point at the up end of station `j`.
-pub(crate) fn up_point(alloc: Global, j: u32) -> Result<Text, AllocError>
-    ensures { IfOk result (λ name. name ≡ stations.up_point j) }
+pub(crate) fn up_point_name(alloc: Global, j: u32) -> Result<Text, AllocError>
+    ensures { IfOk result (λ name. name ≡ stations.up_point_name j) }
 {
     Ok(Text::of(format!(in alloc; "q{j}")?))
 }
 
-pub(crate) fn up_board(alloc: Global, section: &Text) -> Result<Text, AllocError>
-    ensures { IfOk result (λ name. name ≡ stations.up_board section.now) }
+pub(crate) fn up_board_name(alloc: Global, section: &Text) -> Result<Text, AllocError>
+    ensures { IfOk result (λ name. name ≡ stations.up_board_name section.now) }
 {
     let section = section.as_str();
     Ok(Text::of(format!(in alloc; "{section}U")?))
 }
 
-pub(crate) fn down_board(alloc: Global, section: &Text) -> Result<Text, AllocError>
-    ensures { IfOk result (λ name. name ≡ stations.down_board section.now) }
+pub(crate) fn down_board_name(alloc: Global, section: &Text) -> Result<Text, AllocError>
+    ensures { IfOk result (λ name. name ≡ stations.down_board_name section.now) }
 {
     let section = section.as_str();
     Ok(Text::of(format!(in alloc; "{section}D")?))
@@ -57,7 +57,7 @@ pub(crate) fn line_up_board(alloc: Global, n: u32, j: u32) -> Result<Option<Text
 {
     if j < n {
         let line = line(alloc, j)?;
-        Ok(Some(up_board(alloc, &line)?))
+        Ok(Some(up_board_name(alloc, &line)?))
     } else {
         Ok(None)
     }
@@ -69,7 +69,7 @@ pub(crate) fn line_down_board(alloc: Global, j: u32) -> Result<Option<Text>, All
 {
     if 0 < j {
         let line = line(alloc, j)?;
-        Ok(Some(down_board(alloc, &line)?))
+        Ok(Some(down_board_name(alloc, &line)?))
     } else {
         Ok(None)
     }
@@ -77,10 +77,10 @@ pub(crate) fn line_down_board(alloc: Global, j: u32) -> Result<Option<Text>, All
 
 // Returns the neighbour of line `j` on its down side. Returns `None` for line 0.
 pub(crate) fn point_below(alloc: Global, j: u32) -> Result<Option<Text>, AllocError>
-    ensures { IfOk result (λ name. name ≡ stations.neighbour_down_of j) }
+    ensures { IfOk result (λ name. name ≡ stations.line_down_neighbour j) }
 {
     if 0 < j {
-        Ok(Some(up_point(alloc, j)?))
+        Ok(Some(up_point_name(alloc, j)?))
     } else {
         Ok(None)
     }
@@ -89,10 +89,10 @@ pub(crate) fn point_below(alloc: Global, j: u32) -> Result<Option<Text>, AllocEr
 // Returns the neighbour of line `j` of `n` stations on its up side. Returns `None` for the last
 // line.
 pub(crate) fn point_above(alloc: Global, n: u32, j: u32) -> Result<Option<Text>, AllocError>
-    ensures { IfOk result (λ name. name ≡ stations.neighbour_up_of n j) }
+    ensures { IfOk result (λ name. name ≡ stations.line_up_neighbour n j) }
 {
     if j < n {
-        Ok(Some(down_point(alloc, j + 1)?))
+        Ok(Some(down_point_name(alloc, j + 1)?))
     } else {
         Ok(None)
     }

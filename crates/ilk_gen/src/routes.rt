@@ -7,8 +7,8 @@ ghost use Rattle.ilk_gen.specs.WrittenRoutes as written;
 ghost use Rattle.ilk_gen.specs.declared.making.TheConstants.{MAX_STATIONS};
 
 use crate::names::{
-    down_board, down_point, line, line_down_board, line_up_board, route_name, track, up_board,
-    up_point,
+    down_board_name, down_point_name, line, line_down_board, line_up_board, route_name, track_name,
+    up_board_name, up_point_name,
 };
 use ilk_plant::{ListedDraft, Position, RouteDraft, Row, TableDraft, Text};
 use std::alloc::{AllocError, Global};
@@ -86,17 +86,17 @@ fn up_into(
         ≡ written.with_listed_conflicts conflicts (stations.up_route_into j k at)) }
 {
     let below = line(alloc, j - 1)?;
-    let point = down_point(alloc, j)?;
-    let track = track(alloc, j, at)?;
+    let point = down_point_name(alloc, j)?;
+    let track_name = track_name(alloc, j, at)?;
     let name = route_name(alloc, j, k)?;
-    let source = up_board(alloc, &below)?;
-    let destination = Some(up_board(alloc, &track)?);
+    let source = up_board_name(alloc, &below)?;
+    let destination = Some(up_board_name(alloc, &track_name)?);
     let ends = Ends {
         name,
         source,
         destination,
     };
-    over_point(alloc, ends, &point, at, &track, conflicts)
+    over_point(alloc, ends, &point, at, &track_name, conflicts)
 }
 
 // Creates route `k` of station `j` of `n`, up out of it by one track.
@@ -113,10 +113,10 @@ fn up_out_of(
         (stations.up_route_out_of n j k at)) }
 {
     let above = line(alloc, j)?;
-    let point = up_point(alloc, j)?;
-    let track = track(alloc, j, at)?;
+    let point = up_point_name(alloc, j)?;
+    let track_name = track_name(alloc, j, at)?;
     let name = route_name(alloc, j, k)?;
-    let source = up_board(alloc, &track)?;
+    let source = up_board_name(alloc, &track_name)?;
     let destination = line_up_board(alloc, n, j)?;
     let ends = Ends {
         name,
@@ -138,17 +138,17 @@ fn down_into(
         ≡ written.with_listed_conflicts conflicts (stations.down_route_into j k at)) }
 {
     let above = line(alloc, j)?;
-    let point = up_point(alloc, j)?;
-    let track = track(alloc, j, at)?;
+    let point = up_point_name(alloc, j)?;
+    let track_name = track_name(alloc, j, at)?;
     let name = route_name(alloc, j, k)?;
-    let source = down_board(alloc, &above)?;
-    let destination = Some(down_board(alloc, &track)?);
+    let source = down_board_name(alloc, &above)?;
+    let destination = Some(down_board_name(alloc, &track_name)?);
     let ends = Ends {
         name,
         source,
         destination,
     };
-    over_point(alloc, ends, &point, at, &track, conflicts)
+    over_point(alloc, ends, &point, at, &track_name, conflicts)
 }
 
 // Creates route `k` of station `j`, down out of it by one track.
@@ -165,10 +165,10 @@ fn down_out_of(
         (stations.down_route_out_of j k at)) }
 {
     let below = line(alloc, j - 1)?;
-    let point = down_point(alloc, j)?;
-    let track = track(alloc, j, at)?;
+    let point = down_point_name(alloc, j)?;
+    let track_name = track_name(alloc, j, at)?;
     let name = route_name(alloc, j, k)?;
-    let source = down_board(alloc, &track)?;
+    let source = down_board_name(alloc, &track_name)?;
     let destination = line_down_board(alloc, j - 1)?;
     let ends = Ends {
         name,
@@ -230,7 +230,7 @@ fn push_station(
     routes: &mut Row<RouteDraft>,
 ) -> Result<(), AllocError>
     requires { 1 ≤ j }
-    ensures { OnOk result (routes.new ≡ routes.old ++ written.constant_routes n j) }
+    ensures { OnOk result (routes.new ≡ routes.old ++ written.explicit_station_routes n j) }
 {
     let (plus, minus) = (Position::Plus, Position::Minus);
     routes.push(up_into(alloc, j, 1, plus, names_of(alloc, j, &[2, 5, 7, 8])?)?)?;
@@ -251,7 +251,7 @@ fn push_station(
 }
 
 fn push_routes(alloc: Global, n: u32, routes: &mut Row<RouteDraft>) -> Result<(), AllocError>
-    ensures { OnOk result (routes.new ≡ routes.old ++ written.all_constant_routes n) }
+    ensures { OnOk result (routes.new ≡ routes.old ++ written.all_explicit_routes n) }
 {
     for i in 0..n {
         push_station(alloc, n, i + 1, routes)?;

@@ -4,8 +4,8 @@ ghost use Rattle.std.specs.Prelude.{◌≡◌, ◌≤◌, ◌++◌, IfOk, OnOk};
 ghost use Rattle.ilk_gen.specs.Stations as stations;
 
 use crate::names::{
-    down_board, down_point, line, line_down_board, line_up_board, point_above, point_below, track,
-    up_board, up_point,
+    down_board_name, down_point_name, line, line_down_board, line_up_board, point_above,
+    point_below, track_name, up_board_name, up_point_name,
 };
 use ilk_plant::{Dir, KindDraft, NetDraft, Position, Row, SectionDraft};
 use std::alloc::{AllocError, Global};
@@ -30,11 +30,11 @@ fn line_section(alloc: Global, n: u32, j: u32) -> Result<SectionDraft, AllocErro
 fn track_section(alloc: Global, j: u32, at: Position) -> Result<SectionDraft, AllocError>
     ensures { IfOk result (λ section. section ≡ stations.track_section j at) }
 {
-    let name = track(alloc, j, at)?;
-    let down = down_point(alloc, j)?;
-    let up = up_point(alloc, j)?;
-    let board_down = down_board(alloc, &name)?;
-    let board_up = up_board(alloc, &name)?;
+    let name = track_name(alloc, j, at)?;
+    let down = down_point_name(alloc, j)?;
+    let up = up_point_name(alloc, j)?;
+    let board_down = down_board_name(alloc, &name)?;
+    let board_up = up_board_name(alloc, &name)?;
     let kind = KindDraft::Linear {
         down: Some(down),
         up: Some(up),
@@ -48,10 +48,10 @@ fn down_point_section(alloc: Global, j: u32) -> Result<SectionDraft, AllocError>
     requires { 1 ≤ j }
     ensures { IfOk result (λ section. section ≡ stations.down_point_section j) }
 {
-    let name = down_point(alloc, j)?;
+    let name = down_point_name(alloc, j)?;
     let stem = line(alloc, j - 1)?;
-    let plus = track(alloc, j, Position::Plus)?;
-    let minus = track(alloc, j, Position::Minus)?;
+    let plus = track_name(alloc, j, Position::Plus)?;
+    let minus = track_name(alloc, j, Position::Minus)?;
     let kind = KindDraft::Point {
         stem,
         plus,
@@ -64,10 +64,10 @@ fn down_point_section(alloc: Global, j: u32) -> Result<SectionDraft, AllocError>
 fn up_point_section(alloc: Global, j: u32) -> Result<SectionDraft, AllocError>
     ensures { IfOk result (λ section. section ≡ stations.up_point_section j) }
 {
-    let name = up_point(alloc, j)?;
+    let name = up_point_name(alloc, j)?;
     let stem = line(alloc, j)?;
-    let plus = track(alloc, j, Position::Plus)?;
-    let minus = track(alloc, j, Position::Minus)?;
+    let plus = track_name(alloc, j, Position::Plus)?;
+    let minus = track_name(alloc, j, Position::Minus)?;
     let kind = KindDraft::Point {
         stem,
         plus,

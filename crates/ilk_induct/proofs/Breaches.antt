@@ -3,25 +3,25 @@ use Rattle.std.proofs.Common.{◌≡◌, ℕ, ◌+◌, ◌-◌, ◌*◌, ◌≤�
 use Rattle.std.proofs.lemmas.Bool.{le-leb}
 use Rattle.std.proofs.lemmas.Bool.Decides.{nat_tests}
 use Rattle.std.proofs.Math.Nat.{eq-or-lt_of_le}
-use Rattle.ilk_ir.specs.System.{SystemTree}
+use Rattle.ilk_ir.specs.System.{PlainSystem}
 use Rattle.ilk_unroll.specs.Query.{query_formula}
 use Rattle.ilk_unroll.specs.Satisfied.{IsSatisfiable}
 use Rattle.ilk_log.specs.declared.step.Step.{Step as LogStep}
-use Rattle.ilk_log.specs.Conflicts.{conflicts_of}
+use Rattle.ilk_log.specs.Conflicts.{count_learned_clauses}
 use Rattle.ilk_unroll.specs.declared.queries.Wanted.{Wanted}
 use Rattle.ilk_unroll.specs.declared.queries.Wanted.TheVariants.{Hazard, Breach as BreachQuery}
 use Rattle.ilk_unroll.specs.declared.reading.Trace.{Trace}
-use Rattle.ilk_unroll.specs.Goal.{GoalTree, step_count, wanted_valid}
-use Rattle.ilk_induct.specs.declared.due.Due.TheVariants.{Broken}
+use Rattle.ilk_unroll.specs.Goal.{PlainGoal, step_count, step_count_is_allowed}
+use Rattle.ilk_induct.specs.declared.due.DueQuery.TheVariants.{Broken}
 use Rattle.ilk_induct.specs.declared.due.Next.TheVariants.{Ask, End}
 use Rattle.ilk_certificate.specs.declared.asked.Asked.{Asked}
 use Rattle.ilk_certificate.specs.Certificate.{IsRefuted}
-use Rattle.ilk_certificate.specs.CertificateText.{all_conflicts}
+use Rattle.ilk_certificate.specs.CertificateText.{total_conflicts}
 use Rattle.ilk_induct.specs.declared.verdict.Verdict.TheVariants.{Unsafe, Breach}
 use Rattle.ilk_unroll.specs.Evidence.{HasRun}
 use Rattle.ilk_induct.specs.Right.{IsRunOfQuery, IsRightSystemVerdict}
 use Rattle.ilk_induct.specs.Spent.{IsLogOf}
-use Rattle.ilk_induct.specs.Due.{query_with_log, queries_to, after_breach, IsKnown, IsFoundBreach, IsInOrder, IsEnd, IsNext}
+use Rattle.ilk_induct.specs.Due.{query_with_log, queries_up_to_query, after_breach_and_no_hazard, IsKnown, IsFoundBreach, IsNextInQueryOrder, IsEnd, IsValidContinuation}
 use Rattle.ilk_unroll.proofs.QueryDemands.{wanted-parts}
 use Rattle.ilk_induct.proofs.Orders.{to-hazard-after, all-to-hazard, more-queries, more-conflicts, asked-to, go-on, found-order, found-to, go-on-found}
 
@@ -29,20 +29,20 @@ pub below-more : (P : ℕ → Type 0) (n : ℕ) → ((m : ℕ) → m < n → P m
 below-more P n below at m less =
     elim (eq-or-lt_of_le (let le : m ≤ n = omega arith in le)) [ inl e ↦ subst P (sym e) at | inr lt ↦ below m lt ]
 
-pub hazard-valid : (depth n : ℕ) → depth ≤ 16 → n < depth → wanted_valid (Hazard (n + 1)) ≡ true
+pub hazard-valid : (depth n : ℕ) → depth ≤ 16 → n < depth → step_count_is_allowed (Hazard (n + 1)) ≡ true
 hazard-valid depth n few less = le-leb (n + 1) 16 (omega arith)
 
-pub steps-of : (s : SystemTree) (g : GoalTree) (q : Wanted) (t : Trace) → IsRunOfQuery s g q t → length t.rules ≡ step_count q
+pub steps-of : (s : PlainSystem) (g : PlainGoal) (q : Wanted) (t : Trace) → IsRunOfQuery s g q t → length t.rules ≡ step_count q
 steps-of s g q t run = (wanted-parts s g q t.first t.rules run).many
 
 pub few : (total rest conflicts : ℕ) → total + rest ≡ conflicts → total ≤ conflicts
 few total rest conflicts h = omega (arith, h)
 
 pub endangered :
-    (s : SystemTree) (g : GoalTree) (depth conflicts : ℕ) (breach : Option ℕ) (n : ℕ) (t : Trace)
+    (s : PlainSystem) (g : PlainGoal) (depth conflicts : ℕ) (breach : Option ℕ) (n : ℕ) (t : Trace)
     (log : List LogStep) (asked : List Asked) (left rest : ℕ) →
-    IsInOrder s g depth conflicts breach (Hazard n) asked left → ((m : ℕ) → m < n → ¬ HasRun s g (Hazard m)) →
-    IsLogOf s g (query_with_log (Hazard n) log) → conflicts_of log + rest ≡ left → IsRunOfQuery s g (Hazard n) t →
+    IsNextInQueryOrder s g depth conflicts breach (Hazard n) asked left → ((m : ℕ) → m < n → ¬ HasRun s g (Hazard m)) →
+    IsLogOf s g (query_with_log (Hazard n) log) → count_learned_clauses log + rest ≡ left → IsRunOfQuery s g (Hazard n) t →
     IsEnd s g depth conflicts (Unsafe t) (asked ++ query_with_log (Hazard n) log ∷ [])
 endangered s g depth conflicts breach n t log asked left rest d none logged count run =
     let a = query_with_log (Hazard n) log in
@@ -53,27 +53,27 @@ endangered s g depth conflicts breach n t log asked left rest d none logged coun
       right = inl (record { hazard = record { within = omega (arith, e, within); so = (t.first, t.rules, same); least = λ m less. none m (omega (arith, e, less)) } }, same);
       lasts = tt;
       queries = (breach, (a, asked-to s g depth conflicts breach a asked left d logged, ap Hazard (sym e)));
-      few = few (all_conflicts (asked ++ a ∷ [])) rest conflicts (more-conflicts asked a left rest conflicts d.counted count);
+      few = few (total_conflicts (asked ++ a ∷ [])) rest conflicts (more-conflicts asked a left rest conflicts d.counted count);
     }
 
-breach-end : (s : SystemTree) (g : GoalTree) (depth : ℕ) (t : Trace) → length t.rules ≤ depth → IsKnown s g (depth + 1) (length t.rules) 0 → IsRunOfQuery s g (BreachQuery (length t.rules)) t → IsRightSystemVerdict s g depth (Breach t)
+breach-end : (s : PlainSystem) (g : PlainGoal) (depth : ℕ) (t : Trace) → length t.rules ≤ depth → IsKnown s g (depth + 1) (length t.rules) 0 → IsRunOfQuery s g (BreachQuery (length t.rules)) t → IsRightSystemVerdict s g depth (Breach t)
 breach-end s g depth t within known run =
     (record { no_hazard = λ m le. known.no_hazard m (omega arith); breach = record { within = within; so = (t.first, t.rules, run); least = known.no_breach } }, run)
 
 pub after-broken :
-    (s : SystemTree) (g : GoalTree) (depth conflicts n : ℕ) (t : Trace) (log : List LogStep)
+    (s : PlainSystem) (g : PlainGoal) (depth conflicts n : ℕ) (t : Trace) (log : List LogStep)
     (asked : List Asked) (left rest : ℕ) → depth ≤ 16 →
-    IsInOrder s g depth conflicts (Some (length t.rules)) (Hazard n) asked left → IsFoundBreach s g n t →
-    IsLogOf s g (query_with_log (Hazard n) log) → conflicts_of log + rest ≡ left → IsRefuted s g (Hazard n) log →
+    IsNextInQueryOrder s g depth conflicts (Some (length t.rules)) (Hazard n) asked left → IsFoundBreach s g n t →
+    IsLogOf s g (query_with_log (Hazard n) log) → count_learned_clauses log + rest ≡ left → IsRefuted s g (Hazard n) log →
     ¬ HasRun s g (Hazard n) →
-    IsNext s g depth conflicts (3 * (depth - n) + 2) (after_breach depth n t)
+    IsValidContinuation s g depth conflicts (3 * (depth - n) + 2) (after_breach_and_no_hazard depth n t)
     (asked ++ query_with_log (Hazard n) log ∷ []) rest
 after-broken s g depth conflicts n t log asked left rest low d found logged count refuted none = by_case (nat_lt n depth) refl
   where
     no_hazard : (m : ℕ) → m < n + 1 → ¬ HasRun s g (Hazard m)
     no_hazard = below-more (λ m. ¬ HasRun s g (Hazard m)) n found.known.no_hazard none
 
-    by_case : (b : Bool) → nat_lt n depth ≡ b → IsNext s g depth conflicts (3 * (depth - n) + 2) (cond b (Ask (Broken (n + 1) t)) (End (Breach t))) (asked ++ query_with_log (Hazard n) log ∷ []) rest
+    by_case : (b : Bool) → nat_lt n depth ≡ b → IsValidContinuation s g depth conflicts (3 * (depth - n) + 2) (cond b (Ask (Broken (n + 1) t)) (End (Breach t))) (asked ++ query_with_log (Hazard n) log ∷ []) rest
     by_case true e =
         let a = query_with_log (Hazard n) log in
         let less : n < depth = grind (arith, nat_tests) in
@@ -94,7 +94,7 @@ after-broken s g depth conflicts n t log asked left rest low d found logged coun
           right = inl (breach-end s g depth t (omega arith) (record { no_hazard = λ m less. no_hazard m (omega arith); no_breach = found.known.no_breach; runs = found.known.runs }) found.run);
           lasts = tt;
           queries = record {
-            all = more-queries asked a (queries_to (Some (length t.rules)) (Hazard n)) d.order
+            all = more-queries asked a (queries_up_to_query (Some (length t.rules)) (Hazard n)) d.order
                 ∙ all-to-hazard (length t.rules) depth (Hazard n) same;
             ends = (
               a,
@@ -102,23 +102,23 @@ after-broken s g depth conflicts n t log asked left rest low d found logged coun
               refuted,
             );
           };
-          few = few (all_conflicts (asked ++ a ∷ [])) rest conflicts (more-conflicts asked a left rest conflicts d.counted count);
+          few = few (total_conflicts (asked ++ a ∷ [])) rest conflicts (more-conflicts asked a left rest conflicts d.counted count);
         }
 
 broke-at :
-    (s : SystemTree) (g : GoalTree) (depth conflicts : ℕ) (t : Trace) (log : List LogStep)
+    (s : PlainSystem) (g : PlainGoal) (depth conflicts : ℕ) (t : Trace) (log : List LogStep)
     (asked : List Asked) (left rest : ℕ) → depth ≤ 16 →
-    IsInOrder s g depth conflicts None (BreachQuery (length t.rules)) asked left →
+    IsNextInQueryOrder s g depth conflicts None (BreachQuery (length t.rules)) asked left →
     IsKnown s g (length t.rules + 1) (length t.rules) (length t.rules) →
-    IsLogOf s g (query_with_log (BreachQuery (length t.rules)) log) → conflicts_of log + rest ≡ left →
+    IsLogOf s g (query_with_log (BreachQuery (length t.rules)) log) → count_learned_clauses log + rest ≡ left →
     IsRunOfQuery s g (BreachQuery (length t.rules)) t →
     IsSatisfiable (query_formula s g (BreachQuery (length t.rules))) →
-    IsNext s g depth conflicts (3 * (depth - length t.rules) + 1) (after_breach depth (length t.rules) t)
+    IsValidContinuation s g depth conflicts (3 * (depth - length t.rules) + 1) (after_breach_and_no_hazard depth (length t.rules) t)
     (asked ++ query_with_log (BreachQuery (length t.rules)) log ∷ []) rest
 broke-at s g depth conflicts t log asked left rest low d known logged count run has = by_case (nat_lt (length t.rules) depth) refl
   where
     by_case : (c : Bool) → nat_lt (length t.rules) depth ≡ c →
-        IsNext s g depth conflicts (3 * (depth - length t.rules) + 1)
+        IsValidContinuation s g depth conflicts (3 * (depth - length t.rules) + 1)
         (cond c (Ask (Broken (length t.rules + 1) t)) (End (Breach t)))
         (asked ++ query_with_log (BreachQuery (length t.rules)) log ∷ []) rest
     by_case true e =
@@ -146,22 +146,22 @@ broke-at s g depth conflicts t log asked left rest low d known logged count run 
               inr refl,
             );
           };
-          few = few (all_conflicts (asked ++ a ∷ [])) rest conflicts (more-conflicts asked a left rest conflicts d.counted count);
+          few = few (total_conflicts (asked ++ a ∷ [])) rest conflicts (more-conflicts asked a left rest conflicts d.counted count);
         }
 
 pub broke :
-    (s : SystemTree) (g : GoalTree) (depth conflicts n : ℕ) (t : Trace) (log : List LogStep)
+    (s : PlainSystem) (g : PlainGoal) (depth conflicts n : ℕ) (t : Trace) (log : List LogStep)
     (asked : List Asked) (left rest : ℕ) → depth ≤ 16 →
-    length t.rules ≡ n → IsInOrder s g depth conflicts None (BreachQuery n) asked left →
-    IsKnown s g (n + 1) n n → IsLogOf s g (query_with_log (BreachQuery n) log) → conflicts_of log + rest ≡ left →
+    length t.rules ≡ n → IsNextInQueryOrder s g depth conflicts None (BreachQuery n) asked left →
+    IsKnown s g (n + 1) n n → IsLogOf s g (query_with_log (BreachQuery n) log) → count_learned_clauses log + rest ≡ left →
     IsRunOfQuery s g (BreachQuery n) t → IsSatisfiable (query_formula s g (BreachQuery n)) →
-    IsNext s g depth conflicts (3 * (depth - n) + 1) (after_breach depth n t)
+    IsValidContinuation s g depth conflicts (3 * (depth - n) + 1) (after_breach_and_no_hazard depth n t)
     (asked ++ query_with_log (BreachQuery n) log ∷ []) rest
 broke s g depth conflicts n t log asked left rest low size =
     subst
-    (λ (k : ℕ). IsInOrder s g depth conflicts None (BreachQuery k) asked left → IsKnown s g (k + 1) k k →
-    IsLogOf s g (query_with_log (BreachQuery k) log) → conflicts_of log + rest ≡ left →
+    (λ (k : ℕ). IsNextInQueryOrder s g depth conflicts None (BreachQuery k) asked left → IsKnown s g (k + 1) k k →
+    IsLogOf s g (query_with_log (BreachQuery k) log) → count_learned_clauses log + rest ≡ left →
     IsRunOfQuery s g (BreachQuery k) t → IsSatisfiable (query_formula s g (BreachQuery k)) →
-    IsNext s g depth conflicts (3 * (depth - k) + 1) (after_breach depth k t)
+    IsValidContinuation s g depth conflicts (3 * (depth - k) + 1) (after_breach_and_no_hazard depth k t)
     (asked ++ query_with_log (BreachQuery k) log ∷ []) rest) size
     (broke-at s g depth conflicts t log asked left rest low)

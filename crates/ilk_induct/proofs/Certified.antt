@@ -4,20 +4,20 @@ use Rattle.std.specs.List.{range_with_len, flat_map}
 use Rattle.std.proofs.lemmas.List.{append-nil, map-append}
 use Rattle.std.proofs.lemmas.List.Elements.{All-nil, All-cons, All-head, All-tail}
 use Rattle.ilk_base.proofs.Ranges.{listed_all-more}
-use Rattle.ilk_ir.specs.System.{SystemTree}
+use Rattle.ilk_ir.specs.System.{PlainSystem}
 use Rattle.ilk_log.specs.declared.step.Step.{Step as LogStep}
 use Rattle.ilk_unroll.specs.declared.queries.Wanted.{Wanted}
 use Rattle.ilk_unroll.specs.declared.queries.Wanted.TheVariants.{Hazard, Breach as BreachQuery, Step}
-use Rattle.ilk_unroll.specs.Goal.{GoalTree}
+use Rattle.ilk_unroll.specs.Goal.{PlainGoal}
 use Rattle.ilk_certificate.specs.declared.asked.Asked.{Asked}
 use Rattle.ilk_certificate.specs.Certificate.{IsRefuted, base_queries}
-use Rattle.ilk_certificate.specs.Kept.{is_step_query, without_early_steps}
+use Rattle.ilk_certificate.specs.Kept.{is_step_query, drop_early_step_queries}
 use Rattle.ilk_induct.specs.declared.verdict.Verdict.{Verdict}
 use Rattle.ilk_induct.specs.declared.verdict.Verdict.TheVariants.{Safe, Unsafe, Breach, NotInductive, Spent}
-use Rattle.ilk_induct.specs.Order.{queries_of_length, queries_below, query_order}
-use Rattle.ilk_induct.specs.Spent.{AllowsNextQuery, HasPassed, IsAskedPrefix}
+use Rattle.ilk_induct.specs.Order.{queries_of_length, queries_below, queries_up_to_depth}
+use Rattle.ilk_induct.specs.Spent.{AllowsNextQuery, AskedAllowsNextQuery, IsAskedPrefix}
 use Rattle.ilk_induct.specs.Asked.{AreQueriesOfVerdict}
-use Rattle.ilk_induct.specs.Certified.{IsCertified, Certifies}
+use Rattle.ilk_induct.specs.Certified.{AreCertifyingQueries, QueriesProveVerdict}
 
 abbrev base_of : List Wanted → List Wanted
 base_of [] = []
@@ -50,14 +50,14 @@ abbrev bases : List Asked → List Asked
 bases [] = []
 bases (a ∷ asked) = cond (is_step_query a.query) (bases asked) (a ∷ bases asked)
 
-without-early : (before : List Asked) (last : Asked) → without_early_steps (before ++ last ∷ []) ≡ bases before ++ last ∷ []
+without-early : (before : List Asked) (last : Asked) → drop_early_step_queries (before ++ last ∷ []) ≡ bases before ++ last ∷ []
 without-early [] last = refl
 without-early (a ∷ []) last = by_case (is_step_query a.query)
   where
     by_case : (b : Bool) → cond b (last ∷ []) (a ∷ last ∷ []) ≡ cond b [] (a ∷ []) ++ last ∷ []
     by_case true = refl
     by_case false = refl
-without-early (a ∷ b ∷ before) last = by_case (is_step_query a.query) (without_early_steps ((b ∷ before) ++ last ∷ [])) (bases (b ∷ before)) (without-early (b ∷ before) last)
+without-early (a ∷ b ∷ before) last = by_case (is_step_query a.query) (drop_early_step_queries ((b ∷ before) ++ last ∷ [])) (bases (b ∷ before)) (without-early (b ∷ before) last)
   where
     by_case : (c : Bool) (rest more : List Asked) → rest ≡ more ++ last ∷ [] → cond c rest (a ∷ rest) ≡ cond c more (a ∷ more) ++ last ∷ []
     by_case true rest more e = e
@@ -71,7 +71,7 @@ bases-queries (a ∷ asked) = by_case (is_step_query a.query) (bases asked) (bas
     by_case true rest more e = e
     by_case false rest more e = ap (λ (us : List Wanted). a.query ∷ us) e
 
-base-refuted : (s : SystemTree) (g : GoalTree) (q : Wanted) (log : List LogStep) → is_step_query q ≡ false → AllowsNextQuery s g None q log → IsRefuted s g q log
+base-refuted : (s : PlainSystem) (g : PlainGoal) (q : Wanted) (log : List LogStep) → is_step_query q ≡ false → AllowsNextQuery s g None q log → IsRefuted s g q log
 base-refuted s g (Hazard n) log base h = h
 base-refuted s g (BreachQuery n) log base h = elim h [ inl refuted ↦ refuted | inr found ↦ absurd (none n found) ]
   where
@@ -79,20 +79,20 @@ base-refuted s g (BreachQuery n) log base h = elim h [ inl refuted ↦ refuted |
     none n e = cc
 base-refuted s g (Step n) log base h = absurd cc
 
-bases-refuted : (s : SystemTree) (g : GoalTree) (last : Asked) (before : List Asked) → IsRefuted s g last.query last.log → All (HasPassed s g None) before → All (λ (a : Asked). IsRefuted s g a.query a.log) (bases before ++ last ∷ [])
+bases-refuted : (s : PlainSystem) (g : PlainGoal) (last : Asked) (before : List Asked) → IsRefuted s g last.query last.log → All (AskedAllowsNextQuery s g None) before → All (λ (a : Asked). IsRefuted s g a.query a.log) (bases before ++ last ∷ [])
 bases-refuted s g last [] r h = All-cons (λ (a : Asked). IsRefuted s g a.query a.log) last [] r (All-nil (λ (a : Asked). IsRefuted s g a.query a.log))
-bases-refuted s g last (a ∷ before) r h = by_case (is_step_query a.query) refl (bases-refuted s g last before r (All-tail (HasPassed s g None) a before h))
+bases-refuted s g last (a ∷ before) r h = by_case (is_step_query a.query) refl (bases-refuted s g last before r (All-tail (AskedAllowsNextQuery s g None) a before h))
   where
     by_case : (c : Bool) → is_step_query a.query ≡ c → All (λ (x : Asked). IsRefuted s g x.query x.log) (bases before ++ last ∷ []) → All (λ (x : Asked). IsRefuted s g x.query x.log) (cond c (bases before) (a ∷ bases before) ++ last ∷ [])
     by_case true e rest = rest
-    by_case false e rest = All-cons (λ (x : Asked). IsRefuted s g x.query x.log) a (bases before ++ last ∷ []) (base-refuted s g a.query a.log e (All-head (HasPassed s g None) a before h)) rest
+    by_case false e rest = All-cons (λ (x : Asked). IsRefuted s g x.query x.log) a (bases before ++ last ∷ []) (base-refuted s g a.query a.log e (All-head (AskedAllowsNextQuery s g None) a before h)) rest
 
-certified : (s : SystemTree) (g : GoalTree) (depth k : ℕ) (asked : List Asked) (last : Asked) →
-    map (λ (a : Asked). a.query) asked ≡ query_order None k → IsAskedPrefix s g depth None asked last →
-    last.query ≡ Step k → IsRefuted s g last.query last.log → IsCertified s g k asked
+certified : (s : PlainSystem) (g : PlainGoal) (depth k : ℕ) (asked : List Asked) (last : Asked) →
+    map (λ (a : Asked). a.query) asked ≡ queries_up_to_depth None k → IsAskedPrefix s g depth None asked last →
+    last.query ≡ Step k → IsRefuted s g last.query last.log → AreCertifyingQueries s g k asked
 certified s g depth k asked last order are is refuted =
     let query : Asked → Wanted = λ a. a.query in
-    let split = ap without_early_steps are.split ∙ without-early are.before last in
+    let split = ap drop_early_step_queries are.split ∙ without-early are.before last in
     let whole : base_of (map query asked) ≡ base_of (map query are.before) ++ base_of (query last ∷ []) =
     ap (λ (xs : List Asked). base_of (map query xs)) are.split
     ∙ ap base_of (map-append query are.before (last ∷ []))
@@ -107,7 +107,7 @@ certified s g depth k asked last order are is refuted =
       refuted = subst (λ (xs : List Asked). All (λ (a : Asked). IsRefuted s g a.query a.log) xs) (sym split) (bases-refuted s g last are.before refuted are.passed);
     }
 
-pub certifies : (s : SystemTree) (g : GoalTree) (depth conflicts : ℕ) (verdict : Verdict) (asked : List Asked) → AreQueriesOfVerdict s g depth conflicts verdict asked → Certifies s g verdict asked
+pub certifies : (s : PlainSystem) (g : PlainGoal) (depth conflicts : ℕ) (verdict : Verdict) (asked : List Asked) → AreQueriesOfVerdict s g depth conflicts verdict asked → QueriesProveVerdict s g verdict asked
 certifies s g depth conflicts (Unsafe t) asked h = tt
 certifies s g depth conflicts (Breach t) asked h = tt
 certifies s g depth conflicts (Safe k) asked h = certified s g k k asked h.1.ends.0 h.1.all h.1.ends.1 h.1.ends.2.0 h.1.ends.2.1

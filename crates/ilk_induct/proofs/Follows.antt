@@ -4,44 +4,44 @@ use Rattle.std.specs.List.{list_all}
 use Rattle.std.proofs.lemmas.Bool.{and_from, and_parts, lt-ltb, ltb-true}
 use Rattle.std.proofs.lemmas.Bool.Decides.{nat_tests}
 use Rattle.std.proofs.lemmas.List.Elements.{All-nil}
-use Rattle.ilk_ir.specs.System.{SystemTree, rule_valid, system_valid}
+use Rattle.ilk_ir.specs.System.{PlainSystem, rule_valid, system_valid}
 use Rattle.ilk_solver.specs.Answered.{IsSearchLog}
 use Rattle.ilk_unroll.specs.Query.{query_formula}
 use Rattle.ilk_unroll.specs.Satisfied.{IsSatisfiable}
 use Rattle.ilk_log.specs.declared.step.Step.{Step as LogStep}
-use Rattle.ilk_log.specs.Conflicts.{conflicts_of}
+use Rattle.ilk_log.specs.Conflicts.{count_learned_clauses}
 use Rattle.ilk_unroll.specs.declared.queries.Wanted.{Wanted}
 use Rattle.ilk_unroll.specs.declared.queries.Wanted.TheVariants.{Hazard, Breach as BreachQuery, Step}
 use Rattle.ilk_unroll.specs.declared.reading.Trace.{Trace}
-use Rattle.ilk_unroll.specs.Goal.{GoalTree, wanted_valid}
+use Rattle.ilk_unroll.specs.Goal.{PlainGoal, step_count_is_allowed}
 use Rattle.ilk_induct.specs.declared.ask.Response.{Response}
 use Rattle.ilk_induct.specs.declared.ask.Response.TheVariants.{Run, Refuted, GivenUp}
-use Rattle.ilk_induct.specs.declared.due.Due.{Due}
-use Rattle.ilk_induct.specs.declared.due.Due.TheVariants.{Unbroken, Broken}
+use Rattle.ilk_induct.specs.declared.due.DueQuery.{DueQuery}
+use Rattle.ilk_induct.specs.declared.due.DueQuery.TheVariants.{Unbroken, Broken}
 use Rattle.ilk_induct.specs.declared.due.Next.{Next}
 use Rattle.ilk_induct.specs.declared.due.Next.TheVariants.{Ask, End}
 use Rattle.ilk_certificate.specs.declared.asked.Asked.{Asked}
 use Rattle.ilk_certificate.specs.Certificate.{IsRefuted}
-use Rattle.ilk_certificate.specs.CertificateText.{all_conflicts}
+use Rattle.ilk_certificate.specs.CertificateText.{total_conflicts}
 use Rattle.ilk_induct.specs.declared.verdict.Verdict.TheVariants.{Safe, NotInductive, Spent}
 use Rattle.ilk_unroll.specs.Evidence.{HasRun}
 use Rattle.ilk_induct.specs.Right.{IsRunOfQuery}
-use Rattle.ilk_induct.specs.Spent.{IsLogOf, HasPassed}
-use Rattle.ilk_induct.specs.Due.{query_with_log, IsResponse, due_query, breach_length, after_response, IsKnown, IsInOrder, IsDue, IsEnd, IsNext, queries_left}
+use Rattle.ilk_induct.specs.Spent.{IsLogOf, AskedAllowsNextQuery}
+use Rattle.ilk_induct.specs.Due.{query_with_log, IsResponse, due_query, breach_length, after_response, IsKnown, IsNextInQueryOrder, IsDue, IsEnd, IsValidContinuation, max_queries_left}
 use Rattle.ilk_unroll.proofs.Induction.{forever}
 use Rattle.ilk_induct.proofs.Orders.{to-breach, to-step, to-hazard, more-conflicts, asked-to, asked-all, go-on, all-conflicts}
 use Rattle.ilk_induct.proofs.Breaches.{after-broken, below-more, broke, endangered, few, hazard-valid, steps-of}
 
-some-step : (n : ℕ) → wanted_valid (Step n) ≡ true → 0 < n
+some-step : (n : ℕ) → step_count_is_allowed (Step n) ≡ true → 0 < n
 some-step n h = ltb-true 0 n (and_parts _ _ h).0
 
 left-invariant :
-    (s : SystemTree) (g : GoalTree) (depth conflicts n : ℕ) (t : Trace) (log : List LogStep)
+    (s : PlainSystem) (g : PlainGoal) (depth conflicts n : ℕ) (t : Trace) (log : List LogStep)
     (asked : List Asked) (left rest : ℕ) → depth ≤ 16 →
-    IsInOrder s g depth conflicts None (Step n) asked left → IsKnown s g (n + 1) (n + 1) n →
-    IsLogOf s g (query_with_log (Step n) log) → conflicts_of log + rest ≡ left → IsRunOfQuery s g (Step n) t →
+    IsNextInQueryOrder s g depth conflicts None (Step n) asked left → IsKnown s g (n + 1) (n + 1) n →
+    IsLogOf s g (query_with_log (Step n) log) → count_learned_clauses log + rest ≡ left → IsRunOfQuery s g (Step n) t →
     IsSatisfiable (query_formula s g (Step n)) →
-    IsNext s g depth conflicts (3 * (depth - n))
+    IsValidContinuation s g depth conflicts (3 * (depth - n))
     (cond (nat_lt n depth) (Ask (Unbroken (Hazard (n + 1)))) (End (NotInductive t)))
     (asked ++ query_with_log (Step n) log ∷ []) rest
 left-invariant s g depth conflicts n t log asked left rest low d known logged count run sat = by_case (nat_lt n depth) refl
@@ -52,7 +52,7 @@ left-invariant s g depth conflicts n t log asked left rest low d known logged co
     runs : (m : ℕ) → m < n + 1 → 0 < m → HasRun s g (Step m)
     runs = below-more (λ m. 0 < m → HasRun s g (Step m)) n (λ m less pos. known.runs m pos less) (λ pos. has)
 
-    by_case : (c : Bool) → nat_lt n depth ≡ c → IsNext s g depth conflicts (3 * (depth - n)) (cond c (Ask (Unbroken (Hazard (n + 1)))) (End (NotInductive t))) (asked ++ query_with_log (Step n) log ∷ []) rest
+    by_case : (c : Bool) → nat_lt n depth ≡ c → IsValidContinuation s g depth conflicts (3 * (depth - n)) (cond c (Ask (Unbroken (Hazard (n + 1)))) (End (NotInductive t))) (asked ++ query_with_log (Step n) log ∷ []) rest
     by_case true e =
         let a = query_with_log (Step n) log in
         let less : n < depth = grind (arith, nat_tests) in (
@@ -77,15 +77,15 @@ left-invariant s g depth conflicts n t log asked left rest low d known logged co
             subst (λ (k : ℕ). IsRunOfQuery s g (Step k) t) same run,
           );
           lasts = tt;
-          queries = asked-all s g depth conflicts depth a asked left (HasPassed s g None) d logged (ap Step same) sat;
-          few = few (all_conflicts (asked ++ a ∷ [])) rest conflicts (more-conflicts asked a left rest conflicts d.counted count);
+          queries = asked-all s g depth conflicts depth a asked left (AskedAllowsNextQuery s g None) d logged (ap Step same) sat;
+          few = few (total_conflicts (asked ++ a ∷ [])) rest conflicts (more-conflicts asked a left rest conflicts d.counted count);
         }
 
 carried :
-    (s : SystemTree) (g : GoalTree) (depth conflicts n : ℕ) (log : List LogStep) (asked : List Asked)
+    (s : PlainSystem) (g : PlainGoal) (depth conflicts n : ℕ) (log : List LogStep) (asked : List Asked)
     (left rest : ℕ) →
-    list_all (rule_valid s.ranges) s.rules ≡ true → IsInOrder s g depth conflicts None (Step n) asked left →
-    IsKnown s g (n + 1) (n + 1) n → IsLogOf s g (query_with_log (Step n) log) → conflicts_of log + rest ≡ left →
+    list_all (rule_valid s.ranges) s.rules ≡ true → IsNextInQueryOrder s g depth conflicts None (Step n) asked left →
+    IsKnown s g (n + 1) (n + 1) n → IsLogOf s g (query_with_log (Step n) log) → count_learned_clauses log + rest ≡ left →
     IsRefuted s g (Step n) log → ¬ HasRun s g (Step n) →
     IsEnd s g depth conflicts (Safe n) (asked ++ query_with_log (Step n) log ∷ [])
 carried s g depth conflicts n log asked left rest rules d known logged count refuted none =
@@ -99,32 +99,32 @@ carried s g depth conflicts n log asked left rest rules d known logged count ref
       });
       lasts = ever;
       queries = (d.within, asked-all s g depth conflicts n a asked left (λ (b : Asked). (b.query ≡ Step n) × IsRefuted s g b.query b.log) d logged refl (refl, refuted));
-      few = few (all_conflicts (asked ++ a ∷ [])) rest conflicts (more-conflicts asked a left rest conflicts d.counted count);
+      few = few (total_conflicts (asked ++ a ∷ [])) rest conflicts (more-conflicts asked a left rest conflicts d.counted count);
     }
 
 given-up :
-    (s : SystemTree) (g : GoalTree) (depth conflicts : ℕ) (due : Due) (log : List LogStep)
+    (s : PlainSystem) (g : PlainGoal) (depth conflicts : ℕ) (due : DueQuery) (log : List LogStep)
     (asked : List Asked) (left rest : ℕ) →
     IsDue s g depth conflicts due asked left → IsLogOf s g (query_with_log (due_query due) log) →
-    conflicts_of log + rest ≡ left → IsResponse s g (due_query due) left GivenUp log →
+    count_learned_clauses log + rest ≡ left → IsResponse s g (due_query due) left GivenUp log →
     IsEnd s g depth conflicts Spent (asked ++ query_with_log (due_query due) log ∷ [])
 given-up s g depth conflicts due log asked left rest d logged count spent =
     let a = query_with_log (due_query due) log in
     let total = more-conflicts asked a left rest conflicts d.in_order.counted count in
-    let all : conflicts_of log ≡ length log = all-conflicts log spent.unfinished in
+    let all : count_learned_clauses log ≡ length log = all-conflicts log spent.unfinished in
     let steps = spent.steps in
     record {
       right = inr refl;
       lasts = tt;
       queries = ((breach_length due, (a, asked-to s g depth conflicts (breach_length due) a asked left d.in_order logged, record { unfinished = all; stuck = spent.stuck })), omega (arith, total, all, steps, count));
-      few = few (all_conflicts (asked ++ a ∷ [])) rest conflicts total;
+      few = few (total_conflicts (asked ++ a ∷ [])) rest conflicts total;
     }
 
 no-hazard :
-    (s : SystemTree) (g : GoalTree) (depth conflicts n : ℕ) (log : List LogStep) (asked : List Asked)
+    (s : PlainSystem) (g : PlainGoal) (depth conflicts n : ℕ) (log : List LogStep) (asked : List Asked)
     (left rest : ℕ) →
-    IsInOrder s g depth conflicts None (Hazard n) asked left → IsKnown s g n n n →
-    IsLogOf s g (query_with_log (Hazard n) log) → conflicts_of log + rest ≡ left → IsRefuted s g (Hazard n) log →
+    IsNextInQueryOrder s g depth conflicts None (Hazard n) asked left → IsKnown s g n n n →
+    IsLogOf s g (query_with_log (Hazard n) log) → count_learned_clauses log + rest ≡ left → IsRefuted s g (Hazard n) log →
     ¬ HasRun s g (Hazard n) →
     IsDue s g depth conflicts (Unbroken (BreachQuery n)) (asked ++ query_with_log (Hazard n) log ∷ []) rest
 no-hazard s g depth conflicts n log asked left rest d known logged count refuted none =
@@ -134,11 +134,11 @@ no-hazard s g depth conflicts n log asked left rest d known logged count refuted
     }
 
 no-breach :
-    (s : SystemTree) (g : GoalTree) (depth conflicts n : ℕ) (log : List LogStep) (asked : List Asked)
+    (s : PlainSystem) (g : PlainGoal) (depth conflicts n : ℕ) (log : List LogStep) (asked : List Asked)
     (left rest : ℕ) →
-    IsInOrder s g depth conflicts None (BreachQuery (suc n)) asked left →
+    IsNextInQueryOrder s g depth conflicts None (BreachQuery (suc n)) asked left →
     IsKnown s g (suc n + 1) (suc n) (suc n) → IsLogOf s g (query_with_log (BreachQuery (suc n)) log) →
-    conflicts_of log + rest ≡ left → IsRefuted s g (BreachQuery (suc n)) log →
+    count_learned_clauses log + rest ≡ left → IsRefuted s g (BreachQuery (suc n)) log →
     ¬ HasRun s g (BreachQuery (suc n)) →
     IsDue s g depth conflicts (Unbroken (Step (suc n))) (asked ++ query_with_log (BreachQuery (suc n)) log ∷ [])
     rest
@@ -146,16 +146,16 @@ no-breach s g depth conflicts n log asked left rest d known logged count refuted
     record {
       in_order = go-on s g depth conflicts None (query_with_log (BreachQuery (suc n)) log) (Step (suc n)) asked
           left rest d logged (inl refuted) count (to-step (suc n))
-          (and_from (nat_lt 0 (suc n)) (wanted_valid (BreachQuery (suc n))) (lt-ltb 0 (suc n) (omega arith))
+          (and_from (nat_lt 0 (suc n)) (step_count_is_allowed (BreachQuery (suc n))) (lt-ltb 0 (suc n) (omega arith))
           d.valid) d.within;
       known = record { no_hazard = known.no_hazard; no_breach = below-more (λ m. ¬ HasRun s g (BreachQuery m)) (suc n) known.no_breach none; runs = known.runs };
     }
 
 no-breach-at-start :
-    (s : SystemTree) (g : GoalTree) (depth conflicts : ℕ) (log : List LogStep) (asked : List Asked)
+    (s : PlainSystem) (g : PlainGoal) (depth conflicts : ℕ) (log : List LogStep) (asked : List Asked)
     (left rest : ℕ) → 0 < depth →
-    IsInOrder s g depth conflicts None (BreachQuery 0) asked left → IsKnown s g 1 0 0 →
-    IsLogOf s g (query_with_log (BreachQuery 0) log) → conflicts_of log + rest ≡ left →
+    IsNextInQueryOrder s g depth conflicts None (BreachQuery 0) asked left → IsKnown s g 1 0 0 →
+    IsLogOf s g (query_with_log (BreachQuery 0) log) → count_learned_clauses log + rest ≡ left →
     IsRefuted s g (BreachQuery 0) log → ¬ HasRun s g (BreachQuery 0) →
     IsDue s g depth conflicts (Unbroken (Hazard 1)) (asked ++ query_with_log (BreachQuery 0) log ∷ []) rest
 no-breach-at-start s g depth conflicts log asked left rest deep d known logged count refuted none =
@@ -165,12 +165,12 @@ no-breach-at-start s g depth conflicts log asked left rest deep d known logged c
     }
 
 pub follows :
-    (s : SystemTree) (g : GoalTree) (depth conflicts : ℕ) (due : Due) (response : Response)
+    (s : PlainSystem) (g : PlainGoal) (depth conflicts : ℕ) (due : DueQuery) (response : Response)
     (log : List LogStep) (asked : List Asked) (left rest : ℕ) →
     list_all (rule_valid s.ranges) s.rules ≡ true → 0 < depth → depth ≤ 16 →
     IsDue s g depth conflicts due asked left → IsLogOf s g (query_with_log (due_query due) log) →
-    conflicts_of log + rest ≡ left → IsResponse s g (due_query due) left response log →
-    IsNext s g depth conflicts (queries_left depth due) (after_response depth due response)
+    count_learned_clauses log + rest ≡ left → IsResponse s g (due_query due) left response log →
+    IsValidContinuation s g depth conflicts (max_queries_left depth due) (after_response depth due response)
     (asked ++ query_with_log (due_query due) log ∷ []) rest
 follows s g depth conflicts (Unbroken (Hazard n)) (Run t) log asked left rest rules deep low d logged count r = endangered s g depth conflicts None n t log asked left rest d.in_order d.known.no_hazard logged count r.0
 follows s g depth conflicts (Unbroken (BreachQuery n)) (Run t) log asked left rest rules deep low d logged count r = broke s g depth conflicts n t log asked left rest low (steps-of s g (BreachQuery n) t r.0) d.in_order d.known logged count r.0 r.1
@@ -183,27 +183,27 @@ follows s g depth conflicts (Unbroken (Step n)) Refuted log asked left rest rule
 follows s g depth conflicts (Broken n t) Refuted log asked left rest rules deep low d logged count r = after-broken s g depth conflicts n t log asked left rest low d.in_order d.known logged count r.0 r.1
 follows s g depth conflicts due GivenUp log asked left rest rules deep low d logged count r = given-up s g depth conflicts due log asked left rest d logged count r
 
-pub first-due : (s : SystemTree) (g : GoalTree) (depth conflicts : ℕ) → IsDue s g depth conflicts (Unbroken (Hazard 0)) [] conflicts
+pub first-due : (s : PlainSystem) (g : PlainGoal) (depth conflicts : ℕ) → IsDue s g depth conflicts (Unbroken (Hazard 0)) [] conflicts
 first-due s g depth conflicts =
     record {
-      in_order = record { order = refl; valid = refl; within = omega arith; found = tt; passed = All-nil (HasPassed s g None); logs = All-nil (IsLogOf s g); counted = omega arith };
+      in_order = record { order = refl; valid = refl; within = omega arith; found = tt; passed = All-nil (AskedAllowsNextQuery s g None); logs = All-nil (IsLogOf s g); counted = omega arith };
       known = record { no_hazard = λ m less. absurd (omega (arith, less)); no_breach = λ m less. absurd (omega (arith, less)); runs = λ m pos less. absurd (omega (arith, less)) };
     }
 
 -- One round: a query is asked, its conflicts are counted, and the continuation is found.
 pub turned :
-    (s : SystemTree) (g : GoalTree) (depth conflicts : ℕ) (due : Due) (q : Wanted) (response : Response)
+    (s : PlainSystem) (g : PlainGoal) (depth conflicts : ℕ) (due : DueQuery) (q : Wanted) (response : Response)
     (log : List LogStep) (asked new : List Asked) (left count rest : ℕ) (next : Next) →
     system_valid s ≡ true → 0 < depth → depth ≤ 16 → IsDue s g depth conflicts due asked left →
     q ≡ due_query due → IsSearchLog (query_formula s g q) left log → IsResponse s g q left response log →
-    count ≡ conflicts_of log → rest ≡ left - count → new ≡ asked ++ query_with_log q log ∷ [] →
-    next ≡ after_response depth due response → IsNext s g depth conflicts (queries_left depth due) next new rest
+    count ≡ count_learned_clauses log → rest ≡ left - count → new ≡ asked ++ query_with_log q log ∷ [] →
+    next ≡ after_response depth due response → IsValidContinuation s g depth conflicts (max_queries_left depth due) next new rest
 turned s g depth conflicts due q response log asked new left count rest next valid deep low d same is_log says counted rested grown is_next =
     let good = subst (λ (u : Wanted). IsSearchLog (query_formula s g u) left log) same is_log in
     let said = subst (λ (u : Wanted). IsResponse s g u left response log) same says in
     let logged : IsLogOf s g (query_with_log (due_query due) log) = record { derived = good.derived; fresh = good.fresh } in
     let most = good.few in
-    let sum : conflicts_of log + rest ≡ left = omega (arith, most, counted, rested) in
+    let sum : count_learned_clauses log + rest ≡ left = omega (arith, most, counted, rested) in
     let main = follows s g depth conflicts due response log asked left rest (and_parts _ _ valid).1 deep low d logged sum said in
-    let to = subst (λ (n : Next). IsNext s g depth conflicts (queries_left depth due) n (asked ++ query_with_log (due_query due) log ∷ []) rest) (sym is_next) main in
-    subst (λ (xs : List Asked). IsNext s g depth conflicts (queries_left depth due) next xs rest) (sym (grown ∙ ap (λ (u : Wanted). asked ++ query_with_log u log ∷ []) same)) to
+    let to = subst (λ (n : Next). IsValidContinuation s g depth conflicts (max_queries_left depth due) n (asked ++ query_with_log (due_query due) log ∷ []) rest) (sym is_next) main in
+    subst (λ (xs : List Asked). IsValidContinuation s g depth conflicts (max_queries_left depth due) next xs rest) (sym (grown ∙ ap (λ (u : Wanted). asked ++ query_with_log u log ∷ []) same)) to

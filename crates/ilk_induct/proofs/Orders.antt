@@ -6,39 +6,39 @@ use Rattle.std.proofs.lemmas.List.{append-nil, map-append}
 use Rattle.std.proofs.lemmas.List.Elements.{All-push, All-weaker}
 use Rattle.std.proofs.lemmas.List.Sums.{sum_by-append, sum_by-cons}
 use Rattle.ilk_base.proofs.Ranges.{listed_all-more, range-suc}
-use Rattle.ilk_ir.specs.System.{SystemTree}
+use Rattle.ilk_ir.specs.System.{PlainSystem}
 use Rattle.ilk_log.specs.declared.step.Step.{Step as LogStep}
-use Rattle.ilk_log.specs.Conflicts.{conflicts_of}
-use Rattle.ilk_log.specs.Derived.{is_empty}
+use Rattle.ilk_log.specs.Conflicts.{count_learned_clauses}
+use Rattle.ilk_log.specs.Derived.{is_empty_clause}
 use Rattle.ilk_solver.specs.Answered.{has_no_empty_step}
 use Rattle.ilk_unroll.specs.declared.queries.Wanted.{Wanted}
 use Rattle.ilk_unroll.specs.declared.queries.Wanted.TheVariants.{Hazard, Breach as BreachQuery, Step}
-use Rattle.ilk_unroll.specs.Goal.{GoalTree, step_count, wanted_valid}
+use Rattle.ilk_unroll.specs.Goal.{PlainGoal, step_count, step_count_is_allowed}
 use Rattle.ilk_unroll.specs.Query.{query_formula}
 use Rattle.ilk_unroll.specs.Satisfied.{IsSatisfiable}
 use Rattle.ilk_certificate.specs.declared.asked.Asked.{Asked}
-use Rattle.ilk_certificate.specs.CertificateText.{all_conflicts}
-use Rattle.ilk_induct.specs.Order.{queries_of_length, queries_below, query_order, IsPrefix}
-use Rattle.ilk_induct.specs.Spent.{IsLogOf, AllowsNextQuery, HasPassed, IsAskedPrefix}
-use Rattle.ilk_induct.specs.Asked.{AreAllQueries}
-use Rattle.ilk_induct.specs.Due.{query_with_log, queries_to, IsInOrder}
+use Rattle.ilk_certificate.specs.CertificateText.{total_conflicts}
+use Rattle.ilk_induct.specs.Order.{queries_of_length, queries_below, queries_up_to_depth, IsPrefix}
+use Rattle.ilk_induct.specs.Spent.{IsLogOf, AllowsNextQuery, AskedAllowsNextQuery, IsAskedPrefix}
+use Rattle.ilk_induct.specs.Asked.{AreAllQueriesToDepth}
+use Rattle.ilk_induct.specs.Due.{query_with_log, queries_up_to_query, IsNextInQueryOrder}
 
-pub to-breach : (n : ℕ) → queries_to None (Hazard n) ++ BreachQuery n ∷ [] ≡ queries_to None (BreachQuery n)
+pub to-breach : (n : ℕ) → queries_up_to_query None (Hazard n) ++ BreachQuery n ∷ [] ≡ queries_up_to_query None (BreachQuery n)
 to-breach n = append_assoc (queries_below n) (Hazard n ∷ []) (BreachQuery n ∷ [])
 
-pub to-step : (n : ℕ) → queries_to None (BreachQuery n) ++ Step n ∷ [] ≡ queries_to None (Step n)
+pub to-step : (n : ℕ) → queries_up_to_query None (BreachQuery n) ++ Step n ∷ [] ≡ queries_up_to_query None (Step n)
 to-step n = append_assoc (queries_below n) (Hazard n ∷ BreachQuery n ∷ []) (Step n ∷ [])
 
-pub to-hazard : (n : ℕ) → 0 < n → queries_to None (Step n) ++ Hazard (n + 1) ∷ [] ≡ queries_to None (Hazard (n + 1))
+pub to-hazard : (n : ℕ) → 0 < n → queries_up_to_query None (Step n) ++ Hazard (n + 1) ∷ [] ≡ queries_up_to_query None (Hazard (n + 1))
 to-hazard zero pos = absurd (omega arith)
 to-hazard (suc n) pos = ap (λ (qs : List Wanted). qs ++ Hazard (suc n + 1) ∷ []) (sym (listed_all-more queries_of_length (suc n)))
 
-pub to-found : (n : ℕ) → queries_to None (BreachQuery n) ≡ queries_to (Some n) (BreachQuery n)
+pub to-found : (n : ℕ) → queries_up_to_query None (BreachQuery n) ≡ queries_up_to_query (Some n) (BreachQuery n)
 to-found n =
     let none : n - n ≡ 0 = omega arith in
     sym (append-nil (queries_below n ++ Hazard n ∷ BreachQuery n ∷ [])) ∙ ap (λ (k : ℕ). (queries_below n ++ Hazard n ∷ BreachQuery n ∷ []) ++ map Hazard (range_with_len (n + 1) k)) (sym none)
 
-pub to-hazard-after : (b n : ℕ) (q : Wanted) → step_count q ≡ n → b ≤ n → queries_to (Some b) q ++ Hazard (n + 1) ∷ [] ≡ queries_to (Some b) (Hazard (n + 1))
+pub to-hazard-after : (b n : ℕ) (q : Wanted) → step_count q ≡ n → b ≤ n → queries_up_to_query (Some b) q ++ Hazard (n + 1) ∷ [] ≡ queries_up_to_query (Some b) (Hazard (n + 1))
 to-hazard-after b n q e le =
     let front = queries_below b ++ Hazard b ∷ BreachQuery b ∷ [] in
     let more : (n + 1) - b ≡ suc (n - b) = omega arith in
@@ -83,7 +83,7 @@ hazards-up b n =
           ∙ map-append Hazard (range_with_len (b + 1) n) (((b + 1) + n) ∷ [])),
     )
 
-to-queries_of_length : (q : Wanted) → wanted_valid q ≡ true → IsPrefix (queries_to None q) (queries_below (step_count q + 1))
+to-queries_of_length : (q : Wanted) → step_count_is_allowed q ≡ true → IsPrefix (queries_up_to_query None q) (queries_below (step_count q + 1))
 to-queries_of_length (Hazard zero) valid = (BreachQuery 0 ∷ [], refl)
 to-queries_of_length (Hazard (suc n)) valid =
     (BreachQuery (suc n) ∷ Step (suc n) ∷ [], append_assoc (queries_below (suc n)) (Hazard (suc n) ∷ []) (BreachQuery (suc n) ∷ Step (suc n) ∷ []) ∙ sym (listed_all-more queries_of_length (suc n)))
@@ -95,20 +95,20 @@ to-queries_of_length (Step (suc n)) valid =
     let all = queries_below (suc n) ++ queries_of_length (suc n) in
     ([], append-nil all ∙ sym (listed_all-more queries_of_length (suc n)))
 
-pub all-to-step : (n : ℕ) → 0 < n → queries_to None (Step n) ≡ query_order None n
+pub all-to-step : (n : ℕ) → 0 < n → queries_up_to_query None (Step n) ≡ queries_up_to_depth None n
 all-to-step zero pos = absurd (omega arith)
 all-to-step (suc n) pos = sym (listed_all-more queries_of_length (suc n))
 
-pub all-to-hazard : (b n : ℕ) (q : Wanted) → step_count q ≡ n → queries_to (Some b) q ≡ query_order (Some b) n
+pub all-to-hazard : (b n : ℕ) (q : Wanted) → step_count q ≡ n → queries_up_to_query (Some b) q ≡ queries_up_to_depth (Some b) n
 all-to-hazard b n q e =
     ap (λ (k : ℕ). (queries_below b ++ Hazard b ∷ BreachQuery b ∷ []) ++ map Hazard (range_with_len (b + 1) (k - b))) e
     ∙ append_assoc (queries_below b) (Hazard b ∷ BreachQuery b ∷ []) (map Hazard (range_with_len (b + 1) (n - b)))
 
-pub to-prefix : (depth : ℕ) (breach : Option ℕ) (q : Wanted) → wanted_valid q ≡ true → step_count q ≤ depth → IsPrefix (queries_to breach q) (query_order breach depth)
+pub to-prefix : (depth : ℕ) (breach : Option ℕ) (q : Wanted) → step_count_is_allowed q ≡ true → step_count q ≤ depth → IsPrefix (queries_up_to_query breach q) (queries_up_to_depth breach depth)
 to-prefix depth None q valid within =
     let far : (step_count q + 1) + (depth - step_count q) ≡ depth + 1 = omega arith in
     let all = subst (λ (m : ℕ). IsPrefix (queries_below (step_count q + 1)) (queries_below m)) far (prefix-up queries_below queries_below-up (step_count q + 1) (depth - step_count q)) in
-    prefix-then (queries_to None q) (queries_below (step_count q + 1)) (queries_below (depth + 1)) (to-queries_of_length q valid) all
+    prefix-then (queries_up_to_query None q) (queries_below (step_count q + 1)) (queries_below (depth + 1)) (to-queries_of_length q valid) all
 to-prefix depth (Some b) q valid within =
     let i = step_count q - b in
     let far : i + ((depth - b) - i) ≡ depth - b = omega arith in
@@ -119,49 +119,49 @@ to-prefix depth (Some b) q valid within =
 pub more-queries : (asked : List Asked) (a : Asked) (qs : List Wanted) → map (λ (x : Asked). x.query) asked ++ a.query ∷ [] ≡ qs → map (λ (x : Asked). x.query) (asked ++ a ∷ []) ≡ qs
 more-queries asked a qs h = map-append (λ (x : Asked). x.query) asked (a ∷ []) ∙ h
 
-pub more-conflicts : (asked : List Asked) (a : Asked) (left rest conflicts : ℕ) → all_conflicts asked + left ≡ conflicts → conflicts_of a.log + rest ≡ left → all_conflicts (asked ++ a ∷ []) + rest ≡ conflicts
+pub more-conflicts : (asked : List Asked) (a : Asked) (left rest conflicts : ℕ) → total_conflicts asked + left ≡ conflicts → count_learned_clauses a.log + rest ≡ left → total_conflicts (asked ++ a ∷ []) + rest ≡ conflicts
 more-conflicts asked a left rest conflicts h one =
-    let sum = sum_by-append (λ (x : Asked). conflicts_of x.log) asked (a ∷ []) in
-    let last = sum_by-cons (λ (x : Asked). conflicts_of x.log) a [] in
+    let sum = sum_by-append (λ (x : Asked). count_learned_clauses x.log) asked (a ∷ []) in
+    let last = sum_by-cons (λ (x : Asked). count_learned_clauses x.log) a [] in
     omega (arith, sum, last, h, one)
 
 as-prefix : (asked : List Asked) (qs all : List Wanted) → map (λ (x : Asked). x.query) asked ≡ qs → IsPrefix qs all → IsPrefix (map (λ (x : Asked). x.query) asked) all
 as-prefix asked qs all e p = subst (λ (us : List Wanted). IsPrefix us all) (sym e) p
 
 pub asked-to :
-    (s : SystemTree) (g : GoalTree) (depth conflicts : ℕ) (breach : Option ℕ) (a : Asked) (asked : List Asked)
+    (s : PlainSystem) (g : PlainGoal) (depth conflicts : ℕ) (breach : Option ℕ) (a : Asked) (asked : List Asked)
     (left : ℕ) →
-    IsInOrder s g depth conflicts breach a.query asked left → IsLogOf s g a →
+    IsNextInQueryOrder s g depth conflicts breach a.query asked left → IsLogOf s g a →
     IsAskedPrefix s g depth breach (asked ++ a ∷ []) a
 asked-to s g depth conflicts breach a asked left d log =
     record {
       before = asked;
       split = refl;
-      order = as-prefix (asked ++ a ∷ []) (queries_to breach a.query) (query_order breach depth) (more-queries asked a (queries_to breach a.query) d.order) (to-prefix depth breach a.query d.valid d.within);
+      order = as-prefix (asked ++ a ∷ []) (queries_up_to_query breach a.query) (queries_up_to_depth breach depth) (more-queries asked a (queries_up_to_query breach a.query) d.order) (to-prefix depth breach a.query d.valid d.within);
       found = d.found;
       passed = d.passed;
       logs = All-push (IsLogOf s g) asked a d.logs log;
     }
 
 pub go-on :
-    (s : SystemTree) (g : GoalTree) (depth conflicts : ℕ) (breach : Option ℕ) (a : Asked) (q : Wanted)
+    (s : PlainSystem) (g : PlainGoal) (depth conflicts : ℕ) (breach : Option ℕ) (a : Asked) (q : Wanted)
     (asked : List Asked) (left rest : ℕ) →
-    IsInOrder s g depth conflicts breach a.query asked left → IsLogOf s g a → HasPassed s g breach a →
-    conflicts_of a.log + rest ≡ left → queries_to breach a.query ++ q ∷ [] ≡ queries_to breach q →
-    wanted_valid q ≡ true → step_count q ≤ depth →
-    IsInOrder s g depth conflicts breach q (asked ++ a ∷ []) rest
+    IsNextInQueryOrder s g depth conflicts breach a.query asked left → IsLogOf s g a → AskedAllowsNextQuery s g breach a →
+    count_learned_clauses a.log + rest ≡ left → queries_up_to_query breach a.query ++ q ∷ [] ≡ queries_up_to_query breach q →
+    step_count_is_allowed q ≡ true → step_count q ≤ depth →
+    IsNextInQueryOrder s g depth conflicts breach q (asked ++ a ∷ []) rest
 go-on s g depth conflicts breach a q asked left rest d log passed count order valid within =
     record {
-      order = ap (λ (qs : List Wanted). qs ++ q ∷ []) (more-queries asked a (queries_to breach a.query) d.order) ∙ order;
+      order = ap (λ (qs : List Wanted). qs ++ q ∷ []) (more-queries asked a (queries_up_to_query breach a.query) d.order) ∙ order;
       valid = valid;
       within = within;
       found = d.found;
-      passed = All-push (HasPassed s g breach) asked a d.passed passed;
+      passed = All-push (AskedAllowsNextQuery s g breach) asked a d.passed passed;
       logs = All-push (IsLogOf s g) asked a d.logs log;
       counted = more-conflicts asked a left rest conflicts d.counted count;
     }
 
-pub passed-after : (s : SystemTree) (g : GoalTree) (b : ℕ) (q : Wanted) (log : List LogStep) → AllowsNextQuery s g None q log → AllowsNextQuery s g (Some b) q log
+pub passed-after : (s : PlainSystem) (g : PlainGoal) (b : ℕ) (q : Wanted) (log : List LogStep) → AllowsNextQuery s g None q log → AllowsNextQuery s g (Some b) q log
 passed-after s g b (Hazard n) log h = h
 passed-after s g b (BreachQuery n) log h = elim h [ inl refuted ↦ inl refuted | inr found ↦ absurd (none n found) ]
   where
@@ -169,19 +169,19 @@ passed-after s g b (BreachQuery n) log h = elim h [ inl refuted ↦ inl refuted 
     none n e = cc
 passed-after s g b (Step n) log h = h
 
-pub all-passed-after : (s : SystemTree) (g : GoalTree) (b : ℕ) (asked : List Asked) → All (HasPassed s g None) asked → All (HasPassed s g (Some b)) asked
-all-passed-after s g b asked h = All-weaker (HasPassed s g None) (HasPassed s g (Some b)) (λ a k. passed-after s g b a.query a.log k) asked h
+pub all-passed-after : (s : PlainSystem) (g : PlainGoal) (b : ℕ) (asked : List Asked) → All (AskedAllowsNextQuery s g None) asked → All (AskedAllowsNextQuery s g (Some b)) asked
+all-passed-after s g b asked h = All-weaker (AskedAllowsNextQuery s g None) (AskedAllowsNextQuery s g (Some b)) (λ a k. passed-after s g b a.query a.log k) asked h
 
 pub found-order : (asked : List Asked) (n : ℕ) (log : List LogStep) →
-    map (λ (x : Asked). x.query) asked ++ BreachQuery n ∷ [] ≡ queries_to None (BreachQuery n) →
+    map (λ (x : Asked). x.query) asked ++ BreachQuery n ∷ [] ≡ queries_up_to_query None (BreachQuery n) →
     map (λ (x : Asked). x.query) (asked ++ query_with_log (BreachQuery n) log ∷ [])
-    ≡ queries_to (Some n) (BreachQuery n)
-found-order asked n log order = more-queries asked (query_with_log (BreachQuery n) log) (queries_to None (BreachQuery n)) order ∙ to-found n
+    ≡ queries_up_to_query (Some n) (BreachQuery n)
+found-order asked n log order = more-queries asked (query_with_log (BreachQuery n) log) (queries_up_to_query None (BreachQuery n)) order ∙ to-found n
 
 pub found-to :
-    (s : SystemTree) (g : GoalTree) (depth conflicts n : ℕ) (log : List LogStep) (asked : List Asked)
+    (s : PlainSystem) (g : PlainGoal) (depth conflicts n : ℕ) (log : List LogStep) (asked : List Asked)
     (left : ℕ) →
-    IsInOrder s g depth conflicts None (BreachQuery n) asked left →
+    IsNextInQueryOrder s g depth conflicts None (BreachQuery n) asked left →
     IsLogOf s g (query_with_log (BreachQuery n) log) → IsSatisfiable (query_formula s g (BreachQuery n)) →
     IsAskedPrefix s g depth (Some n) (asked ++ query_with_log (BreachQuery n) log ∷ [])
     (query_with_log (BreachQuery n) log)
@@ -190,19 +190,19 @@ found-to s g depth conflicts n log asked left d logged has =
     record {
       before = asked;
       split = refl;
-      order = as-prefix (asked ++ a ∷ []) (queries_to (Some n) (BreachQuery n)) (query_order (Some n) depth) (found-order asked n log d.order) (to-prefix depth (Some n) (BreachQuery n) d.valid d.within);
+      order = as-prefix (asked ++ a ∷ []) (queries_up_to_query (Some n) (BreachQuery n)) (queries_up_to_depth (Some n) depth) (found-order asked n log d.order) (to-prefix depth (Some n) (BreachQuery n) d.valid d.within);
       found = (d.within, has);
       passed = all-passed-after s g n asked d.passed;
       logs = All-push (IsLogOf s g) asked a d.logs logged;
     }
 
 pub go-on-found :
-    (s : SystemTree) (g : GoalTree) (depth conflicts n : ℕ) (log : List LogStep) (asked : List Asked)
+    (s : PlainSystem) (g : PlainGoal) (depth conflicts n : ℕ) (log : List LogStep) (asked : List Asked)
     (left rest : ℕ) →
-    IsInOrder s g depth conflicts None (BreachQuery n) asked left →
+    IsNextInQueryOrder s g depth conflicts None (BreachQuery n) asked left →
     IsLogOf s g (query_with_log (BreachQuery n) log) → IsSatisfiable (query_formula s g (BreachQuery n)) →
-    conflicts_of log + rest ≡ left → wanted_valid (Hazard (n + 1)) ≡ true → n + 1 ≤ depth →
-    IsInOrder s g depth conflicts (Some n) (Hazard (n + 1)) (asked ++ query_with_log (BreachQuery n) log ∷ [])
+    count_learned_clauses log + rest ≡ left → step_count_is_allowed (Hazard (n + 1)) ≡ true → n + 1 ≤ depth →
+    IsNextInQueryOrder s g depth conflicts (Some n) (Hazard (n + 1)) (asked ++ query_with_log (BreachQuery n) log ∷ [])
     rest
 go-on-found s g depth conflicts n log asked left rest d logged has count valid within =
     let a = query_with_log (BreachQuery n) log in
@@ -211,28 +211,28 @@ go-on-found s g depth conflicts n log asked left rest d logged has count valid w
       valid = valid;
       within = within;
       found = (d.within, has);
-      passed = All-push (HasPassed s g (Some n)) asked a (all-passed-after s g n asked d.passed) (inr refl);
+      passed = All-push (AskedAllowsNextQuery s g (Some n)) asked a (all-passed-after s g n asked d.passed) (inr refl);
       logs = All-push (IsLogOf s g) asked a d.logs logged;
       counted = more-conflicts asked a left rest conflicts d.counted count;
     }
 
 pub asked-all :
-    (s : SystemTree) (g : GoalTree) (depth conflicts n : ℕ) (a : Asked) (asked : List Asked) (left : ℕ)
+    (s : PlainSystem) (g : PlainGoal) (depth conflicts n : ℕ) (a : Asked) (asked : List Asked) (left : ℕ)
     (Ends : Asked → Type 0) →
-    IsInOrder s g depth conflicts None a.query asked left → IsLogOf s g a → a.query ≡ Step n → Ends a →
-    AreAllQueries s g n None Ends (asked ++ a ∷ [])
+    IsNextInQueryOrder s g depth conflicts None a.query asked left → IsLogOf s g a → a.query ≡ Step n → Ends a →
+    AreAllQueriesToDepth s g n None Ends (asked ++ a ∷ [])
 asked-all s g depth conflicts n a asked left Ends d log is ends =
-    let pos : 0 < n = ltb-true 0 n (and_parts _ _ (ap wanted_valid (sym is) ∙ d.valid)).0 in
-    let all : map (λ (x : Asked). x.query) (asked ++ a ∷ []) ≡ query_order None n = more-queries asked a (queries_to None a.query) d.order ∙ ap (queries_to None) is ∙ all-to-step n pos in
+    let pos : 0 < n = ltb-true 0 n (and_parts _ _ (ap step_count_is_allowed (sym is) ∙ d.valid)).0 in
+    let all : map (λ (x : Asked). x.query) (asked ++ a ∷ []) ≡ queries_up_to_depth None n = more-queries asked a (queries_up_to_query None a.query) d.order ∙ ap (queries_up_to_query None) is ∙ all-to-step n pos in
     record {
       all = all;
       ends = (a, record { before = asked; split = refl; order = ([], append-nil (map (λ (x : Asked). x.query) (asked ++ a ∷ [])) ∙ all); found = tt; passed = d.passed; logs = All-push (IsLogOf s g) asked a d.logs log }, ends);
     }
 
-pub all-conflicts : (log : List LogStep) → has_no_empty_step log ≡ true → conflicts_of log ≡ length log
+pub all-conflicts : (log : List LogStep) → has_no_empty_step log ≡ true → count_learned_clauses log ≡ length log
 all-conflicts [] h = refl
 all-conflicts (s ∷ log) h =
-    let parts = and_parts (not (is_empty s.clause)) (has_no_empty_step log) h in
+    let parts = and_parts (not (is_empty_clause s.clause)) (has_no_empty_step log) h in
     let rest = all-conflicts log parts.1 in
-    let one : 1 + conflicts_of log ≡ length (s ∷ log) = omega (arith, rest) in
-    sum_by-cons (λ (x : LogStep). cond (not (is_empty x.clause)) 1 0) s log ∙ ap (λ (b : Bool). cond b 1 0 + conflicts_of log) parts.0 ∙ one
+    let one : 1 + count_learned_clauses log ≡ length (s ∷ log) = omega (arith, rest) in
+    sum_by-cons (λ (x : LogStep). cond (not (is_empty_clause x.clause)) 1 0) s log ∙ ap (λ (b : Bool). cond b 1 0 + count_learned_clauses log) parts.0 ∙ one

@@ -14,9 +14,9 @@ abbrev pub queries_below : ℕ → List Wanted
 queries_below n = flat_map queries_of_length (range_with_len 0 n)
 
 -- The queries for runs of up to `depth` steps; after a breach of `b` steps, only hazard queries.
-abbrev pub query_order : Option ℕ → ℕ → List Wanted
-query_order None depth = queries_below (depth + 1)
-query_order (Some b) depth = queries_below b ++ Hazard b ∷ Breach b ∷ map Hazard (range_with_len (b + 1) (depth - b))
+abbrev pub queries_up_to_depth : Option ℕ → ℕ → List Wanted
+queries_up_to_depth None depth = queries_below (depth + 1)
+queries_up_to_depth (Some b) depth = queries_below b ++ Hazard b ∷ Breach b ∷ map Hazard (range_with_len (b + 1) (depth - b))
 
 -- Holds if the first queries are a prefix of the others.
 abbrev pub IsPrefix : List Wanted → List Wanted → Type 0

@@ -1,7 +1,7 @@
 ghost use Rattle.std.specs.Prelude.{IfOk, IsTrue};
-ghost use Rattle.ilk_ir.specs.System.{system_tree, system_valid};
+ghost use Rattle.ilk_ir.specs.System.{plain_system, system_valid};
 ghost use Rattle.ilk_solver.specs.Answered.{IsSearchLog};
-ghost use Rattle.ilk_unroll.specs.Goal.{goal_tree, goal_valid, wanted_valid};
+ghost use Rattle.ilk_unroll.specs.Goal.{plain_goal, goal_valid, step_count_is_allowed};
 ghost use Rattle.ilk_unroll.specs.Query.{query_formula};
 ghost use Rattle.ilk_induct.specs.Due.{IsResponse};
 
@@ -26,7 +26,7 @@ pub enum Response {
 
 /// The answer to a query, and the log of its search.
 #[derive(Drop)]
-pub struct Searched {
+pub struct ResponseWithLog {
     /// The answer.
     pub response: Response,
     /// The steps of the search.
@@ -40,15 +40,16 @@ pub fn ask(
     goal: &Goal,
     q: Wanted,
     budget: u64,
-) -> Result<Searched, AllocError>
-    requires system { IsTrue (system_valid (system_tree system.now)) }
-    requires goal { IsTrue (goal_valid system.now.ranges (goal_tree goal.now)) }
-    requires wanted { IsTrue (wanted_valid q) }
+) -> Result<ResponseWithLog, AllocError>
+    requires system { IsTrue (system_valid (plain_system system.now)) }
+    requires goal { IsTrue (goal_valid system.now.ranges (plain_goal goal.now)) }
+    requires wanted { IsTrue (step_count_is_allowed q) }
     ensures log { IfOk result
-        (λ r. IsSearchLog (query_formula (system_tree system.now) (goal_tree goal.now) q) budget
+        (λ r. IsSearchLog (query_formula (plain_system system.now) (plain_goal goal.now) q) budget
         r.log) }
     ensures response { IfOk result
-        (λ r. IsResponse (system_tree system.now) (goal_tree goal.now) q budget r.response r.log) }
+        (λ r. IsResponse (plain_system system.now)
+        (plain_goal goal.now) q budget r.response r.log) }
 {
     let cnf = query(alloc, system, goal, q)?;
     refutations_refute();
@@ -58,16 +59,16 @@ pub fn ask(
     match answer {
         Answer::Sat(a) => {
             let trace = read_back(alloc, system, goal, q, &a)?;
-            Ok(Searched {
+            Ok(ResponseWithLog {
                 response: Response::Run(trace),
                 log,
             })
         }
-        Answer::Unsat => Ok(Searched {
+        Answer::Unsat => Ok(ResponseWithLog {
             response: Response::Refuted,
             log,
         }),
-        Answer::Spent => Ok(Searched {
+        Answer::Spent => Ok(ResponseWithLog {
             response: Response::GivenUp,
             log,
         }),

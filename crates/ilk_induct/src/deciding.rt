@@ -1,18 +1,18 @@
 ghost use Rattle.std.specs.Prelude.{◌≡◌, ◌<◌, ◌≤◌, ◌⊎◌, IfOk, IsTrue};
-ghost use Rattle.ilk_ir.specs.System.{system_tree, system_valid};
-ghost use Rattle.ilk_unroll.specs.Goal.{goal_tree, goal_valid};
-ghost use Rattle.ilk_certificate.specs.CertificateText.{all_conflicts};
+ghost use Rattle.ilk_ir.specs.System.{plain_system, system_valid};
+ghost use Rattle.ilk_unroll.specs.Goal.{plain_goal, goal_valid};
+ghost use Rattle.ilk_certificate.specs.CertificateText.{total_conflicts};
 ghost use Rattle.ilk_induct.specs.Asked.{AreQueriesOfVerdict};
-ghost use Rattle.ilk_induct.specs.Certified.{Certifies};
-ghost use Rattle.ilk_induct.specs.Right.{IsRightSystemVerdict, SystemHoldsAtAnyLength};
+ghost use Rattle.ilk_induct.specs.Certified.{QueriesProveVerdict};
+ghost use Rattle.ilk_induct.specs.Right.{IsRightSystemVerdict, SystemVerdictHoldsAtAnyLength};
 
-use crate::ask::{Searched, ask};
-use crate::due::{Due, Next, after_response};
+use crate::ask::{ResponseWithLog, ask};
+use crate::due::{DueQuery, Next, after_response};
 use crate::verdict::{Found, Verdict};
 use ilk_base::Row;
 use ilk_certificate::Asked;
 use ilk_ir::System;
-use ilk_log::conflicts_in;
+use ilk_log::count_learned_clauses;
 use ilk_unroll::{Goal, Wanted};
 use std::alloc::{AllocError, Global};
 
@@ -31,36 +31,37 @@ pub fn decide(
     depth: u32,
     conflicts: u64,
 ) -> Result<Found, AllocError>
-    requires system { IsTrue (system_valid (system_tree system.now)) }
-    requires goal { IsTrue (goal_valid system.now.ranges (goal_tree goal.now)) }
+    requires system { IsTrue (system_valid (plain_system system.now)) }
+    requires goal { IsTrue (goal_valid system.now.ranges (plain_goal goal.now)) }
     requires some_depth { 0 < depth }
     requires depth { depth ≤ 16 }
     ensures right { IfOk result
-        (λ found. IsRightSystemVerdict (system_tree system.now) (goal_tree goal.now) depth
+        (λ found. IsRightSystemVerdict (plain_system system.now) (plain_goal goal.now) depth
         found.verdict
         ⊎ (found.verdict ≡ Verdict.Spent)) }
 
     // A safe verdict holds for runs of any length.
     ensures lasts { IfOk result
-        (λ found. SystemHoldsAtAnyLength (system_tree system.now) (goal_tree goal.now)
+        (λ found. SystemVerdictHoldsAtAnyLength (plain_system system.now) (plain_goal goal.now)
         found.verdict) }
     ensures asked { IfOk result
-        (λ found. AreQueriesOfVerdict (system_tree system.now) (goal_tree goal.now) depth conflicts
+        (λ found. AreQueriesOfVerdict (plain_system system.now)
+        (plain_goal goal.now) depth conflicts
         found.verdict found.asked) }
 
     // If the verdict is safe, all queries but the step queries before the last are refuted.
     ensures certified { IfOk result
-        (λ found. Certifies (system_tree system.now) (goal_tree goal.now) found.verdict
+        (λ found. QueriesProveVerdict (plain_system system.now) (plain_goal goal.now) found.verdict
         found.asked) }
-    ensures few { IfOk result (λ found. all_conflicts found.asked ≤ conflicts) }
+    ensures few { IfOk result (λ found. total_conflicts found.asked ≤ conflicts) }
 {
     let mut asked = Row::new(alloc);
     let mut left = conflicts;
-    let mut due = Due::Unbroken(Wanted::Hazard(0));
+    let mut due = DueQuery::Unbroken(Wanted::Hazard(0));
     loop {
         let query = due.query();
-        let Searched { response, log } = ask(alloc, system, goal, query, left)?;
-        left -= conflicts_in(&log);
+        let ResponseWithLog { response, log } = ask(alloc, system, goal, query, left)?;
+        left -= count_learned_clauses(&log);
         asked.push(Asked { query, log })?;
         match after_response(depth, due, response) {
             Next::Ask(query) => due = query,

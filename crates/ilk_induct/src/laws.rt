@@ -1,13 +1,13 @@
 //! Laws, each the contract of a function that does nothing.
 ghost use Rattle.std.specs.Prelude.{ℕ, ◌<◌, ◌≤◌, List, IsTrue};
 ghost use Rattle.std.specs.List.{list_all};
-ghost use Rattle.ilk_ir.specs.System.{SystemTree};
+ghost use Rattle.ilk_ir.specs.System.{PlainSystem};
 ghost use Rattle.ilk_lines.specs.Lines.{Bytes};
-ghost use Rattle.ilk_unroll.specs.Goal.{GoalTree, wanted_valid};
+ghost use Rattle.ilk_unroll.specs.Goal.{PlainGoal, step_count_is_allowed};
 ghost use Rattle.ilk_certificate.specs.declared.asked.Asked.{Asked};
 ghost use Rattle.ilk_certificate.specs.Certificate.{IsCertificate};
-ghost use Rattle.ilk_certificate.specs.CertificateText.{all_conflicts, have_no_hint_zero, safe_text, spent_text};
-ghost use Rattle.ilk_certificate.specs.Kept.{without_early_steps};
+ghost use Rattle.ilk_certificate.specs.CertificateText.{total_conflicts, have_no_hint_zero, safe_text, spent_text};
+ghost use Rattle.ilk_certificate.specs.Kept.{drop_early_step_queries};
 ghost use Rattle.ilk_induct.specs.declared.verdict.Verdict.{Verdict};
 ghost use Rattle.ilk_induct.specs.declared.verdict.Verdict.TheVariants.{Safe, Spent};
 ghost use Rattle.ilk_induct.specs.Asked.{AreQueriesOfVerdict};
@@ -16,26 +16,26 @@ ghost use Rattle.ilk_induct.specs.Spent.{IsSpentText};
 /// The text written for the queries of a safe verdict is a certificate of it, and that of a spent
 /// verdict is a spent text. Proof only; no run-time effect.
 pub fn written_texts_are_valid()
-    ensures safe { (s : SystemTree) (g : GoalTree) (depth conflicts k : ℕ) (asked : List Asked) →
+    ensures safe { (s : PlainSystem) (g : PlainGoal) (depth conflicts k : ℕ) (asked : List Asked) →
         depth ≤ 16 → 0 < k → AreQueriesOfVerdict s g depth conflicts (Safe k) asked →
-        IsCertificate s g k (safe_text k (without_early_steps asked)) }
-    ensures spent { (s : SystemTree) (g : GoalTree) (depth conflicts : ℕ) (asked : List Asked) →
+        IsCertificate s g k (safe_text k (drop_early_step_queries asked)) }
+    ensures spent { (s : PlainSystem) (g : PlainGoal) (depth conflicts : ℕ) (asked : List Asked) →
         AreQueriesOfVerdict s g depth conflicts Spent asked →
-        IsSpentText s g depth conflicts (spent_text (all_conflicts asked) asked) }
+        IsSpentText s g depth conflicts (spent_text (total_conflicts asked) asked) }
 {}
 
 /// No query asked for a verdict has a step with a hint 0. Proof only; no run-time effect.
 #[tactic(auto, using(crate::proofs::Certificates::hints_count))]
 pub fn hints_are_from_one()
-    ensures { (s : SystemTree) (g : GoalTree) (depth conflicts : ℕ) (verdict : Verdict)
+    ensures { (s : PlainSystem) (g : PlainGoal) (depth conflicts : ℕ) (verdict : Verdict)
         (asked : List Asked) →
         AreQueriesOfVerdict s g depth conflicts verdict asked → IsTrue (have_no_hint_zero asked) }
 {}
 
 /// Each query of a spent text is valid: it has at most 16 steps, and a step query has at least one.
 /// Proof only; no run-time effect.
-pub fn spent_queries_are_valid()
-    ensures { (s : SystemTree) (g : GoalTree) (depth n : ℕ) (bytes : Bytes) → depth ≤ 16 →
+pub fn spent_queries_fit_limits()
+    ensures { (s : PlainSystem) (g : PlainGoal) (depth n : ℕ) (bytes : Bytes) → depth ≤ 16 →
         (text : IsSpentText s g depth n bytes) →
-        IsTrue (list_all (λ (a : Asked). wanted_valid a.query) text.asked) }
+        IsTrue (list_all (λ (a : Asked). step_count_is_allowed a.query) text.asked) }
 {}

@@ -12,7 +12,7 @@
 //! `specs/Order` has the order of the queries, as one list. `specs/Asked` defines how far each
 //! verdict went in it. `specs/Spent` has the properties of each query and its log, and defines a
 //! spent text: a prefix of the order, whose last query was given up. Both say that a query's
-//! formula is satisfiable, which means that a run exists (`satisfiable_queries_have_runs` of
+//! formula is satisfiable, which means that a run exists (`satisfiable_iff_run_exists` of
 //! `ilk_unroll`).
 //!
 //! `ilk_certificate` defines a certificate of a safe system, without any search. The text written
@@ -31,5 +31,5 @@ mod verdict;
 
 pub use deciding::decide;
 pub use ilk_certificate::Asked;
-pub use laws::{hints_are_from_one, spent_queries_are_valid, written_texts_are_valid};
+pub use laws::{hints_are_from_one, spent_queries_fit_limits, written_texts_are_valid};
 pub use verdict::{Found, Verdict};

@@ -7,7 +7,7 @@ use Rattle.std.proofs.Math.Nat.{pow-succ'}
 use Rattle.ilk_cnf.specs.Literal.{Literal, positive_lit, negative_lit}
 use Rattle.ilk_cnf.specs.Formula.{is_clause_over}
 use Rattle.ilk_cnf.specs.Truth.{value, is_true}
-use Rattle.ilk_cnf.specs.Extends.{Extends, IsExactly}
+use Rattle.ilk_cnf.specs.Extends.{ExtensionsAreExactly, AreExactValues}
 use Rattle.ilk_cnf.specs.Part.{empty_part, or_gate_part}
 use Rattle.ilk_cnf.proofs.Parts.{value-new}
 use Rattle.ilk_cnf.proofs.Extending.{any_of-law, no_more_if, only_from_if}
@@ -65,16 +65,16 @@ below_or_equal v k =
 
 pub at_most-law : (a : List Bool) (range k v n : ℕ) (below equal : Literal) → length a ≡ n →
     is_clause_over n (below ∷ equal ∷ []) ≡ true → is_true a below ≡ ltb v k → is_true a equal ≡ eqb v k →
-    Extends a (at_most_part range k below equal n).vars (at_most_part range k below equal n).clauses
-    (IsExactly (at_most_bits range k v))
+    ExtensionsAreExactly a (at_most_part range k below equal n).vars (at_most_part range k below equal n).clauses
+    (AreExactValues (at_most_bits range k v))
 at_most-law a range k v n below equal size inside low same = by_case (highest_bit_decides range k)
   where
     some : list_any (is_true a) (below ∷ equal ∷ []) ≡ leb v k
     some = rw (low, same) (below_or_equal v k)
 
-    by_case : (h : Bool) → Extends a (cond h (empty_part n) (or_gate_part (below ∷ equal ∷ []) n)).vars (cond h (empty_part n) (or_gate_part (below ∷ equal ∷ []) n)).clauses (IsExactly (cond h [] (leb v k ∷ [])))
+    by_case : (h : Bool) → ExtensionsAreExactly a (cond h (empty_part n) (or_gate_part (below ∷ equal ∷ []) n)).vars (cond h (empty_part n) (or_gate_part (below ∷ equal ∷ []) n)).clauses (AreExactValues (cond h [] (leb v k ∷ [])))
     by_case true = only_from_if a n [] [] (no_more_if a n [] true size refl)
-    by_case false = subst (λ (e : Bool). Extends a (n + 1) (or_gate_part (below ∷ equal ∷ []) n).clauses (IsExactly (e ∷ []))) some (any_of-law a n (below ∷ equal ∷ []) size inside)
+    by_case false = subst (λ (e : Bool). ExtensionsAreExactly a (n + 1) (or_gate_part (below ∷ equal ∷ []) n).clauses (AreExactValues (e ∷ []))) some (any_of-law a n (below ∷ equal ∷ []) size inside)
 
 pub at_most-exact : (a : List Bool) (first range k v n : ℕ) → length a ≡ n → 0 < bit_count range →
     range ≤ 2 ^ bit_count range → v < range →

@@ -7,10 +7,10 @@ use Rattle.ilk_base.proofs.Ranges.{find-least}
 use Rattle.ilk_cnf.specs.Literal.{Literal}
 use Rattle.ilk_cnf.specs.Formula.{is_clause_over}
 use Rattle.ilk_cnf.specs.Truth.{value, is_true}
-use Rattle.ilk_cnf.specs.Extends.{Extends, IsExactly}
+use Rattle.ilk_cnf.specs.Extends.{ExtensionsAreExactly, AreExactValues}
 use Rattle.ilk_cnf.proofs.Extending.{all_of-law}
-use Rattle.ilk_ints.specs.Bits.{bit_count, bits_of, bits_at, bit_lits, same_bits}
-use Rattle.ilk_ints.specs.Number.{value_lits, value_lit_part, bits_have_value}
+use Rattle.ilk_ints.specs.Bits.{bit_count, bits_of, bits_at, bit_pattern_lits, same_bits}
+use Rattle.ilk_ints.specs.Number.{value_bit_lits, value_lit_part, bits_have_value}
 
 pub bit_count-first : (range k : ℕ) → k < 8 → ((b : ℕ) → b < k → 2 ^ b < range) → range ≤ 2 ^ k → k ≡ bit_count range
 bit_count-first range k few below enough =
@@ -94,39 +94,40 @@ bits-test b v e hv he =
 
 pub lits_step : (first count i rest : ℕ) (ls whole : List Literal) (l : Literal) → i < count →
     l ≡ record { var = first + i; positive = (rest % 2 == 1) } →
-    ls ++ bit_lits (first + i) (bits_of (count - i) rest) ≡ whole →
-    (ls ++ l ∷ []) ++ bit_lits (first + (i + 1)) (bits_of (count - (i + 1)) (rest / 2)) ≡ whole
+    ls ++ bit_pattern_lits (first + i) (bits_of (count - i) rest) ≡ whole →
+    (ls ++ l ∷ []) ++ bit_pattern_lits (first + (i + 1)) (bits_of (count - (i + 1)) (rest / 2)) ≡ whole
 lits_step first count i rest ls whole l less is h =
     let more : count - i ≡ suc (count - (i + 1)) = omega arith in
     let next : first + i + 1 ≡ first + (i + 1) = omega arith in
-    append_assoc ls (l ∷ []) (bit_lits (first + (i + 1)) (bits_of (count - (i + 1)) (rest / 2)))
-    ∙ ap (λ (m : Literal). ls ++ m ∷ bit_lits (first + (i + 1)) (bits_of (count - (i + 1)) (rest / 2))) is
-    ∙ ap (λ (k : ℕ). ls ++ (record { var = first + i; positive = (rest % 2 == 1) }) ∷ bit_lits k (bits_of (count - (i + 1)) (rest / 2))) (sym next)
-    ∙ ap (λ (k : ℕ). ls ++ bit_lits (first + i) (bits_of k rest)) (sym more)
+    append_assoc ls (l ∷ []) (bit_pattern_lits (first + (i + 1)) (bits_of (count - (i + 1)) (rest / 2)))
+    ∙ ap (λ (m : Literal). ls ++ m ∷ bit_pattern_lits (first + (i + 1)) (bits_of (count - (i + 1)) (rest / 2))) is
+    ∙ ap (λ (k : ℕ). ls ++ (record { var = first + i; positive = (rest % 2 == 1) }) ∷ bit_pattern_lits k (bits_of (count - (i + 1)) (rest / 2))) (sym next)
+    ∙ ap (λ (k : ℕ). ls ++ bit_pattern_lits (first + i) (bits_of k rest)) (sym more)
     ∙ h
 
-pub lits-say : (a : List Bool) (qs : List Bool) (first : ℕ) → list_all (is_true a) (bit_lits first qs) ≡ same_bits (bits_at a first (length qs)) qs
+pub lits-say : (a : List Bool) (qs : List Bool) (first : ℕ) → list_all (is_true a) (bit_pattern_lits first qs) ≡ same_bits (bits_at a first (length qs)) qs
 lits-say a [] first = refl
 lits-say a (q ∷ qs) first = ap (λ (r : Bool). cond q (value a first) (not (value a first)) && r) (lits-say a qs (first + 1))
 
-pub value_lits-say : (a : List Bool) (first range v : ℕ) → list_all (is_true a) (value_lits first range v) ≡ bits_have_value a first range v
-value_lits-say a first range v =
+pub value_bit_lits-say : (a : List Bool) (first range v : ℕ) → list_all (is_true a) (value_bit_lits first range v) ≡ bits_have_value a first range v
+value_bit_lits-say a first range v =
     let b = bit_count range in
     lits-say a (bits_of b v) first ∙ ap (λ (k : ℕ). same_bits (bits_at a first k) (bits_of b v)) (length-bits b v)
 
-pub bit_lits-in : (n : ℕ) (qs : List Bool) (first : ℕ) → 0 < first → first + length qs ≤ n + 1 → is_clause_over n (bit_lits first qs) ≡ true
-bit_lits-in n [] first low high = refl
-bit_lits-in n (q ∷ qs) first low high =
-    and_from _ _ (and_from _ _ (lt-ltb 0 first low) (le-leb first n (omega arith))) (bit_lits-in n qs (first + 1) (omega arith) (omega arith))
+pub bit_pattern_lits-in : (n : ℕ) (qs : List Bool) (first : ℕ) → 0 < first → first + length qs ≤ n + 1 → is_clause_over n (bit_pattern_lits first qs) ≡ true
+bit_pattern_lits-in n [] first low high = refl
+bit_pattern_lits-in n (q ∷ qs) first low high =
+    and_from _ _ (and_from _ _ (lt-ltb 0 first low) (le-leb first n (omega arith))) (bit_pattern_lits-in n qs (first + 1) (omega arith) (omega arith))
 
-pub value_lits-in : (n first range v : ℕ) → 0 < first → first + bit_count range ≤ n + 1 → is_clause_over n (value_lits first range v) ≡ true
-value_lits-in n first range v low high =
+pub value_bit_lits-in : (n first range v : ℕ) → 0 < first → first + bit_count range ≤ n + 1 → is_clause_over n (value_bit_lits first range v) ≡ true
+value_bit_lits-in n first range v low high =
     let b = bit_count range in
-    bit_lits-in n (bits_of b v) first low (subst (λ (k : ℕ). first + k ≤ n + 1) (sym (length-bits b v)) high)
+    bit_pattern_lits-in n (bits_of b v) first low (subst (λ (k : ℕ). first + k ≤ n + 1) (sym (length-bits b v)) high)
 
-pub is-law : (a : List Bool) (first range v n : ℕ) → length a ≡ n → 0 < first → first + bit_count range ≤ n + 1 → Extends a (n + 1) (value_lit_part first range v n).clauses (IsExactly (bits_have_value a first range v ∷ []))
+pub is-law : (a : List Bool) (first range v n : ℕ) → length a ≡ n → 0 < first → first + bit_count range ≤ n + 1 → ExtensionsAreExactly a (n + 1) (value_lit_part first range v n).clauses (AreExactValues (bits_have_value a first range v ∷ []))
 is-law a first range v n size low high =
-    subst (λ (e : Bool). Extends a (n + 1) (value_lit_part first range v n).clauses (IsExactly (e ∷ []))) (value_lits-say a first range v) (all_of-law a n (value_lits first range v) size (value_lits-in n first range v low high))
+    subst (λ (e : Bool). ExtensionsAreExactly a (n + 1) (value_lit_part first range v n).clauses (AreExactValues (e ∷ []))) (value_bit_lits-say a first range v)
+    (all_of-law a n (value_bit_lits first range v) size (value_bit_lits-in n first range v low high))
 
 pub has_value-exact : (a : List Bool) (first range v w : ℕ) → range ≤ 2 ^ bit_count range → v < range → w < range → bits_at a first (bit_count range) ≡ bits_of (bit_count range) w → bits_have_value a first range v ≡ eqb w v
 has_value-exact a first range v w enough hv hw is =

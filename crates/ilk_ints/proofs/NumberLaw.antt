@@ -6,15 +6,15 @@ use Rattle.std.proofs.Math.Pow.{pow_mono}
 use Rattle.std.proofs.lemmas.Bool.{and_parts, and_from, ne_eqb, cases_eq, cases_lt, false≢true}
 use Rattle.std.proofs.Math.Nat.{pow-succ'}
 use Rattle.ilk_cnf.specs.Literal.{Literal, negated_lit}
-use Rattle.ilk_cnf.specs.Formula.{Formula, with_clauses, as_clause, is_clause_over, are_clauses_over}
+use Rattle.ilk_cnf.specs.Formula.{Formula, with_clauses, clause_unless_tautology, is_clause_over, are_clauses_over}
 use Rattle.ilk_cnf.specs.Truth.{value, is_clause_true, satisfies}
-use Rattle.ilk_cnf.specs.Extends.{Extends}
-use Rattle.ilk_cnf.specs.Part.{as_clauses}
+use Rattle.ilk_cnf.specs.Extends.{ExtensionsAreExactly}
+use Rattle.ilk_cnf.specs.Part.{clauses_from_lists}
 use Rattle.ilk_cnf.proofs.Parts.{value-new}
-use Rattle.ilk_cnf.proofs.Gates.{is_clause_true-opposites, opposites-in, satisfies-as_clauses}
-use Rattle.ilk_ints.specs.Bits.{bit_count, bits_of, bits_at, bit_lits, same_bits}
-use Rattle.ilk_ints.specs.Number.{value_lits, non_value_clauses, number_part, bits_have_value, IsValue}
-use Rattle.ilk_ints.proofs.BitsLaw.{number_of, number-less, number-bits, bits-number, bits-twice, length-bits, same_bits-self, bits-test, value_lits-say, value_lits-in}
+use Rattle.ilk_cnf.proofs.Gates.{is_clause_true-opposites, opposites-in, satisfies-clauses_from_lists}
+use Rattle.ilk_ints.specs.Bits.{bit_count, bits_of, bits_at, bit_pattern_lits, same_bits}
+use Rattle.ilk_ints.specs.Number.{value_bit_lits, non_value_clauses, number_part, bits_have_value, AreBitsInRange}
+use Rattle.ilk_ints.proofs.BitsLaw.{number_of, number-less, number-bits, bits-number, bits-twice, length-bits, same_bits-self, bits-test, value_bit_lits-say, value_bit_lits-in}
 
 each-range : (p : ℕ → Bool) (n a i : ℕ) → list_all p (range_with_len a n) ≡ true → a ≤ i → i < a + n → p i ≡ true
 each-range p zero a i h low high = absurd (omega arith)
@@ -48,11 +48,11 @@ bits_at-new (q ∷ d) a first size =
     let rest : bits_at (a ++ q ∷ d) (first + 1) (length d) ≡ d = subst (λ (u : List Bool). bits_at u (first + 1) (length d) ≡ d) (append_assoc a (q ∷ []) d) (bits_at-new d (a ++ q ∷ []) (first + 1) longer) in
     rw (here, rest) refl
 
-ruled-says : (a : List Bool) (first range v : ℕ) → is_clause_true a (map negated_lit (value_lits first range v)) ≡ not (bits_have_value a first range v)
-ruled-says a first range v = is_clause_true-opposites a (value_lits first range v) ∙ ap not (value_lits-say a first range v)
+ruled-says : (a : List Bool) (first range v : ℕ) → is_clause_true a (map negated_lit (value_bit_lits first range v)) ≡ not (bits_have_value a first range v)
+ruled-says a first range v = is_clause_true-opposites a (value_bit_lits first range v) ∙ ap not (value_bit_lits-say a first range v)
 
 -- If every other pattern is ruled out, the bits are those of a value.
-pub value-below : (a : List Bool) (first range : ℕ) → range ≤ 2 ^ bit_count range → satisfies a (non_value_clauses first range) ≡ true → IsValue range (bits_at a first (bit_count range))
+pub value-below : (a : List Bool) (first range : ℕ) → range ≤ 2 ^ bit_count range → satisfies a (non_value_clauses first range) ≡ true → AreBitsInRange range (bits_at a first (bit_count range))
 value-below a first range enough sat = below
   where
     b : ℕ
@@ -73,32 +73,32 @@ value-below a first range enough sat = below
     past : range ≤ v → ⊥
     past h =
         let each :
-        list_all (λ u. is_clause_true a (map negated_lit (value_lits first range u)))
+        list_all (λ u. is_clause_true a (map negated_lit (value_bit_lits first range u)))
         (range_with_len range (2 ^ b - range)) ≡ true =
         sym
-        (satisfies-map a (λ u. map negated_lit (value_lits first range u))
+        (satisfies-map a (λ u. map negated_lit (value_bit_lits first range u))
         (range_with_len range (2 ^ b - range))) ∙ sat in
-        let here : is_clause_true a (map negated_lit (value_lits first range v)) ≡ true = each-range (λ u. is_clause_true a (map negated_lit (value_lits first range u))) (2 ^ b - range) range v each h (omega (arith, less, enough)) in
+        let here : is_clause_true a (map negated_lit (value_bit_lits first range v)) ≡ true = each-range (λ u. is_clause_true a (map negated_lit (value_bit_lits first range u))) (2 ^ b - range) range v each h (omega (arith, less, enough)) in
         false≢true (sym (ap not same) ∙ (sym (ruled-says a first range v) ∙ here))
 
-    below : IsValue range (bits_at a first b)
+    below : AreBitsInRange range (bits_at a first b)
     below = elim (cases_lt v range) [ inl low ↦ (v, low, is) | inr high ↦ absurd (past high) ]
 
 -- The bits of a value satisfy all these clauses.
 pub value-passes : (a : List Bool) (first range w : ℕ) → range ≤ 2 ^ bit_count range → w < range → bits_at a first (bit_count range) ≡ bits_of (bit_count range) w → satisfies a (non_value_clauses first range) ≡ true
 value-passes a first range w enough less bits =
-    satisfies-map a (λ v. map negated_lit (value_lits first range v)) (range_with_len range (2 ^ b - range))
-    ∙ range-each (λ v. is_clause_true a (map negated_lit (value_lits first range v))) (2 ^ b - range) range (λ i low high. other i low (omega arith))
+    satisfies-map a (λ v. map negated_lit (value_bit_lits first range v)) (range_with_len range (2 ^ b - range))
+    ∙ range-each (λ v. is_clause_true a (map negated_lit (value_bit_lits first range v))) (2 ^ b - range) range (λ i low high. other i low (omega arith))
   where
     b : ℕ
     b = bit_count range
 
-    other : (i : ℕ) → range ≤ i → i < 2 ^ b → is_clause_true a (map negated_lit (value_lits first range i)) ≡ true
+    other : (i : ℕ) → range ≤ i → i < 2 ^ b → is_clause_true a (map negated_lit (value_bit_lits first range i)) ≡ true
     other i low high =
         let differs : bits_have_value a first range i ≡ false = ap (λ (u : List Bool). same_bits u (bits_of b i)) bits ∙ bits-test b w i (omega arith) high ∙ ne_eqb w i (λ k. absurd (omega arith)) in
         ruled-says a first range i ∙ ap not differs
 
-pub number-law : (a : List Bool) (range n : ℕ) → range ≤ 2 ^ bit_count range → length a ≡ n → Extends a (number_part range n).vars (number_part range n).clauses (IsValue range)
+pub number-law : (a : List Bool) (range n : ℕ) → range ≤ 2 ^ bit_count range → length a ≡ n → ExtensionsAreExactly a (number_part range n).vars (number_part range n).clauses (AreBitsInRange range)
 number-law a range n enough size = record {
   sized = λ d h. (let is = h.2 in omega (arith, length-append a d, size, ap length is, length-bits (bit_count range) h.0));
   all_satisfy = λ d h. value-passes (a ++ d) (n + 1) range h.0 enough h.1 (at d (ap length h.2 ∙ length-bits (bit_count range) h.0) ∙ h.2);
@@ -108,28 +108,28 @@ number-law a range n enough size = record {
     at : (d : List Bool) → length d ≡ bit_count range → bits_at (a ++ d) (n + 1) (bit_count range) ≡ d
     at d l = ap (λ (k : ℕ). bits_at (a ++ d) (n + 1) k) (sym l) ∙ bits_at-new d a (n + 1) (ap (λ (k : ℕ). k + 1) size)
 
-    value : (d : List Bool) → length d ≡ bit_count range → satisfies (a ++ d) (non_value_clauses (n + 1) range) ≡ true → IsValue range d
-    value d l sat = subst (IsValue range) (at d l) (value-below (a ++ d) (n + 1) range enough sat)
+    value : (d : List Bool) → length d ≡ bit_count range → satisfies (a ++ d) (non_value_clauses (n + 1) range) ≡ true → AreBitsInRange range d
+    value d l sat = subst (AreBitsInRange range) (at d l) (value-below (a ++ d) (n + 1) range enough sat)
 
 pub non_value_clauses-in : (n first range : ℕ) → 0 < first → first + bit_count range ≤ n + 1 → are_clauses_over n (non_value_clauses first range) ≡ true
 non_value_clauses-in n first range low high =
-    are_clauses_over-map n (λ v. map negated_lit (value_lits first range v)) (range_with_len range (2 ^ bit_count range - range)) (λ v. opposites-in n (value_lits first range v) (value_lits-in n first range v low high))
+    are_clauses_over-map n (λ v. map negated_lit (value_bit_lits first range v)) (range_with_len range (2 ^ bit_count range - range)) (λ v. opposites-in n (value_bit_lits first range v) (value_bit_lits-in n first range v low high))
 
 pub ruled_step : (f g : Formula) (whole : List (List Literal)) (first b v : ℕ) → v < 2 ^ b →
-    g ≡ with_clauses f f.vars (as_clause (map negated_lit (bit_lits first (bits_of b v)))) →
+    g ≡ with_clauses f f.vars (clause_unless_tautology (map negated_lit (bit_pattern_lits first (bits_of b v)))) →
     f.clauses
-    ++ as_clauses (map (λ u. map negated_lit (bit_lits first (bits_of b u))) (range_with_len v (2 ^ b - v)))
+    ++ clauses_from_lists (map (λ u. map negated_lit (bit_pattern_lits first (bits_of b u))) (range_with_len v (2 ^ b - v)))
     ≡ whole →
     g.clauses
-    ++ as_clauses
-    (map (λ u. map negated_lit (bit_lits first (bits_of b u)))
+    ++ clauses_from_lists
+    (map (λ u. map negated_lit (bit_pattern_lits first (bits_of b u)))
     (range_with_len (v + 1) (2 ^ b - (v + 1)))) ≡ whole
 ruled_step f g whole first b v less made h =
     let more : 2 ^ b - v ≡ suc (2 ^ b - (v + 1)) = omega arith in
-    let rest = as_clauses (map (λ u. map negated_lit (bit_lits first (bits_of b u))) (range_with_len (v + 1) (2 ^ b - (v + 1)))) in
+    let rest = clauses_from_lists (map (λ u. map negated_lit (bit_pattern_lits first (bits_of b u))) (range_with_len (v + 1) (2 ^ b - (v + 1)))) in
     ap (λ (k : Formula). k.clauses ++ rest) made
-    ∙ append_assoc f.clauses (as_clause (map negated_lit (bit_lits first (bits_of b v)))) rest
-    ∙ ap (λ (k : ℕ). f.clauses ++ as_clauses (map (λ u. map negated_lit (bit_lits first (bits_of b u))) (range_with_len v k))) (sym more)
+    ∙ append_assoc f.clauses (clause_unless_tautology (map negated_lit (bit_pattern_lits first (bits_of b v)))) rest
+    ∙ ap (λ (k : ℕ). f.clauses ++ clauses_from_lists (map (λ u. map negated_lit (bit_pattern_lits first (bits_of b u))) (range_with_len v k))) (sym more)
     ∙ h
 
 -- The loop reads a value from the highest bit down.
@@ -155,11 +155,11 @@ value_step a first count k v q less few is bits small =
     at_most_one true = omega arith
     at_most_one false = omega arith
 
-pub value_read : (a : List Bool) (first range v : ℕ) → range ≤ 2 ^ bit_count range → satisfies a (as_clauses (non_value_clauses first range)) ≡ true → bits_of (bit_count range) v ≡ bits_at a first (bit_count range) → v < 2 ^ bit_count range
+pub value_read : (a : List Bool) (first range v : ℕ) → range ≤ 2 ^ bit_count range → satisfies a (clauses_from_lists (non_value_clauses first range)) ≡ true → bits_of (bit_count range) v ≡ bits_at a first (bit_count range) → v < 2 ^ bit_count range
     → v < range
 value_read a first range v enough sat is small =
     let b = bit_count range in
-    let h = value-below a first range enough (sym (satisfies-as_clauses a (non_value_clauses first range)) ∙ sat) in
+    let h = value-below a first range enough (sym (satisfies-clauses_from_lists a (non_value_clauses first range)) ∙ sat) in
     let less = h.1 in
     let same : v ≡ h.0 = sym (number-bits b v small) ∙ ap number_of (is ∙ h.2) ∙ number-bits b h.0 (omega arith) in
     omega arith

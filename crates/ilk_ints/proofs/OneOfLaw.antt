@@ -6,15 +6,15 @@ use Rattle.std.proofs.lemmas.List.Folds.{list_all-append}
 use Rattle.std.proofs.lemmas.Bool.{and_parts, and_from, cond_both, leb-true}
 use Rattle.ilk_base.proofs.Lists.{drop_at}
 use Rattle.ilk_cnf.specs.Literal.{Literal, negated_lit, positive_lit}
-use Rattle.ilk_cnf.specs.Formula.{Formula, as_clause, distinct, is_tautology, is_lit_over, is_clause_over, are_clauses_over}
-use Rattle.ilk_cnf.specs.Part.{Part, and_then, with_part, as_clauses}
+use Rattle.ilk_cnf.specs.Formula.{Formula, clause_unless_tautology, deduped_lits, is_tautology, is_lit_over, is_clause_over, are_clauses_over}
+use Rattle.ilk_cnf.specs.Part.{FormulaPart, and_then, with_part, clauses_from_lists}
 use Rattle.ilk_cnf.specs.Truth.{value, is_true}
-use Rattle.ilk_cnf.specs.Extends.{Extends, IsExactlyIf}
+use Rattle.ilk_cnf.specs.Extends.{ExtensionsAreExactly, PassesWithExactValues}
 use Rattle.ilk_cnf.proofs.Literals.{is_lit_over-more, is_clause_over-more, are_clauses_over-more}
 use Rattle.ilk_cnf.proofs.Parts.{value-new, is_true-left}
 use Rattle.ilk_cnf.proofs.Gates.{is_true-negated_lit, new-in, with_part-and_then}
 use Rattle.ilk_cnf.proofs.Extending.{one_more_if, no_more_if, if_then_if}
-use Rattle.ilk_ints.specs.OneOf.{disjoint_or_clauses, disjoint_or_part, join_pairs, one_of_part, none_true, exactly_one_true, joined_bits, one_of_bits}
+use Rattle.ilk_ints.specs.OneOf.{disjoint_or_clauses, disjoint_or_part, join_pairs_until_one, exactly_one_part, none_true, exactly_one_true, joined_bits, exactly_one_bits}
 
 either_says : (w s l : Bool) → ((not l || (w || false)) && ((not s || (w || false)) && ((not w || (s || (l || false))) && ((not s || (not l || false)) && true)))) ≡ (beq w (s || l) && not (s && l))
 either_says true true true = refl
@@ -27,7 +27,7 @@ either_says false false true = refl
 either_says false false false = refl
 
 disjoint_or_clauses-law : (a : List Bool) (s l : Literal) (p q : Bool) (v : ℕ) → length a + 1 ≡ v → s.var ≤ length a → l.var ≤ length a → is_true a s ≡ p → is_true a l ≡ q
-    → Extends a v (disjoint_or_clauses s l (positive_lit v)) (IsExactlyIf (not (p && q)) ((p || q) ∷ []))
+    → ExtensionsAreExactly a v (disjoint_or_clauses s l (positive_lit v)) (PassesWithExactValues (not (p && q)) ((p || q) ∷ []))
 disjoint_or_clauses-law a s l p q v size si li sp lq =
     one_more_if a v (disjoint_or_clauses s l (positive_lit v)) (not (p && q)) (p || q) size (λ w.
     let new : value (a ++ w ∷ []) v ≡ w = value-new a [] w v size in
@@ -69,8 +69,8 @@ exactly_one_true-first false true qs = refl
 exactly_one_true-first false false qs = refl
 
 -- Joining the first two entries preserves "exactly one", if not both are true.
-pub exactly_one_true-join_pairs : (p q : Bool) (qs : List Bool) → (not (p && q) && exactly_one_true (qs ++ (p || q) ∷ [])) ≡ exactly_one_true (p ∷ q ∷ qs)
-exactly_one_true-join_pairs p q qs = ap (λ (o : Bool). not (p && q) && o) (exactly_one_true-last qs (p || q)) ∙ exactly_one_true-first p q qs
+pub exactly_one_true-join_pairs_until_one : (p q : Bool) (qs : List Bool) → (not (p && q) && exactly_one_true (qs ++ (p || q) ∷ [])) ≡ exactly_one_true (p ∷ q ∷ qs)
+exactly_one_true-join_pairs_until_one p q qs = ap (λ (o : Bool). not (p && q) && o) (exactly_one_true-last qs (p || q)) ∙ exactly_one_true-first p q qs
 
 pub map-left : (a b : List Bool) (ls : List Literal) → is_clause_over (length a) ls ≡ true → map (is_true (a ++ b)) ls ≡ map (is_true a) ls
 map-left a b [] h = refl
@@ -102,35 +102,36 @@ either-next-in s l ls n h =
     let two = and_parts _ _ one.1 in
     and_from _ _ (is_lit_over-more n (n + 1) s (omega arith) one.0) (and_from _ _ (is_lit_over-more n (n + 1) l (omega arith) two.0) (and_from _ _ (new-in n true) refl))
 
-join_pairs-low : (k : ℕ) (ls : List Literal) (n : ℕ) → n ≤ (join_pairs k ls n).vars
-join_pairs-low zero ls n = omega arith
-join_pairs-low (suc k) [] n = omega arith
-join_pairs-low (suc k) (l ∷ []) n = omega arith
-join_pairs-low (suc k) (s ∷ l ∷ ls) n = let h = join_pairs-low k (ls ++ positive_lit (n + 1) ∷ []) (n + 1) in omega arith
+join_pairs_until_one-low : (k : ℕ) (ls : List Literal) (n : ℕ) → n ≤ (join_pairs_until_one k ls n).vars
+join_pairs_until_one-low zero ls n = omega arith
+join_pairs_until_one-low (suc k) [] n = omega arith
+join_pairs_until_one-low (suc k) (l ∷ []) n = omega arith
+join_pairs_until_one-low (suc k) (s ∷ l ∷ ls) n = let h = join_pairs_until_one-low k (ls ++ positive_lit (n + 1) ∷ []) (n + 1) in omega arith
 
-join_pairs-in : (k : ℕ) (ls : List Literal) (n : ℕ) → is_clause_over n ls ≡ true → are_clauses_over (join_pairs k ls n).vars (join_pairs k ls n).clauses ≡ true
-join_pairs-in zero ls n h = and_from _ _ h refl
-join_pairs-in (suc k) [] n h = refl
-join_pairs-in (suc k) (l ∷ []) n h = and_from _ _ h refl
-join_pairs-in (suc k) (s ∷ l ∷ ls) n h =
+join_pairs_until_one-in : (k : ℕ) (ls : List Literal) (n : ℕ) → is_clause_over n ls ≡ true → are_clauses_over (join_pairs_until_one k ls n).vars (join_pairs_until_one k ls n).clauses ≡ true
+join_pairs_until_one-in zero ls n h = and_from _ _ h refl
+join_pairs_until_one-in (suc k) [] n h = refl
+join_pairs_until_one-in (suc k) (l ∷ []) n h = and_from _ _ h refl
+join_pairs_until_one-in (suc k) (s ∷ l ∷ ls) n h =
     let next = ls ++ positive_lit (n + 1) ∷ [] in
-    let low = join_pairs-low k next (n + 1) in
-    list_all-append (is_clause_over (join_pairs k next (n + 1)).vars) (disjoint_or_clauses s l (positive_lit (n + 1))) (join_pairs k next (n + 1)).clauses
-    ∙ and_from _ _ (are_clauses_over-more (n + 1) _ (disjoint_or_clauses s l (positive_lit (n + 1))) low (disjoint_or_clauses-in (n + 1) s l (positive_lit (n + 1)) (either-next-in s l ls n h))) (join_pairs-in k next (n + 1) (next-in s l ls n h))
+    let low = join_pairs_until_one-low k next (n + 1) in
+    list_all-append (is_clause_over (join_pairs_until_one k next (n + 1)).vars) (disjoint_or_clauses s l (positive_lit (n + 1))) (join_pairs_until_one k next (n + 1)).clauses
+    ∙ and_from _ _ (are_clauses_over-more (n + 1) _ (disjoint_or_clauses s l (positive_lit (n + 1))) low (disjoint_or_clauses-in (n + 1) s l (positive_lit (n + 1)) (either-next-in s l ls n h)))
+    (join_pairs_until_one-in k next (n + 1) (next-in s l ls n h))
 
-join_pairs-law : (k : ℕ) (ls : List Literal) (a : List Bool) (n : ℕ) → length a ≡ n → length ls ≤ k →
+join_pairs_until_one-law : (k : ℕ) (ls : List Literal) (a : List Bool) (n : ℕ) → length a ≡ n → length ls ≤ k →
     is_clause_over n ls ≡ true →
-    Extends a (join_pairs k ls n).vars (join_pairs k ls n).clauses
-    (IsExactlyIf (exactly_one_true (map (is_true a) ls)) (joined_bits k (map (is_true a) ls)))
-join_pairs-law zero [] a n size few h = no_more_if a n ([] ∷ []) false size refl
-join_pairs-law zero (l ∷ ls) a n size few h = absurd (omega arith)
-join_pairs-law (suc k) [] a n size few h = no_more_if a n ([] ∷ []) false size refl
-join_pairs-law (suc k) (l ∷ []) a n size few h = no_more_if a n ((l ∷ []) ∷ []) (exactly_one_true (is_true a l ∷ [])) size (alone (is_true a l))
+    ExtensionsAreExactly a (join_pairs_until_one k ls n).vars (join_pairs_until_one k ls n).clauses
+    (PassesWithExactValues (exactly_one_true (map (is_true a) ls)) (joined_bits k (map (is_true a) ls)))
+join_pairs_until_one-law zero [] a n size few h = no_more_if a n ([] ∷ []) false size refl
+join_pairs_until_one-law zero (l ∷ ls) a n size few h = absurd (omega arith)
+join_pairs_until_one-law (suc k) [] a n size few h = no_more_if a n ([] ∷ []) false size refl
+join_pairs_until_one-law (suc k) (l ∷ []) a n size few h = no_more_if a n ((l ∷ []) ∷ []) (exactly_one_true (is_true a l ∷ [])) size (alone (is_true a l))
   where
     alone : (p : Bool) → ((p || false) && true) ≡ exactly_one_true (p ∷ [])
     alone true = refl
     alone false = refl
-join_pairs-law (suc k) (s ∷ l ∷ ls) a n size few h =
+join_pairs_until_one-law (suc k) (s ∷ l ∷ ls) a n size few h =
     let v = positive_lit (n + 1) in
     let next = ls ++ v ∷ [] in
     let fewer : length next ≤ k = omega (arith, length-append ls (v ∷ [])) in
@@ -144,66 +145,68 @@ join_pairs-law (suc k) (s ∷ l ∷ ls) a n size few h =
     let longer : length a + 1 ≡ n + 1 = ap (λ (k : ℕ). k + 1) size in
     let fits : length a ≤ n + 1 = rw size (more n) in
     let here : length (a ++ (p || q) ∷ []) ≡ n + 1 = length-append a ((p || q) ∷ []) ∙ longer in
-    let then : Extends (a ++ (p || q) ∷ []) (join_pairs k next (n + 1)).vars (join_pairs k next (n + 1)).clauses (IsExactlyIf (exactly_one_true (qs ++ (p || q) ∷ [])) (joined_bits k (qs ++ (p || q) ∷ []))) =
+    let then : ExtensionsAreExactly (a ++ (p || q) ∷ []) (join_pairs_until_one k next (n + 1)).vars (join_pairs_until_one k next (n + 1)).clauses (PassesWithExactValues (exactly_one_true (qs ++ (p || q) ∷ [])) (joined_bits k (qs ++ (p || q) ∷ []))) =
     subst
-    (λ (xs : List Bool). Extends (a ++ (p || q) ∷ []) (join_pairs k next (n + 1)).vars
-    (join_pairs k next (n + 1)).clauses (IsExactlyIf (exactly_one_true xs) (joined_bits k xs)))
+    (λ (xs : List Bool). ExtensionsAreExactly (a ++ (p || q) ∷ []) (join_pairs_until_one k next (n + 1)).vars
+    (join_pairs_until_one k next (n + 1)).clauses (PassesWithExactValues (exactly_one_true xs) (joined_bits k xs)))
     (next-true ls a (p || q) n size two.1)
-    (join_pairs-law k next (a ++ (p || q) ∷ []) (n + 1) here fewer (next-in s l ls n h)) in
+    (join_pairs_until_one-law k next (a ++ (p || q) ∷ []) (n + 1) here fewer (next-in s l ls n h)) in
     let both = if_then_if a ((p || q) ∷ []) (joined_bits k (qs ++ (p || q) ∷ [])) (not (p && q))
-    (exactly_one_true (qs ++ (p || q) ∷ [])) (n + 1) (join_pairs k next (n + 1)).vars (disjoint_or_clauses s l v)
-    (join_pairs k next (n + 1)).clauses fits (join_pairs-low k next (n + 1))
+    (exactly_one_true (qs ++ (p || q) ∷ [])) (n + 1) (join_pairs_until_one k next (n + 1)).vars (disjoint_or_clauses s l v)
+    (join_pairs_until_one k next (n + 1)).clauses fits (join_pairs_until_one-low k next (n + 1))
     (disjoint_or_clauses-in (n + 1) s l v (either-next-in s l ls n h))
     (disjoint_or_clauses-law a s l p q (n + 1) longer (rw size si) (rw size li) refl refl) (λ _. then) in
-    subst (λ (o : Bool). Extends a (join_pairs k next (n + 1)).vars (disjoint_or_clauses s l v ++ (join_pairs k next (n + 1)).clauses) (IsExactlyIf o (joined_bits (suc k) (p ∷ q ∷ qs)))) (exactly_one_true-join_pairs p q qs) both
+    subst (λ (o : Bool). ExtensionsAreExactly a (join_pairs_until_one k next (n + 1)).vars (disjoint_or_clauses s l v ++ (join_pairs_until_one k next (n + 1)).clauses) (PassesWithExactValues o (joined_bits (suc k) (p ∷ q ∷ qs))))
+    (exactly_one_true-join_pairs_until_one p q qs) both
 
-join_pairs-vars : (k : ℕ) (ls : List Literal) (n : ℕ) → (join_pairs k ls n).vars ≤ n + k
-join_pairs-vars zero ls n = omega arith
-join_pairs-vars (suc k) [] n = omega arith
-join_pairs-vars (suc k) (l ∷ []) n = omega arith
-join_pairs-vars (suc k) (s ∷ l ∷ ls) n = let h = join_pairs-vars k (ls ++ positive_lit (n + 1) ∷ []) (n + 1) in omega arith
+join_pairs_until_one-vars : (k : ℕ) (ls : List Literal) (n : ℕ) → (join_pairs_until_one k ls n).vars ≤ n + k
+join_pairs_until_one-vars zero ls n = omega arith
+join_pairs_until_one-vars (suc k) [] n = omega arith
+join_pairs_until_one-vars (suc k) (l ∷ []) n = omega arith
+join_pairs_until_one-vars (suc k) (s ∷ l ∷ ls) n = let h = join_pairs_until_one-vars k (ls ++ positive_lit (n + 1) ∷ []) (n + 1) in omega arith
 
-join_pairs-few : (k : ℕ) (ls : List Literal) (n : ℕ) → length (join_pairs k ls n).clauses ≤ 4 * k + 1
-join_pairs-few zero ls n = omega arith
-join_pairs-few (suc k) [] n = omega arith
-join_pairs-few (suc k) (l ∷ []) n = omega arith
-join_pairs-few (suc k) (s ∷ l ∷ ls) n =
+join_pairs_until_one-few : (k : ℕ) (ls : List Literal) (n : ℕ) → length (join_pairs_until_one k ls n).clauses ≤ 4 * k + 1
+join_pairs_until_one-few zero ls n = omega arith
+join_pairs_until_one-few (suc k) [] n = omega arith
+join_pairs_until_one-few (suc k) (l ∷ []) n = omega arith
+join_pairs_until_one-few (suc k) (s ∷ l ∷ ls) n =
     let next = ls ++ positive_lit (n + 1) ∷ [] in
-    let h = join_pairs-few k next (n + 1) in
-    omega (arith, length-append (disjoint_or_clauses s l (positive_lit (n + 1))) (join_pairs k next (n + 1)).clauses, h)
+    let h = join_pairs_until_one-few k next (n + 1) in
+    omega (arith, length-append (disjoint_or_clauses s l (positive_lit (n + 1))) (join_pairs_until_one k next (n + 1)).clauses, h)
 
-pub one_of-low : (ls : List Literal) (n : ℕ) → n ≤ (one_of_part ls n).vars
-one_of-low ls n = join_pairs-low (length ls) ls n
+pub one_of-low : (ls : List Literal) (n : ℕ) → n ≤ (exactly_one_part ls n).vars
+one_of-low ls n = join_pairs_until_one-low (length ls) ls n
 
-pub part-in : (ls : List Literal) (n : ℕ) → is_clause_over n ls ≡ true → are_clauses_over (one_of_part ls n).vars (one_of_part ls n).clauses ≡ true
-part-in ls n h = join_pairs-in (length ls) ls n h
+pub part-in : (ls : List Literal) (n : ℕ) → is_clause_over n ls ≡ true → are_clauses_over (exactly_one_part ls n).vars (exactly_one_part ls n).clauses ≡ true
+part-in ls n h = join_pairs_until_one-in (length ls) ls n h
 
-same_length : (ls : List Literal) (qs : List Bool) → length qs ≡ length ls → joined_bits (length ls) qs ≡ one_of_bits qs
+same_length : (ls : List Literal) (qs : List Bool) → length qs ≡ length ls → joined_bits (length ls) qs ≡ exactly_one_bits qs
 same_length ls qs h = ap (λ (k : ℕ). joined_bits k qs) (sym h)
 
 pub one_of-law : (ls : List Literal) (a : List Bool) (n : ℕ) → length a ≡ n → is_clause_over n ls ≡ true
-    → Extends a (one_of_part ls n).vars (one_of_part ls n).clauses (IsExactlyIf (exactly_one_true (map (is_true a) ls)) (one_of_bits (map (is_true a) ls)))
+    → ExtensionsAreExactly a (exactly_one_part ls n).vars (exactly_one_part ls n).clauses (PassesWithExactValues (exactly_one_true (map (is_true a) ls)) (exactly_one_bits (map (is_true a) ls)))
 one_of-law ls a n size h =
     let qs = map (is_true a) ls in
-    subst (λ (b : List Bool). Extends a (one_of_part ls n).vars (one_of_part ls n).clauses (IsExactlyIf (exactly_one_true qs) b)) (same_length ls qs (length-map ls (is_true a))) (join_pairs-law (length ls) ls a n size (omega arith) h)
+    subst (λ (b : List Bool). ExtensionsAreExactly a (exactly_one_part ls n).vars (exactly_one_part ls n).clauses (PassesWithExactValues (exactly_one_true qs) b)) (same_length ls qs (length-map ls (is_true a)))
+    (join_pairs_until_one-law (length ls) ls a n size (omega arith) h)
 
-pub one_of-vars : (ls : List Literal) (n : ℕ) → (one_of_part ls n).vars ≤ n + length ls
-one_of-vars ls n = join_pairs-vars (length ls) ls n
+pub one_of-vars : (ls : List Literal) (n : ℕ) → (exactly_one_part ls n).vars ≤ n + length ls
+one_of-vars ls n = join_pairs_until_one-vars (length ls) ls n
 
-pub one_of-few : (ls : List Literal) (n : ℕ) → length (one_of_part ls n).clauses ≤ 4 * length ls + 1
-one_of-few ls n = join_pairs-few (length ls) ls n
+pub one_of-few : (ls : List Literal) (n : ℕ) → length (exactly_one_part ls n).clauses ≤ 4 * length ls + 1
+one_of-few ls n = join_pairs_until_one-few (length ls) ls n
 
-as_clause-few : (ls : List Literal) → length (as_clause ls) ≤ 1
-as_clause-few ls = cond_both (is_tautology ls) [] (distinct ls ∷ []) (λ cs. length cs ≤ 1) (λ _. omega arith) (λ _. omega arith)
+clause_unless_tautology-few : (ls : List Literal) → length (clause_unless_tautology ls) ≤ 1
+clause_unless_tautology-few ls = cond_both (is_tautology ls) [] (deduped_lits ls ∷ []) (λ cs. length cs ≤ 1) (λ _. omega arith) (λ _. omega arith)
 
-pub as_clauses-few : (lss : List (List Literal)) → length (as_clauses lss) ≤ length lss
-as_clauses-few [] = omega arith
-as_clauses-few (ls ∷ lss) = omega (arith, length-append (as_clause ls) (as_clauses lss), as_clause-few ls, as_clauses-few lss)
+pub clauses_from_lists-few : (lss : List (List Literal)) → length (clauses_from_lists lss) ≤ length lss
+clauses_from_lists-few [] = omega arith
+clauses_from_lists-few (ls ∷ lss) = omega (arith, length-append (clause_unless_tautology ls) (clauses_from_lists lss), clause_unless_tautology-few ls, clauses_from_lists-few lss)
 
-pub clauses-few : (f : Formula) (ls : List Literal) → length (with_part f (one_of_part ls f.vars)).clauses ≤ length f.clauses + 4 * length ls + 1
+pub clauses-few : (f : Formula) (ls : List Literal) → length (with_part f (exactly_one_part ls f.vars)).clauses ≤ length f.clauses + 4 * length ls + 1
 clauses-few f ls =
-    let part = one_of_part ls f.vars in
-    omega (arith, length-append f.clauses (as_clauses part.clauses), as_clauses-few part.clauses, one_of-few ls f.vars)
+    let part = exactly_one_part ls f.vars in
+    omega (arith, length-append f.clauses (clauses_from_lists part.clauses), clauses_from_lists-few part.clauses, one_of-few ls f.vars)
 
 -- The queue
 
@@ -217,23 +220,23 @@ first-two n s l ls h =
     let one = and_parts _ _ h in
     and_from _ _ one.0 (and_from _ _ (and_parts _ _ one.1).0 refl)
 
-one_of-join : (s l : Literal) (ls : List Literal) (n : ℕ) → and_then (disjoint_or_part s l n) (one_of_part (ls ++ positive_lit (n + 1) ∷ [])) ≡ one_of_part (s ∷ l ∷ ls) n
+one_of-join : (s l : Literal) (ls : List Literal) (n : ℕ) → and_then (disjoint_or_part s l n) (exactly_one_part (ls ++ positive_lit (n + 1) ∷ [])) ≡ exactly_one_part (s ∷ l ∷ ls) n
 one_of-join s l ls n =
     let next = ls ++ positive_lit (n + 1) ∷ [] in
     let long : length next ≡ suc (length ls) = omega (arith, length-append ls (positive_lit (n + 1) ∷ [])) in
-    ap (λ (k : ℕ). and_then (disjoint_or_part s l n) (join_pairs k next)) long
+    ap (λ (k : ℕ). and_then (disjoint_or_part s l n) (join_pairs_until_one k next)) long
 
 pub join-step : (f g : Formula) (s l : Literal) (ls : List Literal) →
     g ≡ with_part f (disjoint_or_part s l f.vars) → is_clause_over f.vars (s ∷ l ∷ ls) ≡ true →
     (is_clause_over g.vars (ls ++ positive_lit (f.vars + 1) ∷ []) ≡ true) ×
-    (with_part g (one_of_part (ls ++ positive_lit (f.vars + 1) ∷ []) g.vars)
-    ≡ with_part f (one_of_part (s ∷ l ∷ ls) f.vars))
+    (with_part g (exactly_one_part (ls ++ positive_lit (f.vars + 1) ∷ []) g.vars)
+    ≡ with_part f (exactly_one_part (s ∷ l ∷ ls) f.vars))
 join-step f g s l ls made inside =
     let n = f.vars in
     let next = ls ++ positive_lit (n + 1) ∷ [] in
     let longer : g.vars ≡ n + 1 = ap (λ (k : Formula). k.vars) made in (
       ap (λ (k : ℕ). is_clause_over k next) longer ∙ next-in s l ls n inside,
-      ap (λ (k : Formula). with_part k (one_of_part next k.vars)) made
-          ∙ with_part-and_then f (disjoint_or_part s l n) (one_of_part next)
-          ∙ ap (λ (p : Part). with_part f p) (one_of-join s l ls n),
+      ap (λ (k : Formula). with_part k (exactly_one_part next k.vars)) made
+          ∙ with_part-and_then f (disjoint_or_part s l n) (exactly_one_part next)
+          ∙ ap (λ (p : FormulaPart). with_part f p) (one_of-join s l ls n),
     )

@@ -1,7 +1,7 @@
 -- Literals for "the integer is at most k".
 use Rattle.std.specs.Prelude.{ℕ, ◌+◌, ◌-◌, ◌^◌, ◌==◌, Bool, List, [], ◌∷◌, nat_le, if◌then◌else◌}
 use Rattle.ilk_cnf.specs.Literal.{Literal, positive_lit, negative_lit}
-use Rattle.ilk_cnf.specs.Part.{Part, empty_part, or_gate_part}
+use Rattle.ilk_cnf.specs.Part.{FormulaPart, empty_part, or_gate_part}
 use Rattle.ilk_ints.specs.Bits.{bit_count}
 
 -- Returns whether the highest bit is false if and only if the integer is at most k.
@@ -10,7 +10,7 @@ highest_bit_decides range k = k + 1 == 2 ^ (bit_count range - 1)
 
 -- After n variables, one that is true if at least one of two literals is; empty if the highest bit
 -- suffices.
-abbrev pub at_most_part : ℕ → ℕ → Literal → Literal → ℕ → Part
+abbrev pub at_most_part : ℕ → ℕ → Literal → Literal → ℕ → FormulaPart
 at_most_part range k below equal n =
     if highest_bit_decides range k then empty_part n else or_gate_part (below ∷ equal ∷ []) n
 

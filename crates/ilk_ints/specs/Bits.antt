@@ -25,6 +25,6 @@ same_bits (p ∷ ps) [] = false
 same_bits (p ∷ ps) (q ∷ qs) = (if q then p else not p) && same_bits ps qs
 
 -- The literals that are all true if and only if the variables from `first` on have these bits.
-abbrev pub bit_lits : ℕ → List Bool → List Literal
-bit_lits first [] = []
-bit_lits first (q ∷ qs) = (record { var = first; positive = q }) ∷ bit_lits (first + 1) qs
+abbrev pub bit_pattern_lits : ℕ → List Bool → List Literal
+bit_pattern_lits first [] = []
+bit_pattern_lits first (q ∷ qs) = (record { var = first; positive = q }) ∷ bit_pattern_lits (first + 1) qs

@@ -1,7 +1,7 @@
 -- Exactly one of some literals. They are joined in pairs, as in a balanced tree with short paths.
 use Rattle.std.specs.Prelude.{ℕ, suc, ◌+◌, Bool, true, false, List, [], ◌∷◌, ◌++◌, length, ◌||◌, ◌&&◌, not}
 use Rattle.ilk_cnf.specs.Literal.{Literal, positive_lit, negated_lit}
-use Rattle.ilk_cnf.specs.Part.{Part, and_then}
+use Rattle.ilk_cnf.specs.Part.{FormulaPart, and_then}
 
 -- v is true if and only if s or l is, and not both are.
 abbrev pub disjoint_or_clauses : Literal → Literal → Literal → List (List Literal)
@@ -9,18 +9,18 @@ disjoint_or_clauses s l v =
     (negated_lit l ∷ v ∷ []) ∷ (negated_lit s ∷ v ∷ []) ∷ (negated_lit v ∷ s ∷ l ∷ []) ∷ (negated_lit s ∷ negated_lit l ∷ []) ∷ []
 
 -- A new variable, after n, that is true if and only if one of two literals is, and not both are.
-abbrev pub disjoint_or_part : Literal → Literal → ℕ → Part
+abbrev pub disjoint_or_part : Literal → Literal → ℕ → FormulaPart
 disjoint_or_part s l n = record { vars = n + 1; clauses = disjoint_or_clauses s l (positive_lit (n + 1)) }
 
 -- Joins the first two literals into a new one at the end, at most k times, until one is left, which
 -- has to be true.
-abbrev pub join_pairs : ℕ → List Literal → ℕ → Part
-join_pairs (suc k) (s ∷ l ∷ ls) n = and_then (disjoint_or_part s l n) (join_pairs k (ls ++ positive_lit (n + 1) ∷ []))
-join_pairs k ls n = record { vars = n; clauses = ls ∷ [] }
+abbrev pub join_pairs_until_one : ℕ → List Literal → ℕ → FormulaPart
+join_pairs_until_one (suc k) (s ∷ l ∷ ls) n = and_then (disjoint_or_part s l n) (join_pairs_until_one k (ls ++ positive_lit (n + 1) ∷ []))
+join_pairs_until_one k ls n = record { vars = n; clauses = ls ∷ [] }
 
 -- Exactly one of the literals, after n variables. Without literals this can't be satisfied.
-abbrev pub one_of_part : List Literal → ℕ → Part
-one_of_part ls n = join_pairs (length ls) ls n
+abbrev pub exactly_one_part : List Literal → ℕ → FormulaPart
+exactly_one_part ls n = join_pairs_until_one (length ls) ls n
 
 -- Returns whether no entry is true.
 abbrev pub none_true : List Bool → Bool
@@ -39,6 +39,6 @@ abbrev pub joined_bits : ℕ → List Bool → List Bool
 joined_bits (suc k) (p ∷ q ∷ qs) = (p || q) ∷ joined_bits k (qs ++ (p || q) ∷ [])
 joined_bits k qs = []
 
--- The values of the new variables of `one_of_part`, if the literals have these values.
-abbrev pub one_of_bits : List Bool → List Bool
-one_of_bits qs = joined_bits (length qs) qs
+-- The values of the new variables of `exactly_one_part`, if the literals have these values.
+abbrev pub exactly_one_bits : List Bool → List Bool
+exactly_one_bits qs = joined_bits (length qs) qs

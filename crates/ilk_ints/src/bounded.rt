@@ -1,11 +1,11 @@
 ghost use Rattle.std.specs.Prelude.{◌≡◌, ◌==◌, ℕ, ◌+◌, ◌-◌, ◌*◌, ◌<◌, ◌≤◌, ◌^◌, ◌∷◌, [], List, Bool, length, map, OnOk, IfOk, IsTrue};
-ghost use Rattle.ilk_cnf.specs.Extends.{PartExtends, IsExactly};
-ghost use Rattle.ilk_cnf.specs.Formula.{with_clauses, with_vars, as_clause, is_clause_over};
+ghost use Rattle.ilk_cnf.specs.Extends.{PartExtensionsAreExactly, AreExactValues};
+ghost use Rattle.ilk_cnf.specs.Formula.{with_clauses, with_var_count, clause_unless_tautology, is_clause_over};
 ghost use Rattle.ilk_cnf.specs.Literal.{negated_lit, positive_lit};
-ghost use Rattle.ilk_cnf.specs.Part.{with_part, as_clauses, and_gate_clauses};
+ghost use Rattle.ilk_cnf.specs.Part.{with_part, clauses_from_lists, and_gate_clauses};
 ghost use Rattle.ilk_cnf.specs.Truth.{is_true, satisfies};
-ghost use Rattle.ilk_ints.specs.Bits.{bit_count, bits_of, bits_at, bit_lits};
-ghost use Rattle.ilk_ints.specs.Number.{IsValue, non_value_clauses, number_part, value_lit_part, value_lits, bits_have_value};
+ghost use Rattle.ilk_ints.specs.Bits.{bit_count, bits_of, bits_at, bit_pattern_lits};
+ghost use Rattle.ilk_ints.specs.Number.{AreBitsInRange, non_value_clauses, number_part, value_lit_part, value_bit_lits, bits_have_value};
 
 use ilk_cnf::{Assignment, Cnf, Lit, Lits, define_and_gate, negated_lits};
 use std::alloc::{AllocError, Global};
@@ -36,7 +36,7 @@ pub fn bit_count(range: u8) -> u64
 fn lits_of(alloc: Global, first: u64, count: u64, value: u64) -> Result<Lits, AllocError>
     requires from_1 { 0 < first }
     requires numbered { first + count ≤ 2 ^ 62 + 1 }
-    ensures { IfOk result (λ lits. lits ≡ bit_lits first (bits_of count value)) }
+    ensures { IfOk result (λ lits. lits ≡ bit_pattern_lits first (bits_of count value)) }
 {
     let mut lits = Lits::new(alloc);
     let mut rest = value;
@@ -49,7 +49,7 @@ fn lits_of(alloc: Global, first: u64, count: u64, value: u64) -> Result<Lits, Al
 
 /// Adds `count` variables to `cnf`.
 pub fn add_vars(cnf: &mut Cnf, count: u64) -> Result<(), AllocError>
-    ensures { OnOk result (cnf.new ≡ with_vars cnf.old (cnf.old.vars + count)) }
+    ensures { OnOk result (cnf.new ≡ with_var_count cnf.old (cnf.old.vars + count)) }
 {
     for _ in 0..count {
         cnf.fresh()?;
@@ -70,12 +70,13 @@ fn rule_out_value(
     ensures { OnOk result
         (cnf.new
         ≡ with_clauses cnf.old cnf.old.vars
-        (as_clause (map negated_lit (bit_lits first (bits_of count value))))) }
+        (clause_unless_tautology
+        (map negated_lit (bit_pattern_lits first (bits_of count value))))) }
 {
     let _ = cnf.vars();
     let lits = lits_of(alloc, first, count, value)?;
     let others = negated_lits(alloc, lits.as_slice())?;
-    cnf.add_clause_of(others.as_slice())?;
+    cnf.add_clause_from_lits(others.as_slice())?;
     Ok(())
 }
 
@@ -92,7 +93,8 @@ fn rule_out(
     requires from_1 { 0 < first }
     requires within { first + count ≤ cnf.old.vars + 1 }
     ensures { OnOk result
-        (cnf.new ≡ with_clauses cnf.old cnf.old.vars (as_clauses (non_value_clauses first range))) }
+        (cnf.new ≡ with_clauses cnf.old cnf.old.vars
+        (clauses_from_lists (non_value_clauses first range))) }
 {
     for value in u64::from(range)..1 << count {
         rule_out_value(alloc, cnf, first, count, value)?;
@@ -104,7 +106,8 @@ fn rule_out(
 /// formula may have grown; its owner drops it.
 pub fn reserve_number(cnf: &mut Cnf, range: u8) -> Result<Bounded, AllocError>
     ensures number { IfOk result (λ n. n ≡ record { first = cnf.old.vars + 1; range = range }) }
-    ensures taken { OnOk result (cnf.new ≡ with_vars cnf.old (cnf.old.vars + bit_count range)) }
+    ensures taken { OnOk result
+        (cnf.new ≡ with_var_count cnf.old (cnf.old.vars + bit_count range)) }
 {
     let first = cnf.vars() + 1;
     add_vars(cnf, bit_count(range))?;
@@ -118,7 +121,7 @@ pub fn add_number_clauses(alloc: Global, cnf: &mut Cnf, n: Bounded) -> Result<()
     requires within { n.first + bit_count n.range ≤ cnf.old.vars + 1 }
     ensures { OnOk result
         (cnf.new ≡ with_clauses cnf.old cnf.old.vars
-        (as_clauses (non_value_clauses n.first n.range))) }
+        (clauses_from_lists (non_value_clauses n.first n.range))) }
 {
     rule_out(alloc, cnf, n.first, bit_count(n.range), n.range)?;
     Ok(())
@@ -133,7 +136,7 @@ pub fn number(alloc: Global, cnf: &mut Cnf, range: u8) -> Result<Bounded, AllocE
     ensures made { OnOk result (cnf.new ≡ with_part cnf.old (number_part range cnf.old.vars)) }
     ensures law { OnOk result
         ((a : List Bool) → length a ≡ cnf.old.vars →
-        PartExtends a (number_part range cnf.old.vars) (IsValue range)) }
+        PartExtensionsAreExactly a (number_part range cnf.old.vars) (AreBitsInRange range)) }
 {
     let _ = bit_count(range);
     let n = reserve_number(cnf, range)?;
@@ -144,7 +147,7 @@ pub fn number(alloc: Global, cnf: &mut Cnf, range: u8) -> Result<Bounded, AllocE
 /// Adds a variable and no clause, and returns its positive literal.
 pub fn reserve_lit(cnf: &mut Cnf) -> Result<Lit, AllocError>
     ensures lit { IfOk result (λ l. l ≡ positive_lit (cnf.old.vars + 1)) }
-    ensures taken { OnOk result (cnf.new ≡ with_vars cnf.old (cnf.old.vars + 1)) }
+    ensures taken { OnOk result (cnf.new ≡ with_var_count cnf.old (cnf.old.vars + 1)) }
 {
     let lit = Lit::new(cnf.fresh()?, true);
     Ok(lit)
@@ -165,7 +168,7 @@ pub fn add_is_clauses(
     ensures { OnOk result
         (cnf.new
         ≡ with_clauses cnf.old cnf.old.vars
-        (as_clauses (and_gate_clauses lit (value_lits n.first n.range value)))) }
+        (clauses_from_lists (and_gate_clauses lit (value_bit_lits n.first n.range value)))) }
 {
     let _ = cnf.vars();
     let lits = lits_of(alloc, n.first, bit_count(n.range), u64::from(value))?;
@@ -184,8 +187,8 @@ pub fn is(alloc: Global, cnf: &mut Cnf, n: Bounded, value: u8) -> Result<Lit, Al
         (cnf.new ≡ with_part cnf.old (value_lit_part n.first n.range value cnf.old.vars)) }
     ensures law { OnOk result
         ((a : List Bool) → length a ≡ cnf.old.vars →
-        PartExtends a (value_lit_part n.first n.range value cnf.old.vars)
-        (IsExactly (bits_have_value a n.first n.range value ∷ []))) }
+        PartExtensionsAreExactly a (value_lit_part n.first n.range value cnf.old.vars)
+        (AreExactValues (bits_have_value a n.first n.range value ∷ []))) }
 
     // The bits are those of the value if and only if the integer is the value.
     ensures exact { OnOk result
@@ -201,7 +204,7 @@ pub fn is(alloc: Global, cnf: &mut Cnf, n: Bounded, value: u8) -> Result<Lit, Al
 
 /// Returns the literal that is true if and only if an integer of range 2 is `value`. This is a
 /// literal of its only bit, so nothing is added.
-pub fn bit_lit(n: Bounded, value: u8) -> Lit
+pub fn one_bit_value_lit(n: Bounded, value: u8) -> Lit
     requires range { n.range ≡ 2 }
     requires value { value < 2 }
     requires from_1 { 0 < n.first }
@@ -216,7 +219,8 @@ pub fn bit_lit(n: Bounded, value: u8) -> Lit
 pub fn value_of(n: Bounded, a: &Assignment) -> u8
     requires from_1 { 0 < n.first }
     requires reached { n.first + bit_count n.range ≤ length a.now + 1 }
-    requires satisfied { IsTrue (satisfies a.now (as_clauses (non_value_clauses n.first n.range))) }
+    requires satisfied { IsTrue
+        (satisfies a.now (clauses_from_lists (non_value_clauses n.first n.range))) }
     ensures bits { bits_at a.now n.first (bit_count n.range) ≡ bits_of (bit_count n.range) result }
     ensures below { result < n.range }
 {

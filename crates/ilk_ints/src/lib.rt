@@ -7,7 +7,7 @@
 //! an assignment, `value_of` reads the value.
 //!
 //! `number` adds an integer, `is` a literal for one value, and `add_bound_lit` a literal for a
-//! bound, built from two existing literals. For a range of 2, `bit_lit` adds nothing.
+//! bound, built from two existing literals. For a range of 2, `one_bit_value_lit` adds nothing.
 //! `add_value_lits` and `add_bound_lits` add literals for all values and for the useful bounds.
 //! With the bits, these need at most two variables per value.
 //!
@@ -28,9 +28,9 @@ mod selection;
 mod table;
 
 pub use bounded::{
-    Bounded, add_is_clauses, add_number_clauses, bit_count, bit_lit, is, number, reserve_lit,
-    reserve_number, value_of,
+    Bounded, add_is_clauses, add_number_clauses, bit_count, is, number, one_bit_value_lit,
+    reserve_lit, reserve_number, value_of,
 };
 pub use limit::add_bound_lit;
 pub use selection::one_of;
-pub use table::{add_bound_lits, add_value_lits, reserve_value_lits};
+pub use table::{add_bound_lits, add_value_lits, reserve_value_bound_lits};

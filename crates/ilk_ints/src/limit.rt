@@ -1,6 +1,6 @@
 ghost use Rattle.std.specs.Prelude.{◌≡◌, ◌==◌, ℕ, ◌+◌, ◌-◌, ◌<◌, ◌≤◌, ◌^◌, ◌∷◌, ◌++◌, [], List, Bool, length, nat_le, nat_lt, OnOk, IfOk, IsTrue};
-ghost use Rattle.ilk_cnf.specs.Extends.{PartExtends, IsExactly};
-ghost use Rattle.ilk_cnf.specs.Formula.{is_clause_over, with_vars};
+ghost use Rattle.ilk_cnf.specs.Extends.{PartExtensionsAreExactly, AreExactValues};
+ghost use Rattle.ilk_cnf.specs.Formula.{is_clause_over, with_var_count};
 ghost use Rattle.ilk_cnf.specs.Part.{with_part};
 ghost use Rattle.ilk_cnf.specs.Truth.{is_true};
 ghost use Rattle.ilk_ints.specs.AtMost.{at_most_part, at_most_lit, at_most_bits, highest_bit_decides};
@@ -44,8 +44,8 @@ pub fn add_bound_lit(
     ensures lit { IfOk result (λ l. l ≡ at_most_lit n.first n.range k used.old) }
     ensures vars { OnOk result (cnf.new.vars ≡ cnf.old.vars) }
     ensures made { OnOk result
-        (with_vars cnf.new used.new
-        ≡ with_part (with_vars cnf.old used.old)
+        (with_var_count cnf.new used.new
+        ≡ with_part (with_var_count cnf.old used.old)
         (at_most_part n.range k below equal used.old)) }
 
     // If the integer is v, and `below` and `equal` have their meaning.
@@ -53,8 +53,8 @@ pub fn add_bound_lit(
         ((a : List Bool) (v : ℕ) → length a ≡ used.old → v < n.range →
         bits_at a n.first (bit_count n.range) ≡ bits_of (bit_count n.range) v →
         is_true a below ≡ nat_lt v k → is_true a equal ≡ (v == k) →
-        PartExtends a (at_most_part n.range k below equal used.old)
-        (IsExactly (at_most_bits n.range k v))) }
+        PartExtensionsAreExactly a (at_most_part n.range k below equal used.old)
+        (AreExactValues (at_most_bits n.range k v))) }
     ensures exact { OnOk result
         ((a : List Bool) (v : ℕ) → length a ≡ used.old → v < n.range →
         bits_at a n.first (bit_count n.range) ≡ bits_of (bit_count n.range) v →

@@ -1,25 +1,26 @@
 ghost use Rattle.std.specs.Prelude.{◌≡◌, ◌+◌, ◌*◌, ◌≤◌, ◌∷◌, ◌++◌, [], List, Bool, length, map, OnOk, IsTrue};
-ghost use Rattle.ilk_cnf.specs.Extends.{PartExtends, IsExactlyIf};
+ghost use Rattle.ilk_cnf.specs.Extends.{PartExtensionsAreExactly, PassesWithExactValues};
 ghost use Rattle.ilk_cnf.specs.Formula.{is_clause_over, with_clauses};
 ghost use Rattle.ilk_cnf.specs.Literal.{positive_lit};
-ghost use Rattle.ilk_cnf.specs.Part.{with_part, as_clauses};
+ghost use Rattle.ilk_cnf.specs.Part.{with_part, clauses_from_lists};
 ghost use Rattle.ilk_cnf.specs.Truth.{is_true};
-ghost use Rattle.ilk_ints.specs.OneOf.{disjoint_or_clauses, disjoint_or_part, one_of_part, exactly_one_true, one_of_bits};
+ghost use Rattle.ilk_ints.specs.OneOf.{disjoint_or_clauses, disjoint_or_part, exactly_one_part, exactly_one_true, exactly_one_bits};
 
 use ilk_cnf::{Clause, Cnf, Lit};
 use std::alloc::{AllocError, Global};
 
-// Adds the clauses that make `join_pairs` true if and only if `s` or `l` is, and that forbid both.
+// Adds the clauses that make `join_pairs_until_one` true if and only if `s` or `l` is, and that
+// forbid both.
 fn add_either(cnf: &mut Cnf, s: Lit, l: Lit, joined: Lit) -> Result<(), AllocError>
     requires { IsTrue (is_clause_over cnf.old.vars (s ∷ l ∷ joined ∷ [])) }
     ensures { OnOk result
         (cnf.new ≡ with_clauses cnf.old cnf.old.vars
-        (as_clauses (disjoint_or_clauses s l joined))) }
+        (clauses_from_lists (disjoint_or_clauses s l joined))) }
 {
-    cnf.add_clause_of(&[l.negated(), joined])?;
-    cnf.add_clause_of(&[s.negated(), joined])?;
-    cnf.add_clause_of(&[joined.negated(), s, l])?;
-    cnf.add_clause_of(&[s.negated(), l.negated()])?;
+    cnf.add_clause_from_lits(&[l.negated(), joined])?;
+    cnf.add_clause_from_lits(&[s.negated(), joined])?;
+    cnf.add_clause_from_lits(&[joined.negated(), s, l])?;
+    cnf.add_clause_from_lits(&[s.negated(), l.negated()])?;
     Ok(())
 }
 
@@ -41,7 +42,8 @@ fn join(cnf: &mut Cnf, queue: &mut Vec<Lit>, s: Lit, l: Lit) -> Result<(), Alloc
 // and demands that one. Joined literals stay in the `Vec`, before `first`.
 fn join_all(cnf: &mut Cnf, queue: Vec<Lit>) -> Result<(), AllocError>
     requires { IsTrue (is_clause_over cnf.old.vars queue.items) }
-    ensures { OnOk result (cnf.new ≡ with_part cnf.old (one_of_part queue.items cnf.old.vars)) }
+    ensures { OnOk result
+        (cnf.new ≡ with_part cnf.old (exactly_one_part queue.items cnf.old.vars)) }
 {
     let mut queue = queue;
     let mut first = 0;
@@ -50,7 +52,7 @@ fn join_all(cnf: &mut Cnf, queue: Vec<Lit>) -> Result<(), AllocError>
         join(cnf, &mut queue, s, l)?;
         first += 2;
     }
-    cnf.add_clause_of(&queue[first..])?;
+    cnf.add_clause_from_lits(&queue[first..])?;
     Ok(())
 }
 
@@ -58,12 +60,13 @@ fn join_all(cnf: &mut Cnf, queue: Vec<Lit>) -> Result<(), AllocError>
 /// grown; its owner drops it.
 pub fn one_of(alloc: Global, cnf: &mut Cnf, lits: &Clause) -> Result<(), AllocError>
     requires { IsTrue (is_clause_over cnf.old.vars lits.now) }
-    ensures made { OnOk result (cnf.new ≡ with_part cnf.old (one_of_part lits.now cnf.old.vars)) }
+    ensures made { OnOk result
+        (cnf.new ≡ with_part cnf.old (exactly_one_part lits.now cnf.old.vars)) }
     ensures law { OnOk result
         ((a : List Bool) → length a ≡ cnf.old.vars →
-        PartExtends a (one_of_part lits.now cnf.old.vars)
-        (IsExactlyIf (exactly_one_true (map (is_true a) lits.now))
-        (one_of_bits (map (is_true a) lits.now)))) }
+        PartExtensionsAreExactly a (exactly_one_part lits.now cnf.old.vars)
+        (PassesWithExactValues (exactly_one_true (map (is_true a) lits.now))
+        (exactly_one_bits (map (is_true a) lits.now)))) }
     ensures few { OnOk result
         (length cnf.new.clauses ≤ length cnf.old.clauses + 4 * length lits.now + 1) }
 {

@@ -1,14 +1,14 @@
 ghost use Rattle.std.specs.Prelude.{◌≡◌, ◌==◌, ℕ, ◌+◌, ◌-◌, ◌<◌, ◌≤◌, ◌^◌, ◌∷◌, ◌++◌, [], List, Bool, min, length, map, OnOk, IfOk, IsTrue};
-ghost use Rattle.ilk_cnf.specs.Extends.{PartExtends, IsExactly};
-ghost use Rattle.ilk_cnf.specs.Formula.{is_clause_over, with_vars};
+ghost use Rattle.ilk_cnf.specs.Extends.{PartExtensionsAreExactly, AreExactValues};
+ghost use Rattle.ilk_cnf.specs.Formula.{is_clause_over, with_var_count};
 ghost use Rattle.ilk_cnf.specs.Literal.{positive_lit};
 ghost use Rattle.ilk_cnf.specs.Part.{with_part};
 ghost use Rattle.ilk_cnf.specs.Truth.{is_true};
 ghost use Rattle.ilk_ints.specs.Bits.{bit_count, bits_at, bits_of};
 ghost use Rattle.ilk_ints.specs.Number.{value_lit_part};
-ghost use Rattle.ilk_ints.specs.Named.{values_from, values_part, value_bits, value_vars_bits, values_vars, bound_var_count, lit_var_count, bound_count, bounds_from, bounds_part, bound_bits, bound_vars_bits};
+ghost use Rattle.ilk_ints.specs.Named.{value_lits_from, value_lits_part, one_hot_bits, one_hot_var_bits, value_var_count, bound_var_count, value_bound_var_count, bound_count, bound_lits_from, bound_lits_part, bound_bits, bound_vars_bits};
 
-use crate::bounded::{Bounded, add_is_clauses, add_vars, bit_count, bit_lit};
+use crate::bounded::{Bounded, add_is_clauses, add_vars, bit_count, one_bit_value_lit};
 use crate::limit::{add_bound_lit, highest_bit_decides};
 use ilk_cnf::{Cnf, Lit, Lits};
 use std::alloc::{AllocError, Global};
@@ -28,8 +28,9 @@ fn next_is(
     ensures lit { IfOk result (λ l. l ≡ positive_lit (used.old + 1)) }
     ensures vars { OnOk result (cnf.new.vars ≡ cnf.old.vars) }
     ensures made { OnOk result
-        (with_vars cnf.new used.new
-        ≡ with_part (with_vars cnf.old used.old) (value_lit_part n.first n.range value used.old)) }
+        (with_var_count cnf.new used.new
+        ≡ with_part (with_var_count cnf.old used.old)
+        (value_lit_part n.first n.range value used.old)) }
 {
     let _ = cnf.vars();
     *used += 1;
@@ -44,12 +45,12 @@ fn add_values(alloc: Global, cnf: &mut Cnf, used: &mut u64, n: Bounded) -> Resul
     requires within { n.first + bit_count n.range ≤ used.old + 1 }
     requires there { used.old + n.range ≤ cnf.old.vars }
     ensures lits { IfOk result
-        (λ lits. lits ≡ (values_from n.first n.range 0 n.range used.old).lits) }
+        (λ lits. lits ≡ (value_lits_from n.first n.range 0 n.range used.old).lits) }
     ensures vars { OnOk result (cnf.new.vars ≡ cnf.old.vars) }
     ensures made { OnOk result
-        (with_vars cnf.new used.new
-        ≡ with_part (with_vars cnf.old used.old)
-        (values_from n.first n.range 0 n.range used.old).part) }
+        (with_var_count cnf.new used.new
+        ≡ with_part (with_var_count cnf.old used.old)
+        (value_lits_from n.first n.range 0 n.range used.old).part) }
 {
     let mut lits = Lits::new(alloc);
     for value in 0..n.range {
@@ -69,25 +70,26 @@ pub fn add_value_lits(
 ) -> Result<Lits, AllocError>
     requires from_1 { 0 < n.first }
     requires within { n.first + bit_count n.range ≤ used.old + 1 }
-    requires there { used.old + values_vars n.range ≤ cnf.old.vars }
-    ensures lits { IfOk result (λ lits. lits ≡ (values_part n.first n.range used.old).lits) }
+    requires there { used.old + value_var_count n.range ≤ cnf.old.vars }
+    ensures lits { IfOk result (λ lits. lits ≡ (value_lits_part n.first n.range used.old).lits) }
     ensures vars { OnOk result (cnf.new.vars ≡ cnf.old.vars) }
     ensures made { OnOk result
-        (with_vars cnf.new used.new
-        ≡ with_part (with_vars cnf.old used.old) (values_part n.first n.range used.old).part) }
+        (with_var_count cnf.new used.new
+        ≡ with_part (with_var_count cnf.old used.old)
+        (value_lits_part n.first n.range used.old).part) }
 
     // If the integer is w, the new variables have exactly one assignment, and the literals say w.
     ensures law { OnOk result
         ((a : List Bool) (w : ℕ) → length a ≡ used.old → w < n.range →
         bits_at a n.first (bit_count n.range) ≡ bits_of (bit_count n.range) w →
-        PartExtends a (values_part n.first n.range used.old).part
-        (IsExactly (value_vars_bits n.range w))) }
+        PartExtensionsAreExactly a (value_lits_part n.first n.range used.old).part
+        (AreExactValues (one_hot_var_bits n.range w))) }
     ensures exact { OnOk result
         ((a c : List Bool) (w : ℕ) → length a ≡ used.old → w < n.range →
         bits_at a n.first (bit_count n.range) ≡ bits_of (bit_count n.range) w →
-        map (is_true (a ++ (value_vars_bits n.range w ++ c)))
-        (values_part n.first n.range used.old).lits
-        ≡ value_bits w 0 n.range) }
+        map (is_true (a ++ (one_hot_var_bits n.range w ++ c)))
+        (value_lits_part n.first n.range used.old).lits
+        ≡ one_hot_bits w 0 n.range) }
 {
     let _ = cnf.vars();
     let _ = bit_count(n.range);
@@ -110,8 +112,8 @@ fn two_values(alloc: Global, n: Bounded) -> Result<Lits, AllocError>
         ∷ (record { var = n.first; positive = (1 == 1) }) ∷ []) }
 {
     let mut lits = Lits::new(alloc);
-    lits.push(bit_lit(n, 0))?;
-    lits.push(bit_lit(n, 1))?;
+    lits.push(one_bit_value_lit(n, 0))?;
+    lits.push(one_bit_value_lit(n, 1))?;
     Ok(lits)
 }
 
@@ -144,8 +146,9 @@ fn bounds_vars(range: u8) -> u64
 
 /// Adds the variables for the literals of an integer's values and bounds, and no clause. If memory
 /// runs out, the formula may have grown; its owner drops it.
-pub fn reserve_value_lits(cnf: &mut Cnf, range: u8) -> Result<(), AllocError>
-    ensures { OnOk result (cnf.new ≡ with_vars cnf.old (cnf.old.vars + lit_var_count range)) }
+pub fn reserve_value_bound_lits(cnf: &mut Cnf, range: u8) -> Result<(), AllocError>
+    ensures { OnOk result
+        (cnf.new ≡ with_var_count cnf.old (cnf.old.vars + value_bound_var_count range)) }
 {
     let values = if range == 2 { 0 } else { u64::from(range) };
     add_vars(cnf, values + bounds_vars(range))?;
@@ -167,15 +170,15 @@ fn add_bounds(
     requires from_1 { 0 < n.first }
     requires within { n.first + bit_count n.range ≤ used.old + 1 }
     requires lits { IsTrue (is_clause_over used.old (below ∷ equals.now)) }
-    requires there { (bounds_from n.first n.range below 1 equals.now used.old).part.vars
+    requires there { (bound_lits_from n.first n.range below 1 equals.now used.old).part.vars
         ≤ cnf.old.vars }
     ensures lits { IfOk result
-        (λ lits. lits ≡ (bounds_from n.first n.range below 1 equals.now used.old).lits) }
+        (λ lits. lits ≡ (bound_lits_from n.first n.range below 1 equals.now used.old).lits) }
     ensures vars { OnOk result (cnf.new.vars ≡ cnf.old.vars) }
     ensures made { OnOk result
-        (with_vars cnf.new used.new
-        ≡ with_part (with_vars cnf.old used.old)
-        (bounds_from n.first n.range below 1 equals.now used.old).part) }
+        (with_var_count cnf.new used.new
+        ≡ with_part (with_var_count cnf.old used.old)
+        (bound_lits_from n.first n.range below 1 equals.now used.old).part) }
 {
     let _ = bit_count(n.range);
     let mut lits = Lits::new(alloc);
@@ -201,14 +204,15 @@ fn bounds_of(
     requires within { n.first + bit_count n.range ≤ used.old + 1 }
     requires all { length values.now ≡ n.range }
     requires lits { IsTrue (is_clause_over used.old values.now) }
-    requires there { (bounds_part n.first n.range values.now used.old).part.vars ≤ cnf.old.vars }
+    requires there { (bound_lits_part n.first n.range values.now used.old).part.vars ≤
+        cnf.old.vars }
     ensures lits { IfOk result
-        (λ lits. lits ≡ (bounds_part n.first n.range values.now used.old).lits) }
+        (λ lits. lits ≡ (bound_lits_part n.first n.range values.now used.old).lits) }
     ensures vars { OnOk result (cnf.new.vars ≡ cnf.old.vars) }
     ensures made { OnOk result
-        (with_vars cnf.new used.new
-        ≡ with_part (with_vars cnf.old used.old)
-        (bounds_part n.first n.range values.now used.old).part) }
+        (with_var_count cnf.new used.new
+        ≡ with_part (with_var_count cnf.old used.old)
+        (bound_lits_part n.first n.range values.now used.old).part) }
 {
     let count = bound_count(n.range);
     match values {
@@ -235,28 +239,29 @@ pub fn add_bound_lits(
     requires within { n.first + bit_count n.range ≤ used.old + 1 }
     requires all { length values.now ≡ n.range }
     requires lits { IsTrue (is_clause_over used.old values.now) }
-    requires there { (bounds_part n.first n.range values.now used.old).part.vars ≤ cnf.old.vars }
+    requires there { (bound_lits_part n.first n.range values.now used.old).part.vars ≤
+        cnf.old.vars }
     ensures lits { IfOk result
-        (λ lits. lits ≡ (bounds_part n.first n.range values.now used.old).lits) }
+        (λ lits. lits ≡ (bound_lits_part n.first n.range values.now used.old).lits) }
     ensures vars { OnOk result (cnf.new.vars ≡ cnf.old.vars) }
     ensures made { OnOk result
-        (with_vars cnf.new used.new
-        ≡ with_part (with_vars cnf.old used.old)
-        (bounds_part n.first n.range values.now used.old).part) }
+        (with_var_count cnf.new used.new
+        ≡ with_part (with_var_count cnf.old used.old)
+        (bound_lits_part n.first n.range values.now used.old).part) }
 
     // If the integer is w, and the literals of its values say so.
     ensures law { OnOk result
         ((a : List Bool) (w : ℕ) → length a ≡ used.old → w < n.range →
         bits_at a n.first (bit_count n.range) ≡ bits_of (bit_count n.range) w →
-        map (is_true a) values.now ≡ value_bits w 0 n.range →
-        PartExtends a (bounds_part n.first n.range values.now used.old).part
-        (IsExactly (bound_vars_bits n.range w 1 (bound_count n.range)))) }
+        map (is_true a) values.now ≡ one_hot_bits w 0 n.range →
+        PartExtensionsAreExactly a (bound_lits_part n.first n.range values.now used.old).part
+        (AreExactValues (bound_vars_bits n.range w 1 (bound_count n.range)))) }
     ensures exact { OnOk result
         ((a c : List Bool) (w : ℕ) → length a ≡ used.old → w < n.range →
         bits_at a n.first (bit_count n.range) ≡ bits_of (bit_count n.range) w →
-        map (is_true a) values.now ≡ value_bits w 0 n.range →
+        map (is_true a) values.now ≡ one_hot_bits w 0 n.range →
         map (is_true (a ++ (bound_vars_bits n.range w 1 (bound_count n.range) ++ c)))
-        (bounds_part n.first n.range values.now used.old).lits
+        (bound_lits_part n.first n.range values.now used.old).lits
         ≡ bound_bits w 1 (bound_count n.range)) }
 {
     let _ = bit_count(n.range);

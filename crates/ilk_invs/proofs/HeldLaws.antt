@@ -11,19 +11,19 @@ use Rattle.ilk_ir.specs.Tree.{tree_holds}
 use Rattle.ilk_plant.specs.Network.{has_section}
 use Rattle.ilk_plant.specs.Plant.{PlantLists}
 use Rattle.ilk_plant.specs.Shape.{HasShape}
-use Rattle.ilk_plant.proofs.Shapes.{counts_fit_path-counts}
+use Rattle.ilk_plant.proofs.Shapes.{seen_and_released_fit_path-counts}
 use Rattle.ilk_plant.specs.declared.state.Mode.{Mode}
 use Rattle.ilk_plant.specs.declared.state.Mode.TheVariants.{Allocating, Free, Locked, Marked, Occupied}
 use Rattle.ilk_plant.specs.declared.state.RouteState.{RouteState}
 use Rattle.ilk_plant.specs.declared.state.State.{State}
 use Rattle.ilk_plant.specs.declared.table.Route.{Route}
-use Rattle.ilk_routes.specs.Claims.{sections_beside_path}
+use Rattle.ilk_routes.specs.Claims.{sections_outside_path}
 use Rattle.ilk_routes.specs.Modes.{same_mode}
-use Rattle.ilk_model.specs.Holding.{holds_section, holds_sections, is_unreleased_on_path, is_locked_or_occupied}
+use Rattle.ilk_model.specs.Holding.{holds_section, is_holding_state, is_unreleased_on_path, is_locked_or_occupied}
 use Rattle.ilk_layout.specs.Image.{image_of}
 use Rattle.ilk_layout.specs.Conditions.{rel_is, seen_is}
 use Rattle.ilk_layout.proofs.ConditionValues.{mode-holds, rel-holds, seen-holds}
-use Rattle.ilk_invs.specs.Held.{holding_section, is_holding, unreleased_on_path, locked_or_occupied, rel_below, seen_below}
+use Rattle.ilk_invs.specs.Held.{section_held_by, is_holding, unreleased_on_path, route_locked_or_occupied, rel_below, seen_below}
 use Rattle.ilk_invs.proofs.PartLaws.{any-if, some_of-holds}
 use Rattle.ilk_invs.proofs.Tests.{counted-below, found-at, list_any-flat_map}
 
@@ -67,8 +67,8 @@ module _ (p : PlantLists) (s : State) (shape : HasShape p s) where
       ∙ list_any-alike (λ c. tree_holds (image_of p s) (rel_is r c)) (λ c. now.rel == c) (range_with_len 0 k) (λ i c found. rel-holds p s shape r now c at)
       ∙ counted-below now.rel k
 
-  pub locked_or_occupied-holds : (r : ℕ) (now : RouteState) → slice_get s.routes r ≡ Some now → tree_holds (image_of p s) (locked_or_occupied r) ≡ is_locked_or_occupied now
-  locked_or_occupied-holds r now at =
+  pub route_locked_or_occupied-holds : (r : ℕ) (now : RouteState) → slice_get s.routes r ≡ Some now → tree_holds (image_of p s) (route_locked_or_occupied r) ≡ is_locked_or_occupied now
+  route_locked_or_occupied-holds r now at =
       let one = mode-holds p s shape r now Free at in
       let two = mode-holds p s shape r now Marked at in
       let three = mode-holds p s shape r now Allocating at in
@@ -81,7 +81,7 @@ module _ (p : PlantLists) (s : State) (shape : HasShape p s) where
       none_of Locked = refl
       none_of Occupied = refl
 
-  pub is_holding-holds : (r : ℕ) (now : RouteState) → slice_get s.routes r ≡ Some now → tree_holds (image_of p s) (is_holding r) ≡ holds_sections now
+  pub is_holding-holds : (r : ℕ) (now : RouteState) → slice_get s.routes r ≡ Some now → tree_holds (image_of p s) (is_holding r) ≡ is_holding_state now
   is_holding-holds r now at =
       let one = mode-holds p s shape r now Free at in
       let two = mode-holds p s shape r now Marked at in
@@ -96,7 +96,7 @@ module _ (p : PlantLists) (s : State) (shape : HasShape p s) where
 
   pub unreleased_on_path-holds : (r : ℕ) (route : Route) (now : RouteState) (x : ℕ) → slice_get p.routes r ≡ Some route → slice_get s.routes r ≡ Some now → tree_holds (image_of p s) (unreleased_on_path r route x) ≡ is_unreleased_on_path route now x
   unreleased_on_path-holds r route now x known at =
-      let few : now.rel ≤ length route.path = (counts_fit_path-counts route now (shape.counts r route now known at)).1 in
+      let few : now.rel ≤ length route.path = (seen_and_released_fit_path-counts route now (shape.counts r route now known at)).1 in
       let counts = range_with_len 0 (length route.path + 1) in
       some_of-holds (image_of p s) (flat_map (λ c. if rest c then rel_is r c ∷ [] else []) counts)
       ∙ list_any-flat_map (tree_holds (image_of p s)) (λ c. if rest c then rel_is r c ∷ [] else []) counts
@@ -109,12 +109,12 @@ module _ (p : PlantLists) (s : State) (shape : HasShape p s) where
       rest : ℕ → Bool
       rest c = has_section x (drop c route.path)
 
-  pub holding_section-holds : (r : ℕ) (route : Route) (now : RouteState) (x : ℕ) → slice_get p.routes r ≡ Some route → slice_get s.routes r ≡ Some now → tree_holds (image_of p s) (holding_section r route x) ≡ holds_section x route now
-  holding_section-holds r route now x known at = by_test (has_section x (sections_beside_path route)) refl
+  pub section_held_by-holds : (r : ℕ) (route : Route) (now : RouteState) (x : ℕ) → slice_get p.routes r ≡ Some route → slice_get s.routes r ≡ Some now → tree_holds (image_of p s) (section_held_by r route x) ≡ holds_section x route now
+  section_held_by-holds r route now x known at = by_test (has_section x (sections_outside_path route)) refl
     where
-      by_test : (b : Bool) → has_section x (sections_beside_path route) ≡ b → tree_holds (image_of p s) (holding_section r route x) ≡ holds_section x route now
-      by_test true e = rw e (is_holding-holds r now at ∙ sym (and-true (holds_sections now)))
+      by_test : (b : Bool) → has_section x (sections_outside_path route) ≡ b → tree_holds (image_of p s) (section_held_by r route x) ≡ holds_section x route now
+      by_test true e = rw e (is_holding-holds r now at ∙ sym (and-true (is_holding_state now)))
       by_test false e =
           let one = is_holding-holds r now at in
           let two = unreleased_on_path-holds r route now x known at in
-          rw e (ap (λ b. b && (tree_holds (image_of p s) (unreleased_on_path r route x) && true)) one ∙ ap (λ b. holds_sections now && b) (and-true (tree_holds (image_of p s) (unreleased_on_path r route x)) ∙ two))
+          rw e (ap (λ b. b && (tree_holds (image_of p s) (unreleased_on_path r route x) && true)) one ∙ ap (λ b. is_holding_state now && b) (and-true (tree_holds (image_of p s) (unreleased_on_path r route x)) ∙ two))

@@ -20,17 +20,17 @@ use Rattle.ilk_plant.specs.TableRules.{sections_locked_for}
 use Rattle.ilk_plant.specs.declared.state.RouteState.{RouteState}
 use Rattle.ilk_plant.specs.declared.state.State.{State}
 use Rattle.ilk_plant.specs.declared.table.Route.{Route}
-use Rattle.ilk_routes.specs.Claims.{sections_beside_path}
+use Rattle.ilk_routes.specs.Claims.{sections_outside_path}
 use Rattle.ilk_model.specs.Families.{keeps_v2}
-use Rattle.ilk_model.specs.Holding.{holds_section, holds_sections, is_unreleased_on_path, route_holds}
+use Rattle.ilk_model.specs.Holding.{holds_section, is_holding_state, is_unreleased_on_path, route_holds}
 use Rattle.ilk_model.proofs.Kept.{kept-on_path}
 use Rattle.ilk_layout.specs.Image.{image_of}
 use Rattle.ilk_invs.specs.declared.hold_family.TheConstants.{MAX_ORDERED_HOLDERS}
-use Rattle.ilk_invs.specs.HoldFamilies.{held_by_halves, held_in_order, held_once, holders, may_hold, none_before, none_holding, not_in_both, v2_tree}
+use Rattle.ilk_invs.specs.HoldFamilies.{at_most_one_by_halves, at_most_one_in_order, at_most_one_holder, holders, may_hold, none_before_if_holding, none_holding, not_in_both, v2_tree}
 use Rattle.ilk_invs.proofs.PartLaws.{each_of-holds, state_of_route}
 use Rattle.ilk_invs.proofs.Sections.{sections_of_route}
 use Rattle.ilk_invs.proofs.Tests.{dropped-at}
-use Rattle.ilk_invs.proofs.HoldingLaws.{at-dropped, before-first, dropped-known, filter-place, holder-known, none_before-holds, none_holding-holds, not-both, not-true-false, not-where-never, passing-once, taken-known}
+use Rattle.ilk_invs.proofs.HoldingLaws.{at-dropped, before-first, dropped-known, filter-place, holder-known, none_before_if_holding-holds, none_holding-holds, not-both, not-true-false, not-where-never, passing-once, taken-known}
 
 module _ (p : PlantLists) (plant : IsPlant p) (s : State) (shape : HasShape p s) where
   may-hold : (x r : ℕ) → r < length p.routes → route_holds p s r x ≡ true → may_hold p x r ≡ true
@@ -38,28 +38,28 @@ module _ (p : PlantLists) (plant : IsPlant p) (s : State) (shape : HasShape p s)
       let route = item_at p.routes r within in
       let now = state_of_route p s shape r route.0 route.1 in
       let holds : holds_section x route.0 now.0 ≡ true = (rw (route.1, now.1) at h) in
-      rw route.1 (locked route.0 now.0 (and_parts (holds_sections now.0) (has_section x (sections_beside_path route.0) || is_unreleased_on_path route.0 now.0 x) holds).1)
+      rw route.1 (locked route.0 now.0 (and_parts (is_holding_state now.0) (has_section x (sections_outside_path route.0) || is_unreleased_on_path route.0 now.0 x) holds).1)
     where
-      locked : (route : Route) (now : RouteState) → (has_section x (sections_beside_path route) || is_unreleased_on_path route now x) ≡ true → has_section x (sections_locked_for route) ≡ true
+      locked : (route : Route) (now : RouteState) → (has_section x (sections_outside_path route) || is_unreleased_on_path route now x) ≡ true → has_section x (sections_locked_for route) ≡ true
       locked route now e =
-          sections_of_route x route ∙ elim (or_cases (has_section x (sections_beside_path route)) (is_unreleased_on_path route now x) e) [
-            | inl beside ↦ or_right (has_section x route.path) (has_section x (sections_beside_path route)) beside
-            | inr kept ↦ or_left (has_section x route.path) (has_section x (sections_beside_path route)) (kept-on_path route now x kept)
+          sections_of_route x route ∙ elim (or_cases (has_section x (sections_outside_path route)) (is_unreleased_on_path route now x) e) [
+            | inl beside ↦ or_right (has_section x route.path) (has_section x (sections_outside_path route)) beside
+            | inr kept ↦ or_left (has_section x route.path) (has_section x (sections_outside_path route)) (kept-on_path route now x kept)
           ]
 
   two-in-order : (x : ℕ) (routes : List ℕ) → ((i q : ℕ) → slice_get routes i ≡ Some q → q < length p.routes) →
-      list_all (tree_holds (image_of p s)) (held_in_order p x routes) ≡ true → (i j r q : ℕ) → i < j →
+      list_all (tree_holds (image_of p s)) (at_most_one_in_order p x routes) ≡ true → (i j r q : ℕ) → i < j →
       slice_get routes i ≡ Some r → slice_get routes j ≡ Some q → route_holds p s r x ≡ true →
       route_holds p s q x ≡ true → ⊥
   two-in-order x routes known all i zero r q less at also one two = omega (arith, less)
   two-in-order x routes known all i (suc j) r q less at also one two =
       let place = enumerated-at 1 (drop 1 routes) j q (before-first routes j q also) in
-      let each = sym (list_all-map (tree_holds (image_of p s)) (λ place. none_before p x (take place.0 routes) place.1) (enumerate_from 1 (drop 1 routes))) ∙ all in
-      let this : tree_holds (image_of p s) (none_before p x (take (1 + j) routes) q) ≡ true =
+      let each = sym (list_all-map (tree_holds (image_of p s)) (λ place. none_before_if_holding p x (take place.0 routes) place.1) (enumerate_from 1 (drop 1 routes))) ∙ all in
+      let this : tree_holds (image_of p s) (none_before_if_holding p x (take (1 + j) routes) q) ≡ true =
       list_all-slice_get
-      (λ place. tree_holds (image_of p s) (none_before p x (take place.0 routes) place.1))
+      (λ place. tree_holds (image_of p s) (none_before_if_holding p x (take place.0 routes) place.1))
       (enumerate_from 1 (drop 1 routes)) j (1 + j, q) each place in
-      let says = sym (none_before-holds p plant s shape x (take (1 + j) routes) q (known (suc j) q also) (taken-known p plant s shape routes (1 + j) known)) ∙ this in
+      let says = sym (none_before_if_holding-holds p plant s shape x (take (1 + j) routes) q (known (suc j) q also) (taken-known p plant s shape routes (1 + j) known)) ∙ this in
       let none = if-passes (route_holds p s q x) (list_all (λ q. not (route_holds p s q x)) (take (1 + j) routes)) says two in
       let first = list_all-slice_get (λ q. not (route_holds p s q x)) (take (1 + j) routes) i r none (take-at routes i (1 + j) r (omega (arith, less)) at) in
       not-true-false (route_holds p s r x) first one
@@ -102,7 +102,7 @@ module _ (p : PlantLists) (plant : IsPlant p) (s : State) (shape : HasShape p s)
       ]
 
   no-two : (n x : ℕ) (routes : List ℕ) → ((i q : ℕ) → slice_get routes i ≡ Some q → q < length p.routes) →
-      list_all (tree_holds (image_of p s)) (held_by_halves n p x routes) ≡ true → (i j r q : ℕ) → i < j →
+      list_all (tree_holds (image_of p s)) (at_most_one_by_halves n p x routes) ≡ true → (i j r q : ℕ) → i < j →
       slice_get routes i ≡ Some r → slice_get routes j ≡ Some q → route_holds p s r x ≡ true →
       route_holds p s q x ≡ true → ⊥
   no-two zero x routes known all i j r q less at also one two = two-in-order x routes known all i j r q less at also one two
@@ -115,16 +115,16 @@ module _ (p : PlantLists) (plant : IsPlant p) (s : State) (shape : HasShape p s)
     where
       by_size : (few : Bool) →
           list_all (tree_holds (image_of p s))
-          (if few then held_in_order p x routes
+          (if few then at_most_one_in_order p x routes
           else not_in_both p x (take (length routes / 2) routes) (drop (length routes / 2) routes)
-          ∷ held_by_halves n p x (take (length routes / 2) routes)
-          ++ held_by_halves n p x (drop (length routes / 2) routes)) ≡ true →
-          (list_all (tree_holds (image_of p s)) (held_by_halves n p x (take (length routes / 2) routes))
+          ∷ at_most_one_by_halves n p x (take (length routes / 2) routes)
+          ++ at_most_one_by_halves n p x (drop (length routes / 2) routes)) ≡ true →
+          (list_all (tree_holds (image_of p s)) (at_most_one_by_halves n p x (take (length routes / 2) routes))
           ≡ true →
           ((i j r q : ℕ) → i < j → slice_get (take (length routes / 2) routes) i ≡ Some r →
           slice_get (take (length routes / 2) routes) j ≡ Some q → route_holds p s r x ≡ true →
           route_holds p s q x ≡ true → ⊥)) →
-          (list_all (tree_holds (image_of p s)) (held_by_halves n p x (drop (length routes / 2) routes))
+          (list_all (tree_holds (image_of p s)) (at_most_one_by_halves n p x (drop (length routes / 2) routes))
           ≡ true →
           ((i j r q : ℕ) → i < j → slice_get (drop (length routes / 2) routes) i ≡ Some r →
           slice_get (drop (length routes / 2) routes) j ≡ Some q → route_holds p s r x ≡ true →
@@ -135,28 +135,28 @@ module _ (p : PlantLists) (plant : IsPlant p) (s : State) (shape : HasShape p s)
           (tree_holds (image_of p s)
           (not_in_both p x (take (length routes / 2) routes) (drop (length routes / 2) routes)))
           (list_all (tree_holds (image_of p s))
-          (held_by_halves n p x (take (length routes / 2) routes)
-          ++ held_by_halves n p x (drop (length routes / 2) routes))) h in
+          (at_most_one_by_halves n p x (take (length routes / 2) routes)
+          ++ at_most_one_by_halves n p x (drop (length routes / 2) routes))) h in
           let halves = and_parts
-          (list_all (tree_holds (image_of p s)) (held_by_halves n p x (take (length routes / 2) routes)))
-          (list_all (tree_holds (image_of p s)) (held_by_halves n p x (drop (length routes / 2) routes)))
+          (list_all (tree_holds (image_of p s)) (at_most_one_by_halves n p x (take (length routes / 2) routes)))
+          (list_all (tree_holds (image_of p s)) (at_most_one_by_halves n p x (drop (length routes / 2) routes)))
           (sym
           (list_all-append (tree_holds (image_of p s))
-          (held_by_halves n p x (take (length routes / 2) routes))
-          (held_by_halves n p x (drop (length routes / 2) routes))) ∙ parts.1) in
+          (at_most_one_by_halves n p x (take (length routes / 2) routes))
+          (at_most_one_by_halves n p x (drop (length routes / 2) routes))) ∙ parts.1) in
           of-parts x (length routes / 2) routes known parts.0 (early halves.0) (late halves.1) i j r q less at also one two
 
   -- If no two routes hold a section, its condition holds: in order, for two lists, and by halves.
   in-order : (x : ℕ) (routes : List ℕ) → ((i q : ℕ) → slice_get routes i ≡ Some q → q < length p.routes) →
       ((i j r q : ℕ) → i < j → slice_get routes i ≡ Some r → slice_get routes j ≡ Some q →
       route_holds p s r x ≡ true → route_holds p s q x ≡ true → ⊥) →
-      list_all (tree_holds (image_of p s)) (held_in_order p x routes) ≡ true
+      list_all (tree_holds (image_of p s)) (at_most_one_in_order p x routes) ≡ true
   in-order x routes known never =
-      list_all-map (tree_holds (image_of p s)) (λ place. none_before p x (take place.0 routes) place.1) (enumerate_from 1 (drop 1 routes))
-      ∙ all-pass (λ place. tree_holds (image_of p s) (none_before p x (take place.0 routes) place.1)) (enumerate_from 1 (drop 1 routes)) (λ k place there.
+      list_all-map (tree_holds (image_of p s)) (λ place. none_before_if_holding p x (take place.0 routes) place.1) (enumerate_from 1 (drop 1 routes))
+      ∙ all-pass (λ place. tree_holds (image_of p s) (none_before_if_holding p x (take place.0 routes) place.1)) (enumerate_from 1 (drop 1 routes)) (λ k place there.
       let it = enumerated 1 (drop 1 routes) k place there in
       let at = dropped-at 1 routes k place.1 it.1 in
-      none_before-holds p plant s shape x (take place.0 routes) place.1 (known (1 + k) place.1 at) (taken-known p plant s shape routes place.0 known)
+      none_before_if_holding-holds p plant s shape x (take place.0 routes) place.1 (known (1 + k) place.1 at) (taken-known p plant s shape routes place.0 known)
       ∙ passes-if (route_holds p s place.1 x) (list_all (λ q. not (route_holds p s q x)) (take place.0 routes)) (λ one.
       all-pass (λ q. not (route_holds p s q x)) (take place.0 routes) (λ j q before.
       let earlier = taken-before place.0 routes j q before in
@@ -186,7 +186,7 @@ module _ (p : PlantLists) (plant : IsPlant p) (s : State) (shape : HasShape p s)
   by-halves : (n x : ℕ) (routes : List ℕ) → ((i q : ℕ) → slice_get routes i ≡ Some q → q < length p.routes) →
       ((i j r q : ℕ) → i < j → slice_get routes i ≡ Some r → slice_get routes j ≡ Some q →
       route_holds p s r x ≡ true → route_holds p s q x ≡ true → ⊥) →
-      list_all (tree_holds (image_of p s)) (held_by_halves n p x routes) ≡ true
+      list_all (tree_holds (image_of p s)) (at_most_one_by_halves n p x routes) ≡ true
   by-halves zero x routes known never = in-order x routes known never
   by-halves (suc n) x routes known never =
       by_size (nat_le (length routes) MAX_ORDERED_HOLDERS)
@@ -203,25 +203,25 @@ module _ (p : PlantLists) (plant : IsPlant p) (s : State) (shape : HasShape p s)
           never i (length routes / 2 + j) r q (omega (arith, less)) here.1 (dropped-at (length routes / 2) routes j q also) one two)
 
       by_size : (few : Bool) →
-          list_all (tree_holds (image_of p s)) (held_by_halves n p x (take (length routes / 2) routes))
+          list_all (tree_holds (image_of p s)) (at_most_one_by_halves n p x (take (length routes / 2) routes))
           ≡ true →
-          list_all (tree_holds (image_of p s)) (held_by_halves n p x (drop (length routes / 2) routes))
+          list_all (tree_holds (image_of p s)) (at_most_one_by_halves n p x (drop (length routes / 2) routes))
           ≡ true →
           list_all (tree_holds (image_of p s))
-          (if few then held_in_order p x routes
+          (if few then at_most_one_in_order p x routes
           else not_in_both p x (take (length routes / 2) routes) (drop (length routes / 2) routes)
-          ∷ held_by_halves n p x (take (length routes / 2) routes)
-          ++ held_by_halves n p x (drop (length routes / 2) routes)) ≡ true
+          ∷ at_most_one_by_halves n p x (take (length routes / 2) routes)
+          ++ at_most_one_by_halves n p x (drop (length routes / 2) routes)) ≡ true
       by_size true here there = in-order x routes known never
       by_size false here there =
           and_from
           (tree_holds (image_of p s)
           (not_in_both p x (take (length routes / 2) routes) (drop (length routes / 2) routes)))
           (list_all (tree_holds (image_of p s))
-          (held_by_halves n p x (take (length routes / 2) routes)
-          ++ held_by_halves n p x (drop (length routes / 2) routes))) both
-          (list_all-append (tree_holds (image_of p s)) (held_by_halves n p x (take (length routes / 2) routes)) (held_by_halves n p x (drop (length routes / 2) routes))
-          ∙ and_from (list_all (tree_holds (image_of p s)) (held_by_halves n p x (take (length routes / 2) routes))) (list_all (tree_holds (image_of p s)) (held_by_halves n p x (drop (length routes / 2) routes))) here there)
+          (at_most_one_by_halves n p x (take (length routes / 2) routes)
+          ++ at_most_one_by_halves n p x (drop (length routes / 2) routes))) both
+          (list_all-append (tree_holds (image_of p s)) (at_most_one_by_halves n p x (take (length routes / 2) routes)) (at_most_one_by_halves n p x (drop (length routes / 2) routes))
+          ∙ and_from (list_all (tree_holds (image_of p s)) (at_most_one_by_halves n p x (take (length routes / 2) routes))) (list_all (tree_holds (image_of p s)) (at_most_one_by_halves n p x (drop (length routes / 2) routes))) here there)
 
   apart_test : ℕ → ℕ → Bool
   apart_test r q = r == q || all_below (length p.sections) (λ x. not (route_holds p s r x && route_holds p s q x))
@@ -229,11 +229,11 @@ module _ (p : PlantLists) (plant : IsPlant p) (s : State) (shape : HasShape p s)
   pub v2-law : tree_holds (image_of p s) (v2_tree p) ≡ keeps_v2 p s
   unfolding apart_test
   v2-law =
-      each_of-holds (image_of p s) (flat_map (held_once p) (range_with_len 0 (length p.sections)))
-      ∙ list_all-flat_map (tree_holds (image_of p s)) (held_once p) (range_with_len 0 (length p.sections))
-      ∙ same_truth (list_all (λ x. list_all (tree_holds (image_of p s)) (held_once p x)) (range_with_len 0 (length p.sections))) (keeps_v2 p s) forth back
+      each_of-holds (image_of p s) (flat_map (at_most_one_holder p) (range_with_len 0 (length p.sections)))
+      ∙ list_all-flat_map (tree_holds (image_of p s)) (at_most_one_holder p) (range_with_len 0 (length p.sections))
+      ∙ same_truth (list_all (λ x. list_all (tree_holds (image_of p s)) (at_most_one_holder p x)) (range_with_len 0 (length p.sections))) (keeps_v2 p s) forth back
     where
-      forth : list_all (λ x. list_all (tree_holds (image_of p s)) (held_once p x)) (range_with_len 0 (length p.sections)) ≡ true → keeps_v2 p s ≡ true
+      forth : list_all (λ x. list_all (tree_holds (image_of p s)) (at_most_one_holder p x)) (range_with_len 0 (length p.sections)) ≡ true → keeps_v2 p s ≡ true
       forth h =
           all-pass (λ r. all_below (length p.routes) (apart_test r)) (range_with_len 0 (length p.routes)) (λ i r first.
           all-pass (apart_test r) (range_with_len 0 (length p.routes)) (λ k q second.
@@ -241,7 +241,7 @@ module _ (p : PlantLists) (plant : IsPlant p) (s : State) (shape : HasShape p s)
         where
           never : (x r q : ℕ) → (r ≡ q → ⊥) → x < length p.sections → r < length p.routes → q < length p.routes → route_holds p s r x ≡ true → route_holds p s q x ≡ true → ⊥
           never x r q apart inside one_known two_known one two =
-              let all = list_all-slice_get (λ x. list_all (tree_holds (image_of p s)) (held_once p x)) (range_with_len 0 (length p.sections)) x x h (range-at (length p.sections) x inside) in
+              let all = list_all-slice_get (λ x. list_all (tree_holds (image_of p s)) (at_most_one_holder p x)) (range_with_len 0 (length p.sections)) x x h (range-at (length p.sections) x inside) in
               let first = filter-place (may_hold p x) (range_with_len 0 (length p.routes)) r r (range-at (length p.routes) r one_known) (may-hold x r one_known one) in
               let second = filter-place (may_hold p x) (range_with_len 0 (length p.routes)) q q (range-at (length p.routes) q two_known) (may-hold x q two_known two) in
               elim (below_or_past first.0 second.0) [
@@ -268,9 +268,9 @@ module _ (p : PlantLists) (plant : IsPlant p) (s : State) (shape : HasShape p s)
                     both x r q apart (range_within (length p.sections) i x found).1 one_known two_known (route_holds p s r x) (route_holds p s q x) refl refl))
               ]
 
-      back : keeps_v2 p s ≡ true → list_all (λ x. list_all (tree_holds (image_of p s)) (held_once p x)) (range_with_len 0 (length p.sections)) ≡ true
+      back : keeps_v2 p s ≡ true → list_all (λ x. list_all (tree_holds (image_of p s)) (at_most_one_holder p x)) (range_with_len 0 (length p.sections)) ≡ true
       back h =
-          all-pass (λ x. list_all (tree_holds (image_of p s)) (held_once p x)) (range_with_len 0 (length p.sections)) (λ i x found.
+          all-pass (λ x. list_all (tree_holds (image_of p s)) (at_most_one_holder p x)) (range_with_len 0 (length p.sections)) (λ i x found.
           by-halves (length (holders p x)) x (holders p x) (holder-known p plant s shape x) (λ j k r q less at also one two.
           never x j k r q (range_within (length p.sections) i x found).1 less at also one two))
         where

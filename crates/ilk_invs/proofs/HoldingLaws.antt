@@ -14,21 +14,21 @@ use Rattle.ilk_base.proofs.Ranges.{passing_within}
 use Rattle.ilk_ir.specs.Tree.{negation, tree_holds}
 use Rattle.ilk_plant.specs.Plant.{IsPlant, PlantLists}
 use Rattle.ilk_plant.specs.Shape.{HasShape}
-use Rattle.ilk_plant.specs.State.{has_lock}
+use Rattle.ilk_plant.specs.State.{has_lock_state}
 use Rattle.ilk_plant.specs.declared.state.Hold.TheVariants.{Locked as LockedLock, Used as UsedLock}
 use Rattle.ilk_plant.specs.declared.state.RouteState.{RouteState}
 use Rattle.ilk_plant.specs.declared.state.State.{State}
 use Rattle.ilk_plant.specs.declared.table.Route.{Route}
-use Rattle.ilk_routes.specs.Claims.{sections_beside_path}
+use Rattle.ilk_routes.specs.Claims.{sections_outside_path}
 use Rattle.ilk_model.specs.Families.{has_required_locks, keeps_v3, path_section_lock}
-use Rattle.ilk_model.specs.Holding.{all_path_indices_pass, holds_sections, route_holds}
+use Rattle.ilk_model.specs.Holding.{all_path_indices_pass_test, is_holding_state, route_holds}
 use Rattle.ilk_layout.specs.Image.{image_of}
 use Rattle.ilk_layout.specs.Conditions.{lock_is}
 use Rattle.ilk_layout.proofs.ConditionValues.{lock-holds}
-use Rattle.ilk_invs.specs.Held.{holding_section, is_holding, rel_below, seen_below}
-use Rattle.ilk_invs.specs.HoldFamilies.{holders, lock_at_place, has_locks_for_route, may_hold, none_before, none_holding, route_holding, v3_tree}
+use Rattle.ilk_invs.specs.Held.{section_held_by, is_holding, rel_below, seen_below}
+use Rattle.ilk_invs.specs.HoldFamilies.{holders, path_lock_matches_seen, held_sections_have_locks, may_hold, none_before_if_holding, none_holding, route_holding, v3_tree}
 use Rattle.ilk_invs.specs.Parts.{each_of, for_each_path_index, for_each_route}
-use Rattle.ilk_invs.proofs.HeldLaws.{below-next, holding_section-holds, is_holding-holds, rel_below-holds, seen_below-holds}
+use Rattle.ilk_invs.proofs.HeldLaws.{below-next, section_held_by-holds, is_holding-holds, rel_below-holds, seen_below-holds}
 use Rattle.ilk_invs.proofs.PartLaws.{each-place, each-route, each_of-holds, state_of_route, where-holds}
 use Rattle.ilk_invs.proofs.Tests.{dropped-at}
 use Rattle.ilk_routes.proofs.Shape.{beside-known}
@@ -101,7 +101,8 @@ at-dropped n xs j x past at =
     get-dropped xs n (j - n) ∙ ap (slice_get xs) sum ∙ at
 
 module _ (p : PlantLists) (plant : IsPlant p) (s : State) (shape : HasShape p s) where
-  lock_place-holds : (r : ℕ) (now : RouteState) (i x : ℕ) → slice_get s.routes r ≡ Some now → x < length p.sections → list_all (tree_holds (image_of p s)) (lock_at_place p r i x) ≡ (not (nat_le now.rel i) || has_lock s x (path_section_lock now i))
+  lock_place-holds : (r : ℕ) (now : RouteState) (i x : ℕ) → slice_get s.routes r ≡ Some now → x < length p.sections →
+      list_all (tree_holds (image_of p s)) (path_lock_matches_seen p r i x) ≡ (not (nat_le now.rel i) || has_lock_state s x (path_section_lock now i))
   lock_place-holds r now i x at within =
       let rel = rel_below-holds p s shape r now (i + 1) at ∙ below-next now.rel i in
       let seen : tree_holds (image_of p s) (seen_below r (i + 1)) ≡ not (nat_lt i now.seen) = seen_below-holds p s shape r now (i + 1) at ∙ below-next now.seen i ∙ turned now.seen i in
@@ -109,14 +110,14 @@ module _ (p : PlantLists) (plant : IsPlant p) (s : State) (shape : HasShape p s)
       (tree_holds (image_of p s) (seen_below r (i + 1)))
       (tree_holds (image_of p s) (lock_is p x LockedLock))
       (tree_holds (image_of p s) (lock_is p x UsedLock)) (nat_le now.rel i) (nat_lt i now.seen)
-      (has_lock s x LockedLock) (has_lock s x UsedLock) rel seen
+      (has_lock_state s x LockedLock) (has_lock_state s x UsedLock) rel seen
       (lock-holds p s shape x LockedLock within) (lock-holds p s shape x UsedLock within)
       ∙ ap (λ v. not (nat_le now.rel i) || v) (chosen (nat_lt i now.seen) refl)
     where
       turned : (a b : ℕ) → nat_le a b ≡ not (nat_lt b a)
       turned a b = grind (arith, nat_tests)
 
-      chosen : (b : Bool) → nat_lt i now.seen ≡ b → (if b then has_lock s x UsedLock else has_lock s x LockedLock) ≡ has_lock s x (path_section_lock now i)
+      chosen : (b : Bool) → nat_lt i now.seen ≡ b → (if b then has_lock_state s x UsedLock else has_lock_state s x LockedLock) ≡ has_lock_state s x (path_section_lock now i)
       chosen true e = rw e refl
       chosen false e = rw e refl
 
@@ -135,45 +136,45 @@ module _ (p : PlantLists) (plant : IsPlant p) (s : State) (shape : HasShape p s)
           ∙ ap (λ v. ((not a2 || (not (not b) || (l2 || false))) && ((not a2 || (not b || (v || false))) && true))) four
           ∙ cases a2 b l2 u2
 
-  has_locks_for_route-holds : (r : ℕ) (route : Route) (now : RouteState) → slice_get p.routes r ≡ Some route →
+  held_sections_have_locks-holds : (r : ℕ) (route : Route) (now : RouteState) → slice_get p.routes r ≡ Some route →
       slice_get s.routes r ≡ Some now →
-      list_all (tree_holds (image_of p s)) (has_locks_for_route p r route ∷ [])
-      ≡ (if holds_sections now then has_required_locks s route now else true)
-  has_locks_for_route-holds r route now known at =
+      list_all (tree_holds (image_of p s)) (held_sections_have_locks p r route ∷ [])
+      ≡ (if is_holding_state now then has_required_locks s route now else true)
+  held_sections_have_locks-holds r route now known at =
       let of = plant.routes_known r route known in
-      let places = each-place (image_of p s) route (lock_at_place p r)
-      (λ i x. not (nat_le now.rel i) || has_lock s x (path_section_lock now i))
+      let places = each-place (image_of p s) route (path_lock_matches_seen p r)
+      (λ i x. not (nat_le now.rel i) || has_lock_state s x (path_section_lock now i))
       (λ i x found. lock_place-holds r now i x at
       (all-at (λ x. x < length p.sections) route.path i x of.path found)) in
       let beside =
-      list_all-map (tree_holds (image_of p s)) (λ x. lock_is p x LockedLock) (sections_beside_path route)
+      list_all-map (tree_holds (image_of p s)) (λ x. lock_is p x LockedLock) (sections_outside_path route)
       ∙ list_all-alike (λ x. tree_holds (image_of p s) (lock_is p x LockedLock))
-      (λ x. has_lock s x LockedLock) (sections_beside_path route)
+      (λ x. has_lock_state s x LockedLock) (sections_outside_path route)
       (λ i x found. lock-holds p s shape x LockedLock (beside-known p route of i x found)) in
-      and-true (tree_holds (image_of p s) (has_locks_for_route p r route))
-      ∙ where-holds (image_of p s) (is_holding r) (each_of (for_each_path_index route (lock_at_place p r) ++ map (λ x. lock_is p x LockedLock) (sections_beside_path route))) (holds_sections now) (has_required_locks s route now)
+      and-true (tree_holds (image_of p s) (held_sections_have_locks p r route))
+      ∙ where-holds (image_of p s) (is_holding r) (each_of (for_each_path_index route (path_lock_matches_seen p r) ++ map (λ x. lock_is p x LockedLock) (sections_outside_path route))) (is_holding_state now) (has_required_locks s route now)
       (is_holding-holds p s shape r now at)
-      (each_of-holds (image_of p s) (for_each_path_index route (lock_at_place p r) ++ map (λ x. lock_is p x LockedLock) (sections_beside_path route))
-      ∙ list_all-append (tree_holds (image_of p s)) (for_each_path_index route (lock_at_place p r)) (map (λ x. lock_is p x LockedLock) (sections_beside_path route))
-      ∙ ap (λ v. v && list_all (tree_holds (image_of p s)) (map (λ x. lock_is p x LockedLock) (sections_beside_path route))) places
-      ∙ ap (λ v. all_path_indices_pass route (λ i x. not (nat_le now.rel i) || has_lock s x (path_section_lock now i)) && v) beside)
+      (each_of-holds (image_of p s) (for_each_path_index route (path_lock_matches_seen p r) ++ map (λ x. lock_is p x LockedLock) (sections_outside_path route))
+      ∙ list_all-append (tree_holds (image_of p s)) (for_each_path_index route (path_lock_matches_seen p r)) (map (λ x. lock_is p x LockedLock) (sections_outside_path route))
+      ∙ ap (λ v. v && list_all (tree_holds (image_of p s)) (map (λ x. lock_is p x LockedLock) (sections_outside_path route))) places
+      ∙ ap (λ v. all_path_indices_pass_test route (λ i x. not (nat_le now.rel i) || has_lock_state s x (path_section_lock now i)) && v) beside)
 
   pub v3-law : tree_holds (image_of p s) (v3_tree p) ≡ keeps_v3 p s
   v3-law =
-      each_of-holds (image_of p s) (for_each_route p (λ r route. has_locks_for_route p r route ∷ []))
-      ∙ each-route p s shape (image_of p s) (λ r route. has_locks_for_route p r route ∷ []) (λ route now. if holds_sections now then has_required_locks s route now else true) has_locks_for_route-holds
+      each_of-holds (image_of p s) (for_each_route p (λ r route. held_sections_have_locks p r route ∷ []))
+      ∙ each-route p s shape (image_of p s) (λ r route. held_sections_have_locks p r route ∷ []) (λ route now. if is_holding_state now then has_required_locks s route now else true) held_sections_have_locks-holds
 
   route_holding-holds : (x r : ℕ) → r < length p.routes → tree_holds (image_of p s) (each_of (route_holding p x r)) ≡ route_holds p s r x
   route_holding-holds x r within =
       let route = item_at p.routes r within in
       let now = state_of_route p s shape r route.0 route.1 in
-      rw (route.1, now.1) (and-true (tree_holds (image_of p s) (holding_section r route.0 x)) ∙ holding_section-holds p s shape r route.0 now.0 x route.1 now.1)
+      rw (route.1, now.1) (and-true (tree_holds (image_of p s) (section_held_by r route.0 x)) ∙ section_held_by-holds p s shape r route.0 now.0 x route.1 now.1)
 
   not_holding-holds : (x r : ℕ) → r < length p.routes → list_all (λ t. not (tree_holds (image_of p s) t)) (route_holding p x r) ≡ not (route_holds p s r x)
   not_holding-holds x r within =
       let route = item_at p.routes r within in
       let now = state_of_route p s shape r route.0 route.1 in
-      rw (route.1, now.1) (and-true (not (tree_holds (image_of p s) (holding_section r route.0 x))) ∙ ap not (holding_section-holds p s shape r route.0 now.0 x route.1 now.1))
+      rw (route.1, now.1) (and-true (not (tree_holds (image_of p s) (section_held_by r route.0 x))) ∙ ap not (section_held_by-holds p s shape r route.0 now.0 x route.1 now.1))
 
   pub none_holding-holds : (x : ℕ) (routes : List ℕ) → ((i q : ℕ) → slice_get routes i ≡ Some q → q < length p.routes) → tree_holds (image_of p s) (none_holding p x routes) ≡ list_all (λ q. not (route_holds p s q x)) routes
   none_holding-holds x routes known =
@@ -182,11 +183,11 @@ module _ (p : PlantLists) (plant : IsPlant p) (s : State) (shape : HasShape p s)
       ∙ list_all-flat_map (λ t. not (tree_holds (image_of p s) t)) (route_holding p x) routes
       ∙ list_all-alike (λ q. list_all (λ t. not (tree_holds (image_of p s) t)) (route_holding p x q)) (λ q. not (route_holds p s q x)) routes (λ i q found. not_holding-holds x q (known i q found))
 
-  pub none_before-holds : (x : ℕ) (before : List ℕ) (r : ℕ) → r < length p.routes →
+  pub none_before_if_holding-holds : (x : ℕ) (before : List ℕ) (r : ℕ) → r < length p.routes →
       ((i q : ℕ) → slice_get before i ≡ Some q → q < length p.routes) →
-      tree_holds (image_of p s) (none_before p x before r)
+      tree_holds (image_of p s) (none_before_if_holding p x before r)
       ≡ (if route_holds p s r x then list_all (λ q. not (route_holds p s q x)) before else true)
-  none_before-holds x before r within known =
+  none_before_if_holding-holds x before r within known =
       where-holds (image_of p s) (each_of (route_holding p x r)) (none_holding p x before) (route_holds p s r x) (list_all (λ q. not (route_holds p s q x)) before) (route_holding-holds x r within) (none_holding-holds x before known)
 
   pub holder-known : (x i r : ℕ) → slice_get (holders p x) i ≡ Some r → r < length p.routes

@@ -10,7 +10,7 @@ use Rattle.ilk_base.proofs.ListTests.{all-at}
 use Rattle.ilk_ir.specs.Tree.{tree_holds}
 use Rattle.ilk_plant.specs.Plant.{IsPlant, PlantLists}
 use Rattle.ilk_plant.specs.Shape.{HasShape}
-use Rattle.ilk_plant.proofs.Shapes.{counts_fit_path-counts}
+use Rattle.ilk_plant.proofs.Shapes.{seen_and_released_fit_path-counts}
 use Rattle.ilk_plant.specs.declared.network.Dir.{Dir}
 use Rattle.ilk_plant.specs.declared.network.Dir.TheVariants.{Up, Down}
 use Rattle.ilk_plant.specs.declared.state.Aspect.TheVariants.{Closed}
@@ -22,7 +22,7 @@ use Rattle.ilk_routes.specs.Boards.{has_aspect}
 use Rattle.ilk_routes.specs.Modes.{same_mode}
 use Rattle.ilk_model.specs.Families.{head_is_led_by_route}
 use Rattle.ilk_model.specs.Hazard.{hazard}
-use Rattle.ilk_model.specs.Holding.{is_vacant, route_runs_in, any_path_index_passes}
+use Rattle.ilk_model.specs.Holding.{is_vacant, route_runs_in_direction, any_path_index_passes_test}
 use Rattle.ilk_layout.specs.Image.{image_of}
 use Rattle.ilk_layout.specs.Occupancy.{occupancy_of}
 use Rattle.ilk_layout.specs.declared.values.Occupancy.TheVariants.{Vacant, Taken, Crash}
@@ -30,7 +30,7 @@ use Rattle.ilk_layout.specs.Conditions.{board_is, mode_is, no_train_at}
 use Rattle.ilk_layout.proofs.ConditionValues.{board-holds, mode-holds, occupancy-holds}
 use Rattle.ilk_invs.specs.Held.{seen_below}
 use Rattle.ilk_invs.specs.Parts.{each_of, for_each_path_index, for_each_route, some_of}
-use Rattle.ilk_invs.specs.TrainFamilies.{body_at, head_at, route_leads_at, route_leads_from, none_seen_past}
+use Rattle.ilk_invs.specs.TrainFamilies.{body_at, head_at, route_set_for_head_at, route_set_and_clear_past, none_seen_past}
 use Rattle.ilk_invs.proofs.HeldLaws.{below-next, seen_below-holds}
 use Rattle.ilk_invs.proofs.PartLaws.{any-if, each_of-holds, some-place, some-route, vacant-all}
 use Rattle.ilk_invs.proofs.Tests.{dropped-at, list_any-never}
@@ -68,19 +68,19 @@ module _ (p : PlantLists) (plant : IsPlant p) (s : State) (shape : HasShape p s)
         rw goes_on (and-true (tree_holds (image_of p s) (seen_below r (i + 2))) ∙ seen_below-holds p s shape r now (i + 2) at ∙ ap (nat_lt now.seen) two ∙ below-next now.seen (i + 1)))
     | inr past ↦
         (let ends : nat_lt (i + 1) (length route.path) ≡ false = grind (arith, nat_tests) in
-        let few : now.seen ≤ length route.path = (counts_fit_path-counts route now (shape.counts r route now known at)).0 in
+        let few : now.seen ≤ length route.path = (seen_and_released_fit_path-counts route now (shape.counts r route now known at)).0 in
         let within : nat_le now.seen (i + 1) ≡ true = grind (arith, nat_tests) in
         rw ends (sym within))
   ]
 
-  route_leads_from-holds : (r : ℕ) (route : Route) (now : RouteState) (i : ℕ) → slice_get p.routes r ≡ Some route →
+  route_set_and_clear_past-holds : (r : ℕ) (route : Route) (now : RouteState) (i : ℕ) → slice_get p.routes r ≡ Some route →
       slice_get s.routes r ≡ Some now →
-      tree_holds (image_of p s) (route_leads_from p r route i)
+      tree_holds (image_of p s) (route_set_and_clear_past p r route i)
       ≡
       ((same_mode now.mode Occupied
       || (same_mode now.mode Locked && has_aspect s route.source Closed))
       && (nat_le now.seen (i + 1) && list_all (is_vacant s) (drop (i + 1) route.path)))
-  route_leads_from-holds r route now i known at =
+  route_set_and_clear_past-holds r route now i known at =
       let of = plant.routes_known r route known in
       let occupied = mode-holds p s shape r now Occupied at in
       let locked = mode-holds p s shape r now Locked at in
@@ -111,16 +111,16 @@ module _ (p : PlantLists) (plant : IsPlant p) (s : State) (shape : HasShape p s)
           ∙ ap (λ v. (a2 || (b2 && c2)) && (v && e)) four
           ∙ ap (λ v. (a2 || (b2 && c2)) && (d2 && v)) five
 
-  route_leads_at-holds : (d : Dir) (x r : ℕ) (route : Route) (now : RouteState) →
+  route_set_for_head_at-holds : (d : Dir) (x r : ℕ) (route : Route) (now : RouteState) →
       slice_get p.routes r ≡ Some route → slice_get s.routes r ≡ Some now →
-      list_any (tree_holds (image_of p s)) (route_leads_at p d x r route)
-      ≡ any_path_index_passes route
-      (λ i y. (y == x) && route_runs_in p d route
+      list_any (tree_holds (image_of p s)) (route_set_for_head_at p d x r route)
+      ≡ any_path_index_passes_test route
+      (λ i y. (y == x) && route_runs_in_direction p d route
       &&
       (same_mode now.mode Occupied
       || (same_mode now.mode Locked && has_aspect s route.source Closed))
       && nat_le now.seen (i + 1) && list_all (is_vacant s) (drop (i + 1) route.path))
-  route_leads_at-holds d x r route now known at = by_runs (route_runs_in p d route)
+  route_set_for_head_at-holds d x r route now known at = by_runs (route_runs_in_direction p d route)
     where
       joined : (a b c e : Bool) → (a && (b && (c && e))) ≡ (a && true && b && c && e)
       joined true true true e = refl
@@ -134,24 +134,24 @@ module _ (p : PlantLists) (plant : IsPlant p) (s : State) (shape : HasShape p s)
 
       by_runs : (b : Bool) →
           list_any (tree_holds (image_of p s))
-          (if b then for_each_path_index route (λ i y. if y == x then route_leads_from p r route i ∷ [] else [])
+          (if b then for_each_path_index route (λ i y. if y == x then route_set_and_clear_past p r route i ∷ [] else [])
           else [])
-          ≡ any_path_index_passes route
+          ≡ any_path_index_passes_test route
           (λ i y. (y == x) && b
           &&
           (same_mode now.mode Occupied
           || (same_mode now.mode Locked && has_aspect s route.source Closed))
           && nat_le now.seen (i + 1) && list_all (is_vacant s) (drop (i + 1) route.path))
       by_runs true =
-          some-place (image_of p s) route (λ i y. if y == x then route_leads_from p r route i ∷ [] else [])
+          some-place (image_of p s) route (λ i y. if y == x then route_set_and_clear_past p r route i ∷ [] else [])
           (λ i y. (y == x) && true
           &&
           (same_mode now.mode Occupied
           || (same_mode now.mode Locked && has_aspect s route.source Closed))
           && nat_le now.seen (i + 1) && list_all (is_vacant s) (drop (i + 1) route.path)) (λ i y
           place.
-          any-if (image_of p s) (route_leads_from p r route i) (y == x)
-          ∙ ap (λ v. (y == x) && v) (route_leads_from-holds r route now i known at)
+          any-if (image_of p s) (route_set_and_clear_past p r route i) (y == x)
+          ∙ ap (λ v. (y == x) && v) (route_set_and_clear_past-holds r route now i known at)
           ∙ joined (y == x) (same_mode now.mode Occupied || (same_mode now.mode Locked && has_aspect s route.source Closed)) (nat_le now.seen (i + 1)) (list_all (is_vacant s) (drop (i + 1) route.path)))
       by_runs false =
           sym (list_any-never
@@ -163,13 +163,13 @@ module _ (p : PlantLists) (plant : IsPlant p) (s : State) (shape : HasShape p s)
           (enumerate_from 0 route.path) (λ place.
           parted (place.1 == x) (same_mode now.mode Occupied || (same_mode now.mode Locked && has_aspect s route.source Closed)) (nat_le now.seen (place.0 + 1)) (list_all (is_vacant s) (drop (place.0 + 1) route.path))))
 
-  pub led-holds : (d : Dir) (x : ℕ) → list_any (tree_holds (image_of p s)) (for_each_route p (route_leads_at p d x)) ≡ head_is_led_by_route p s d x
+  pub led-holds : (d : Dir) (x : ℕ) → list_any (tree_holds (image_of p s)) (for_each_route p (route_set_for_head_at p d x)) ≡ head_is_led_by_route p s d x
   led-holds d x =
-      some-route p s shape (image_of p s) (route_leads_at p d x)
-      (λ route now. any_path_index_passes route
-      (λ i y. (y == x) && route_runs_in p d route
+      some-route p s shape (image_of p s) (route_set_for_head_at p d x)
+      (λ route now. any_path_index_passes_test route
+      (λ i y. (y == x) && route_runs_in_direction p d route
       &&
       (same_mode now.mode Occupied
       || (same_mode now.mode Locked && has_aspect s route.source Closed))
       && nat_le now.seen (i + 1) && list_all (is_vacant s) (drop (i + 1) route.path)))
-      (λ r route now known at. route_leads_at-holds d x r route now known at)
+      (λ r route now known at. route_set_for_head_at-holds d x r route now known at)

@@ -17,18 +17,18 @@ use Rattle.ilk_plant.specs.declared.state.Mode.TheVariants.{Allocating, Locked, 
 use Rattle.ilk_plant.specs.declared.state.RouteState.{RouteState}
 use Rattle.ilk_plant.specs.declared.state.State.{State}
 use Rattle.ilk_plant.specs.declared.table.Route.{Route}
-use Rattle.ilk_plant.proofs.Shapes.{counts_fit_path-counts}
+use Rattle.ilk_plant.proofs.Shapes.{seen_and_released_fit_path-counts}
 use Rattle.ilk_routes.specs.Boards.{has_aspect}
 use Rattle.ilk_routes.specs.Modes.{same_mode}
 use Rattle.ilk_model.specs.Families.{keeps_v1, keeps_v4, keeps_v5, keeps_v9}
 use Rattle.ilk_model.specs.Hazard.{hazard}
-use Rattle.ilk_model.specs.Holding.{is_vacant, any_route_passes}
+use Rattle.ilk_model.specs.Holding.{is_vacant, any_route_passes_test}
 use Rattle.ilk_layout.specs.Image.{image_of}
 use Rattle.ilk_layout.specs.Conditions.{board_is, mode_is, rel_is, seen_is}
 use Rattle.ilk_layout.proofs.ConditionValues.{board-holds, mode-holds, rel-holds, seen-holds}
 use Rattle.ilk_invs.specs.Held.{rel_below}
 use Rattle.ilk_invs.specs.Parts.{each_of, for_each_route, some_of, implication}
-use Rattle.ilk_invs.specs.RouteFamilies.{counts_are_consistent, is_open_for_route, path_vacant, v1_tree, v4_tree, v5_tree, v9_tree}
+use Rattle.ilk_invs.specs.RouteFamilies.{counts_are_consistent, open_only_for_route, path_vacant, v1_tree, v4_tree, v5_tree, v9_tree}
 use Rattle.ilk_invs.proofs.HeldLaws.{rel_below-holds}
 use Rattle.ilk_invs.proofs.PartLaws.{any-if, each-route, each_of-holds, some-route, some_of-holds, vacant-all, where-holds}
 use Rattle.ilk_invs.proofs.Tests.{asked-at}
@@ -55,7 +55,7 @@ module _ (p : PlantLists) (plant : IsPlant p) (s : State) (shape : HasShape p s)
       (range_with_len 0 (length route.path + 1)))
       ≡ (not (same_mode now.mode Occupied) || nat_lt now.rel now.seen)
   clauses-hold r route now known at =
-      let fits = counts_fit_path-counts route now (shape.counts r route now known at) in
+      let fits = seen_and_released_fit_path-counts route now (shape.counts r route now known at) in
       let few = fits.0 in
       let within : now.seen < length route.path + 1 = omega (arith, few) in
       list_all-map (tree_holds (image_of p s)) (λ k. some_of (negation (mode_is r Occupied) ∷ negation (seen_is r k) ∷ rel_below r k ∷ [])) (range_with_len 0 (length route.path + 1))
@@ -78,7 +78,7 @@ module _ (p : PlantLists) (plant : IsPlant p) (s : State) (shape : HasShape p s)
       then nat_lt now.rel now.seen && nat_le now.seen (length route.path)
       else now.seen == 0 && now.rel == 0)
   v1-of r route now known at =
-      let few : nat_le now.seen (length route.path) ≡ true = (fits_within route now (counts_fit_path-counts route now (shape.counts r route now known at)).0) in
+      let few : nat_le now.seen (length route.path) ≡ true = (fits_within route now (seen_and_released_fit_path-counts route now (shape.counts r route now known at)).0) in
       and-true (tree_holds (image_of p s) (counts_are_consistent r route))
       ∙ each_of-holds (image_of p s)
       (some_of (mode_is r Occupied ∷ seen_is r 0 ∷ []) ∷ some_of (mode_is r Occupied ∷ rel_is r 0 ∷ [])
@@ -189,10 +189,10 @@ module _ (p : PlantLists) (plant : IsPlant p) (s : State) (shape : HasShape p s)
       joined false b c = refl
 
   v5-of : hazard p s ≡ None → (m : ℕ) → m < length p.boards →
-      tree_holds (image_of p s) (is_open_for_route p m)
+      tree_holds (image_of p s) (open_only_for_route p m)
       ≡
       (if has_aspect s m Open
-      then any_route_passes p s
+      then any_route_passes_test p s
       (λ route now. (route.source == m) && same_mode now.mode Locked
       && list_all (is_vacant s) route.path) else true)
   v5-of calm m within =
@@ -204,7 +204,7 @@ module _ (p : PlantLists) (plant : IsPlant p) (s : State) (shape : HasShape p s)
       some_of-holds (image_of p s) (negation (board_is p m Open) ∷ for_each_route p (λ r route. if route.source == m then each_of (mode_is r Locked ∷ path_vacant p route) ∷ [] else []))
       ∙ ap (λ b. not b || list_any (tree_holds (image_of p s)) (for_each_route p (λ r route. if route.source == m then each_of (mode_is r Locked ∷ path_vacant p route) ∷ [] else []))) open_now
       ∙ ap (λ b. not (has_aspect s m Open) || b) ready
-      ∙ by_aspect (has_aspect s m Open) (any_route_passes p s (λ route now. (route.source == m) && same_mode now.mode Locked && list_all (is_vacant s) route.path))
+      ∙ by_aspect (has_aspect s m Open) (any_route_passes_test p s (λ route now. (route.source == m) && same_mode now.mode Locked && list_all (is_vacant s) route.path))
     where
       by_aspect : (a b : Bool) → (not a || b) ≡ (if a then b else true)
       by_aspect true b = refl
@@ -212,11 +212,11 @@ module _ (p : PlantLists) (plant : IsPlant p) (s : State) (shape : HasShape p s)
 
   pub v5-law : hazard p s ≡ None → tree_holds (image_of p s) (v5_tree p) ≡ keeps_v5 p s
   v5-law calm =
-      each_of-holds (image_of p s) (map (is_open_for_route p) (range_with_len 0 (length p.boards)))
-      ∙ list_all-map (tree_holds (image_of p s)) (is_open_for_route p) (range_with_len 0 (length p.boards))
-      ∙ list_all-alike (λ m. tree_holds (image_of p s) (is_open_for_route p m))
+      each_of-holds (image_of p s) (map (open_only_for_route p) (range_with_len 0 (length p.boards)))
+      ∙ list_all-map (tree_holds (image_of p s)) (open_only_for_route p) (range_with_len 0 (length p.boards))
+      ∙ list_all-alike (λ m. tree_holds (image_of p s) (open_only_for_route p m))
       (λ m. if has_aspect s m Open
-      then any_route_passes p s
+      then any_route_passes_test p s
       (λ route now. (route.source == m) && same_mode now.mode Locked
       && list_all (is_vacant s) route.path) else true)
       (range_with_len 0 (length p.boards))

@@ -7,7 +7,7 @@ use Rattle.ilk_plant.specs.Network.{has_section}
 use Rattle.ilk_plant.specs.TableRules.{protecting_points_of, sections_locked_for}
 use Rattle.ilk_plant.specs.declared.table.Listed.{Listed}
 use Rattle.ilk_plant.specs.declared.table.Route.{Route}
-use Rattle.ilk_routes.specs.Claims.{sections_beside_path}
+use Rattle.ilk_routes.specs.Claims.{sections_outside_path}
 
 pub of_points : (x : ℕ) (points : List Listed) → has_section x (map (λ listed. listed.point) points) ≡ list_any (λ (listed : Listed). listed.point == x) points
 of_points x points = list_any-map (λ y. y == x) (λ (listed : Listed). listed.point) points
@@ -15,11 +15,11 @@ of_points x points = list_any-map (λ y. y == x) (λ (listed : Listed). listed.p
 pub of_both : (x : ℕ) (xs ys : List ℕ) → has_section x (xs ++ ys) ≡ (has_section x xs || has_section x ys)
 of_both x xs ys = list_any-append (λ y. y == x) xs ys
 
-pub beside_route : (x : ℕ) (route : Route) → has_section x (sections_beside_path route) ≡ (has_section x route.overlap || list_any (λ (listed : Listed). listed.point == x) route.protecting_points)
+pub beside_route : (x : ℕ) (route : Route) → has_section x (sections_outside_path route) ≡ (has_section x route.overlap || list_any (λ (listed : Listed). listed.point == x) route.protecting_points)
 beside_route x route =
     of_both x route.overlap (protecting_points_of route) ∙ ap (λ v. has_section x route.overlap || v) (of_points x route.protecting_points)
 
-pub sections_of_route : (x : ℕ) (route : Route) → has_section x (sections_locked_for route) ≡ (has_section x route.path || has_section x (sections_beside_path route))
+pub sections_of_route : (x : ℕ) (route : Route) → has_section x (sections_locked_for route) ≡ (has_section x route.path || has_section x (sections_outside_path route))
 sections_of_route x route =
     of_both x (route.path ++ route.overlap) (protecting_points_of route)
     ∙ ap (λ v. v || has_section x (protecting_points_of route)) (of_both x route.path route.overlap)

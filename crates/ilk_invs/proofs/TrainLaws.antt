@@ -16,7 +16,7 @@ use Rattle.ilk_ir.specs.Tree.{Tree, negation, tree_holds}
 use Rattle.ilk_plant.specs.Network.{has_section}
 use Rattle.ilk_plant.specs.Plant.{IsPlant, PlantLists}
 use Rattle.ilk_plant.specs.Shape.{HasShape}
-use Rattle.ilk_plant.specs.Sound.{NoWalkReturns}
+use Rattle.ilk_plant.specs.Sound.{IsAcyclic}
 use Rattle.ilk_plant.proofs.Shapes.{body-last}
 use Rattle.ilk_plant.specs.declared.network.Dir.{Dir}
 use Rattle.ilk_plant.specs.declared.network.Dir.TheVariants.{Up, Down}
@@ -24,32 +24,32 @@ use Rattle.ilk_plant.specs.declared.state.RouteState.{RouteState}
 use Rattle.ilk_plant.specs.declared.state.State.{State}
 use Rattle.ilk_plant.specs.declared.state.Train.{Train}
 use Rattle.ilk_plant.specs.declared.table.Route.{Route}
-use Rattle.ilk_model.specs.Families.{section_is_kept_by_route, head_is_led_by_route, keeps_v7, keeps_v8}
+use Rattle.ilk_model.specs.Families.{is_unreleased_on_some_route, head_is_led_by_route, keeps_v7, keeps_v8}
 use Rattle.ilk_model.specs.Hazard.{hazard}
-use Rattle.ilk_model.specs.Holding.{is_unreleased_on_path, is_locked_or_occupied, is_plain_for_direction, route_runs_in}
+use Rattle.ilk_model.specs.Holding.{is_unreleased_on_path, is_locked_or_occupied, continues_without_board, route_runs_in_direction}
 use Rattle.ilk_layout.specs.Image.{image_of}
 use Rattle.ilk_layout.specs.Occupancy.{occupancy_of}
 use Rattle.ilk_layout.specs.declared.values.Occupancy.TheVariants.{Taken}
 use Rattle.ilk_layout.proofs.Calm.{body-of, occupancy-in, taken-in}
 use Rattle.ilk_layout.proofs.Plants.{body-known}
-use Rattle.ilk_invs.specs.Held.{unreleased_on_path, locked_or_occupied}
+use Rattle.ilk_invs.specs.Held.{unreleased_on_path, route_locked_or_occupied}
 use Rattle.ilk_invs.specs.Parts.{each_of, for_each_route, some_of}
-use Rattle.ilk_invs.specs.TrainFamilies.{body_at, head_at, route_keeps_at, section_is_kept_at, route_leads_at, head_is_led_at, v7_tree, v8_tree}
-use Rattle.ilk_invs.proofs.HeldLaws.{unreleased_on_path-holds, locked_or_occupied-holds}
+use Rattle.ilk_invs.specs.TrainFamilies.{body_at, head_at, route_retains_at, body_has_route_set_at, route_set_for_head_at, head_has_route_set_at, v7_tree, v8_tree}
+use Rattle.ilk_invs.proofs.HeldLaws.{unreleased_on_path-holds, route_locked_or_occupied-holds}
 use Rattle.ilk_invs.proofs.PartLaws.{any-if, each_of-holds, some-route, some_of-holds}
 use Rattle.ilk_invs.proofs.PointLaws.{not-kept}
 use Rattle.ilk_invs.proofs.LedLaws.{body_at-holds, head_at-holds, led-holds}
 use Rattle.ilk_invs.proofs.OccupancyLaws.{has_head_in, has_train_in, last-place, own-head, own-train, passes-then, same-taken, taken-head, taken-train, then-passes}
 
 module _ (p : PlantLists) (plant : IsPlant p) (s : State) (shape : HasShape p s) (calm : hazard p s ≡ None) where
-  route_keeps_at-holds : (d : Dir) (x r : ℕ) (route : Route) (now : RouteState) →
+  route_retains_at-holds : (d : Dir) (x r : ℕ) (route : Route) (now : RouteState) →
       slice_get p.routes r ≡ Some route → slice_get s.routes r ≡ Some now →
-      list_any (tree_holds (image_of p s)) (route_keeps_at p d x r route)
-      ≡ (route_runs_in p d route && is_locked_or_occupied now && is_unreleased_on_path route now x)
-  route_keeps_at-holds d x r route now known at =
-      any-if (image_of p s) (each_of (locked_or_occupied r ∷ unreleased_on_path r route x ∷ [])) (route_runs_in p d route && has_section x route.path)
-      ∙ ap (λ v. (route_runs_in p d route && has_section x route.path) && (v && (tree_holds (image_of p s) (unreleased_on_path r route x) && true))) (locked_or_occupied-holds p s shape r now at)
-      ∙ ap (λ v. (route_runs_in p d route && has_section x route.path) && (is_locked_or_occupied now && v)) (and-true (tree_holds (image_of p s) (unreleased_on_path r route x)) ∙ unreleased_on_path-holds p s shape r route now x known at)
+      list_any (tree_holds (image_of p s)) (route_retains_at p d x r route)
+      ≡ (route_runs_in_direction p d route && is_locked_or_occupied now && is_unreleased_on_path route now x)
+  route_retains_at-holds d x r route now known at =
+      any-if (image_of p s) (each_of (route_locked_or_occupied r ∷ unreleased_on_path r route x ∷ [])) (route_runs_in_direction p d route && has_section x route.path)
+      ∙ ap (λ v. (route_runs_in_direction p d route && has_section x route.path) && (v && (tree_holds (image_of p s) (unreleased_on_path r route x) && true))) (route_locked_or_occupied-holds p s shape r now at)
+      ∙ ap (λ v. (route_runs_in_direction p d route && has_section x route.path) && (is_locked_or_occupied now && v)) (and-true (tree_holds (image_of p s) (unreleased_on_path r route x)) ∙ unreleased_on_path-holds p s shape r route now x known at)
       ∙ by_path (has_section x route.path) refl
     where
       with_path : (a b c : Bool) → ((a && true) && (b && c)) ≡ (a && b && c)
@@ -63,21 +63,22 @@ module _ (p : PlantLists) (plant : IsPlant p) (s : State) (shape : HasShape p s)
       without false b = refl
 
       by_path : (b : Bool) → has_section x route.path ≡ b →
-          ((route_runs_in p d route && has_section x route.path)
+          ((route_runs_in_direction p d route && has_section x route.path)
           && (is_locked_or_occupied now && is_unreleased_on_path route now x))
-          ≡ (route_runs_in p d route && is_locked_or_occupied now && is_unreleased_on_path route now x)
+          ≡ (route_runs_in_direction p d route && is_locked_or_occupied now && is_unreleased_on_path route now x)
       by_path true e =
-          ap (λ v. (route_runs_in p d route && v) && (is_locked_or_occupied now && is_unreleased_on_path route now x)) e ∙ with_path (route_runs_in p d route) (is_locked_or_occupied now) (is_unreleased_on_path route now x)
+          ap (λ v. (route_runs_in_direction p d route && v) && (is_locked_or_occupied now && is_unreleased_on_path route now x)) e ∙ with_path (route_runs_in_direction p d route) (is_locked_or_occupied now) (is_unreleased_on_path route now x)
       by_path false e =
           let none = not-kept route now x e in
-          ap (λ v. (route_runs_in p d route && v) && (is_locked_or_occupied now && is_unreleased_on_path route now x)) e
-          ∙ ap (λ v. (route_runs_in p d route && false) && (is_locked_or_occupied now && v)) none
-          ∙ without (route_runs_in p d route) (is_locked_or_occupied now)
-          ∙ ap (λ v. route_runs_in p d route && is_locked_or_occupied now && v) (sym none)
+          ap (λ v. (route_runs_in_direction p d route && v) && (is_locked_or_occupied now && is_unreleased_on_path route now x)) e
+          ∙ ap (λ v. (route_runs_in_direction p d route && false) && (is_locked_or_occupied now && v)) none
+          ∙ without (route_runs_in_direction p d route) (is_locked_or_occupied now)
+          ∙ ap (λ v. route_runs_in_direction p d route && is_locked_or_occupied now && v) (sym none)
 
-  kept-holds : (d : Dir) (x : ℕ) → list_any (tree_holds (image_of p s)) (for_each_route p (route_keeps_at p d x)) ≡ section_is_kept_by_route p s d x
+  kept-holds : (d : Dir) (x : ℕ) → list_any (tree_holds (image_of p s)) (for_each_route p (route_retains_at p d x)) ≡ is_unreleased_on_some_route p s d x
   kept-holds d x =
-      some-route p s shape (image_of p s) (route_keeps_at p d x) (λ route now. route_runs_in p d route && is_locked_or_occupied now && is_unreleased_on_path route now x) (λ r route now known at. route_keeps_at-holds d x r route now known at)
+      some-route p s shape (image_of p s) (route_retains_at p d x) (λ route now. route_runs_in_direction p d route && is_locked_or_occupied now && is_unreleased_on_path route now x)
+      (λ r route now known at. route_retains_at-holds d x r route now known at)
 
   instance-holds : (t : Tree) (ts : List Tree) (a b plain : Bool) → tree_holds (image_of p s) t ≡ a →
       list_any (tree_holds (image_of p s)) ts ≡ b →
@@ -87,16 +88,17 @@ module _ (p : PlantLists) (plant : IsPlant p) (s : State) (shape : HasShape p s)
       and-true (tree_holds (image_of p s) (some_of (negation t ∷ ts))) ∙ some_of-holds (image_of p s) (negation t ∷ ts) ∙ ap (λ v. not v || list_any (tree_holds (image_of p s)) ts) one ∙ ap (λ v. not a || v) two
   instance-holds t ts a b false one two = refl
 
-  head_is_led_at-holds : (d : Dir) (x : ℕ) → x < length p.sections → list_all (tree_holds (image_of p s)) (head_is_led_at p d x)
-      ≡ (if is_plain_for_direction p d x then not (has_head_in d (occupancy_of p s x)) || head_is_led_by_route p s d x else true)
-  head_is_led_at-holds d x within =
-      instance-holds (head_at p d x) (for_each_route p (route_leads_at p d x)) (has_head_in d (occupancy_of p s x)) (head_is_led_by_route p s d x) (is_plain_for_direction p d x) (head_at-holds p plant s shape calm d x within)
+  head_has_route_set_at-holds : (d : Dir) (x : ℕ) → x < length p.sections → list_all (tree_holds (image_of p s)) (head_has_route_set_at p d x)
+      ≡ (if continues_without_board p d x then not (has_head_in d (occupancy_of p s x)) || head_is_led_by_route p s d x else true)
+  head_has_route_set_at-holds d x within =
+      instance-holds (head_at p d x) (for_each_route p (route_set_for_head_at p d x)) (has_head_in d (occupancy_of p s x)) (head_is_led_by_route p s d x) (continues_without_board p d x) (head_at-holds p plant s shape calm d x within)
       (led-holds p plant s shape calm d x)
 
-  section_is_kept_at-holds : (d : Dir) (x : ℕ) → x < length p.sections → list_all (tree_holds (image_of p s)) (section_is_kept_at p d x)
-      ≡ (if is_plain_for_direction p d x then not (has_train_in d (occupancy_of p s x)) || section_is_kept_by_route p s d x else true)
-  section_is_kept_at-holds d x within =
-      instance-holds (body_at p d x) (for_each_route p (route_keeps_at p d x)) (has_train_in d (occupancy_of p s x)) (section_is_kept_by_route p s d x) (is_plain_for_direction p d x) (body_at-holds p plant s shape calm d x within) (kept-holds d x)
+  body_has_route_set_at-holds : (d : Dir) (x : ℕ) → x < length p.sections → list_all (tree_holds (image_of p s)) (body_has_route_set_at p d x)
+      ≡ (if continues_without_board p d x then not (has_train_in d (occupancy_of p s x)) || is_unreleased_on_some_route p s d x else true)
+  body_has_route_set_at-holds d x within =
+      instance-holds (body_at p d x) (for_each_route p (route_retains_at p d x)) (has_train_in d (occupancy_of p s x)) (is_unreleased_on_some_route p s d x) (continues_without_board p d x)
+      (body_at-holds p plant s shape calm d x within) (kept-holds d x)
 
   all-sections : (f : Dir → ℕ → List Tree) (test : Dir → ℕ → Bool) →
       ((d : Dir) (x : ℕ) → x < length p.sections → list_all (tree_holds (image_of p s)) (f d x) ≡ test d x) →
@@ -121,20 +123,20 @@ module _ (p : PlantLists) (plant : IsPlant p) (s : State) (shape : HasShape p s)
       let within = (range_within (length p.sections) i x at).1 in and_from (test Up x) (test Down x) (each Up x within) (each Down x within))
 
   led_test : Dir → ℕ → Bool
-  led_test d x = if is_plain_for_direction p d x then not (has_head_in d (occupancy_of p s x)) || head_is_led_by_route p s d x else true
+  led_test d x = if continues_without_board p d x then not (has_head_in d (occupancy_of p s x)) || head_is_led_by_route p s d x else true
 
   kept_test : Dir → ℕ → Bool
-  kept_test d x = if is_plain_for_direction p d x then not (has_train_in d (occupancy_of p s x)) || section_is_kept_by_route p s d x else true
+  kept_test d x = if continues_without_board p d x then not (has_train_in d (occupancy_of p s x)) || is_unreleased_on_some_route p s d x else true
 
-  pub v7-law : NoWalkReturns p → tree_holds (image_of p s) (v7_tree p) ≡ keeps_v7 p s
+  pub v7-law : IsAcyclic p → tree_holds (image_of p s) (v7_tree p) ≡ keeps_v7 p s
   unfolding led_test
   v7-law never =
-      each_of-holds (image_of p s) (flat_map (λ x. head_is_led_at p Up x ++ head_is_led_at p Down x) (range_with_len 0 (length p.sections)))
-      ∙ all-sections (head_is_led_at p) led_test head_is_led_at-holds
+      each_of-holds (image_of p s) (flat_map (λ x. head_has_route_set_at p Up x ++ head_has_route_set_at p Down x) (range_with_len 0 (length p.sections)))
+      ∙ all-sections (head_has_route_set_at p) led_test head_has_route_set_at-holds
       ∙ same_truth (list_all (λ x. led_test Up x && led_test Down x) (range_with_len 0 (length p.sections))) (keeps_v7 p s) forth back
     where
       of_train : Train → Bool
-      of_train train = is_some_and (last_or None train.body) (λ x. if is_plain_for_direction p train.dir x then head_is_led_by_route p s train.dir x else true)
+      of_train train = is_some_and (last_or None train.body) (λ x. if continues_without_board p train.dir x then head_is_led_by_route p s train.dir x else true)
 
       forth : list_all (λ x. led_test Up x && led_test Down x) (range_with_len 0 (length p.sections)) ≡ true → list_all of_train s.trains ≡ true
       forth h =
@@ -147,17 +149,17 @@ module _ (p : PlantLists) (plant : IsPlant p) (s : State) (shape : HasShape p s)
           let head : (place.0 + 1 == length t.body) ≡ true = eq-eqb (place.0 + 1) (length t.body) place.2 in
           let here : has_head_in t.dir (occupancy_of p s last.0) ≡ true = ap (has_head_in t.dir) (taken ∙ ap (Taken t.dir (place.0 == 0)) head) ∙ own-head t.dir (place.0 == 0) in
           let passes = in_direction led_test t.dir last.0 within h in
-          ap (λ o. is_some_and o (λ x. if is_plain_for_direction p t.dir x then head_is_led_by_route p s t.dir x else true)) last.1
-          ∙ passes-if (is_plain_for_direction p t.dir last.0) (head_is_led_by_route p s t.dir last.0)
+          ap (λ o. is_some_and o (λ x. if continues_without_board p t.dir x then head_is_led_by_route p s t.dir x else true)) last.1
+          ∙ passes-if (continues_without_board p t.dir last.0) (head_is_led_by_route p s t.dir last.0)
           (λ plain. then-passes (has_head_in t.dir (occupancy_of p s last.0)) (head_is_led_by_route p s t.dir last.0)
-          (if-passes (is_plain_for_direction p t.dir last.0)
+          (if-passes (continues_without_board p t.dir last.0)
           (not (has_head_in t.dir (occupancy_of p s last.0)) || head_is_led_by_route p s t.dir last.0) passes
           plain) here))
 
       back : list_all of_train s.trains ≡ true → list_all (λ x. led_test Up x && led_test Down x) (range_with_len 0 (length p.sections)) ≡ true
       back h =
           from_directions led_test (λ d x within.
-          passes-if (is_plain_for_direction p d x) (not (has_head_in d (occupancy_of p s x)) || head_is_led_by_route p s d x) (λ plain.
+          passes-if (continues_without_board p d x) (not (has_head_in d (occupancy_of p s x)) || head_is_led_by_route p s d x) (λ plain.
           passes-then (has_head_in d (occupancy_of p s x)) (head_is_led_by_route p s d x) (λ head.
           let taken = taken-head d (occupancy_of p s x) head in
           let train = taken-in p plant never s shape calm x d taken.0 true taken.1 in
@@ -165,46 +167,46 @@ module _ (p : PlantLists) (plant : IsPlant p) (s : State) (shape : HasShape p s)
           let there = occupancy-in p plant never s shape calm train.0 train.2 x t train.3 train.4 in
           let same = same-taken (sym taken.1 ∙ there) in
           let last : last_or None t.body ≡ Some x = last_or-at None t.body train.2 x (eqb-true (train.2 + 1) (length t.body) (sym same.1)) train.4 in
-          let passes : (if is_plain_for_direction p t.dir x then head_is_led_by_route p s t.dir x else true) ≡ true =
-          ap (λ o. is_some_and o (λ x. if is_plain_for_direction p t.dir x then head_is_led_by_route p s t.dir x else true)) (sym last) ∙ list_all-slice_get of_train s.trains train.0 t h train.3 in
-          if-passes (is_plain_for_direction p d x) (head_is_led_by_route p s d x) (ap (λ e. if is_plain_for_direction p e x then head_is_led_by_route p s e x else true) same.0 ∙ passes) plain)))
+          let passes : (if continues_without_board p t.dir x then head_is_led_by_route p s t.dir x else true) ≡ true =
+          ap (λ o. is_some_and o (λ x. if continues_without_board p t.dir x then head_is_led_by_route p s t.dir x else true)) (sym last) ∙ list_all-slice_get of_train s.trains train.0 t h train.3 in
+          if-passes (continues_without_board p d x) (head_is_led_by_route p s d x) (ap (λ e. if continues_without_board p e x then head_is_led_by_route p s e x else true) same.0 ∙ passes) plain)))
 
-  pub v8-law : NoWalkReturns p → tree_holds (image_of p s) (v8_tree p) ≡ keeps_v8 p s
+  pub v8-law : IsAcyclic p → tree_holds (image_of p s) (v8_tree p) ≡ keeps_v8 p s
   unfolding kept_test
   v8-law never =
-      each_of-holds (image_of p s) (flat_map (λ x. section_is_kept_at p Up x ++ section_is_kept_at p Down x) (range_with_len 0 (length p.sections)))
-      ∙ all-sections (section_is_kept_at p) kept_test section_is_kept_at-holds
+      each_of-holds (image_of p s) (flat_map (λ x. body_has_route_set_at p Up x ++ body_has_route_set_at p Down x) (range_with_len 0 (length p.sections)))
+      ∙ all-sections (body_has_route_set_at p) kept_test body_has_route_set_at-holds
       ∙ same_truth (list_all (λ x. kept_test Up x && kept_test Down x) (range_with_len 0 (length p.sections))) (keeps_v8 p s) forth back
     where
       of_train : Train → Bool
-      of_train train = list_all (λ x. if is_plain_for_direction p train.dir x then section_is_kept_by_route p s train.dir x else true) train.body
+      of_train train = list_all (λ x. if continues_without_board p train.dir x then is_unreleased_on_some_route p s train.dir x else true) train.body
 
       forth : list_all (λ x. kept_test Up x && kept_test Down x) (range_with_len 0 (length p.sections)) ≡ true → list_all of_train s.trains ≡ true
       forth h =
           all-pass of_train s.trains (λ i t at.
-          all-pass (λ x. if is_plain_for_direction p t.dir x then section_is_kept_by_route p s t.dir x else true) t.body (λ k x place.
+          all-pass (λ x. if continues_without_board p t.dir x then is_unreleased_on_some_route p s t.dir x else true) t.body (λ k x place.
           let body = body-of p plant never s shape calm i t at in
           let within = body-known p t k x plant body place in
           let taken = occupancy-in p plant never s shape calm i k x t at place in
           let here : has_train_in t.dir (occupancy_of p s x) ≡ true = ap (has_train_in t.dir) taken ∙ own-train t.dir (k == 0) (k + 1 == length t.body) in
           let passes = in_direction kept_test t.dir x within h in
-          passes-if (is_plain_for_direction p t.dir x) (section_is_kept_by_route p s t.dir x)
-          (λ plain. then-passes (has_train_in t.dir (occupancy_of p s x)) (section_is_kept_by_route p s t.dir x)
-          (if-passes (is_plain_for_direction p t.dir x)
-          (not (has_train_in t.dir (occupancy_of p s x)) || section_is_kept_by_route p s t.dir x) passes
+          passes-if (continues_without_board p t.dir x) (is_unreleased_on_some_route p s t.dir x)
+          (λ plain. then-passes (has_train_in t.dir (occupancy_of p s x)) (is_unreleased_on_some_route p s t.dir x)
+          (if-passes (continues_without_board p t.dir x)
+          (not (has_train_in t.dir (occupancy_of p s x)) || is_unreleased_on_some_route p s t.dir x) passes
           plain) here)))
 
       back : list_all of_train s.trains ≡ true → list_all (λ x. kept_test Up x && kept_test Down x) (range_with_len 0 (length p.sections)) ≡ true
       back h =
           from_directions kept_test (λ d x within.
-          passes-if (is_plain_for_direction p d x) (not (has_train_in d (occupancy_of p s x)) || section_is_kept_by_route p s d x) (λ plain.
-          passes-then (has_train_in d (occupancy_of p s x)) (section_is_kept_by_route p s d x) (λ train_in.
+          passes-if (continues_without_board p d x) (not (has_train_in d (occupancy_of p s x)) || is_unreleased_on_some_route p s d x) (λ plain.
+          passes-then (has_train_in d (occupancy_of p s x)) (is_unreleased_on_some_route p s d x) (λ train_in.
           let taken = taken-train d (occupancy_of p s x) train_in in
           let train = taken-in p plant never s shape calm x d taken.0 taken.1 taken.2 in
           let t = train.1 in
           let there = occupancy-in p plant never s shape calm train.0 train.2 x t train.3 train.4 in
           let same = same-taken (sym taken.2 ∙ there) in
-          let passes : (if is_plain_for_direction p t.dir x then section_is_kept_by_route p s t.dir x else true) ≡ true =
-          list_all-slice_get (λ x. if is_plain_for_direction p t.dir x then section_is_kept_by_route p s t.dir x else true) t.body
+          let passes : (if continues_without_board p t.dir x then is_unreleased_on_some_route p s t.dir x else true) ≡ true =
+          list_all-slice_get (λ x. if continues_without_board p t.dir x then is_unreleased_on_some_route p s t.dir x else true) t.body
           train.2 x (list_all-slice_get of_train s.trains train.0 t h train.3) train.4 in
-          if-passes (is_plain_for_direction p d x) (section_is_kept_by_route p s d x) (ap (λ e. if is_plain_for_direction p e x then section_is_kept_by_route p s e x else true) same.0 ∙ passes) plain)))
+          if-passes (continues_without_board p d x) (is_unreleased_on_some_route p s d x) (ap (λ e. if continues_without_board p e x then is_unreleased_on_some_route p s e x else true) same.0 ∙ passes) plain)))

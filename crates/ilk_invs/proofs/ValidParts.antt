@@ -13,12 +13,12 @@ use Rattle.ilk_plant.specs.Network.{has_section}
 use Rattle.ilk_plant.specs.Plant.{IsPlant, PlantLists}
 use Rattle.ilk_plant.specs.declared.state.Mode.TheVariants.{Allocating, Free, Marked}
 use Rattle.ilk_plant.specs.declared.table.Route.{Route}
-use Rattle.ilk_routes.specs.Claims.{sections_beside_path}
+use Rattle.ilk_routes.specs.Claims.{sections_outside_path}
 use Rattle.ilk_layout.specs.Variables.{ranges_of_plant}
 use Rattle.ilk_layout.specs.Conditions.{mode_is, no_train_at, rel_is, seen_is}
 use Rattle.ilk_layout.proofs.Valid.{mode_is-valid, no_train_at-valid, rel_is-valid, seen_is-valid}
-use Rattle.ilk_invs.specs.Held.{holding_section, is_holding, unreleased_on_path, locked_or_occupied, rel_below, seen_below}
-use Rattle.ilk_invs.specs.Parts.{conditions_for, each_of, for_each_path_index, for_each_route, some_of, implication}
+use Rattle.ilk_invs.specs.Held.{section_held_by, is_holding, unreleased_on_path, route_locked_or_occupied, rel_below, seen_below}
+use Rattle.ilk_invs.specs.Parts.{conditions_if_some, each_of, for_each_path_index, for_each_route, some_of, implication}
 use Rattle.ilk_invs.specs.RouteFamilies.{path_vacant}
 
 module _ (p : PlantLists) (plant : IsPlant p) where
@@ -58,13 +58,13 @@ module _ (p : PlantLists) (plant : IsPlant p) where
   flat_map-valid f xs each =
       list_all-flat_map (tree_valid (ranges_of_plant p)) f xs ∙ all-pass (λ x. list_all (tree_valid (ranges_of_plant p)) (f x)) xs each
 
-  pub conditions_for-valid : {X : Type 0} (o : Option X) (f : X → List Tree) → ((x : X) → o ≡ Some x → list_all (tree_valid (ranges_of_plant p)) (f x) ≡ true) → list_all (tree_valid (ranges_of_plant p)) (conditions_for o f) ≡ true
-  conditions_for-valid None f each = refl
-  conditions_for-valid (Some x) f each = each x refl
+  pub conditions_if_some-valid : {X : Type 0} (o : Option X) (f : X → List Tree) → ((x : X) → o ≡ Some x → list_all (tree_valid (ranges_of_plant p)) (f x) ≡ true) → list_all (tree_valid (ranges_of_plant p)) (conditions_if_some o f) ≡ true
+  conditions_if_some-valid None f each = refl
+  conditions_if_some-valid (Some x) f each = each x refl
 
   pub routes-valid : (f : ℕ → Route → List Tree) → ((r : ℕ) (route : Route) → slice_get p.routes r ≡ Some route → list_all (tree_valid (ranges_of_plant p)) (f r route) ≡ true) → list_all (tree_valid (ranges_of_plant p)) (for_each_route p f) ≡ true
   routes-valid f each =
-      flat_map-valid (λ r. conditions_for (slice_get p.routes r) (f r)) (range_with_len 0 (length p.routes)) (λ i r at. conditions_for-valid (slice_get p.routes r) (f r) (each r))
+      flat_map-valid (λ r. conditions_if_some (slice_get p.routes r) (f r)) (range_with_len 0 (length p.routes)) (λ i r at. conditions_if_some-valid (slice_get p.routes r) (f r) (each r))
 
   pub places-valid : (route : Route) (f : ℕ → ℕ → List Tree) → ((i x : ℕ) → slice_get route.path i ≡ Some x → list_all (tree_valid (ranges_of_plant p)) (f i x) ≡ true) → list_all (tree_valid (ranges_of_plant p)) (for_each_path_index route f) ≡ true
   places-valid route f each =
@@ -93,8 +93,8 @@ module _ (p : PlantLists) (plant : IsPlant p) where
       let below = (range_within (length route.path + 1) i c at).1 in
       if-valid (has_section x (drop c route.path)) (rel_is r c ∷ []) (one-valid (rel_is r c) (rel_is-valid p r c route known (omega (arith, below))))))
 
-  locked_or_occupied-valid : (r : ℕ) → r < length p.routes → tree_valid (ranges_of_plant p) (locked_or_occupied r) ≡ true
-  locked_or_occupied-valid r within =
+  route_locked_or_occupied-valid : (r : ℕ) → r < length p.routes → tree_valid (ranges_of_plant p) (route_locked_or_occupied r) ≡ true
+  route_locked_or_occupied-valid r within =
       some_of-valid (mode_is r Free ∷ mode_is r Marked ∷ mode_is r Allocating ∷ [])
       (three-valid (mode_is r Free) (mode_is r Marked) (mode_is r Allocating)
       (mode_is-valid p r Free within) (mode_is-valid p r Marked within)
@@ -104,13 +104,13 @@ module _ (p : PlantLists) (plant : IsPlant p) where
   is_holding-valid r within =
       some_of-valid (mode_is r Free ∷ mode_is r Marked ∷ []) (two-valid (mode_is r Free) (mode_is r Marked) (mode_is-valid p r Free within) (mode_is-valid p r Marked within))
 
-  pub is_kept-valid : (r : ℕ) (route : Route) (x : ℕ) → slice_get p.routes r ≡ Some route → tree_valid (ranges_of_plant p) (each_of (locked_or_occupied r ∷ unreleased_on_path r route x ∷ [])) ≡ true
+  pub is_kept-valid : (r : ℕ) (route : Route) (x : ℕ) → slice_get p.routes r ≡ Some route → tree_valid (ranges_of_plant p) (each_of (route_locked_or_occupied r ∷ unreleased_on_path r route x ∷ [])) ≡ true
   is_kept-valid r route x known =
-      each_of-valid (locked_or_occupied r ∷ unreleased_on_path r route x ∷ []) (two-valid (locked_or_occupied r) (unreleased_on_path r route x) (locked_or_occupied-valid r (slice_get_within p.routes r route known))
+      each_of-valid (route_locked_or_occupied r ∷ unreleased_on_path r route x ∷ []) (two-valid (route_locked_or_occupied r) (unreleased_on_path r route x) (route_locked_or_occupied-valid r (slice_get_within p.routes r route known))
       (unreleased_on_path-valid r route x known))
 
-  pub holding_section-valid : (r : ℕ) (route : Route) (x : ℕ) → slice_get p.routes r ≡ Some route → tree_valid (ranges_of_plant p) (holding_section r route x) ≡ true
-  holding_section-valid r route x known = by_test (has_section x (sections_beside_path route))
+  pub section_held_by-valid : (r : ℕ) (route : Route) (x : ℕ) → slice_get p.routes r ≡ Some route → tree_valid (ranges_of_plant p) (section_held_by r route x) ≡ true
+  section_held_by-valid r route x known = by_test (has_section x (sections_outside_path route))
     where
       by_test : (b : Bool) → tree_valid (ranges_of_plant p) (if b then is_holding r else each_of (is_holding r ∷ unreleased_on_path r route x ∷ [])) ≡ true
       by_test true = is_holding-valid r (slice_get_within p.routes r route known)

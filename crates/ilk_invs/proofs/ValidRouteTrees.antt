@@ -11,19 +11,19 @@ use Rattle.ilk_plant.specs.declared.state.Hold.TheVariants.{Locked as LockedLock
 use Rattle.ilk_plant.specs.declared.state.Mode.TheVariants.{Allocating, Locked, Occupied}
 use Rattle.ilk_plant.specs.declared.table.Listed.{Listed}
 use Rattle.ilk_plant.specs.declared.table.Route.{Route}
-use Rattle.ilk_routes.specs.Claims.{sections_beside_path}
+use Rattle.ilk_routes.specs.Claims.{sections_outside_path}
 use Rattle.ilk_layout.specs.Variables.{ranges_of_plant}
-use Rattle.ilk_layout.specs.Conditions.{board_is, commanded_at_listed, lies_at_listed, lock_is, mode_is, rel_is, seen_is}
-use Rattle.ilk_layout.proofs.Listed.{commanded_at_listed-valid}
-use Rattle.ilk_layout.proofs.Valid.{board_is-valid, lies_at_listed-valid, lock_is-valid, mode_is-valid, rel_is-valid, seen_is-valid}
-use Rattle.ilk_invs.specs.Held.{holding_section, is_holding, unreleased_on_path, locked_or_occupied, rel_below, seen_below}
+use Rattle.ilk_layout.specs.Conditions.{board_is, listed_is_commanded, listed_is_detected, lock_is, mode_is, rel_is, seen_is}
+use Rattle.ilk_layout.proofs.Listed.{listed_is_commanded-valid}
+use Rattle.ilk_layout.proofs.Valid.{board_is-valid, listed_is_detected-valid, lock_is-valid, mode_is-valid, rel_is-valid, seen_is-valid}
+use Rattle.ilk_invs.specs.Held.{section_held_by, is_holding, unreleased_on_path, route_locked_or_occupied, rel_below, seen_below}
 use Rattle.ilk_invs.specs.declared.hold_family.TheConstants.{MAX_ORDERED_HOLDERS}
-use Rattle.ilk_invs.specs.HoldFamilies.{held_by_halves, held_in_order, held_once, holders, lock_at_place, has_locks_for_route, none_before, none_holding, not_in_both, route_holding, v2_tree, v3_tree}
+use Rattle.ilk_invs.specs.HoldFamilies.{at_most_one_by_halves, at_most_one_in_order, at_most_one_holder, holders, path_lock_matches_seen, held_sections_have_locks, none_before_if_holding, none_holding, not_in_both, route_holding, v2_tree, v3_tree}
 use Rattle.ilk_invs.specs.Parts.{each_of, for_each_path_index, for_each_route, some_of, implication}
-use Rattle.ilk_invs.specs.PointFamily.{points_of_path, point_is_set_for, v6_tree}
-use Rattle.ilk_invs.specs.RouteFamilies.{counts_are_consistent, is_open_for_route, path_vacant, v1_tree, v4_tree, v5_tree}
+use Rattle.ilk_invs.specs.PointFamily.{points_of_path, point_matches_route_mode, v6_tree}
+use Rattle.ilk_invs.specs.RouteFamilies.{counts_are_consistent, open_only_for_route, path_vacant, v1_tree, v4_tree, v5_tree}
 use Rattle.ilk_routes.proofs.Shape.{beside-known}
-use Rattle.ilk_invs.proofs.ValidParts.{conditions_for-valid, each_of-valid, flat_map-valid, holding_section-valid, if-valid, is_holding-valid, is_kept-valid, joined-valid, map-valid, more-valid, one-valid, path_known, path_vacant-valid, places-valid, rel_below-valid, routes-valid, seen_below-valid, some_of-valid, three-valid, two-valid, implication-valid}
+use Rattle.ilk_invs.proofs.ValidParts.{conditions_if_some-valid, each_of-valid, flat_map-valid, section_held_by-valid, if-valid, is_holding-valid, is_kept-valid, joined-valid, map-valid, more-valid, one-valid, path_known, path_vacant-valid, places-valid, rel_below-valid, routes-valid, seen_below-valid, some_of-valid, three-valid, two-valid, implication-valid}
 
 module _ (p : PlantLists) (plant : IsPlant p) where
   pub v1-valid : tree_valid (ranges_of_plant p) (v1_tree p) ≡ true
@@ -66,11 +66,11 @@ module _ (p : PlantLists) (plant : IsPlant p) where
 
   pub v2-valid : tree_valid (ranges_of_plant p) (v2_tree p) ≡ true
   v2-valid =
-      each_of-valid p plant (flat_map (held_once p) (range_with_len 0 (length p.sections))) (flat_map-valid p plant (held_once p) (range_with_len 0 (length p.sections)) (λ i x at. by_halves (length (holders p x)) x (holders p x)))
+      each_of-valid p plant (flat_map (at_most_one_holder p) (range_with_len 0 (length p.sections))) (flat_map-valid p plant (at_most_one_holder p) (range_with_len 0 (length p.sections)) (λ i x at. by_halves (length (holders p x)) x (holders p x)))
     where
       holding : (x r : ℕ) → list_all (tree_valid (ranges_of_plant p)) (route_holding p x r) ≡ true
       holding x r =
-          conditions_for-valid p plant (slice_get p.routes r) (λ route. holding_section r route x ∷ []) (λ route known. one-valid p plant (holding_section r route x) (holding_section-valid p plant r route x known))
+          conditions_if_some-valid p plant (slice_get p.routes r) (λ route. section_held_by r route x ∷ []) (λ route known. one-valid p plant (section_held_by r route x) (section_held_by-valid p plant r route x known))
 
       none : (x : ℕ) (routes : List ℕ) → tree_valid (ranges_of_plant p) (none_holding p x routes) ≡ true
       none x routes =
@@ -78,55 +78,55 @@ module _ (p : PlantLists) (plant : IsPlant p) where
           (list_all-map (tree_valid (ranges_of_plant p)) negation (flat_map (route_holding p x) routes)
           ∙ flat_map-valid p plant (route_holding p x) routes (λ i q at. holding x q))
 
-      in_order : (x : ℕ) (routes : List ℕ) → list_all (tree_valid (ranges_of_plant p)) (held_in_order p x routes) ≡ true
+      in_order : (x : ℕ) (routes : List ℕ) → list_all (tree_valid (ranges_of_plant p)) (at_most_one_in_order p x routes) ≡ true
       in_order x routes =
-          map-valid p plant (λ place. none_before p x (take place.0 routes) place.1) (enumerate_from 1 (drop 1 routes)) (λ k place there.
+          map-valid p plant (λ place. none_before_if_holding p x (take place.0 routes) place.1) (enumerate_from 1 (drop 1 routes)) (λ k place there.
           implication-valid p plant (each_of (route_holding p x place.1)) (none_holding p x (take place.0 routes)) (each_of-valid p plant (route_holding p x place.1) (holding x place.1)) (none x (take place.0 routes)))
 
-      by_halves : (n x : ℕ) (routes : List ℕ) → list_all (tree_valid (ranges_of_plant p)) (held_by_halves n p x routes) ≡ true
+      by_halves : (n x : ℕ) (routes : List ℕ) → list_all (tree_valid (ranges_of_plant p)) (at_most_one_by_halves n p x routes) ≡ true
       by_halves zero x routes = in_order x routes
       by_halves (suc n) x routes =
           by_size (nat_le (length routes) MAX_ORDERED_HOLDERS) (by_halves n x (take (length routes / 2) routes)) (by_halves n x (drop (length routes / 2) routes))
         where
           by_size : (few : Bool) →
               list_all (tree_valid (ranges_of_plant p))
-              (held_by_halves n p x (take (length routes / 2) routes)) ≡ true →
+              (at_most_one_by_halves n p x (take (length routes / 2) routes)) ≡ true →
               list_all (tree_valid (ranges_of_plant p))
-              (held_by_halves n p x (drop (length routes / 2) routes)) ≡ true →
+              (at_most_one_by_halves n p x (drop (length routes / 2) routes)) ≡ true →
               list_all (tree_valid (ranges_of_plant p))
-              (if few then held_in_order p x routes
+              (if few then at_most_one_in_order p x routes
               else not_in_both p x (take (length routes / 2) routes)
               (drop (length routes / 2) routes)
-              ∷ held_by_halves n p x (take (length routes / 2) routes)
-              ++ held_by_halves n p x (drop (length routes / 2) routes)) ≡ true
+              ∷ at_most_one_by_halves n p x (take (length routes / 2) routes)
+              ++ at_most_one_by_halves n p x (drop (length routes / 2) routes)) ≡ true
           by_size true here there = in_order x routes
           by_size false here there =
-              more-valid p plant (not_in_both p x (take (length routes / 2) routes) (drop (length routes / 2) routes)) (held_by_halves n p x (take (length routes / 2) routes) ++ held_by_halves n p x (drop (length routes / 2) routes))
+              more-valid p plant (not_in_both p x (take (length routes / 2) routes) (drop (length routes / 2) routes)) (at_most_one_by_halves n p x (take (length routes / 2) routes) ++ at_most_one_by_halves n p x (drop (length routes / 2) routes))
               (some_of-valid p plant
               (none_holding p x (take (length routes / 2) routes)
               ∷ none_holding p x (drop (length routes / 2) routes) ∷ [])
               (two-valid p plant (none_holding p x (take (length routes / 2) routes))
               (none_holding p x (drop (length routes / 2) routes))
               (none x (take (length routes / 2) routes)) (none x (drop (length routes / 2) routes))))
-              (joined-valid p plant (held_by_halves n p x (take (length routes / 2) routes)) (held_by_halves n p x (drop (length routes / 2) routes)) here there)
+              (joined-valid p plant (at_most_one_by_halves n p x (take (length routes / 2) routes)) (at_most_one_by_halves n p x (drop (length routes / 2) routes)) here there)
 
   pub v3-valid : tree_valid (ranges_of_plant p) (v3_tree p) ≡ true
   v3-valid =
-      each_of-valid p plant (for_each_route p (λ r route. has_locks_for_route p r route ∷ [])) (routes-valid p plant (λ r route. has_locks_for_route p r route ∷ []) (λ r route known.
-      one-valid p plant (has_locks_for_route p r route) (implication-valid p plant (is_holding r)
+      each_of-valid p plant (for_each_route p (λ r route. held_sections_have_locks p r route ∷ [])) (routes-valid p plant (λ r route. held_sections_have_locks p r route ∷ []) (λ r route known.
+      one-valid p plant (held_sections_have_locks p r route) (implication-valid p plant (is_holding r)
       (each_of
-      (for_each_path_index route (lock_at_place p r)
-      ++ map (λ x. lock_is p x LockedLock) (sections_beside_path route)))
+      (for_each_path_index route (path_lock_matches_seen p r)
+      ++ map (λ x. lock_is p x LockedLock) (sections_outside_path route)))
       (is_holding-valid p plant r (slice_get_within p.routes r route known))
       (each_of-valid p plant
-      (for_each_path_index route (lock_at_place p r)
-      ++ map (λ x. lock_is p x LockedLock) (sections_beside_path route)) (joined-valid p plant
-      (for_each_path_index route (lock_at_place p r))
-      (map (λ x. lock_is p x LockedLock) (sections_beside_path route))
-      (places-valid p plant route (lock_at_place p r) (λ i x at. of_place r route i x known at (slice_get_within route.path i x at)))
-      (map-valid p plant (λ x. lock_is p x LockedLock) (sections_beside_path route) (λ i x at. lock_is-valid p x LockedLock (beside-known p route (plant.routes_known r route known) i x at))))))))
+      (for_each_path_index route (path_lock_matches_seen p r)
+      ++ map (λ x. lock_is p x LockedLock) (sections_outside_path route)) (joined-valid p plant
+      (for_each_path_index route (path_lock_matches_seen p r))
+      (map (λ x. lock_is p x LockedLock) (sections_outside_path route))
+      (places-valid p plant route (path_lock_matches_seen p r) (λ i x at. of_place r route i x known at (slice_get_within route.path i x at)))
+      (map-valid p plant (λ x. lock_is p x LockedLock) (sections_outside_path route) (λ i x at. lock_is-valid p x LockedLock (beside-known p route (plant.routes_known r route known) i x at))))))))
     where
-      of_place : (r : ℕ) (route : Route) (i x : ℕ) → slice_get p.routes r ≡ Some route → slice_get route.path i ≡ Some x → i < length route.path → list_all (tree_valid (ranges_of_plant p)) (lock_at_place p r i x) ≡ true
+      of_place : (r : ℕ) (route : Route) (i x : ℕ) → slice_get p.routes r ≡ Some route → slice_get route.path i ≡ Some x → i < length route.path → list_all (tree_valid (ranges_of_plant p)) (path_lock_matches_seen p r i x) ≡ true
       of_place r route i x known at less =
           let rel = rel_below-valid p plant r (i + 1) route known (omega (arith, less)) in
           let seen = seen_below-valid p plant r (i + 1) route known (omega (arith, less)) in
@@ -157,7 +157,7 @@ module _ (p : PlantLists) (plant : IsPlant p) where
 
   pub v5-valid : tree_valid (ranges_of_plant p) (v5_tree p) ≡ true
   v5-valid =
-      each_of-valid p plant (map (is_open_for_route p) (range_with_len 0 (length p.boards))) (map-valid p plant (is_open_for_route p) (range_with_len 0 (length p.boards)) (λ i m at.
+      each_of-valid p plant (map (open_only_for_route p) (range_with_len 0 (length p.boards))) (map-valid p plant (open_only_for_route p) (range_with_len 0 (length p.boards)) (λ i m at.
       some_of-valid p plant (negation (board_is p m Open) ∷ for_each_route p (λ r route. if route.source == m then each_of (mode_is r Locked ∷ path_vacant p route) ∷ [] else []))
       (more-valid p plant (negation (board_is p m Open)) (for_each_route p (λ r route. if route.source == m then each_of (mode_is r Locked ∷ path_vacant p route) ∷ [] else [])) (board_is-valid p m Open (range_within (length p.boards) i m at).1)
       (routes-valid p plant (λ r route. if route.source == m then each_of (mode_is r Locked ∷ path_vacant p route) ∷ [] else []) (λ r route known.
@@ -170,19 +170,20 @@ module _ (p : PlantLists) (plant : IsPlant p) where
 
   pub v6-valid : tree_valid (ranges_of_plant p) (v6_tree p) ≡ true
   v6-valid =
-      each_of-valid p plant (for_each_route p (λ r route. map (point_is_set_for p r route) (points_of_path route))) (routes-valid p plant (λ r route. map (point_is_set_for p r route) (points_of_path route)) (λ r route known.
-      map-valid p plant (point_is_set_for p r route) (points_of_path route) (λ i listed at. of_point r route listed known)))
+      each_of-valid p plant (for_each_route p (λ r route. map (point_matches_route_mode p r route) (points_of_path route))) (routes-valid p plant (λ r route. map (point_matches_route_mode p r route) (points_of_path route)) (λ r route known.
+      map-valid p plant (point_matches_route_mode p r route) (points_of_path route) (λ i listed at. of_point r route listed known)))
     where
-      of_point : (r : ℕ) (route : Route) (listed : Listed) → slice_get p.routes r ≡ Some route → tree_valid (ranges_of_plant p) (point_is_set_for p r route listed) ≡ true
+      of_point : (r : ℕ) (route : Route) (listed : Listed) → slice_get p.routes r ≡ Some route → tree_valid (ranges_of_plant p) (point_matches_route_mode p r route listed) ≡ true
       of_point r route listed known =
-          let commanded = commanded_at_listed-valid p listed in
-          let set = each_of-valid p plant (commanded_at_listed p listed ∷ lies_at_listed p listed ∷ []) (two-valid p plant (commanded_at_listed p listed) (lies_at_listed p listed) commanded (lies_at_listed-valid p listed)) in
+          let commanded = listed_is_commanded-valid p listed in
+          let set = each_of-valid p plant (listed_is_commanded p listed ∷ listed_is_detected p listed ∷ []) (two-valid p plant (listed_is_commanded p listed) (listed_is_detected p listed) commanded (listed_is_detected-valid p listed)) in
           each_of-valid p plant
-          (implication (mode_is r Allocating) (commanded_at_listed p listed)
-          ∷ implication (each_of (locked_or_occupied r ∷ unreleased_on_path r route listed.point ∷ []))
-          (each_of (commanded_at_listed p listed ∷ lies_at_listed p listed ∷ [])) ∷ [])
-          (two-valid p plant (implication (mode_is r Allocating) (commanded_at_listed p listed))
-          (implication (each_of (locked_or_occupied r ∷ unreleased_on_path r route listed.point ∷ []))
-          (each_of (commanded_at_listed p listed ∷ lies_at_listed p listed ∷ [])))
-          (implication-valid p plant (mode_is r Allocating) (commanded_at_listed p listed) (mode_is-valid p r Allocating (slice_get_within p.routes r route known)) commanded)
-          (implication-valid p plant (each_of (locked_or_occupied r ∷ unreleased_on_path r route listed.point ∷ [])) (each_of (commanded_at_listed p listed ∷ lies_at_listed p listed ∷ [])) (is_kept-valid p plant r route listed.point known) set))
+          (implication (mode_is r Allocating) (listed_is_commanded p listed)
+          ∷ implication (each_of (route_locked_or_occupied r ∷ unreleased_on_path r route listed.point ∷ []))
+          (each_of (listed_is_commanded p listed ∷ listed_is_detected p listed ∷ [])) ∷ [])
+          (two-valid p plant (implication (mode_is r Allocating) (listed_is_commanded p listed))
+          (implication (each_of (route_locked_or_occupied r ∷ unreleased_on_path r route listed.point ∷ []))
+          (each_of (listed_is_commanded p listed ∷ listed_is_detected p listed ∷ [])))
+          (implication-valid p plant (mode_is r Allocating) (listed_is_commanded p listed) (mode_is-valid p r Allocating (slice_get_within p.routes r route known)) commanded)
+          (implication-valid p plant (each_of (route_locked_or_occupied r ∷ unreleased_on_path r route listed.point ∷ [])) (each_of (listed_is_commanded p listed ∷ listed_is_detected p listed ∷ []))
+          (is_kept-valid p plant r route listed.point known) set))

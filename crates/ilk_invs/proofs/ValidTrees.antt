@@ -13,19 +13,19 @@ use Rattle.ilk_plant.specs.declared.network.Dir.TheVariants.{Up, Down}
 use Rattle.ilk_plant.specs.declared.state.Aspect.TheVariants.{Closed}
 use Rattle.ilk_plant.specs.declared.state.Mode.TheVariants.{Locked, Occupied}
 use Rattle.ilk_plant.specs.declared.table.Route.{Route}
-use Rattle.ilk_model.specs.Holding.{is_plain_for_direction, route_runs_in}
+use Rattle.ilk_model.specs.Holding.{continues_without_board, route_runs_in_direction}
 use Rattle.ilk_layout.specs.Variables.{ranges_of_plant}
 use Rattle.ilk_layout.specs.declared.values.Occupancy.{Occupancy}
 use Rattle.ilk_layout.specs.declared.values.Occupancy.TheVariants.{Vacant, Taken, Crash}
 use Rattle.ilk_layout.specs.Conditions.{board_is, mode_is, no_train_at, occupancy_is, train_at}
 use Rattle.ilk_layout.proofs.Valid.{board_is-valid, mode_is-valid, no_train_at-valid, occupancy_is-valid}
 use Rattle.ilk_invs.specs.FamilyTrees.{family_tree, family_trees}
-use Rattle.ilk_invs.specs.Held.{unreleased_on_path, locked_or_occupied, seen_below}
+use Rattle.ilk_invs.specs.Held.{unreleased_on_path, route_locked_or_occupied, seen_below}
 use Rattle.ilk_invs.specs.HoldFamilies.{v2_tree, v3_tree}
 use Rattle.ilk_invs.specs.Parts.{each_of, for_each_path_index, for_each_route, some_of, implication}
 use Rattle.ilk_invs.specs.PointFamily.{v6_tree}
 use Rattle.ilk_invs.specs.RouteFamilies.{v1_tree, v4_tree, v5_tree, v9_tree}
-use Rattle.ilk_invs.specs.TrainFamilies.{body_at, head_at, route_keeps_at, section_is_kept_at, route_leads_at, route_leads_from, head_is_led_at, none_seen_past, v7_tree, v8_tree, vacant_or_up}
+use Rattle.ilk_invs.specs.TrainFamilies.{body_at, head_at, route_retains_at, body_has_route_set_at, route_set_for_head_at, route_set_and_clear_past, head_has_route_set_at, none_seen_past, v7_tree, v8_tree, vacant_or_up}
 use Rattle.ilk_invs.proofs.Tests.{dropped-at}
 use Rattle.ilk_invs.proofs.ValidParts.{each_of-valid, flat_map-valid, if-valid, is_kept-valid, joined-valid, map-valid, more-valid, one-valid, path_known, places-valid, routes-valid, seen_below-valid, some_of-valid, two-valid, implication-valid}
 use Rattle.ilk_invs.proofs.ValidRouteTrees.{v1-valid, v2-valid, v3-valid, v4-valid, v5-valid, v6-valid}
@@ -53,8 +53,8 @@ module _ (p : PlantLists) (plant : IsPlant p) where
   none_seen_past-valid r route i known less =
       if-valid p plant (nat_lt (i + 1) (length route.path)) (seen_below r (i + 2) ∷ []) (one-valid p plant (seen_below r (i + 2)) (seen_below-valid p plant r (i + 2) route known (omega (arith, less))))
 
-  route_leads_from-valid : (r : ℕ) (route : Route) (i x : ℕ) → slice_get p.routes r ≡ Some route → slice_get route.path i ≡ Some x → tree_valid (ranges_of_plant p) (route_leads_from p r route i) ≡ true
-  route_leads_from-valid r route i x known at =
+  route_set_and_clear_past-valid : (r : ℕ) (route : Route) (i x : ℕ) → slice_get p.routes r ≡ Some route → slice_get route.path i ≡ Some x → tree_valid (ranges_of_plant p) (route_set_and_clear_past p r route i) ≡ true
+  route_set_and_clear_past-valid r route i x known at =
       let within = slice_get_within p.routes r route known in
       let less = slice_get_within route.path i x at in
       let closed = each_of-valid p plant (mode_is r Locked ∷ board_is p route.source Closed ∷ [])
@@ -79,22 +79,23 @@ module _ (p : PlantLists) (plant : IsPlant p) where
 
   v7-valid : tree_valid (ranges_of_plant p) (v7_tree p) ≡ true
   v7-valid =
-      instances-valid (head_is_led_at p) (λ d x within.
-      if-valid p plant (is_plain_for_direction p d x) (some_of (negation (head_at p d x) ∷ for_each_route p (route_leads_at p d x)) ∷ []) (one-valid p plant (some_of (negation (head_at p d x) ∷ for_each_route p (route_leads_at p d x)))
-      (some_of-valid p plant (negation (head_at p d x) ∷ for_each_route p (route_leads_at p d x)) (more-valid p plant (negation (head_at p d x)) (for_each_route p (route_leads_at p d x)) (head_at-valid d x within)
-      (routes-valid p plant (route_leads_at p d x) (λ r route known.
-      if-valid p plant (route_runs_in p d route) (for_each_path_index route (λ i y. if y == x then route_leads_from p r route i ∷ [] else [])) (places-valid p plant route (λ i y. if y == x then route_leads_from p r route i ∷ [] else []) (λ i y at.
-      if-valid p plant (y == x) (route_leads_from p r route i ∷ []) (one-valid p plant (route_leads_from p r route i) (route_leads_from-valid r route i y known at))))))))))
+      instances-valid (head_has_route_set_at p) (λ d x within.
+      if-valid p plant (continues_without_board p d x) (some_of (negation (head_at p d x) ∷ for_each_route p (route_set_for_head_at p d x)) ∷ []) (one-valid p plant (some_of (negation (head_at p d x) ∷ for_each_route p (route_set_for_head_at p d x)))
+      (some_of-valid p plant (negation (head_at p d x) ∷ for_each_route p (route_set_for_head_at p d x)) (more-valid p plant (negation (head_at p d x)) (for_each_route p (route_set_for_head_at p d x)) (head_at-valid d x within)
+      (routes-valid p plant (route_set_for_head_at p d x) (λ r route known.
+      if-valid p plant (route_runs_in_direction p d route) (for_each_path_index route (λ i y. if y == x then route_set_and_clear_past p r route i ∷ [] else []))
+      (places-valid p plant route (λ i y. if y == x then route_set_and_clear_past p r route i ∷ [] else []) (λ i y at.
+      if-valid p plant (y == x) (route_set_and_clear_past p r route i ∷ []) (one-valid p plant (route_set_and_clear_past p r route i) (route_set_and_clear_past-valid r route i y known at))))))))))
 
   v8-valid : tree_valid (ranges_of_plant p) (v8_tree p) ≡ true
   v8-valid =
-      instances-valid (section_is_kept_at p) (λ d x within.
-      if-valid p plant (is_plain_for_direction p d x) (some_of (negation (body_at p d x) ∷ for_each_route p (route_keeps_at p d x)) ∷ []) (one-valid p plant (some_of (negation (body_at p d x) ∷ for_each_route p (route_keeps_at p d x)))
-      (some_of-valid p plant (negation (body_at p d x) ∷ for_each_route p (route_keeps_at p d x)) (more-valid p plant (negation (body_at p d x)) (for_each_route p (route_keeps_at p d x)) (body_at-valid d x within)
-      (routes-valid p plant (route_keeps_at p d x) (λ r route known.
-      if-valid p plant (route_runs_in p d route && has_section x route.path)
-      (each_of (locked_or_occupied r ∷ unreleased_on_path r route x ∷ []) ∷ [])
-      (one-valid p plant (each_of (locked_or_occupied r ∷ unreleased_on_path r route x ∷ []))
+      instances-valid (body_has_route_set_at p) (λ d x within.
+      if-valid p plant (continues_without_board p d x) (some_of (negation (body_at p d x) ∷ for_each_route p (route_retains_at p d x)) ∷ []) (one-valid p plant (some_of (negation (body_at p d x) ∷ for_each_route p (route_retains_at p d x)))
+      (some_of-valid p plant (negation (body_at p d x) ∷ for_each_route p (route_retains_at p d x)) (more-valid p plant (negation (body_at p d x)) (for_each_route p (route_retains_at p d x)) (body_at-valid d x within)
+      (routes-valid p plant (route_retains_at p d x) (λ r route known.
+      if-valid p plant (route_runs_in_direction p d route && has_section x route.path)
+      (each_of (route_locked_or_occupied r ∷ unreleased_on_path r route x ∷ []) ∷ [])
+      (one-valid p plant (each_of (route_locked_or_occupied r ∷ unreleased_on_path r route x ∷ []))
       (is_kept-valid p plant r route x known))))))))
 
   v9-valid : tree_valid (ranges_of_plant p) (v9_tree p) ≡ true

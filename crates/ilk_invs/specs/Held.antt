@@ -7,7 +7,7 @@ use Rattle.ilk_ir.specs.Tree.{Tree, negation}
 use Rattle.ilk_plant.specs.Network.{has_section}
 use Rattle.ilk_plant.specs.declared.state.Mode.TheVariants.{Free, Marked, Allocating}
 use Rattle.ilk_plant.specs.declared.table.Route.{Route}
-use Rattle.ilk_routes.specs.Claims.{sections_beside_path}
+use Rattle.ilk_routes.specs.Claims.{sections_outside_path}
 use Rattle.ilk_layout.specs.Conditions.{mode_is, rel_is, seen_is}
 use Rattle.ilk_invs.specs.Parts.{each_of, some_of}
 
@@ -20,8 +20,8 @@ abbrev pub rel_below : ℕ → ℕ → Tree
 rel_below r k = some_of (map (rel_is r) (range_with_len 0 k))
 
 -- Route `r` is not Free, Marked or Allocating, so Locked or Occupied.
-abbrev pub locked_or_occupied : ℕ → Tree
-locked_or_occupied r = negation (some_of (mode_is r Free ∷ mode_is r Marked ∷ mode_is r Allocating ∷ []))
+abbrev pub route_locked_or_occupied : ℕ → Tree
+route_locked_or_occupied r = negation (some_of (mode_is r Free ∷ mode_is r Marked ∷ mode_is r Allocating ∷ []))
 
 -- Route `r` is neither Free nor Marked, so it holds sections.
 abbrev pub is_holding : ℕ → Tree
@@ -35,6 +35,6 @@ unreleased_on_path r route x =
 
 -- Route `r` holds `x`: it holds sections, and `x` is beside its path or on the part that is not
 -- released.
-abbrev pub holding_section : ℕ → Route → ℕ → Tree
-holding_section r route x =
-    if has_section x (sections_beside_path route) then is_holding r else each_of (is_holding r ∷ unreleased_on_path r route x ∷ [])
+abbrev pub section_held_by : ℕ → Route → ℕ → Tree
+section_held_by r route x =
+    if has_section x (sections_outside_path route) then is_holding r else each_of (is_holding r ∷ unreleased_on_path r route x ∷ [])

@@ -32,13 +32,13 @@ v4_tree p =
     each_of (for_each_route p (λ r route. implication (mode_is r Allocating) (each_of (path_vacant p route)) ∷ []))
 
 -- V5 for board `m`: if it is Open, some route with this source is Locked and has a vacant path.
-abbrev pub is_open_for_route : PlantLists → ℕ → Tree
-is_open_for_route p m =
+abbrev pub open_only_for_route : PlantLists → ℕ → Tree
+open_only_for_route p m =
     some_of (negation (board_is p m Open)
     ∷ for_each_route p (λ r route. if route.source == m then each_of (mode_is r Locked ∷ path_vacant p route) ∷ [] else []))
 
 abbrev pub v5_tree : PlantLists → Tree
-v5_tree p = each_of (map (is_open_for_route p) (range_with_len 0 (length p.boards)))
+v5_tree p = each_of (map (open_only_for_route p) (range_with_len 0 (length p.boards)))
 
 -- V9: each protecting board of each Locked route is Closed.
 abbrev pub v9_tree : PlantLists → Tree

@@ -11,9 +11,9 @@ use Rattle.ilk_plant.specs.declared.state.Aspect.TheVariants.{Closed}
 use Rattle.ilk_plant.specs.declared.state.Mode.TheVariants.{Locked, Occupied}
 use Rattle.ilk_plant.specs.declared.table.Route.{Route}
 use Rattle.ilk_layout.specs.declared.values.Occupancy.TheVariants.{Vacant, Taken, Crash}
-use Rattle.ilk_model.specs.Holding.{is_plain_for_direction, route_runs_in}
+use Rattle.ilk_model.specs.Holding.{continues_without_board, route_runs_in_direction}
 use Rattle.ilk_layout.specs.Conditions.{board_is, mode_is, no_train_at, occupancy_is, train_at}
-use Rattle.ilk_invs.specs.Held.{unreleased_on_path, locked_or_occupied, seen_below}
+use Rattle.ilk_invs.specs.Held.{unreleased_on_path, route_locked_or_occupied, seen_below}
 use Rattle.ilk_invs.specs.Parts.{each_of, for_each_path_index, for_each_route, some_of}
 
 -- A train in direction `d` has its head at `x`.
@@ -39,38 +39,38 @@ none_seen_past r route i = if nat_lt (i + 1) (length route.path) then seen_below
 
 -- Route `r` is set for a train with its head at path[`i`]. The route is Occupied, or Locked with
 -- its source Closed. No later path section is seen, and all of them are vacant.
-abbrev pub route_leads_from : PlantLists → ℕ → Route → ℕ → Tree
-route_leads_from p r route i =
+abbrev pub route_set_and_clear_past : PlantLists → ℕ → Route → ℕ → Tree
+route_set_and_clear_past p r route i =
     each_of (some_of (mode_is r Occupied ∷ each_of (mode_is r Locked ∷ board_is p route.source Closed ∷ []) ∷ [])
     ∷ (none_seen_past r route i ++ map (no_train_at p) (drop (i + 1) route.path)))
 
 -- Route `r`, if it runs in direction `d`, leads a train with its head at `x`.
-abbrev pub route_leads_at : PlantLists → Dir → ℕ → ℕ → Route → List Tree
-route_leads_at p d x r route =
-    if route_runs_in p d route then for_each_path_index route (λ i y. if y == x then route_leads_from p r route i ∷ [] else []) else []
+abbrev pub route_set_for_head_at : PlantLists → Dir → ℕ → ℕ → Route → List Tree
+route_set_for_head_at p d x r route =
+    if route_runs_in_direction p d route then for_each_path_index route (λ i y. if y == x then route_set_and_clear_past p r route i ∷ [] else []) else []
 
 -- V7 for `x` and direction `d`, if `x` is plain for `d`: no train has its head there, or some route
 -- leads it.
-abbrev pub head_is_led_at : PlantLists → Dir → ℕ → List Tree
-head_is_led_at p d x =
-    if is_plain_for_direction p d x then some_of (negation (head_at p d x) ∷ for_each_route p (route_leads_at p d x)) ∷ [] else []
+abbrev pub head_has_route_set_at : PlantLists → Dir → ℕ → List Tree
+head_has_route_set_at p d x =
+    if continues_without_board p d x then some_of (negation (head_at p d x) ∷ for_each_route p (route_set_for_head_at p d x)) ∷ [] else []
 
 abbrev pub v7_tree : PlantLists → Tree
-v7_tree p = each_of (flat_map (λ x. head_is_led_at p Up x ++ head_is_led_at p Down x) (range_with_len 0 (length p.sections)))
+v7_tree p = each_of (flat_map (λ x. head_has_route_set_at p Up x ++ head_has_route_set_at p Down x) (range_with_len 0 (length p.sections)))
 
 -- Route `r`, if it runs in direction `d` and has `x` in its path, is Locked or Occupied and keeps
 -- `x`.
-abbrev pub route_keeps_at : PlantLists → Dir → ℕ → ℕ → Route → List Tree
-route_keeps_at p d x r route =
-    if route_runs_in p d route && has_section x route.path
-    then each_of (locked_or_occupied r ∷ unreleased_on_path r route x ∷ []) ∷ []
+abbrev pub route_retains_at : PlantLists → Dir → ℕ → ℕ → Route → List Tree
+route_retains_at p d x r route =
+    if route_runs_in_direction p d route && has_section x route.path
+    then each_of (route_locked_or_occupied r ∷ unreleased_on_path r route x ∷ []) ∷ []
     else []
 
 -- V8 for `x` and direction `d`, if `x` is plain for `d`: no train has it in its body, or some route
 -- keeps it.
-abbrev pub section_is_kept_at : PlantLists → Dir → ℕ → List Tree
-section_is_kept_at p d x =
-    if is_plain_for_direction p d x then some_of (negation (body_at p d x) ∷ for_each_route p (route_keeps_at p d x)) ∷ [] else []
+abbrev pub body_has_route_set_at : PlantLists → Dir → ℕ → List Tree
+body_has_route_set_at p d x =
+    if continues_without_board p d x then some_of (negation (body_at p d x) ∷ for_each_route p (route_retains_at p d x)) ∷ [] else []
 
 abbrev pub v8_tree : PlantLists → Tree
-v8_tree p = each_of (flat_map (λ x. section_is_kept_at p Up x ++ section_is_kept_at p Down x) (range_with_len 0 (length p.sections)))
+v8_tree p = each_of (flat_map (λ x. body_has_route_set_at p Up x ++ body_has_route_set_at p Down x) (range_with_len 0 (length p.sections)))

@@ -3,7 +3,7 @@ ghost use Rattle.ilk_ir.specs.Form.{tree_of};
 ghost use Rattle.ilk_ir.specs.Tree.{tree_valid};
 ghost use Rattle.ilk_layout.specs.Variables.{ranges_of_plant};
 ghost use Rattle.ilk_invs.specs.FamilyTrees as definitions;
-ghost use Rattle.ilk_invs.specs.Laws.{HoldsAsKept};
+ghost use Rattle.ilk_invs.specs.Laws.{TreeMeansFamily};
 
 use crate::hold_family::v2_form;
 use crate::kept_family::v8_form;
@@ -42,12 +42,12 @@ pub fn family_form(alloc: Global, plant: &Plant, j: u8) -> Result<Form, AllocErr
 
     // For the image of a well-formed state without hazard, it holds if and only if the state keeps
     // V`j`.
-    ensures kept { IfOk result (λ form. HoldsAsKept plant.now j (tree_of form)) }
+    ensures kept { IfOk result (λ form. TreeMeansFamily plant.now j (tree_of form)) }
     ensures valid { IfOk result
         (λ form. tree_valid (ranges_of_plant plant.now) (tree_of form) ≡ true) }
 {
-    plant.is_sound();
-    plant.is_from_drafts();
+    plant.prove_is_plant();
+    plant.prove_from_drafts();
     let form = form_of(alloc, plant, j)?;
     Ok(form)
 }

@@ -2,8 +2,8 @@ ghost use Rattle.std.specs.Prelude.{◌≡◌, ◌<◌, ◌+◌, ◌==◌, ◌++
 ghost use Rattle.std.specs.List.{list_any};
 ghost use Rattle.ilk_ir.specs.Form.{tree_of};
 ghost use Rattle.ilk_plant.specs.Network.{has_section};
-ghost use Rattle.ilk_plant.specs.Plant.{IsRouteOf};
-ghost use Rattle.ilk_routes.specs.Claims.{sections_beside_path};
+ghost use Rattle.ilk_plant.specs.Plant.{IsValidRouteOf};
+ghost use Rattle.ilk_routes.specs.Claims.{sections_outside_path};
 ghost use Rattle.ilk_layout.specs.Conditions as conditions;
 ghost use Rattle.ilk_invs.specs.Held as definitions;
 
@@ -38,9 +38,9 @@ pub fn rel_below(alloc: Global, plant: &Plant, r: u32, k: u8) -> Result<Form, Al
 }
 
 /// Returns the condition that route `r` is not Free, Marked or Allocating, so Locked or Occupied.
-pub fn locked_or_occupied(alloc: Global, plant: &Plant, r: u32) -> Result<Form, AllocError>
+pub fn route_locked_or_occupied(alloc: Global, plant: &Plant, r: u32) -> Result<Form, AllocError>
     requires { r < length plant.now.routes }
-    ensures { IfOk result (λ form. tree_of form ≡ definitions.locked_or_occupied r) }
+    ensures { IfOk result (λ form. tree_of form ≡ definitions.route_locked_or_occupied r) }
 {
     let mut forms = Vec::new(alloc);
     forms.push(mode_is(plant, r, Mode::Free))?;
@@ -60,7 +60,7 @@ pub fn is_holding(alloc: Global, plant: &Plant, r: u32) -> Result<Form, AllocErr
     negated(alloc, Form::Or(forms))
 }
 
-// Adds the condition that route `r` has released `count` sections, if `is_kept`.
+// Adds the condition that route `r` has released `count` sections, if `is_set_and_unreleased`.
 fn push_if_kept(
     forms: &mut Vec<Form>,
     plant: &Plant,
@@ -89,7 +89,7 @@ pub fn unreleased_on_path(
     x: u32,
 ) -> Result<Form, AllocError>
     requires known { r < length plant.now.routes }
-    requires route { IsRouteOf plant.now route.now }
+    requires route { IsValidRouteOf plant.now route.now }
     ensures { IfOk result (λ form. tree_of form ≡ definitions.unreleased_on_path r route.now x) }
 {
     let path = route.path.as_slice();
@@ -114,14 +114,14 @@ fn has_point(points: &Row<Listed>, x: u32) -> bool
 
 /// Returns whether section `x` is in the route's overlap or has one of its protecting points.
 #[tactic(auto, using(crate::proofs::Sections::beside_route))]
-pub fn is_beside_path(route: &Route, x: u32) -> bool
-    ensures { result ≡ has_section x (sections_beside_path route.now) }
+pub fn is_in_overlap_or_protecting(route: &Route, x: u32) -> bool
+    ensures { result ≡ has_section x (sections_outside_path route.now) }
 {
     has_section(&route.overlap, x) || has_point(&route.protecting_points, x)
 }
 
 /// Returns the condition that route `r` holds section `x`.
-pub fn holding_section(
+pub fn section_held_by(
     alloc: Global,
     plant: &Plant,
     r: u32,
@@ -129,11 +129,11 @@ pub fn holding_section(
     x: u32,
 ) -> Result<Form, AllocError>
     requires known { r < length plant.now.routes }
-    requires route { IsRouteOf plant.now route.now }
-    ensures { IfOk result (λ form. tree_of form ≡ definitions.holding_section r route.now x) }
+    requires route { IsValidRouteOf plant.now route.now }
+    ensures { IfOk result (λ form. tree_of form ≡ definitions.section_held_by r route.now x) }
 {
     let holding = is_holding(alloc, plant, r)?;
-    if is_beside_path(route, x) {
+    if is_in_overlap_or_protecting(route, x) {
         return Ok(holding);
     }
     let mut forms = Vec::new(alloc);

@@ -4,7 +4,7 @@ ghost use Rattle.ilk_ir.specs.Tree.{negation};
 ghost use Rattle.ilk_invs.specs.Held as held;
 ghost use Rattle.ilk_invs.specs.HoldFamilies as definitions;
 
-use crate::held::{holding_section, is_beside_path};
+use crate::held::{is_in_overlap_or_protecting, section_held_by};
 use crate::parts::implication;
 use ilk_ir::Form;
 use ilk_layout::negated;
@@ -22,7 +22,7 @@ fn may_hold(plant: &Plant, x: u32, r: u32) -> bool
     ensures { result ≡ definitions.may_hold plant.now x r }
 {
     let route = plant.route(r);
-    has_section(&route.path, x) || is_beside_path(route, x)
+    has_section(&route.path, x) || is_in_overlap_or_protecting(route, x)
 }
 
 // Returns the routes that may hold section `x`, in order.
@@ -42,7 +42,7 @@ fn route_holding(alloc: Global, plant: &Plant, x: u32, r: u32) -> Result<Form, A
     requires { r < length plant.now.routes }
     ensures { IfOk result (λ form. definitions.route_holding plant.now x r ≡ tree_of form ∷ []) }
 {
-    holding_section(alloc, plant, r, plant.route(r), x)
+    section_held_by(alloc, plant, r, plant.route(r), x)
 }
 
 fn push_not_holding(
@@ -76,7 +76,7 @@ fn none_holding(alloc: Global, plant: &Plant, x: u32, routes: &[u32]) -> Result<
 }
 
 // Returns the condition: if route `r` holds section `x`, none of those before does.
-fn none_before(
+fn none_before_if_holding(
     alloc: Global,
     plant: &Plant,
     x: u32,
@@ -86,7 +86,7 @@ fn none_before(
     requires known { r < length plant.now.routes }
     requires before { All (λ q. q < length plant.now.routes) before.now }
     ensures { IfOk result
-        (λ form. tree_of form ≡ definitions.none_before plant.now x before.now r) }
+        (λ form. tree_of form ≡ definitions.none_before_if_holding plant.now x before.now r) }
 {
     let mut held = Vec::new(alloc);
     held.push(route_holding(alloc, plant, x, r)?)?;
@@ -94,7 +94,7 @@ fn none_before(
     implication(alloc, Form::And(held), none)
 }
 
-// Adds, for each of these routes except the first, the condition of `none_before`.
+// Adds, for each of these routes except the first, the condition of `none_before_if_holding`.
 fn push_held_in_order(
     alloc: Global,
     forms: &mut Vec<Form>,
@@ -105,10 +105,10 @@ fn push_held_in_order(
     requires { All (λ r. r < length plant.now.routes) routes.now }
     ensures { OnOk result
         (map tree_of forms.new.items
-        ≡ map tree_of forms.old.items ++ definitions.held_in_order plant.now x routes.now) }
+        ≡ map tree_of forms.old.items ++ definitions.at_most_one_in_order plant.now x routes.now) }
 {
     for i in 1..routes.len() {
-        forms.push(none_before(alloc, plant, x, &routes[..i], routes[i])?)?;
+        forms.push(none_before_if_holding(alloc, plant, x, &routes[..i], routes[i])?)?;
     }
     Ok(())
 }
@@ -145,7 +145,8 @@ fn push_held_by_halves(
     requires { All (λ r. r < length plant.now.routes) routes.now }
     ensures { OnOk result
         (map tree_of forms.new.items
-        ≡ map tree_of forms.old.items ++ definitions.held_by_halves n plant.now x routes.now) }
+        ≡ map tree_of forms.old.items
+        ++ definitions.at_most_one_by_halves n plant.now x routes.now) }
 {
     if n == 0 || routes.len() <= MAX_ORDERED_HOLDERS {
         return push_held_in_order(alloc, forms, plant, x, routes);
@@ -165,7 +166,7 @@ fn push_held_once(
 ) -> Result<(), AllocError>
     ensures { OnOk result
         (map tree_of forms.new.items
-        ≡ map tree_of forms.old.items ++ definitions.held_once plant.now x) }
+        ≡ map tree_of forms.old.items ++ definitions.at_most_one_holder plant.now x) }
 {
     let routes = holders(alloc, plant, x)?;
     let routes = routes.as_slice();

@@ -5,8 +5,8 @@ ghost use Rattle.ilk_plant.specs.declared.network.Dir.TheVariants.{Up, Down};
 ghost use Rattle.ilk_invs.specs.Parts as parts;
 ghost use Rattle.ilk_invs.specs.TrainFamilies as definitions;
 
-use crate::point_family::is_kept;
-use crate::train_families::{body_at, is_plain_for_direction, route_runs_in};
+use crate::point_family::is_set_and_unreleased;
+use crate::train_families::{body_at, continues_without_board, route_runs_in_direction};
 use ilk_ir::Form;
 use ilk_layout::negated;
 use ilk_plant::{Dir, Plant, has_section};
@@ -26,12 +26,12 @@ fn push_keeps_at(
     ensures { OnOk result
         (map tree_of forms.new.items
         ≡ map tree_of forms.old.items
-        ++ parts.conditions_for (slice_get plant.now.routes r)
-        (definitions.route_keeps_at plant.now d x r)) }
+        ++ parts.conditions_if_some (slice_get plant.now.routes r)
+        (definitions.route_retains_at plant.now d x r)) }
 {
     let route = plant.route(r);
-    if route_runs_in(plant, d, route) && has_section(&route.path, x) {
-        forms.push(is_kept(alloc, plant, r, route, x)?)?;
+    if route_runs_in_direction(plant, d, route) && has_section(&route.path, x) {
+        forms.push(is_set_and_unreleased(alloc, plant, r, route, x)?)?;
     }
     Ok(())
 }
@@ -44,7 +44,7 @@ fn is_kept_by_some(alloc: Global, plant: &Plant, d: Dir, x: u32) -> Result<Form,
         (λ form. tree_of form
         ≡ parts.some_of
         (negation (definitions.body_at plant.now d x)
-        ∷ parts.for_each_route plant.now (definitions.route_keeps_at plant.now d x))) }
+        ∷ parts.for_each_route plant.now (definitions.route_retains_at plant.now d x))) }
 {
     let body = body_at(alloc, plant, d, x)?;
     let mut forms = Vec::new(alloc);
@@ -65,9 +65,9 @@ fn push_kept_at(
     requires { x < length plant.now.sections }
     ensures { OnOk result
         (map tree_of forms.new.items
-        ≡ map tree_of forms.old.items ++ definitions.section_is_kept_at plant.now d x) }
+        ≡ map tree_of forms.old.items ++ definitions.body_has_route_set_at plant.now d x) }
 {
-    if is_plain_for_direction(plant, d, x) {
+    if continues_without_board(plant, d, x) {
         forms.push(is_kept_by_some(alloc, plant, d, x)?)?;
     }
     Ok(())
@@ -78,8 +78,8 @@ fn push_kept(alloc: Global, forms: &mut Vec<Form>, plant: &Plant, x: u32) -> Res
     ensures { OnOk result
         (map tree_of forms.new.items
         ≡ map tree_of forms.old.items
-        ++ (definitions.section_is_kept_at plant.now Up x
-        ++ definitions.section_is_kept_at plant.now Down x)) }
+        ++ (definitions.body_has_route_set_at plant.now Up x
+        ++ definitions.body_has_route_set_at plant.now Down x)) }
 {
     push_kept_at(alloc, forms, plant, Dir::Up, x)?;
     push_kept_at(alloc, forms, plant, Dir::Down, x)

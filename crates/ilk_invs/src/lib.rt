@@ -22,4 +22,4 @@ mod route_families;
 mod train_families;
 
 pub use families::{family_form, family_forms};
-pub use laws::{families_hold, families_valid};
+pub use laws::{family_forms_are_correct, family_forms_are_valid};

@@ -1,10 +1,10 @@
 ghost use Rattle.std.specs.Prelude.{◌≡◌, ◌<◌, ◌+◌, ◌++◌, ◌∷◌, [], All, length, map, IfOk, OnOk};
 ghost use Rattle.ilk_ir.specs.Form.{tree_of};
 ghost use Rattle.ilk_ir.specs.Tree.{negation};
-ghost use Rattle.ilk_plant.specs.Plant.{IsRouteOf};
+ghost use Rattle.ilk_plant.specs.Plant.{IsValidRouteOf};
 ghost use Rattle.ilk_plant.specs.declared.limits.TheConstants.{MAX_PATH};
 ghost use Rattle.ilk_plant.specs.declared.state.Hold.TheVariants.{Locked as LockedLock, Used as UsedLock};
-ghost use Rattle.ilk_routes.specs.Claims.{sections_beside_path};
+ghost use Rattle.ilk_routes.specs.Claims.{sections_outside_path};
 ghost use Rattle.ilk_layout.specs.Conditions as conditions;
 ghost use Rattle.ilk_invs.specs.Held as held;
 ghost use Rattle.ilk_invs.specs.Parts as parts;
@@ -64,11 +64,11 @@ fn push_locks_on_path(
     route: &Route,
 ) -> Result<(), AllocError>
     requires known { r < length plant.now.routes }
-    requires route { IsRouteOf plant.now route.now }
+    requires route { IsValidRouteOf plant.now route.now }
     ensures { OnOk result
         (map tree_of forms.new.items
         ≡ map tree_of forms.old.items
-        ++ parts.for_each_path_index route.now (definitions.lock_at_place plant.now r)) }
+        ++ parts.for_each_path_index route.now (definitions.path_lock_matches_seen plant.now r)) }
 {
     let path = route.path.as_slice();
     for i in 0..path.len() {
@@ -112,12 +112,12 @@ fn push_points_locked(
 // Returns the conditions on the locks of route `r`'s sections.
 fn locks_for(alloc: Global, plant: &Plant, r: u32, route: &Route) -> Result<Vec<Form>, AllocError>
     requires known { r < length plant.now.routes }
-    requires route { IsRouteOf plant.now route.now }
+    requires route { IsValidRouteOf plant.now route.now }
     ensures { IfOk result
         (λ forms. map tree_of forms.items
-        ≡ parts.for_each_path_index route.now (definitions.lock_at_place plant.now r)
+        ≡ parts.for_each_path_index route.now (definitions.path_lock_matches_seen plant.now r)
         ++ map (λ x. conditions.lock_is plant.now x LockedLock)
-        (sections_beside_path route.now)) }
+        (sections_outside_path route.now)) }
 {
     let mut forms = Vec::new(alloc);
     push_locks_on_path(alloc, &mut forms, plant, r, route)?;
@@ -128,9 +128,9 @@ fn locks_for(alloc: Global, plant: &Plant, r: u32, route: &Route) -> Result<Vec<
 
 fn locked_for(alloc: Global, plant: &Plant, r: u32, route: &Route) -> Result<Form, AllocError>
     requires known { r < length plant.now.routes }
-    requires route { IsRouteOf plant.now route.now }
+    requires route { IsValidRouteOf plant.now route.now }
     ensures { IfOk result (λ form. tree_of form
-        ≡ definitions.has_locks_for_route plant.now r route.now) }
+        ≡ definitions.held_sections_have_locks plant.now r route.now) }
 {
     let forms = locks_for(alloc, plant, r, route)?;
     implication(alloc, is_holding(alloc, plant, r)?, Form::And(forms))

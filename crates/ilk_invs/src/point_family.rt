@@ -1,21 +1,21 @@
 ghost use Rattle.std.specs.Prelude.{◌≡◌, ◌<◌, ◌++◌, ◌∷◌, [], if◌then◌else◌, length, map, IfOk, OnOk};
 ghost use Rattle.ilk_ir.specs.Form.{tree_of};
 ghost use Rattle.ilk_plant.specs.Network.{has_section};
-ghost use Rattle.ilk_plant.specs.Plant.{IsRouteOf};
+ghost use Rattle.ilk_plant.specs.Plant.{IsValidRouteOf};
 ghost use Rattle.ilk_layout.specs.Conditions as conditions;
 ghost use Rattle.ilk_invs.specs.Held as held;
 ghost use Rattle.ilk_invs.specs.Parts as parts;
 ghost use Rattle.ilk_invs.specs.PointFamily as definitions;
 
-use crate::held::{locked_or_occupied, unreleased_on_path};
+use crate::held::{route_locked_or_occupied, unreleased_on_path};
 use crate::parts::implication;
 use ilk_ir::Form;
-use ilk_layout::{commanded_at_listed, lies_at_listed, mode_is};
+use ilk_layout::{listed_is_commanded, listed_is_detected, mode_is};
 use ilk_plant::{Listed, Mode, Plant, Route, has_section};
 use std::alloc::{AllocError, Global};
 
 /// Returns the condition that route `r` is Locked or Occupied and keeps section `x` on its path.
-pub fn is_kept(
+pub fn is_set_and_unreleased(
     alloc: Global,
     plant: &Plant,
     r: u32,
@@ -23,13 +23,14 @@ pub fn is_kept(
     x: u32,
 ) -> Result<Form, AllocError>
     requires known { r < length plant.now.routes }
-    requires route { IsRouteOf plant.now route.now }
+    requires route { IsValidRouteOf plant.now route.now }
     ensures { IfOk result
         (λ form. tree_of form
-        ≡ parts.each_of (held.locked_or_occupied r ∷ held.unreleased_on_path r route.now x ∷ [])) }
+        ≡ parts.each_of (held.route_locked_or_occupied r ∷ held.unreleased_on_path r route.now x
+        ∷ [])) }
 {
     let mut forms = Vec::new(alloc);
-    forms.push(locked_or_occupied(alloc, plant, r)?)?;
+    forms.push(route_locked_or_occupied(alloc, plant, r)?)?;
     forms.push(unreleased_on_path(alloc, plant, r, route, x)?)?;
     Ok(Form::And(forms))
 }
@@ -39,12 +40,12 @@ fn is_set(alloc: Global, plant: &Plant, listed: &Listed) -> Result<Form, AllocEr
     ensures { IfOk result
         (λ form. tree_of form
         ≡ parts.each_of
-        (conditions.commanded_at_listed plant.now listed.now
-        ∷ conditions.lies_at_listed plant.now listed.now ∷ [])) }
+        (conditions.listed_is_commanded plant.now listed.now
+        ∷ conditions.listed_is_detected plant.now listed.now ∷ [])) }
 {
     let mut forms = Vec::new(alloc);
-    forms.push(commanded_at_listed(plant, listed))?;
-    forms.push(lies_at_listed(plant, listed))?;
+    forms.push(listed_is_commanded(plant, listed))?;
+    forms.push(listed_is_detected(plant, listed))?;
     Ok(Form::And(forms))
 }
 
@@ -56,14 +57,15 @@ fn set_for(
     listed: &Listed,
 ) -> Result<Form, AllocError>
     requires known { r < length plant.now.routes }
-    requires route { IsRouteOf plant.now route.now }
+    requires route { IsValidRouteOf plant.now route.now }
     ensures { IfOk result
-        (λ form. tree_of form ≡ definitions.point_is_set_for plant.now r route.now listed.now) }
+        (λ form. tree_of form
+        ≡ definitions.point_matches_route_mode plant.now r route.now listed.now) }
 {
     let allocating = mode_is(plant, r, Mode::Allocating);
-    let kept = is_kept(alloc, plant, r, route, listed.point)?;
+    let kept = is_set_and_unreleased(alloc, plant, r, route, listed.point)?;
     let mut forms = Vec::new(alloc);
-    forms.push(implication(alloc, allocating, commanded_at_listed(plant, listed))?)?;
+    forms.push(implication(alloc, allocating, listed_is_commanded(plant, listed))?)?;
     forms.push(implication(alloc, kept, is_set(alloc, plant, listed)?)?)?;
     Ok(Form::And(forms))
 }
@@ -77,13 +79,13 @@ fn push_set_for(
     listed: &Listed,
 ) -> Result<(), AllocError>
     requires known { r < length plant.now.routes }
-    requires route { IsRouteOf plant.now route.now }
+    requires route { IsValidRouteOf plant.now route.now }
     ensures { OnOk result
         (map tree_of forms.new.items
         ≡ map tree_of forms.old.items
         ++
         (if has_section listed.now.point route.now.path
-        then definitions.point_is_set_for plant.now r route.now listed.now ∷ [] else [])) }
+        then definitions.point_matches_route_mode plant.now r route.now listed.now ∷ [] else [])) }
 {
     if has_section(&route.path, listed.point) {
         forms.push(set_for(alloc, plant, r, route, listed)?)?;
@@ -99,11 +101,11 @@ fn push_points_set(
     route: &Route,
 ) -> Result<(), AllocError>
     requires known { r < length plant.now.routes }
-    requires route { IsRouteOf plant.now route.now }
+    requires route { IsValidRouteOf plant.now route.now }
     ensures { OnOk result
         (map tree_of forms.new.items
         ≡ map tree_of forms.old.items
-        ++ map (definitions.point_is_set_for plant.now r route.now)
+        ++ map (definitions.point_matches_route_mode plant.now r route.now)
         (definitions.points_of_path route.now)) }
 {
     for listed in route.points.as_slice() {

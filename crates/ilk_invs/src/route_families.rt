@@ -2,7 +2,7 @@ ghost use Rattle.std.specs.Prelude.{◌≡◌, ◌<◌, ◌+◌, ◌==◌, ◌++
 ghost use Rattle.std.specs.List.{range_with_len};
 ghost use Rattle.ilk_ir.specs.Form.{tree_of};
 ghost use Rattle.ilk_ir.specs.Tree.{negation};
-ghost use Rattle.ilk_plant.specs.Plant.{IsRouteOf};
+ghost use Rattle.ilk_plant.specs.Plant.{IsValidRouteOf};
 ghost use Rattle.ilk_plant.specs.declared.state.Aspect.TheVariants.{Closed};
 ghost use Rattle.ilk_plant.specs.declared.state.Mode.TheVariants.{Allocating, Locked, Occupied};
 ghost use Rattle.ilk_layout.specs.Conditions as conditions;
@@ -72,7 +72,7 @@ fn occupied_or(alloc: Global, plant: &Plant, r: u32, other: Form) -> Result<Form
 
 fn counts_of(alloc: Global, plant: &Plant, r: u32, route: &Route) -> Result<Form, AllocError>
     requires known { r < length plant.now.routes }
-    requires route { IsRouteOf plant.now route.now }
+    requires route { IsValidRouteOf plant.now route.now }
     ensures { IfOk result (λ form. tree_of form ≡ definitions.counts_are_consistent r route.now) }
 {
     let mut forms = Vec::new(alloc);
@@ -114,7 +114,7 @@ fn vacant_while_allocating(
     route: &Route,
 ) -> Result<Form, AllocError>
     requires known { r < length plant.now.routes }
-    requires route { IsRouteOf plant.now route.now }
+    requires route { IsValidRouteOf plant.now route.now }
     ensures { IfOk result
         (λ form. tree_of form
         ≡ parts.implication (conditions.mode_is r Allocating)
@@ -139,7 +139,7 @@ pub fn v4_form(alloc: Global, plant: &Plant) -> Result<Form, AllocError>
 // Returns the condition that route `r` is Locked and its path is vacant.
 fn is_ready(alloc: Global, plant: &Plant, r: u32, route: &Route) -> Result<Form, AllocError>
     requires known { r < length plant.now.routes }
-    requires route { IsRouteOf plant.now route.now }
+    requires route { IsValidRouteOf plant.now route.now }
     ensures { IfOk result
         (λ form. tree_of form
         ≡ parts.each_of
@@ -163,7 +163,7 @@ fn push_ready_from(
     ensures { OnOk result
         (map tree_of forms.new.items
         ≡ map tree_of forms.old.items
-        ++ parts.conditions_for (slice_get plant.now.routes r)
+        ++ parts.conditions_if_some (slice_get plant.now.routes r)
         (λ route. if route.source == m
         then parts.each_of
         (conditions.mode_is r Locked
@@ -178,7 +178,7 @@ fn push_ready_from(
 
 fn opened_for(alloc: Global, plant: &Plant, m: u32) -> Result<Form, AllocError>
     requires { m < length plant.now.boards }
-    ensures { IfOk result (λ form. tree_of form ≡ definitions.is_open_for_route plant.now m) }
+    ensures { IfOk result (λ form. tree_of form ≡ definitions.open_only_for_route plant.now m) }
 {
     let mut forms = Vec::new(alloc);
     forms.push(negated(alloc, board_is(plant, m, Aspect::Open))?)?;

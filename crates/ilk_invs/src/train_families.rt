@@ -1,12 +1,12 @@
 ghost use Rattle.std.specs.Prelude.{◌≡◌, ◌<◌, ◌+◌, ◌==◌, ◌++◌, ◌∷◌, [], if◌then◌else◌, length, map, slice_get, IfOk, OnOk};
 ghost use Rattle.ilk_ir.specs.Form.{tree_of};
 ghost use Rattle.ilk_ir.specs.Tree.{negation};
-ghost use Rattle.ilk_plant.specs.Plant.{IsRouteOf};
+ghost use Rattle.ilk_plant.specs.Plant.{IsValidRouteOf};
 ghost use Rattle.ilk_plant.specs.declared.network.Dir.TheVariants.{Up, Down};
 ghost use Rattle.ilk_plant.specs.declared.state.Aspect.TheVariants.{Closed};
 ghost use Rattle.ilk_plant.specs.declared.state.Mode.TheVariants.{Locked, Occupied};
 ghost use Rattle.ilk_layout.specs.declared.values.Occupancy.TheVariants.{Taken};
-ghost use Rattle.ilk_model.specs.Holding.{is_plain_for_direction, route_runs_in};
+ghost use Rattle.ilk_model.specs.Holding.{continues_without_board, route_runs_in_direction};
 ghost use Rattle.ilk_layout.specs.Conditions as conditions;
 ghost use Rattle.ilk_invs.specs.Parts as parts;
 ghost use Rattle.ilk_invs.specs.TrainFamilies as definitions;
@@ -20,17 +20,17 @@ use std::alloc::{AllocError, Global};
 
 /// Returns whether section `x` is plain for direction `d`: it has no board and at least one
 /// neighbour there.
-pub fn is_plain_for_direction(plant: &Plant, d: Dir, x: u32) -> bool
+pub fn continues_without_board(plant: &Plant, d: Dir, x: u32) -> bool
     requires { x < length plant.now.sections }
-    ensures { result ≡ is_plain_for_direction plant.now d x }
+    ensures { result ≡ continues_without_board plant.now d x }
 {
     plant.board_of(x, d).is_none() && plant.neighbour(x, d, 0).is_some()
 }
 
 /// Returns whether `route` runs in direction `d`.
-pub fn route_runs_in(plant: &Plant, d: Dir, route: &Route) -> bool
-    requires { IsRouteOf plant.now route.now }
-    ensures { result ≡ route_runs_in plant.now d route.now }
+pub fn route_runs_in_direction(plant: &Plant, d: Dir, route: &Route) -> bool
+    requires { IsValidRouteOf plant.now route.now }
+    ensures { result ≡ route_runs_in_direction plant.now d route.now }
 {
     plant.board(route.source).dir == d
 }
@@ -90,7 +90,7 @@ pub fn body_at(alloc: Global, plant: &Plant, d: Dir, x: u32) -> Result<Form, All
 // Returns the condition that route `r` is Occupied, or Locked with its source Closed.
 fn may_lead(alloc: Global, plant: &Plant, r: u32, route: &Route) -> Result<Form, AllocError>
     requires known { r < length plant.now.routes }
-    requires route { IsRouteOf plant.now route.now }
+    requires route { IsValidRouteOf plant.now route.now }
     ensures { IfOk result
         (λ form. tree_of form
         ≡ parts.some_of
@@ -118,7 +118,7 @@ fn push_none_seen_past(
     i: usize,
 ) -> Result<(), AllocError>
     requires known { r < length plant.now.routes }
-    requires route { IsRouteOf plant.now route.now }
+    requires route { IsValidRouteOf plant.now route.now }
     requires place { i < length route.now.path }
     ensures { OnOk result
         (map tree_of forms.new.items
@@ -139,10 +139,10 @@ fn leads_from(
     i: usize,
 ) -> Result<Form, AllocError>
     requires known { r < length plant.now.routes }
-    requires route { IsRouteOf plant.now route.now }
+    requires route { IsValidRouteOf plant.now route.now }
     requires place { i < length route.now.path }
     ensures { IfOk result (λ form. tree_of form
-        ≡ definitions.route_leads_from plant.now r route.now i) }
+        ≡ definitions.route_set_and_clear_past plant.now r route.now i) }
 {
     let mut forms = Vec::new(alloc);
     forms.push(may_lead(alloc, plant, r, route)?)?;
@@ -161,12 +161,13 @@ fn push_leads_if(
     is_asked: bool,
 ) -> Result<(), AllocError>
     requires known { r < length plant.now.routes }
-    requires route { IsRouteOf plant.now route.now }
+    requires route { IsValidRouteOf plant.now route.now }
     requires place { i < length route.now.path }
     ensures { OnOk result
         (map tree_of forms.new.items
         ≡ map tree_of forms.old.items
-        ++ (if is_asked then definitions.route_leads_from plant.now r route.now i ∷ [] else [])) }
+        ++ (if is_asked then definitions.route_set_and_clear_past plant.now r route.now i ∷ []
+        else [])) }
 {
     if is_asked {
         forms.push(leads_from(alloc, plant, r, route, i)?)?;
@@ -184,12 +185,12 @@ fn push_leads_on_path(
     route: &Route,
 ) -> Result<(), AllocError>
     requires known { r < length plant.now.routes }
-    requires route { IsRouteOf plant.now route.now }
+    requires route { IsValidRouteOf plant.now route.now }
     ensures { OnOk result
         (map tree_of forms.new.items
         ≡ map tree_of forms.old.items
         ++ parts.for_each_path_index route.now
-        (λ i y. if y == x then definitions.route_leads_from plant.now r route.now i ∷ []
+        (λ i y. if y == x then definitions.route_set_and_clear_past plant.now r route.now i ∷ []
         else [])) }
 {
     let path = route.path.as_slice();
@@ -211,11 +212,11 @@ fn push_leads_at(
     ensures { OnOk result
         (map tree_of forms.new.items
         ≡ map tree_of forms.old.items
-        ++ parts.conditions_for (slice_get plant.now.routes r)
-        (definitions.route_leads_at plant.now d x r)) }
+        ++ parts.conditions_if_some (slice_get plant.now.routes r)
+        (definitions.route_set_for_head_at plant.now d x r)) }
 {
     let route = plant.route(r);
-    if route_runs_in(plant, d, route) {
+    if route_runs_in_direction(plant, d, route) {
         push_leads_on_path(alloc, forms, plant, x, r, route)?;
     }
     Ok(())
@@ -229,7 +230,7 @@ fn is_led(alloc: Global, plant: &Plant, d: Dir, x: u32) -> Result<Form, AllocErr
         (λ form. tree_of form
         ≡ parts.some_of
         (negation (definitions.head_at plant.now d x)
-        ∷ parts.for_each_route plant.now (definitions.route_leads_at plant.now d x))) }
+        ∷ parts.for_each_route plant.now (definitions.route_set_for_head_at plant.now d x))) }
 {
     let head = head_at(alloc, plant, d, x)?;
     let mut forms = Vec::new(alloc);
@@ -250,9 +251,9 @@ fn push_led_at(
     requires { x < length plant.now.sections }
     ensures { OnOk result
         (map tree_of forms.new.items
-        ≡ map tree_of forms.old.items ++ definitions.head_is_led_at plant.now d x) }
+        ≡ map tree_of forms.old.items ++ definitions.head_has_route_set_at plant.now d x) }
 {
-    if is_plain_for_direction(plant, d, x) {
+    if continues_without_board(plant, d, x) {
         forms.push(is_led(alloc, plant, d, x)?)?;
     }
     Ok(())
@@ -263,8 +264,8 @@ fn push_led(alloc: Global, forms: &mut Vec<Form>, plant: &Plant, x: u32) -> Resu
     ensures { OnOk result
         (map tree_of forms.new.items
         ≡ map tree_of forms.old.items
-        ++ (definitions.head_is_led_at plant.now Up x
-        ++ definitions.head_is_led_at plant.now Down x)) }
+        ++ (definitions.head_has_route_set_at plant.now Up x
+        ++ definitions.head_has_route_set_at plant.now Down x)) }
 {
     push_led_at(alloc, forms, plant, Dir::Up, x)?;
     push_led_at(alloc, forms, plant, Dir::Down, x)

@@ -3,9 +3,9 @@ use Rattle.std.specs.Prelude.{◌≡◌, ℕ, ◌≤◌, Option, List, ◌++◌,
 use Rattle.std.specs.Option.{option_map}
 
 -- Holds if a call added these bytes at the end of those written.
-abbrev pub Adds : Option (List ℕ) → Option (List ℕ) → List ℕ → Type 0
-Adds old new bytes = new ≡ option_map (λ all. all ++ bytes) old
+abbrev pub Appends : Option (List ℕ) → Option (List ℕ) → List ℕ → Type 0
+Appends old new bytes = new ≡ option_map (λ all. all ++ bytes) old
 
 -- Holds if a call added a prefix of the text at the end of the bytes written.
-abbrev pub AddsPrefix : Option (List ℕ) → Option (List ℕ) → List ℕ → Type 0
-AddsPrefix old new text = (n : ℕ) × (n ≤ length text) × Adds old new (take n text)
+abbrev pub AppendsPrefix : Option (List ℕ) → Option (List ℕ) → List ℕ → Type 0
+AppendsPrefix old new text = (n : ℕ) × (n ≤ length text) × Appends old new (take n text)

@@ -3,12 +3,12 @@ use Rattle.std.specs.Prelude.{◌≡◌, ℕ, ◌<◌, ◌≤◌, Option, IfSome
 use Rattle.std.specs.Option.{option_map}
 
 -- Holds if a call took these bytes from the front of the remaining ones.
-abbrev pub Takes : Option (List ℕ) → Option (List ℕ) → List ℕ → Type 0
-Takes old new bytes = old ≡ option_map (λ rest. bytes ++ rest) new
+abbrev pub Consumes : Option (List ℕ) → Option (List ℕ) → List ℕ → Type 0
+Consumes old new bytes = old ≡ option_map (λ rest. bytes ++ rest) new
 
 -- Holds if a call took at most `n` bytes from the front of the remaining ones.
-abbrev pub TakesAtMost : ℕ → Option (List ℕ) → Option (List ℕ) → Type 0
-TakesAtMost n old new = (bytes : List ℕ) × (length bytes ≤ n) × Takes old new bytes
+abbrev pub ConsumesAtMost : ℕ → Option (List ℕ) → Option (List ℕ) → Type 0
+ConsumesAtMost n old new = (bytes : List ℕ) × (length bytes ≤ n) × Consumes old new bytes
 
 -- Holds if nothing is left.
 abbrev pub IsAtEnd : Option (List ℕ) → Type 0
@@ -19,5 +19,5 @@ abbrev pub IsAllLeft : Option (List ℕ) → List ℕ → Type 0
 IsAllLeft left bytes = IfSome left (λ rest. bytes ≡ rest)
 
 -- Holds if more than `n` bytes are left.
-abbrev pub IsLonger : Option (List ℕ) → ℕ → Type 0
-IsLonger left n = IfSome left (λ rest. n < length rest)
+abbrev pub HasMoreThan : Option (List ℕ) → ℕ → Type 0
+HasMoreThan left n = IfSome left (λ rest. n < length rest)

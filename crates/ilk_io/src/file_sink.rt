@@ -2,8 +2,8 @@ ghost use Rattle.std.specs.Prelude.{◌≡◌, ◌<◌, ◌≤◌, None, length,
 ghost use Rattle.std.specs.Io.KnownBytes.{WriteAppends};
 ghost use Rattle.ilk_io.specs.Faults.{CountedOneFault};
 
-use crate::plan::one_more;
-use crate::retry::write_once;
+use crate::plan::saturating_inc;
+use crate::retry::write_some_with_retry;
 use crate::{Failed, Sink};
 use std::fs::{File, Files};
 use std::marker::Model;
@@ -73,7 +73,7 @@ impl<'a, R: Files> FileSink<'a, R> {
             self.file = File::create(self.rt, self.name.as_str()).ok();
         }
         match &mut self.file {
-            Some(file) => write_once(file, piece),
+            Some(file) => write_some_with_retry(file, piece),
             None => Err(Failed),
         }
     }
@@ -102,7 +102,7 @@ impl<R: Files> Sink for FileSink<'_, R> {
     {
         let answer = self.write_open(piece);
         if answer.is_err() {
-            self.faults = one_more(self.faults);
+            self.faults = saturating_inc(self.faults);
         }
         answer
     }

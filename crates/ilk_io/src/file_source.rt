@@ -2,8 +2,8 @@ ghost use Rattle.std.specs.Prelude.{◌≡◌, ◌≤◌, None, length, IfOk, If
 ghost use Rattle.std.specs.Io.KnownBytes.{ReadConsumes};
 ghost use Rattle.ilk_io.specs.Faults.{CountedOneFault};
 
-use crate::plan::one_more;
-use crate::retry::read_once;
+use crate::plan::saturating_inc;
+use crate::retry::read_some_with_retry;
 use crate::{Failed, Source};
 use std::fs::{File, Files};
 use std::marker::Model;
@@ -69,7 +69,7 @@ impl<'a, R: Files> FileSource<'a, R> {
             self.file = File::open(self.rt, self.name.as_str()).ok();
         }
         match &mut self.file {
-            Some(file) => read_once(file, into),
+            Some(file) => read_some_with_retry(file, into),
             None => Err(Failed),
         }
     }
@@ -97,7 +97,7 @@ impl<R: Files> Source for FileSource<'_, R> {
     {
         let answer = self.read_open(into);
         if answer.is_err() {
-            self.faults = one_more(self.faults);
+            self.faults = saturating_inc(self.faults);
         }
         answer
     }

@@ -1,6 +1,6 @@
 ghost use Rattle.std.specs.Prelude.{◌≡◌, ◌<◌, ◌≤◌, [], Some, length, take, IfOk, OnOk, OnErr};
 ghost use Rattle.ilk_io.specs.Faults.{CountedOneFault};
-ghost use Rattle.ilk_io.specs.Sink.{Adds};
+ghost use Rattle.ilk_io.specs.Sink.{Appends};
 ghost use Rattle.std.specs.Result.{result_ok};
 ghost use Rattle.ilk_io.specs.Memory.{write_count, after_write};
 
@@ -20,9 +20,9 @@ pub struct MemSink {
 impl Model for MemSink {
     ghost use Rattle.std.specs.Prelude.{◌≤◌, vec_len};
     ghost use Rattle.std.specs.Vec.{vec_capacity};
-    ghost use Rattle.ilk_io.specs.Memory.{Output};
+    ghost use Rattle.ilk_io.specs.Memory.{SinkState};
 
-    ghost Value = { Output };
+    ghost Value = { SinkState };
 
     ghost view = { λ a. record { taken = a.bytes.items; room = a.room; plan = a.plan } };
 
@@ -67,7 +67,7 @@ impl Sink for MemSink {
         ensures within { IfOk result (λ n. n ≤ length piece.now) }
         ensures some { IfOk result (λ n. 0 < length piece.now → 0 < n) }
         ensures taken { IfOk result
-            (λ n. Adds (Some self.old.taken) (Some self.new.taken) (take n piece.now)) }
+            (λ n. Appends (Some self.old.taken) (Some self.new.taken) (take n piece.now)) }
         ensures kept { OnErr result (self.new.taken ≡ self.old.taken) }
         ensures failed { OnErr result (CountedOneFault self.old.plan.faults self.new.plan.faults) }
         ensures unraised { OnOk result (self.new.plan.faults ≡ self.old.plan.faults) }
@@ -83,7 +83,7 @@ impl Sink for MemSink {
             self.plan.count_fault();
             return Err(Failed);
         }
-        self.plan.count_call();
+        self.plan.count_success();
         Ok(count)
     }
 }

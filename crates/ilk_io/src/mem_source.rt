@@ -1,11 +1,11 @@
 ghost use Rattle.std.specs.Prelude.{◌≡◌, ◌<◌, ◌≤◌, Some, length, take, IfOk, OnOk, OnErr};
 ghost use Rattle.ilk_io.specs.Faults.{CountedOneFault};
-ghost use Rattle.ilk_io.specs.Source.{Takes, IsAtEnd};
+ghost use Rattle.ilk_io.specs.Source.{Consumes, IsAtEnd};
 ghost use Rattle.std.specs.Result.{result_ok};
 ghost use Rattle.ilk_io.specs.Memory.{read_count, after_read};
 
 use crate::plan::FaultPlan;
-use crate::unread::Unread;
+use crate::unread::UnreadBytes;
 use crate::{Failed, Source};
 use std::marker::Model;
 
@@ -13,14 +13,14 @@ use std::marker::Model;
 /// bytes.
 #[derive(Drop)]
 pub struct MemSource {
-    unread: Unread,
+    unread: UnreadBytes,
     plan: FaultPlan,
 }
 
 impl Model for MemSource {
-    ghost use Rattle.ilk_io.specs.Memory.{Input};
+    ghost use Rattle.ilk_io.specs.Memory.{SourceState};
 
-    ghost Value = { Input };
+    ghost Value = { SourceState };
 
     ghost view = { λ a. record { rest = a.unread; plan = a.plan } };
 }
@@ -36,7 +36,7 @@ impl MemSource {
             } }
     {
         MemSource {
-            unread: Unread::new(bytes),
+            unread: UnreadBytes::new(bytes),
             plan: FaultPlan::new(fails),
         }
     }
@@ -50,7 +50,7 @@ impl Source for MemSource {
     fn read(&mut self, into: &mut [u8]) -> Result<usize, Failed>
         ensures within { IfOk result (λ n. n ≤ length into.new) }
         ensures taken { IfOk result
-            (λ n. Takes (Some self.old.rest) (Some self.new.rest) (take n into.new)) }
+            (λ n. Consumes (Some self.old.rest) (Some self.new.rest) (take n into.new)) }
         ensures end { IfOk result
             (λ n. n ≡ 0 → 0 < length into.new → IsAtEnd (Some self.new.rest)) }
         ensures kept { OnErr result (self.new.rest ≡ self.old.rest) }
@@ -63,7 +63,7 @@ impl Source for MemSource {
             self.plan.count_fault();
             return Err(Failed);
         }
-        self.plan.count_call();
+        self.plan.count_success();
         Ok(self.unread.read(into))
     }
 }

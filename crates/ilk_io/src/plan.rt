@@ -1,6 +1,6 @@
 ghost use Rattle.std.specs.Prelude.{◌≡◌};
-ghost use Rattle.ilk_io.specs.Faults.{one_more};
-ghost use Rattle.ilk_io.specs.Plan.{fails_next, after_call, after_fault};
+ghost use Rattle.ilk_io.specs.Faults.{saturating_inc};
+ghost use Rattle.ilk_io.specs.Plan.{fails_next, after_success, after_fault};
 
 use std::marker::Model;
 
@@ -13,16 +13,16 @@ pub struct FaultPlan {
 }
 
 impl Model for FaultPlan {
-    ghost use Rattle.ilk_io.specs.Plan.{Plan};
+    ghost use Rattle.ilk_io.specs.Plan.{FaultSchedule};
 
-    ghost Value = { Plan };
+    ghost Value = { FaultSchedule };
 
     ghost view = { λ a. record { fails = a.fails.items; calls = a.calls; faults = a.faults } };
 }
 
 /// Returns `n + 1`, or `n` if it is the greatest `u64`.
-pub fn one_more(n: u64) -> u64
-    ensures { result ≡ one_more n }
+pub fn saturating_inc(n: u64) -> u64
+    ensures { result ≡ saturating_inc n }
 {
     n.saturating_add(1)
 }
@@ -44,22 +44,22 @@ impl FaultPlan {
     pub fn fails_next(&self) -> bool
         ensures { result ≡ fails_next self.now }
     {
-        let number = one_more(self.calls);
+        let number = saturating_inc(self.calls);
         self.fails.iter().any(|k| *k == number)
     }
 
     /// Counts a call that succeeded.
-    pub fn count_call(&mut self)
-        ensures { self.new ≡ after_call self.old }
+    pub fn count_success(&mut self)
+        ensures { self.new ≡ after_success self.old }
     {
-        self.calls = one_more(self.calls);
+        self.calls = saturating_inc(self.calls);
     }
 
     /// Counts a call that failed.
     pub fn count_fault(&mut self)
         ensures { self.new ≡ after_fault self.old }
     {
-        self.calls = one_more(self.calls);
-        self.faults = one_more(self.faults);
+        self.calls = saturating_inc(self.calls);
+        self.faults = saturating_inc(self.faults);
     }
 }

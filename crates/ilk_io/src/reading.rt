@@ -1,6 +1,6 @@
 ghost use Rattle.std.specs.Prelude.{◌≡◌, ◌≢◌, ◌+◌, ◌^◌, ◌<◌, ◌≤◌, Err, IfOk, IfErr, vec_len};
-ghost use Rattle.ilk_io.specs.Source.{TakesAtMost, IsAtEnd, IsAllLeft};
-ghost use Rattle.ilk_io.specs.ReadError.{HasCause};
+ghost use Rattle.ilk_io.specs.Source.{ConsumesAtMost, IsAtEnd, IsAllLeft};
+ghost use Rattle.ilk_io.specs.ReadError.{ReadErrorHasCause};
 
 use crate::{Failed, Source};
 use std::alloc::Global;
@@ -35,8 +35,9 @@ pub fn read_all<S: Source>(alloc: Global, source: &mut S, limit: u64) -> Result<
     ensures end { IfOk result (λ _. IsAtEnd (S.left source.new)) }
     ensures within { IfOk result (λ v. vec_len v ≤ limit) }
     ensures cause { IfErr result
-        (λ e. HasCause e limit (S.left source.old) (S.faults source.old) (S.faults source.new)) }
-    ensures taken { TakesAtMost (limit + 1) (S.left source.old) (S.left source.new) }
+        (λ e. ReadErrorHasCause e limit (S.left source.old) (S.faults source.old)
+        (S.faults source.new)) }
+    ensures taken { ConsumesAtMost (limit + 1) (S.left source.old) (S.left source.new) }
     ensures unraised { result ≢ Err ReadError.Failed → S.faults source.new ≡ S.faults source.old }
     ensures counted { S.faults source.old ≤ S.faults source.new }
 {

@@ -9,7 +9,7 @@ const RETRIES: u64 = 1000;
 
 /// Reads once, and repeats an interrupted read up to 1000 times. Returns `Failed` if no read
 /// succeeds.
-pub fn read_once<R: Read>(reader: &mut R, into: &mut [u8]) -> Result<usize, Failed>
+pub fn read_some_with_retry<R: Read>(reader: &mut R, into: &mut [u8]) -> Result<usize, Failed>
     ensures within { IfOk result (λ n. n ≤ length into.new) }
     ensures bytes { ReadConsumes (R.remaining reader.old) (R.remaining reader.new) result into.new }
 {
@@ -25,7 +25,7 @@ pub fn read_once<R: Read>(reader: &mut R, into: &mut [u8]) -> Result<usize, Fail
 
 /// Writes once, and repeats an interrupted write up to 1000 times. Returns `Failed` if no write
 /// succeeds, or if one takes no byte of a piece that is not empty.
-pub fn write_once<W: Write>(writer: &mut W, piece: &[u8]) -> Result<usize, Failed>
+pub fn write_some_with_retry<W: Write>(writer: &mut W, piece: &[u8]) -> Result<usize, Failed>
     ensures within { IfOk result (λ n. n ≤ length piece.now) }
     ensures some { IfOk result (λ n. 0 < length piece.now → 0 < n) }
     ensures bytes { WriteAppends (W.contents writer.old) (W.contents writer.new) result piece.now }

@@ -1,6 +1,6 @@
 ghost use Rattle.std.specs.Prelude.{◌≡◌, ℕ, ◌<◌, ◌≤◌, Option, List, length, take, IfOk, OnOk, OnErr};
 ghost use Rattle.ilk_io.specs.Faults.{CountedOneFault};
-ghost use Rattle.ilk_io.specs.Sink.{Adds};
+ghost use Rattle.ilk_io.specs.Sink.{Appends};
 
 use crate::Failed;
 
@@ -21,7 +21,7 @@ pub trait Sink {
         ensures within { IfOk result (λ n. n ≤ length piece.now) }
         ensures some { IfOk result (λ n. 0 < length piece.now → 0 < n) }
         ensures taken { IfOk result
-            (λ n. Adds (written self.old) (written self.new) (take n piece.now)) }
+            (λ n. Appends (written self.old) (written self.new) (take n piece.now)) }
         ensures kept { OnErr result (written self.new ≡ written self.old) }
         ensures failed { OnErr result (CountedOneFault (faults self.old) (faults self.new)) }
         ensures unraised { OnOk result (faults self.new ≡ faults self.old) };

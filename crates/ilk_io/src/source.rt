@@ -1,6 +1,6 @@
 ghost use Rattle.std.specs.Prelude.{◌≡◌, ℕ, ◌<◌, ◌≤◌, Option, List, length, take, IfOk, OnOk, OnErr};
 ghost use Rattle.ilk_io.specs.Faults.{CountedOneFault};
-ghost use Rattle.ilk_io.specs.Source.{Takes, IsAtEnd};
+ghost use Rattle.ilk_io.specs.Source.{Consumes, IsAtEnd};
 
 use crate::Failed;
 
@@ -19,7 +19,8 @@ pub trait Source {
     /// one fault and takes no byte from the source. Any other call leaves the count unchanged.
     fn read(&mut self, into: &mut [u8]) -> Result<usize, Failed>
         ensures within { IfOk result (λ n. n ≤ length into.new) }
-        ensures taken { IfOk result (λ n. Takes (left self.old) (left self.new) (take n into.new)) }
+        ensures taken { IfOk result
+            (λ n. Consumes (left self.old) (left self.new) (take n into.new)) }
         ensures end { IfOk result (λ n. n ≡ 0 → 0 < length into.new → IsAtEnd (left self.new)) }
         ensures kept { OnErr result (left self.new ≡ left self.old) }
         ensures failed { OnErr result (CountedOneFault (faults self.old) (faults self.new)) }

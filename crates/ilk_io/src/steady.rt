@@ -1,14 +1,14 @@
 ghost use Rattle.std.specs.Prelude.{◌≡◌, ℕ, ◌<◌, ◌≤◌, ◌+◌, ◌-◌, ◌^◌, min, List, Some, None, Ok, length, take, drop, IfOk};
-ghost use Rattle.ilk_io.specs.Source.{Takes, IsAtEnd};
+ghost use Rattle.ilk_io.specs.Source.{Consumes, IsAtEnd};
 
-use crate::unread::Unread;
+use crate::unread::UnreadBytes;
 use crate::{Failed, Sink, Source};
 use std::marker::Model;
 
 /// A source that reads bytes in memory and never fails. Contracts see the remaining bytes.
 #[derive(Drop)]
 pub struct SteadySource {
-    unread: Unread,
+    unread: UnreadBytes,
 }
 
 impl Model for SteadySource {
@@ -25,7 +25,7 @@ impl SteadySource {
         ensures { result ≡ bytes.items }
     {
         SteadySource {
-            unread: Unread::new(bytes),
+            unread: UnreadBytes::new(bytes),
         }
     }
 }
@@ -37,7 +37,8 @@ impl Source for SteadySource {
 
     fn read(&mut self, into: &mut [u8]) -> Result<usize, Failed>
         ensures within { IfOk result (λ n. n ≤ length into.new) }
-        ensures taken { IfOk result (λ n. Takes (Some self.old) (Some self.new) (take n into.new)) }
+        ensures taken { IfOk result
+            (λ n. Consumes (Some self.old) (Some self.new) (take n into.new)) }
         ensures end { IfOk result (λ n. n ≡ 0 → 0 < length into.new → IsAtEnd (Some self.new)) }
         ensures count { result ≡ Ok (min (length into.old) (length self.old)) }
         ensures after { self.new ≡ drop (length into.old) self.old }

@@ -2,8 +2,8 @@ ghost use Rattle.std.specs.Prelude.{◌≡◌, ◌<◌, ◌≤◌, None, length,
 ghost use Rattle.std.specs.Io.KnownBytes.{ReadConsumes, WriteAppends};
 ghost use Rattle.ilk_io.specs.Faults.{CountedOneFault};
 
-use crate::plan::one_more;
-use crate::retry::{read_once, write_once};
+use crate::plan::saturating_inc;
+use crate::retry::{read_some_with_retry, write_some_with_retry};
 use crate::{Failed, Sink, Source};
 use std::io::{Read, Write};
 use std::marker::Model;
@@ -48,9 +48,9 @@ impl<R: Read> Source for StdSource<R> {
         ensures bytes { ReadConsumes (R.remaining self.old.reader) (R.remaining self.new.reader)
             result into.new }
     {
-        let answer = read_once(&mut self.reader, into);
+        let answer = read_some_with_retry(&mut self.reader, into);
         if answer.is_err() {
-            self.faults = one_more(self.faults);
+            self.faults = saturating_inc(self.faults);
         }
         answer
     }
@@ -97,9 +97,9 @@ impl<W: Write> Sink for StdSink<W> {
         ensures bytes { WriteAppends (W.contents self.old.writer) (W.contents self.new.writer)
             result piece.now }
     {
-        let answer = write_once(&mut self.writer, piece);
+        let answer = write_some_with_retry(&mut self.writer, piece);
         if answer.is_err() {
-            self.faults = one_more(self.faults);
+            self.faults = saturating_inc(self.faults);
         }
         answer
     }

@@ -4,12 +4,12 @@ use std::marker::Model;
 
 /// Bytes in memory that are read from the front. Contracts see the unread bytes.
 #[derive(Drop)]
-pub struct Unread {
+pub struct UnreadBytes {
     bytes: Vec<u8>,
     position: usize,
 }
 
-impl Model for Unread {
+impl Model for UnreadBytes {
     ghost use Rattle.std.specs.Prelude.{ℕ, ◌≤◌, List, drop, vec_len};
 
     ghost Value = { List ℕ };
@@ -19,12 +19,12 @@ impl Model for Unread {
     ghost invariant = { λ a. a.position ≤ vec_len a.bytes };
 }
 
-impl Unread {
+impl UnreadBytes {
     /// Takes `bytes`, none of which has been read yet.
-    pub fn new(bytes: Vec<u8>) -> Unread
+    pub fn new(bytes: Vec<u8>) -> UnreadBytes
         ensures { result ≡ bytes.items }
     {
-        Unread { bytes, position: 0 }
+        UnreadBytes { bytes, position: 0 }
     }
 
     /// Moves as many unread bytes as `into` has room for, and returns their number.

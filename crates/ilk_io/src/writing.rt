@@ -1,6 +1,6 @@
 ghost use Rattle.std.specs.Prelude.{◌≡◌, [], ◌≤◌, IsOk, OnOk, OnErr};
 ghost use Rattle.ilk_io.specs.Faults.{CountedOneFault};
-ghost use Rattle.ilk_io.specs.Sink.{Adds, AddsPrefix};
+ghost use Rattle.ilk_io.specs.Sink.{Appends, AppendsPrefix};
 
 use crate::{Failed, Sink};
 
@@ -10,8 +10,8 @@ use crate::{Failed, Sink};
 /// fault is counted, and a prefix of the text was written. With `Ok` the count is unchanged. An
 /// empty text makes no call.
 pub fn write_all<K: Sink>(sink: &mut K, text: &[u8]) -> Result<(), Failed>
-    ensures whole { OnOk result (Adds (K.written sink.old) (K.written sink.new) text.now) }
-    ensures prefix { AddsPrefix (K.written sink.old) (K.written sink.new) text.now }
+    ensures whole { OnOk result (Appends (K.written sink.old) (K.written sink.new) text.now) }
+    ensures prefix { AppendsPrefix (K.written sink.old) (K.written sink.new) text.now }
     ensures failed { OnErr result (CountedOneFault (K.faults sink.old) (K.faults sink.new)) }
     ensures unraised { OnOk result (K.faults sink.new ≡ K.faults sink.old) }
     ensures counted { K.faults sink.old ≤ K.faults sink.new }

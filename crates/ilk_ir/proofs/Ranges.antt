@@ -4,7 +4,7 @@ use Rattle.std.specs.List.{list_all}
 use Rattle.std.proofs.lemmas.Bool.{and_parts, and_from, false≢true}
 use Rattle.std.proofs.lemmas.List.Folds.{list_all-map}
 use Rattle.ilk_ir.specs.Tree.{value_valid}
-use Rattle.ilk_ir.specs.System.{rule_tree, system_tree, rule_valid, system_valid, in_ranges, after_settings}
+use Rattle.ilk_ir.specs.System.{plain_rule, plain_system, rule_valid, system_valid, in_ranges, after_settings}
 use Rattle.ilk_ir.specs.declared.system.Setting.{Setting}
 use Rattle.ilk_ir.specs.declared.system.Rule.{Rule}
 use Rattle.ilk_ir.specs.declared.system.System.{System}
@@ -25,12 +25,12 @@ in_ranges-after_settings (s ∷ sets) values ranges h k =
     let parts = and_parts _ _ k in
     in_ranges-after_settings sets (set values s.var s.value) ranges (in_ranges-set values ranges s.var s.value h parts.0) parts.1
 
-pub system_valid-rule : (s : System) (n : ℕ) (r : Rule) → system_valid (system_tree s) ≡ true → slice_get s.rules n ≡ Some r → rule_valid s.ranges (rule_tree r) ≡ true
+pub system_valid-rule : (s : System) (n : ℕ) (r : Rule) → system_valid (plain_system s) ≡ true → slice_get s.rules n ≡ Some r → rule_valid s.ranges (plain_rule r) ≡ true
 system_valid-rule s n r valid at =
     let each = (and_parts _ _ valid).1 in
-    list_all-slice_get (λ (q : Rule). rule_valid s.ranges (rule_tree q)) s.rules n r (sym (list_all-map (rule_valid s.ranges) rule_tree s.rules) ∙ each) at
+    list_all-slice_get (λ (q : Rule). rule_valid s.ranges (plain_rule q)) s.rules n r (sym (list_all-map (rule_valid s.ranges) plain_rule s.rules) ∙ each) at
 
-pub fire-in_ranges : (s : System) (n : ℕ) (r : Rule) (values : List ℕ) → slice_get s.rules n ≡ Some r → system_valid (system_tree s) ≡ true → in_ranges values s.ranges ≡ true → in_ranges (after_settings values r.sets) s.ranges ≡ true
+pub fire-in_ranges : (s : System) (n : ℕ) (r : Rule) (values : List ℕ) → slice_get s.rules n ≡ Some r → system_valid (plain_system s) ≡ true → in_ranges values s.ranges ≡ true → in_ranges (after_settings values r.sets) s.ranges ≡ true
 fire-in_ranges s n r values at valid h =
     let rule = system_valid-rule s n r valid at in
     in_ranges-after_settings r.sets values s.ranges h (and_parts _ _ (and_parts _ _ rule).0).1

@@ -2,7 +2,7 @@
 -- rule.
 use Rattle.std.specs.Prelude.{ℕ, ◌^◌, Bool, true, false, List, [], ◌∷◌, ◌==◌, ◌&&◌, not, nat_lt, length, map, set, Option, slice_get, option_and_then}
 use Rattle.std.specs.List.{list_all, list_any}
-use Rattle.ilk_base.specs.Option.{only_if}
+use Rattle.ilk_base.specs.Option.{then_some}
 use Rattle.ilk_ir.specs.Tree.{Tree, tree_holds, tree_valid, value_valid}
 use Rattle.ilk_ir.specs.Form.{tree_of}
 use Rattle.ilk_ir.specs.declared.system.Setting.{Setting}
@@ -10,33 +10,33 @@ use Rattle.ilk_ir.specs.declared.system.Rule.{Rule}
 use Rattle.ilk_ir.specs.declared.system.System.{System}
 
 -- A rule whose guard is a tree.
-pub record RuleTree : Type 0 where
+pub record PlainRule : Type 0 where
   pub guard : Tree
   pub sets : List Setting
 
 -- A system of rules whose guards are trees.
-pub record SystemTree : Type 0 where
+pub record PlainSystem : Type 0 where
   pub ranges : List ℕ
-  pub rules : List RuleTree
+  pub rules : List PlainRule
 
-abbrev pub rule_tree : Rule → RuleTree
-rule_tree r = record { guard = tree_of r.guard; sets = r.sets }
+abbrev pub plain_rule : Rule → PlainRule
+plain_rule r = record { guard = tree_of r.guard; sets = r.sets }
 
-abbrev pub system_tree : System → SystemTree
-system_tree s = record { ranges = s.ranges; rules = map rule_tree s.rules }
+abbrev pub plain_system : System → PlainSystem
+plain_system s = record { ranges = s.ranges; rules = map plain_rule s.rules }
 
 -- Returns whether no variable is set twice.
 abbrev pub sets_distinct_vars : List Setting → Bool
 sets_distinct_vars [] = true
 sets_distinct_vars (s ∷ ss) = not (list_any (λ other. other.var == s.var) ss) && sets_distinct_vars ss
 
-abbrev pub rule_valid : List ℕ → RuleTree → Bool
+abbrev pub rule_valid : List ℕ → PlainRule → Bool
 rule_valid ranges r =
     tree_valid ranges r.guard && list_all (λ s. value_valid ranges s.var s.value) r.sets && sets_distinct_vars r.sets
 
 -- Returns whether there are fewer than 2 ^ 32 variables and rules, each range is at least 1, and
 -- each rule is valid.
-abbrev pub system_valid : SystemTree → Bool
+abbrev pub system_valid : PlainSystem → Bool
 system_valid s =
     nat_lt (length s.ranges) (2 ^ 32) && nat_lt (length s.rules) (2 ^ 32) && list_all (λ range. nat_lt 0 range) s.ranges
     && list_all (rule_valid s.ranges) s.rules
@@ -54,10 +54,10 @@ after_settings values [] = values
 after_settings values (s ∷ ss) = after_settings (set values s.var s.value) ss
 
 -- The values after the rule fires, or `None` if its guard doesn't hold.
-abbrev pub after_rule : RuleTree → List ℕ → Option (List ℕ)
-after_rule r values = only_if (tree_holds values r.guard) (after_settings values r.sets)
+abbrev pub after_rule : PlainRule → List ℕ → Option (List ℕ)
+after_rule r values = then_some (tree_holds values r.guard) (after_settings values r.sets)
 
 -- The values after the rule with number n fires, or `None` if its guard doesn't hold or there is no
 -- such rule.
-abbrev pub after_rule_number : SystemTree → ℕ → List ℕ → Option (List ℕ)
+abbrev pub after_rule_number : PlainSystem → ℕ → List ℕ → Option (List ℕ)
 after_rule_number s n values = option_and_then (λ r. after_rule r values) (slice_get s.rules n)

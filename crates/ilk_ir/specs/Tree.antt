@@ -16,13 +16,13 @@ mutual
     more : Tree → Trees → Trees
 
 -- The trees of a list, as `Trees`.
-abbrev pub trees : List Tree → Trees
-trees [] = none
-trees (t ∷ ts) = more t (trees ts)
+abbrev pub trees_from_list : List Tree → Trees
+trees_from_list [] = none
+trees_from_list (t ∷ ts) = more t (trees_from_list ts)
 
 -- Returns whether variable v has the value c.
-abbrev pub has_value : List ℕ → ℕ → ℕ → Bool
-has_value values v c = is_some_and (slice_get values v) (λ x. x == c)
+abbrev pub var_has_value : List ℕ → ℕ → ℕ → Bool
+var_has_value values v c = is_some_and (slice_get values v) (λ x. x == c)
 
 -- Returns whether the tree holds for these values. `all_of` an empty list holds; `any_of` an empty
 -- list doesn't.
@@ -30,7 +30,7 @@ abbrev mutual
   pub tree_holds : List ℕ → Tree → Bool
   tree_holds values yes = true
   tree_holds values no = false
-  tree_holds values (is v c) = has_value values v c
+  tree_holds values (is v c) = var_has_value values v c
   tree_holds values (all_of ts) = each_holds values ts
   tree_holds values (any_of ts) = some_holds values ts
   tree_holds values (negation t) = not (tree_holds values t)

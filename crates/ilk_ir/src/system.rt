@@ -1,5 +1,5 @@
 ghost use Rattle.std.specs.Prelude.{◌≡◌, ◌<◌, length, is_some, unwrap_or, IsTrue};
-ghost use Rattle.ilk_ir.specs.System.{system_tree, system_valid, in_ranges, after_rule_number, after_settings};
+ghost use Rattle.ilk_ir.specs.System.{plain_system, system_valid, in_ranges, after_rule_number, after_settings};
 
 use crate::form::{Form, Values, holds};
 use ilk_base::Row;
@@ -49,12 +49,12 @@ fn write_all(values: &mut Values, sets: &Sets)
 /// Otherwise `values` is unchanged.
 pub fn fire(system: &System, values: &mut Values, rule: u32) -> bool
     requires { rule < length system.now.rules }
-    ensures fires { result ≡ is_some (after_rule_number (system_tree system.now) rule values.old) }
+    ensures fires { result ≡ is_some (after_rule_number (plain_system system.now) rule values.old) }
     ensures values { values.new
-        ≡ unwrap_or (after_rule_number (system_tree system.now) rule values.old) values.old }
+        ≡ unwrap_or (after_rule_number (plain_system system.now) rule values.old) values.old }
 
     // In a valid system, values in range stay in range.
-    ensures in_ranges { IsTrue (system_valid (system_tree system.now)) →
+    ensures in_ranges { IsTrue (system_valid (plain_system system.now)) →
         IsTrue (in_ranges values.old system.now.ranges) →
         IsTrue (in_ranges values.new system.now.ranges) }
 {

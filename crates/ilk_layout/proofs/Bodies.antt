@@ -6,10 +6,10 @@ use Rattle.ilk_base.proofs.Once.{EachOnce}
 use Rattle.ilk_plant.specs.Network.{has_section}
 use Rattle.ilk_plant.proofs.InLists.{section-at}
 use Rattle.ilk_motion.specs.Body.{is_last_section}
-use Rattle.ilk_model.specs.Hazard.{are_adjacent_in}
+use Rattle.ilk_model.specs.Hazard.{are_adjacent_in_body}
 use Rattle.ilk_model.proofs.Straying.{pair-has}
 use Rattle.ilk_layout.specs.Occupancy.{is_first}
-use Rattle.ilk_layout.specs.Standing.{is_beside, section_before}
+use Rattle.ilk_layout.specs.Standing.{is_before_or_after, section_before}
 
 pub once-rest : (y : ℕ) (rest : List ℕ) → EachOnce (y ∷ rest) → EachOnce rest
 once-rest y rest once i j x at also = let next : suc i ≡ suc j = once (suc i) (suc j) x at also in omega arith
@@ -48,8 +48,8 @@ last-at (y ∷ z ∷ rest) (suc i) x once at =
     let more : (suc i + 1 == length (y ∷ z ∷ rest)) ≡ (i + 1 == length (z ∷ rest)) = grind (arith, nat_tests) in
     last-at (z ∷ rest) i x (once-rest y (z ∷ rest) once) at ∙ sym more
 
-no-pair : (x z : ℕ) (body : List ℕ) → has_section x body ≡ false → are_adjacent_in x z body ≡ false
-no-pair x z body none = false_from_ne_true (are_adjacent_in x z body) (λ h. false≢true (sym none ∙ pair-has x z body h))
+no-pair : (x z : ℕ) (body : List ℕ) → has_section x body ≡ false → are_adjacent_in_body x z body ≡ false
+no-pair x z body none = false_from_ne_true (are_adjacent_in_body x z body) (λ h. false≢true (sym none ∙ pair-has x z body h))
 
 pub before-suc : (body : List ℕ) (i : ℕ) → section_before body (suc i) ≡ slice_get body i
 before-suc body i =
@@ -57,7 +57,7 @@ before-suc body i =
     let less : suc i - 1 ≡ i = omega arith in
     rw (no, less) refl
 
-pub pair-at : (body : List ℕ) (i x z : ℕ) → EachOnce body → slice_get body i ≡ Some x → are_adjacent_in x z body ≡ is_beside z (section_before body i) (slice_get body (i + 1))
+pub pair-at : (body : List ℕ) (i x z : ℕ) → EachOnce body → slice_get body i ≡ Some x → are_adjacent_in_body x z body ≡ is_before_or_after z (section_before body i) (slice_get body (i + 1))
 pair-at [] i x z once at = cc
 pair-at (a ∷ []) zero x z once at = refl
 pair-at (a ∷ []) (suc i) x z once at = cc
@@ -65,7 +65,7 @@ pair-at (a ∷ b ∷ rest) zero x z once at =
     let here : a ≡ x = cc in
     let mine : (a == x) ≡ true = eq-eqb a x here in
     let other : (b == x) ≡ false = ne_eqb b x (λ e. (let places : zero ≡ suc zero = once zero (suc zero) x at (ap Some e) in absurd (omega arith))) in
-    let none : are_adjacent_in x z (b ∷ rest) ≡ false = no-pair x z (b ∷ rest) (ap (λ v. has_section v (b ∷ rest)) (sym here) ∙ not-later a (b ∷ rest) once) in
+    let none : are_adjacent_in_body x z (b ∷ rest) ≡ false = no-pair x z (b ∷ rest) (ap (λ v. has_section v (b ∷ rest)) (sym here) ∙ not-later a (b ∷ rest) once) in
     rw (mine, other, none) (last (b == z) (a == z))
   where
     last : (u v : Bool) → ((u || (v && false)) || false) ≡ u
@@ -76,8 +76,8 @@ pair-at (a ∷ b ∷ rest) (suc zero) x z once at =
     let here : b ≡ x = cc in
     let mine : (b == x) ≡ true = eq-eqb b x here in
     let other : (a == x) ≡ false = later-differs a (b ∷ rest) zero x once at in
-    let later : are_adjacent_in x z (b ∷ rest) ≡ is_beside z None (slice_get rest 0) = pair-at (b ∷ rest) zero x z (once-rest a (b ∷ rest) once) at in
-    rw (mine, other) (front (a == z) (are_adjacent_in x z (b ∷ rest)) ∙ ap (λ u. (a == z) || u) later)
+    let later : are_adjacent_in_body x z (b ∷ rest) ≡ is_before_or_after z None (slice_get rest 0) = pair-at (b ∷ rest) zero x z (once-rest a (b ∷ rest) once) at in
+    rw (mine, other) (front (a == z) (are_adjacent_in_body x z (b ∷ rest)) ∙ ap (λ u. (a == z) || u) later)
   where
     front : (u v : Bool) → ((false || (u && true)) || v) ≡ (u || v)
     front true v = refl
@@ -87,11 +87,11 @@ pair-at (a ∷ b ∷ rest) (suc (suc i)) x z once at =
     let two : (b == x) ≡ false = later-differs b rest i x (once-rest a (b ∷ rest) once) at in
     let back : section_before (a ∷ b ∷ rest) (suc (suc i)) ≡ section_before (b ∷ rest) (suc i) = before-suc (a ∷ b ∷ rest) (suc i) ∙ sym (before-suc (b ∷ rest) i) in
     let next : suc (suc i) + 1 ≡ suc (suc i + 1) = omega arith in
-    let later : are_adjacent_in x z (b ∷ rest) ≡ is_beside z (section_before (b ∷ rest) (suc i)) (slice_get (b ∷ rest) (suc i + 1)) = pair-at (b ∷ rest) (suc i) x z (once-rest a (b ∷ rest) once) at in
-    let first : are_adjacent_in x z (a ∷ b ∷ rest) ≡ are_adjacent_in x z (b ∷ rest) = rw (one, two) (none (a == z) (are_adjacent_in x z (b ∷ rest))) in
+    let later : are_adjacent_in_body x z (b ∷ rest) ≡ is_before_or_after z (section_before (b ∷ rest) (suc i)) (slice_get (b ∷ rest) (suc i + 1)) = pair-at (b ∷ rest) (suc i) x z (once-rest a (b ∷ rest) once) at in
+    let first : are_adjacent_in_body x z (a ∷ b ∷ rest) ≡ are_adjacent_in_body x z (b ∷ rest) = rw (one, two) (none (a == z) (are_adjacent_in_body x z (b ∷ rest))) in
     first ∙ later
-    ∙ ap (λ o. is_beside z o (slice_get (b ∷ rest) (suc i + 1))) (sym back)
-    ∙ ap (λ k. is_beside z (section_before (a ∷ b ∷ rest) (suc (suc i))) (slice_get (a ∷ b ∷ rest) k)) (sym next)
+    ∙ ap (λ o. is_before_or_after z o (slice_get (b ∷ rest) (suc i + 1))) (sym back)
+    ∙ ap (λ k. is_before_or_after z (section_before (a ∷ b ∷ rest) (suc (suc i))) (slice_get (a ∷ b ∷ rest) k)) (sym next)
   where
     none : (u v : Bool) → ((false || (u && false)) || v) ≡ v
     none true v = refl

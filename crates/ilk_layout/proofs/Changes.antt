@@ -17,7 +17,7 @@ use Rattle.ilk_plant.specs.declared.state.State.{State}
 use Rattle.ilk_plant.specs.declared.state.Train.{Train}
 use Rattle.ilk_model.specs.Hazard.{is_wrong_under_train, is_wrong_under_body}
 use Rattle.ilk_layout.specs.Image.{image_of, occupancy_values}
-use Rattle.ilk_layout.specs.Occupancy.{occupancy_of, taken_by_any}
+use Rattle.ilk_layout.specs.Occupancy.{occupancy_of, occupancy_by_train_if_any}
 use Rattle.ilk_layout.specs.Values.{aspect_value, occupancy_value}
 use Rattle.ilk_layout.specs.Variables.{board_var, occupancy_var}
 use Rattle.ilk_layout.proofs.Trains.{has_x, with_trains}
@@ -27,7 +27,7 @@ use Rattle.ilk_layout.proofs.Writes.{board-written, image_with, occupancy-writte
 -- An occupancy depends only on the trains and on the position of its point.
 pub occupancy-kept : (p : PlantLists) (s t : State) (x : ℕ) → t.trains ≡ s.trains → detected_position p t x ≡ detected_position p s x → occupancy_of p t x ≡ occupancy_of p s x
 occupancy-kept p s t x trains lies i =
-    cond (nat_lt 1 (count_by (has_x x) (trains i)) || wrong-same i) Crash (taken_by_any x (find (has_x x) (trains i)))
+    cond (nat_lt 1 (count_by (has_x x) (trains i)) || wrong-same i) Crash (occupancy_by_train_if_any x (find (has_x x) (trains i)))
   where
     wrong-same : is_wrong_under_train p t x ≡ is_wrong_under_train p s x
     wrong-same = by_section (slice_get p.sections x) refl

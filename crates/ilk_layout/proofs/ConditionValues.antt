@@ -6,10 +6,10 @@ use Rattle.std.proofs.lemmas.Option.{slice_get-map}
 use Rattle.ilk_base.specs.Option.{is_some_and}
 use Rattle.ilk_base.proofs.Lists.{item_at}
 use Rattle.ilk_base.proofs.Ranges.{range-at}
-use Rattle.ilk_ir.specs.Tree.{has_value, tree_holds}
+use Rattle.ilk_ir.specs.Tree.{var_has_value, tree_holds}
 use Rattle.ilk_plant.specs.Plant.{PlantLists}
 use Rattle.ilk_plant.specs.Shape.{HasShape}
-use Rattle.ilk_plant.specs.State.{has_lock, is_occupied, same_hold}
+use Rattle.ilk_plant.specs.State.{has_lock_state, is_occupied, same_hold}
 use Rattle.ilk_plant.specs.declared.network.Dir.{Dir}
 use Rattle.ilk_plant.specs.declared.network.Dir.TheVariants.{Up, Down}
 use Rattle.ilk_plant.specs.declared.network.Position.{Position}
@@ -26,14 +26,14 @@ use Rattle.ilk_plant.specs.declared.state.PointState.{PointState}
 use Rattle.ilk_plant.specs.declared.state.RouteState.{RouteState}
 use Rattle.ilk_plant.specs.declared.state.State.{State}
 use Rattle.ilk_plant.specs.declared.state.Train.{Train}
-use Rattle.ilk_model.specs.Hazard.{hazard, is_hazardous}
+use Rattle.ilk_model.specs.Hazard.{hazard, is_section_hazardous}
 use Rattle.ilk_motion.specs.Body.{is_last_section}
 use Rattle.ilk_routes.specs.Boards.{has_aspect, same_aspect}
-use Rattle.ilk_routes.specs.Lies.{is_moving, lie_from_position, is_lie_at_position}
+use Rattle.ilk_routes.specs.Lies.{is_detected_moving, lie_from_position, is_lie_at_position}
 use Rattle.ilk_routes.specs.Modes.{has_mode, same_mode}
 use Rattle.ilk_layout.specs.Image.{image_of, occupancy_values}
-use Rattle.ilk_layout.specs.Occupancy.{is_first, occupancy_of, taken_by}
-use Rattle.ilk_layout.specs.Values.{aspect_value, hold_value, lie_value, mode_value, occupancy_value, position_value}
+use Rattle.ilk_layout.specs.Occupancy.{is_first, occupancy_of, occupancy_by_train}
+use Rattle.ilk_layout.specs.Values.{aspect_value, lock_value, detected_value, mode_value, occupancy_value, commanded_value}
 use Rattle.ilk_layout.specs.Variables.{occupancy_var}
 use Rattle.ilk_layout.specs.declared.values.Occupancy.{Occupancy}
 use Rattle.ilk_layout.specs.declared.values.Occupancy.TheVariants.{Vacant, Taken}
@@ -71,7 +71,7 @@ mode-test Occupied Allocating = refl
 mode-test Occupied Locked = refl
 mode-test Occupied Occupied = refl
 
-pub hold-test : (a b : Hold) → (hold_value a == hold_value b) ≡ same_hold a b
+pub hold-test : (a b : Hold) → (lock_value a == lock_value b) ≡ same_hold a b
 hold-test FreeLock FreeLock = refl
 hold-test FreeLock LockedLock = refl
 hold-test FreeLock UsedLock = refl
@@ -88,7 +88,7 @@ aspect-test Open Closed = refl
 aspect-test Closed Open = refl
 aspect-test Closed Closed = refl
 
-pub lies-test : (a : Lie) (b : Position) → (lie_value a == lie_value (lie_from_position b)) ≡ is_lie_at_position a b
+pub lies-test : (a : Lie) (b : Position) → (detected_value a == detected_value (lie_from_position b)) ≡ is_lie_at_position a b
 lies-test LiesPlus Plus = refl
 lies-test LiesPlus Minus = refl
 lies-test LiesMinus Plus = refl
@@ -96,7 +96,7 @@ lies-test LiesMinus Minus = refl
 lies-test Moving Plus = refl
 lies-test Moving Minus = refl
 
-pub moving-test : (a : Lie) → (lie_value a == lie_value Moving) ≡ is_moving a
+pub moving-test : (a : Lie) → (detected_value a == detected_value Moving) ≡ is_detected_moving a
 moving-test LiesPlus = refl
 moving-test LiesMinus = refl
 moving-test Moving = refl
@@ -104,7 +104,7 @@ moving-test Moving = refl
 pub image-is : (p : PlantLists) (s : State) → image_of p s ≡ image_with s (occupancy_values p s)
 image-is p s = refl
 
-has-value : (p : PlantLists) (s : State) (v c x : ℕ) → slice_get (image_with s (occupancy_values p s)) v ≡ Some x → has_value (image_of p s) v c ≡ (x == c)
+has-value : (p : PlantLists) (s : State) (v c x : ℕ) → slice_get (image_with s (occupancy_values p s)) v ≡ Some x → var_has_value (image_of p s) v c ≡ (x == c)
 has-value p s v c x at =
     ap (λ values. is_some_and (slice_get values v) (λ y. y == c)) (image-is p s) ∙ ap (λ o. is_some_and o (λ y. y == c)) at
 
@@ -125,13 +125,13 @@ module _ (p : PlantLists) (s : State) (shape : HasShape p s) where
   pub rel-holds : (r : ℕ) (now : RouteState) (k : ℕ) → slice_get s.routes r ≡ Some now → tree_holds (image_of p s) (rel_is r k) ≡ (now.rel == k)
   rel-holds r now k at = has-value p s _ k now.rel (rel-at p s (occupancy_values p s) shape r now at)
 
-  pub at-holds : (n : ℕ) (point : PointState) (lie : Lie) → slice_get s.points n ≡ Some point → tree_holds (image_of p s) (is_point_detected p n lie) ≡ (lie_value point.at == lie_value lie)
+  pub at-holds : (n : ℕ) (point : PointState) (lie : Lie) → slice_get s.points n ≡ Some point → tree_holds (image_of p s) (is_point_detected p n lie) ≡ (detected_value point.at == detected_value lie)
   at-holds n point lie at =
-      has-value p s _ (lie_value lie) (lie_value point.at) (at-at p s (occupancy_values p s) shape n point at)
+      has-value p s _ (detected_value lie) (detected_value point.at) (at-at p s (occupancy_values p s) shape n point at)
 
-  pub to-holds : (n : ℕ) (point : PointState) (to : Position) → slice_get s.points n ≡ Some point → tree_holds (image_of p s) (is_point_commanded p n to) ≡ (position_value point.to == position_value to)
+  pub to-holds : (n : ℕ) (point : PointState) (to : Position) → slice_get s.points n ≡ Some point → tree_holds (image_of p s) (is_point_commanded p n to) ≡ (commanded_value point.to == commanded_value to)
   to-holds n point to at =
-      has-value p s _ (position_value to) (position_value point.to) (to-at p s (occupancy_values p s) shape n point at)
+      has-value p s _ (commanded_value to) (commanded_value point.to) (to-at p s (occupancy_values p s) shape n point at)
 
   pub board-holds : (m : ℕ) (aspect : Aspect) → m < length p.boards → tree_holds (image_of p s) (board_is p m aspect) ≡ has_aspect s m aspect
   board-holds m aspect within =
@@ -140,11 +140,11 @@ module _ (p : PlantLists) (s : State) (shape : HasShape p s) where
       has-value p s _ (aspect_value aspect) (aspect_value found.0) (board-at p s (occupancy_values p s) shape m found.0 found.1)
       ∙ aspect-test found.0 aspect ∙ ap (λ o. is_some_and o (λ now. same_aspect now aspect)) (sym found.1)
 
-  pub lock-holds : (x : ℕ) (hold : Hold) → x < length p.sections → tree_holds (image_of p s) (lock_is p x hold) ≡ has_lock s x hold
+  pub lock-holds : (x : ℕ) (hold : Hold) → x < length p.sections → tree_holds (image_of p s) (lock_is p x hold) ≡ has_lock_state s x hold
   lock-holds x hold within =
       let count = shape.locks in
       let found = item_at s.locks x (omega arith) in
-      has-value p s _ (hold_value hold) (hold_value found.0) (lock-at p s (occupancy_values p s) shape x found.0 found.1)
+      has-value p s _ (lock_value hold) (lock_value found.0) (lock-at p s (occupancy_values p s) shape x found.0 found.1)
       ∙ hold-test found.0 hold ∙ ap (λ o. is_some_and o (λ lock. same_hold lock hold)) (sym found.1)
 
   pub occupancy-read : (x : ℕ) → x < length p.sections → slice_get (image_with s (occupancy_values p s)) (occupancy_var p x) ≡ Some (occupancy_value (occupancy_of p s x))
@@ -156,7 +156,7 @@ module _ (p : PlantLists) (s : State) (shape : HasShape p s) where
   occupancy-holds x o within =
       has-value p s (occupancy_var p x) (occupancy_value o) (occupancy_value (occupancy_of p s x)) (occupancy-read x within)
 
-taken-value : (x : ℕ) (t : Train) → (occupancy_value (taken_by x t) == 0) ≡ false
+taken-value : (x : ℕ) (t : Train) → (occupancy_value (occupancy_by_train x t) == 0) ≡ false
 taken-value x t = by_value t.dir (is_first x t.body) (is_last_section x t.body)
   where
     by_value : (d : Dir) (tail head : Bool) → (occupancy_value (Taken d tail head) == 0) ≡ false
@@ -170,7 +170,7 @@ taken-value x t = by_value t.dir (is_first x t.body) (is_last_section x t.body)
     by_value Down true true = refl
 
 -- Without hazard, a section is vacant if and only if no train is in it.
-vacant-test : (p : PlantLists) (s : State) (x : ℕ) → is_hazardous p s x ≡ false → (occupancy_value (occupancy_of p s x) == 0) ≡ not (is_occupied s x)
+vacant-test : (p : PlantLists) (s : State) (x : ℕ) → is_section_hazardous p s x ≡ false → (occupancy_value (occupancy_of p s x) == 0) ≡ not (is_occupied s x)
 vacant-test p s x calm =
     elim (cases_Bool (is_occupied s x)) [
       | inl there ↦ (let found = find-some (has_x x) s.trains there in rw (calm, found.1, there) (taken-value x found.0))

@@ -13,8 +13,8 @@ use Rattle.ilk_plant.specs.Network.{has_section}
 use Rattle.ilk_plant.specs.NetworkRules.{opposite_direction}
 use Rattle.ilk_plant.specs.Once.{numbers_differ}
 use Rattle.ilk_plant.specs.Plant.{IsPlant, PlantLists}
-use Rattle.ilk_plant.specs.Shape.{HasShape, has_valid_body}
-use Rattle.ilk_plant.specs.Sound.{NoWalkReturns}
+use Rattle.ilk_plant.specs.Shape.{HasShape, train_body_is_valid}
+use Rattle.ilk_plant.specs.Sound.{IsAcyclic}
 use Rattle.ilk_plant.specs.State.{detected_position}
 use Rattle.ilk_plant.specs.declared.network.Dir.{Dir}
 use Rattle.ilk_plant.specs.declared.network.Dir.TheVariants.{Up, Down}
@@ -27,10 +27,10 @@ use Rattle.ilk_plant.specs.declared.state.Train.{Train}
 use Rattle.ilk_plant.proofs.Once.{numbers_differ-places}
 use Rattle.ilk_plant.proofs.InLists.{section-at}
 use Rattle.ilk_motion.specs.Ahead.{section_led_to}
-use Rattle.ilk_model.specs.Hazard.{are_adjacent_in, hazard, is_hazardous, has_two_trains, is_wrong_under_train, is_wrong_under_body}
-use Rattle.ilk_layout.specs.Decoded.{preceding_section, section_behind_in_body, follow_steps, following_section, section_ahead_in_body, train_from_tail, trains_of}
+use Rattle.ilk_model.specs.Hazard.{are_adjacent_in_body, hazard, is_section_hazardous, has_two_trains, is_wrong_under_train, is_wrong_under_body}
+use Rattle.ilk_layout.specs.Decoded.{previous_body_section, section_behind_in_body, follow_steps, next_body_section, section_ahead_in_body, train_from_tail, trains_of}
 use Rattle.ilk_layout.specs.Occupancy.{occupancy_of}
-use Rattle.ilk_layout.specs.Wellformed.{section_ahead, has_more_behind, joined_section, section_fits}
+use Rattle.ilk_layout.specs.Wellformed.{section_ahead, has_more_behind, mutual_section_ahead, occupancy_is_consistent}
 use Rattle.ilk_layout.specs.declared.values.Occupancy.{Occupancy}
 use Rattle.ilk_layout.specs.declared.values.Occupancy.TheVariants.{Vacant, Taken, Crash}
 use Rattle.ilk_layout.proofs.Calm.{no-hazard, occupancy-in, pair-places}
@@ -38,7 +38,7 @@ use Rattle.ilk_layout.proofs.Chains.{IsChain, chain-before, chain-last, chain-wa
 use Rattle.ilk_layout.proofs.Orders.{filter_map-at, filter_map-of}
 use Rattle.ilk_layout.proofs.Plants.{joined-parts}
 use Rattle.ilk_layout.proofs.Told.{train-is, trains-once}
-use Rattle.ilk_layout.proofs.Tracks.{IsTaken, demands, following_section-is, same_taken, step-forth, tracks, walk-forth}
+use Rattle.ilk_layout.proofs.Tracks.{IsTaken, demands, next_body_section-is, same_taken, step-forth, tracks, walk-forth}
 use Rattle.ilk_layout.proofs.Trains.{has_x}
 
 pub legs-differ : (p : PlantLists) → IsPlant p → (x stem plus minus : ℕ) (faces : Dir) → slice_get p.sections x ≡ Some (Point stem plus minus faces) → (plus ≡ minus → ⊥) × (stem ≡ minus → ⊥) × (stem ≡ plus → ⊥)
@@ -76,19 +76,19 @@ other-leg p plant lie x stem plus minus faces d at =
     minus-only Up Down o l apart e = apart.2 (same_Some stem plus e)
     minus-only Down Up o l apart e = apart.2 (same_Some stem plus e)
 
-module _ (p : PlantLists) (plant : IsPlant p) (never : NoWalkReturns p) (lie : ℕ → Option Lie) (occupancy : ℕ → Option Occupancy) (fits : (x : ℕ) → x < length p.sections → section_fits p lie occupancy x (occupancy x) ≡ true) where
+module _ (p : PlantLists) (plant : IsPlant p) (never : IsAcyclic p) (lie : ℕ → Option Lie) (occupancy : ℕ → Option Occupancy) (fits : (x : ℕ) → x < length p.sections → occupancy_is_consistent p lie occupancy x (occupancy x) ≡ true) where
   abbrev on : ℕ → Option ℕ
-  on = following_section p lie occupancy
+  on = next_body_section p lie occupancy
 
   abbrev rest-of : ℕ → List ℕ
-  rest-of x = follow_steps (length p.sections) (following_section p lie occupancy) x
+  rest-of x = follow_steps (length p.sections) (next_body_section p lie occupancy) x
 
-  whole : (x : ℕ) (d : Dir) (t h : Bool) → x < length p.sections → occupancy x ≡ Some (Taken d t h) → IsChain (following_section p lie occupancy) x (rest-of x)
-  whole x d t h within is = chased (length p.sections) (IsTaken p occupancy) (following_section p lie occupancy) _ (tracks p plant never lie occupancy fits) x (record { dir = d; tail = t; head = h; within = within; is = is })
+  whole : (x : ℕ) (d : Dir) (t h : Bool) → x < length p.sections → occupancy x ≡ Some (Taken d t h) → IsChain (next_body_section p lie occupancy) x (rest-of x)
+  whole x d t h within is = chased (length p.sections) (IsTaken p occupancy) (next_body_section p lie occupancy) _ (tracks p plant never lie occupancy fits) x (record { dir = d; tail = t; head = h; within = within; is = is })
 
   -- The direction stays the same along a chain.
   along : (a : ℕ) (rest : List ℕ) (d : Dir) (t h : Bool) → a < length p.sections →
-      occupancy a ≡ Some (Taken d t h) → IsChain (following_section p lie occupancy) a rest → (k y : ℕ) →
+      occupancy a ≡ Some (Taken d t h) → IsChain (next_body_section p lie occupancy) a rest → (k y : ℕ) →
       slice_get (a ∷ rest) k ≡ Some y →
       (u : Bool) × (v : Bool) × (y < length p.sections) × (occupancy y ≡ Some (Taken d u v))
   along a rest d t h within is c zero y at =
@@ -102,7 +102,7 @@ module _ (p : PlantLists) (plant : IsPlant p) (never : NoWalkReturns p) (lie : �
 
   -- In a chain from a tail, only the first section has a tail and only the last has a head.
   at-place : (a : ℕ) (rest : List ℕ) (d : Dir) (h : Bool) → a < length p.sections →
-      occupancy a ≡ Some (Taken d true h) → IsChain (following_section p lie occupancy) a rest → (k y : ℕ) →
+      occupancy a ≡ Some (Taken d true h) → IsChain (next_body_section p lie occupancy) a rest → (k y : ℕ) →
       slice_get (a ∷ rest) k ≡ Some y → occupancy y ≡ Some (Taken d (k == 0) (k + 1 == length (a ∷ rest)))
   at-place a rest d h within is c k y at =
       let there = along a rest d true h within is c k y at in
@@ -111,7 +111,7 @@ module _ (p : PlantLists) (plant : IsPlant p) (never : NoWalkReturns p) (lie : �
       tail-bit : (k : ℕ) → slice_get (a ∷ rest) k ≡ Some y → (u v : Bool) → occupancy y ≡ Some (Taken d u v) → u ≡ (k == 0)
       tail-bit zero here u v there = (same_taken (sym there ∙ ap occupancy (sym (same_Some a y here)) ∙ is)).1
       tail-bit (suc j) here u v there =
-          let before = chain-before (following_section p lie occupancy) a rest j y c here in
+          let before = chain-before (next_body_section p lie occupancy) a rest j y c here in
           let known = along a rest d true h within is c j before.0 before.1 in
           let step = step-forth p plant never lie occupancy fits before.0 y known.2 before.2 in
           let no_tail : (suc j == 0) ≡ false = ne_eqb (suc j) 0 (λ e. absurd (omega arith)) in
@@ -121,17 +121,17 @@ module _ (p : PlantLists) (plant : IsPlant p) (never : NoWalkReturns p) (lie : �
       head-bit true u known there true e = refl
       head-bit false u known there false e = refl
       head-bit false u known there true e =
-          let last = chain-last (following_section p lie occupancy) a rest k y c at (eqb-true (k + 1) (length (a ∷ rest)) e) in
-          let next = some-and (joined_section p lie y d) (λ z. is_some_and (occupancy z) (has_more_behind d)) (demands p plant never lie occupancy fits y d u false known there).1 in
+          let last = chain-last (next_body_section p lie occupancy) a rest k y c at (eqb-true (k + 1) (length (a ∷ rest)) e) in
+          let next = some-and (mutual_section_ahead p lie y d) (λ z. is_some_and (occupancy z) (has_more_behind d)) (demands p plant never lie occupancy fits y d u false known there).1 in
           absurd (none-some next.0 (sym last ∙ ap (section_ahead_in_body p lie y) there ∙ next.1))
       head-bit true u known there false e =
           let within_body = slice_get_within (a ∷ rest) k y at in
           let more : suc k < length (a ∷ rest) = (let other = eqb-false (k + 1) (length (a ∷ rest)) e in omega arith) in
           let next : (z : ℕ) × (slice_get (a ∷ rest) (suc k) ≡ Some z) = item_at (a ∷ rest) (suc k) more in
-          let before = chain-before (following_section p lie occupancy) a rest k next.0 c next.1 in
+          let before = chain-before (next_body_section p lie occupancy) a rest k next.0 c next.1 in
           let same : before.0 ≡ y = same_Some before.0 y (sym before.1 ∙ at) in
-          let led : following_section p lie occupancy y ≡ Some next.0 = ap (following_section p lie occupancy) (sym same) ∙ before.2 in
-          let is_on = following_section-is p lie occupancy y next.0 led in
+          let led : next_body_section p lie occupancy y ≡ Some next.0 = ap (next_body_section p lie occupancy) (sym same) ∙ before.2 in
+          let is_on = next_body_section-is p lie occupancy y next.0 led in
           (same_taken (sym there ∙ is_on.2)).2
 
   module _ (s : State) (lies : (x : ℕ) → detected_position p s x ≡ lie x) (trains : s.trains ≡ trains_of p lie occupancy) (others : HasShape p (record s { trains = [] })) where
@@ -145,17 +145,17 @@ module _ (p : PlantLists) (plant : IsPlant p) (never : NoWalkReturns p) (lie : �
         let is = train-is p lie occupancy from.1 u from.3 in
         (from.1, is.0, is.1, place.1, is.2, is.3, from.3)
 
-    made-body : (i : ℕ) (u : Train) → slice_get s.trains i ≡ Some u → has_valid_body p u ≡ true
+    made-body : (i : ℕ) (u : Train) → slice_get s.trains i ≡ Some u → train_body_is_valid p u ≡ true
     made-body i u at =
         let m = made-at i u at in
         let a = m.0 in
         let within = m.3 in
         let known : nat_lt a (length p.sections) ≡ true = grind (arith, nat_tests) in
-        let walk = walk-forth p plant never lie occupancy fits a (rest-of a) m.1 true m.2 m.3 m.4 (chain-walk (following_section p lie occupancy) a (rest-of a) (whole a m.1 true m.2 m.3 m.4)) in
-        ap (has_valid_body p) (sym m.5) ∙ and_from _ _ known walk
+        let walk = walk-forth p plant never lie occupancy fits a (rest-of a) m.1 true m.2 m.3 m.4 (chain-walk (next_body_section p lie occupancy) a (rest-of a) (whole a m.1 true m.2 m.3 m.4)) in
+        ap (train_body_is_valid p) (sym m.5) ∙ and_from _ _ known walk
 
     pub made-shape : HasShape p s
-    made-shape = record { routes = others.routes; points = others.points; boards = others.boards; locks = others.locks; counts = others.counts; bodies = all-pass (has_valid_body p) s.trains made-body }
+    made-shape = record { routes = others.routes; points = others.points; boards = others.boards; locks = others.locks; counts = others.counts; bodies = all-pass (train_body_is_valid p) s.trains made-body }
 
     made-in : (i k y : ℕ) (u : Train) → slice_get s.trains i ≡ Some u → slice_get u.body k ≡ Some y → occupancy y ≡ Some (Taken u.dir (k == 0) (k + 1 == length u.body))
     made-in i k y u at here =
@@ -169,11 +169,11 @@ module _ (p : PlantLists) (plant : IsPlant p) (never : NoWalkReturns p) (lie : �
         let l = made-at j v also in
         let pu = section-at y u.body hu in
         let pv = section-at y v.body hv in
-        let tail-first : (a : ℕ) (d : Dir) (h : Bool) → occupancy a ≡ Some (Taken d true h) → preceding_section p lie occupancy a ≡ None = λ a d h is. ap (section_behind_in_body p lie a) is in
+        let tail-first : (a : ℕ) (d : Dir) (h : Bool) → occupancy a ≡ Some (Taken d true h) → previous_body_section p lie occupancy a ≡ None = λ a d h is. ap (section_behind_in_body p lie a) is in
         let taken : (a : ℕ) (d : Dir) (h : Bool) → a < length p.sections → occupancy a ≡ Some (Taken d true h) → IsTaken p occupancy a = λ a d h within is. record { dir = d; tail = true; head = h; within = within; is = is } in
         let same : m.0 ≡ l.0 =
-        one_first (length p.sections) (IsTaken p occupancy) (following_section p lie occupancy)
-        (preceding_section p lie occupancy) (tracks p plant never lie occupancy fits) m.0 l.0 (rest-of m.0)
+        one_first (length p.sections) (IsTaken p occupancy) (next_body_section p lie occupancy)
+        (previous_body_section p lie occupancy) (tracks p plant never lie occupancy fits) m.0 l.0 (rest-of m.0)
         (rest-of l.0) (taken m.0 m.1 m.2 m.3 m.4) (taken l.0 l.1 l.2 l.3 l.4)
         (whole m.0 m.1 true m.2 m.3 m.4) (whole l.0 l.1 true l.2 l.3 l.4) (tail-first m.0 m.1 m.2 m.4)
         (tail-first l.0 l.1 l.2 l.4) pu.0 pv.0 y (ap (λ (t : Train). slice_get t.body pu.0) m.5 ∙ pu.1)
@@ -184,9 +184,9 @@ module _ (p : PlantLists) (plant : IsPlant p) (never : NoWalkReturns p) (lie : �
     made-joined : (i k x y : ℕ) (u : Train) → slice_get s.trains i ≡ Some u → slice_get u.body k ≡ Some x → slice_get u.body (suc k) ≡ Some y → (d : Dir) × (section_ahead p lie x d ≡ Some y) × (section_ahead p lie y (opposite_direction d) ≡ Some x)
     made-joined i k x y u at here next =
         let m = made-at i u at in
-        let before = chain-before (following_section p lie occupancy) m.0 (rest-of m.0) k y (whole m.0 m.1 true m.2 m.3 m.4) (ap (λ (t : Train). slice_get t.body (suc k)) m.5 ∙ next) in
+        let before = chain-before (next_body_section p lie occupancy) m.0 (rest-of m.0) k y (whole m.0 m.1 true m.2 m.3 m.4) (ap (λ (t : Train). slice_get t.body (suc k)) m.5 ∙ next) in
         let same : before.0 ≡ x = same_Some before.0 x (sym before.1 ∙ ap (λ (t : Train). slice_get t.body k) m.5 ∙ here) in
-        let led = following_section-is p lie occupancy x y (ap (following_section p lie occupancy) (sym same) ∙ before.2) in
+        let led = next_body_section-is p lie occupancy x y (ap (next_body_section p lie occupancy) (sym same) ∙ before.2) in
         let parts = joined-parts p lie x y led.0 led.3 in
         (led.0, parts.0, parts.1)
 
@@ -199,21 +199,21 @@ module _ (p : PlantLists) (plant : IsPlant p) (never : NoWalkReturns p) (lie : �
         let still = (demands p plant never lie occupancy fits x u.dir (place.0 == 0) (place.0 + 1 == length u.body) (slice_get_within p.sections x (Point stem plus minus faces) section) (made-in i place.0 x u at place.1)).0 in
         false≢true (rw l at still))
     made-right i u x stem plus minus faces at section (Some Plus) l =
-        false_from_ne_true (are_adjacent_in x minus u.body) (λ h.
+        false_from_ne_true (are_adjacent_in_body x minus u.body) (λ h.
         let places = pair-places u.body x minus h in
         elim places.1 [
           | inl e ↦ (let joined = made-joined i places.0 x minus u at e.0 e.1 in (other-leg p plant lie x stem plus minus faces joined.0 section).0 l joined.1)
           | inr e ↦ (let joined = made-joined i places.0 minus x u at e.0 e.1 in (other-leg p plant lie x stem plus minus faces (opposite_direction joined.0) section).0 l joined.2)
         ])
     made-right i u x stem plus minus faces at section (Some Minus) l =
-        false_from_ne_true (are_adjacent_in x plus u.body) (λ h.
+        false_from_ne_true (are_adjacent_in_body x plus u.body) (λ h.
         let places = pair-places u.body x plus h in
         elim places.1 [
           | inl e ↦ (let joined = made-joined i places.0 x plus u at e.0 e.1 in (other-leg p plant lie x stem plus minus faces joined.0 section).1 l joined.1)
           | inr e ↦ (let joined = made-joined i places.0 plus x u at e.0 e.1 in (other-leg p plant lie x stem plus minus faces (opposite_direction joined.0) section).1 l joined.2)
         ])
 
-    made-safe : (x : ℕ) → is_hazardous p s x ≡ false
+    made-safe : (x : ℕ) → is_section_hazardous p s x ≡ false
     made-safe x =
         or_from (has_two_trains s x) (is_wrong_under_train p s x) (le-ltb 1 (count_by (has_x x) s.trains) (few-from_places (has_x x) s.trains (λ i j u v at also hu hv. made-alone i j x u v at also hu hv))) (by_section (slice_get p.sections x) refl)
       where
@@ -228,7 +228,7 @@ module _ (p : PlantLists) (plant : IsPlant p) (never : NoWalkReturns p) (lie : �
             rw e right
 
     pub made-calm : hazard p s ≡ None
-    made-calm = no-hazard p s (find-none-from (is_hazardous p s) (range_with_len 0 (length p.sections)) (λ i x at. made-safe x))
+    made-calm = no-hazard p s (find-none-from (is_section_hazardous p s) (range_with_len 0 (length p.sections)) (λ i x at. made-safe x))
 
     pub made-occupancy : (x : ℕ) → x < length p.sections → occupancy x ≡ Some (occupancy_of p s x)
     made-occupancy x within = by_occupancy (occupancy x) refl (fits x within)
@@ -240,7 +240,7 @@ module _ (p : PlantLists) (plant : IsPlant p) (never : NoWalkReturns p) (lie : �
             let taken : Some Vacant ≡ Some (Taken u.dir (place.0 == 0) (place.0 + 1 == length u.body)) = sym is ∙ made-in i place.0 x u at place.1 in
             cc)
 
-        by_occupancy : (o : Option Occupancy) → occupancy x ≡ o → section_fits p lie occupancy x o ≡ true → o ≡ Some (occupancy_of p s x)
+        by_occupancy : (o : Option Occupancy) → occupancy x ≡ o → occupancy_is_consistent p lie occupancy x o ≡ true → o ≡ Some (occupancy_of p s x)
         by_occupancy None is h = cc
         by_occupancy (Some Crash) is h = cc
         by_occupancy (Some Vacant) is h =
@@ -248,7 +248,7 @@ module _ (p : PlantLists) (plant : IsPlant p) (never : NoWalkReturns p) (lie : �
             let none = find-none-from (has_x x) s.trains (not-had is) in
             rw (safe, none) refl
         by_occupancy (Some (Taken d t head)) is h =
-            let first = first_of (length p.sections) (IsTaken p occupancy) (following_section p lie occupancy) (preceding_section p lie occupancy) (tracks p plant never lie occupancy fits) x
+            let first = first_of (length p.sections) (IsTaken p occupancy) (next_body_section p lie occupancy) (previous_body_section p lie occupancy) (tracks p plant never lie occupancy fits) x
             (record { dir = d; tail = t; head = head; within = within; is = is }) in
             let on_first = first.2 in
             let tail : on_first.tail ≡ true = tail-of on_first.tail first.0 on_first refl first.3 in
@@ -263,8 +263,8 @@ module _ (p : PlantLists) (plant : IsPlant p) (never : NoWalkReturns p) (lie : �
             let own : occupancy_of p s x ≡ Taken on_first.dir (first.1 == 0) (first.1 + 1 == length u.body) = occupancy-in p plant never s made-shape made-calm placed.0 first.1 x u at first.4 in
             sym is ∙ there ∙ ap Some (sym own)
           where
-            tail-of : (b : Bool) → (a : ℕ) → (on_a : IsTaken p occupancy a) → on_a.tail ≡ b → preceding_section p lie occupancy a ≡ None → on_a.tail ≡ true
+            tail-of : (b : Bool) → (a : ℕ) → (on_a : IsTaken p occupancy a) → on_a.tail ≡ b → previous_body_section p lie occupancy a ≡ None → on_a.tail ≡ true
             tail-of true a on_a e none = e
             tail-of false a on_a e none =
-                let before = some-and (joined_section p lie a (opposite_direction on_a.dir)) _ (demands p plant never lie occupancy fits a on_a.dir false on_a.head on_a.within (on_a.is ∙ ap (λ b. Some (Taken on_a.dir b on_a.head)) e)).2 in
+                let before = some-and (mutual_section_ahead p lie a (opposite_direction on_a.dir)) _ (demands p plant never lie occupancy fits a on_a.dir false on_a.head on_a.within (on_a.is ∙ ap (λ b. Some (Taken on_a.dir b on_a.head)) e)).2 in
                 absurd (none-some before.0 (sym none ∙ ap (section_behind_in_body p lie a) (on_a.is ∙ ap (λ b. Some (Taken on_a.dir b on_a.head)) e) ∙ before.1))

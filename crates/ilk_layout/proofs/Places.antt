@@ -7,7 +7,7 @@ use Rattle.ilk_plant.specs.declared.state.Mode.{Mode}
 use Rattle.ilk_plant.specs.declared.state.PointState.{PointState}
 use Rattle.ilk_plant.specs.declared.state.RouteState.{RouteState}
 use Rattle.ilk_layout.specs.Image.{point_values, route_values}
-use Rattle.ilk_layout.specs.Values.{lie_value, mode_value, position_value}
+use Rattle.ilk_layout.specs.Values.{detected_value, mode_value, commanded_value}
 
 three : (r : ℕ) → 3 * suc r ≡ suc (suc (suc (3 * r)))
 three r = omega arith
@@ -44,12 +44,12 @@ get-rel [] r now at = cc
 get-rel (q ∷ rs) zero now at = let same : q ≡ now = cc in rw same refl
 get-rel (q ∷ rs) (suc r) now at = ap (slice_get (flat_map route_values (q ∷ rs))) (three_more r 2) ∙ get-rel rs r now at
 
-pub get-at : (qs : List PointState) (n : ℕ) (point : PointState) → slice_get qs n ≡ Some point → slice_get (flat_map point_values qs) (2 * n) ≡ Some (lie_value point.at)
+pub get-at : (qs : List PointState) (n : ℕ) (point : PointState) → slice_get qs n ≡ Some point → slice_get (flat_map point_values qs) (2 * n) ≡ Some (detected_value point.at)
 get-at [] n point at = cc
 get-at (q ∷ qs) zero point at = let same : q ≡ point = cc in rw same refl
 get-at (q ∷ qs) (suc n) point at = ap (slice_get (flat_map point_values (q ∷ qs))) (two n) ∙ get-at qs n point at
 
-pub get-to : (qs : List PointState) (n : ℕ) (point : PointState) → slice_get qs n ≡ Some point → slice_get (flat_map point_values qs) (2 * n + 1) ≡ Some (position_value point.to)
+pub get-to : (qs : List PointState) (n : ℕ) (point : PointState) → slice_get qs n ≡ Some point → slice_get (flat_map point_values qs) (2 * n + 1) ≡ Some (commanded_value point.to)
 get-to [] n point at = cc
 get-to (q ∷ qs) zero point at = let same : q ≡ point = cc in rw same refl
 get-to (q ∷ qs) (suc n) point at = ap (slice_get (flat_map point_values (q ∷ qs))) (two_more n 1) ∙ get-to qs n point at
@@ -59,7 +59,7 @@ abbrev after_route : RouteState → List ℕ → List ℕ
 after_route q values = mode_value q.mode ∷ q.seen ∷ q.rel ∷ values
 
 abbrev after_point : PointState → List ℕ → List ℕ
-after_point q values = lie_value q.at ∷ position_value q.to ∷ values
+after_point q values = detected_value q.at ∷ commanded_value q.to ∷ values
 
 pub set-mode : (rs : List RouteState) (r : ℕ) (now : RouteState) (m : Mode) → slice_get rs r ≡ Some now → set (flat_map route_values rs) (3 * r) (mode_value m) ≡ flat_map route_values (set rs r (record now { mode = m }))
 set-mode [] r now m at = cc
@@ -79,14 +79,14 @@ set-rel (q ∷ rs) zero now k at = let same : q ≡ now = cc in rw same refl
 set-rel (q ∷ rs) (suc r) now k at =
     ap (λ i. set (flat_map route_values (q ∷ rs)) i k) (three_more r 2) ∙ ap (after_route q) (set-rel rs r now k at)
 
-pub set-at : (qs : List PointState) (n : ℕ) (point : PointState) (lie : Lie) → slice_get qs n ≡ Some point → set (flat_map point_values qs) (2 * n) (lie_value lie) ≡ flat_map point_values (set qs n (record point { at = lie }))
+pub set-at : (qs : List PointState) (n : ℕ) (point : PointState) (lie : Lie) → slice_get qs n ≡ Some point → set (flat_map point_values qs) (2 * n) (detected_value lie) ≡ flat_map point_values (set qs n (record point { at = lie }))
 set-at [] n point lie at = cc
 set-at (q ∷ qs) zero point lie at = let same : q ≡ point = cc in rw same refl
 set-at (q ∷ qs) (suc n) point lie at =
-    ap (λ i. set (flat_map point_values (q ∷ qs)) i (lie_value lie)) (two n) ∙ ap (after_point q) (set-at qs n point lie at)
+    ap (λ i. set (flat_map point_values (q ∷ qs)) i (detected_value lie)) (two n) ∙ ap (after_point q) (set-at qs n point lie at)
 
-pub set-to : (qs : List PointState) (n : ℕ) (point : PointState) (to : Position) → slice_get qs n ≡ Some point → set (flat_map point_values qs) (2 * n + 1) (position_value to) ≡ flat_map point_values (set qs n (record point { to = to }))
+pub set-to : (qs : List PointState) (n : ℕ) (point : PointState) (to : Position) → slice_get qs n ≡ Some point → set (flat_map point_values qs) (2 * n + 1) (commanded_value to) ≡ flat_map point_values (set qs n (record point { to = to }))
 set-to [] n point to at = cc
 set-to (q ∷ qs) zero point to at = let same : q ≡ point = cc in rw same refl
 set-to (q ∷ qs) (suc n) point to at =
-    ap (λ i. set (flat_map point_values (q ∷ qs)) i (position_value to)) (two_more n 1) ∙ ap (after_point q) (set-to qs n point to at)
+    ap (λ i. set (flat_map point_values (q ∷ qs)) i (commanded_value to)) (two_more n 1) ∙ ap (after_point q) (set-to qs n point to at)

@@ -11,8 +11,8 @@ use Rattle.ilk_base.proofs.Tested.{list_any-at}
 use Rattle.ilk_plant.specs.Network.{neighbours_on, has_section}
 use Rattle.ilk_plant.specs.NetworkRules.{opposite_direction}
 use Rattle.ilk_plant.specs.Plant.{IsPlant, PlantLists, next_to}
-use Rattle.ilk_plant.specs.Shape.{has_valid_body, is_connected}
-use Rattle.ilk_plant.specs.Sound.{NoWalkReturns}
+use Rattle.ilk_plant.specs.Shape.{train_body_is_valid, is_connected_chain}
+use Rattle.ilk_plant.specs.Sound.{IsAcyclic}
 use Rattle.ilk_plant.specs.declared.network.Dir.{Dir}
 use Rattle.ilk_plant.specs.declared.network.Dir.TheVariants.{Up, Down}
 use Rattle.ilk_plant.specs.declared.network.Section.{Section}
@@ -22,33 +22,33 @@ use Rattle.ilk_plant.specs.declared.state.Lie.TheVariants.{Plus, Minus, Moving}
 use Rattle.ilk_plant.specs.declared.state.Train.{Train}
 use Rattle.ilk_plant.proofs.Once.{numbers_differ-places}
 use Rattle.ilk_motion.specs.Ahead.{section_led_to}
-use Rattle.ilk_layout.specs.Wellformed.{section_ahead, joined_section}
+use Rattle.ilk_layout.specs.Wellformed.{section_ahead, mutual_section_ahead}
 
-pub walk-known : (p : PlantLists) → IsPlant p → (d : Dir) (x : ℕ) (walk : List ℕ) (i y : ℕ) → x < length p.sections → is_connected p d x walk ≡ true → slice_get (x ∷ walk) i ≡ Some y → y < length p.sections
+pub walk-known : (p : PlantLists) → IsPlant p → (d : Dir) (x : ℕ) (walk : List ℕ) (i y : ℕ) → x < length p.sections → is_connected_chain p d x walk ≡ true → slice_get (x ∷ walk) i ≡ Some y → y < length p.sections
 walk-known p plant d x walk zero y within on at = let same : x ≡ y = cc in omega arith
 walk-known p plant d x [] (suc i) y within on at = cc
 walk-known p plant d x (z ∷ walk) (suc i) y within on at =
-    let parts = and_parts (has_section z (next_to p x d)) (is_connected p d z walk) on in
+    let parts = and_parts (has_section z (next_to p x d)) (is_connected_chain p d z walk) on in
     walk-known p plant d z walk i y (plant.neighbours x z d parts.0) parts.1 at
 
-pub body-parts : (p : PlantLists) (d : Dir) (x : ℕ) (rest : List ℕ) → has_valid_body p (record { dir = d; body = x ∷ rest }) ≡ true → (x < length p.sections) × (is_connected p d x rest ≡ true)
+pub body-parts : (p : PlantLists) (d : Dir) (x : ℕ) (rest : List ℕ) → train_body_is_valid p (record { dir = d; body = x ∷ rest }) ≡ true → (x < length p.sections) × (is_connected_chain p d x rest ≡ true)
 body-parts p d x rest h =
-    let parts = and_parts (nat_lt x (length p.sections)) (is_connected p d x rest) h in
+    let parts = and_parts (nat_lt x (length p.sections)) (is_connected_chain p d x rest) h in
     let within : x < length p.sections = (let test = parts.0 in grind (arith, nat_tests)) in
     (within, parts.1)
 
-pub body-known : (p : PlantLists) (train : Train) (i x : ℕ) → IsPlant p → has_valid_body p train ≡ true → slice_get train.body i ≡ Some x → x < length p.sections
+pub body-known : (p : PlantLists) (train : Train) (i x : ℕ) → IsPlant p → train_body_is_valid p train ≡ true → slice_get train.body i ≡ Some x → x < length p.sections
 body-known p train i x plant h at = known train.dir train.body h at
   where
-    known : (d : Dir) (body : List ℕ) → has_valid_body p (record { dir = d; body = body }) ≡ true → slice_get body i ≡ Some x → x < length p.sections
+    known : (d : Dir) (body : List ℕ) → train_body_is_valid p (record { dir = d; body = body }) ≡ true → slice_get body i ≡ Some x → x < length p.sections
     known d [] h at = cc
     known d (y ∷ rest) h at =
         let parts = body-parts p d y rest h in walk-known p plant d y rest i x parts.0 parts.1 at
 
-pub body-once : (p : PlantLists) (train : Train) → NoWalkReturns p → has_valid_body p train ≡ true → EachOnce train.body
+pub body-once : (p : PlantLists) (train : Train) → IsAcyclic p → train_body_is_valid p train ≡ true → EachOnce train.body
 body-once p train never h = once train.dir train.body h
   where
-    once : (d : Dir) (body : List ℕ) → has_valid_body p (record { dir = d; body = body }) ≡ true → EachOnce body
+    once : (d : Dir) (body : List ℕ) → train_body_is_valid p (record { dir = d; body = body }) ≡ true → EachOnce body
     once d [] h = λ i j v at also. cc
     once d (y ∷ rest) h = numbers_differ-places (y ∷ rest) (never d y rest (body-parts p d y rest h).1)
 
@@ -72,7 +72,7 @@ few-below xs n once below =
     let same = eqb-true q found.1 found.3 in let less = below found.0 found.1 found.2 in
     omega arith))
 
-pub walk-short : (p : PlantLists) → IsPlant p → NoWalkReturns p → (d : Dir) (x : ℕ) (walk : List ℕ) → x < length p.sections → is_connected p d x walk ≡ true → length walk < length p.sections
+pub walk-short : (p : PlantLists) → IsPlant p → IsAcyclic p → (d : Dir) (x : ℕ) (walk : List ℕ) → x < length p.sections → is_connected_chain p d x walk ≡ true → length walk < length p.sections
 walk-short p plant never d x walk within on =
     let few = few-below (x ∷ walk) (length p.sections) (numbers_differ-places (x ∷ walk) (never d x walk on)) (λ i y at. walk-known p plant d x walk i y within on at) in
     omega arith
@@ -100,7 +100,7 @@ pub turned-twice : (d : Dir) → opposite_direction (opposite_direction d) ≡ d
 turned-twice Up = refl
 turned-twice Down = refl
 
-pub joined-parts : (p : PlantLists) (lie : ℕ → Option Lie) (x y : ℕ) (d : Dir) → joined_section p lie x d ≡ Some y → (section_ahead p lie x d ≡ Some y) × (section_ahead p lie y (opposite_direction d) ≡ Some x)
+pub joined-parts : (p : PlantLists) (lie : ℕ → Option Lie) (x y : ℕ) (d : Dir) → mutual_section_ahead p lie x d ≡ Some y → (section_ahead p lie x d ≡ Some y) × (section_ahead p lie y (opposite_direction d) ≡ Some x)
 joined-parts p lie x y d e =
     let one = bind_some (section_ahead p lie x d) _ y e in
     let two = bind_some (section_ahead p lie one.0 (opposite_direction d)) _ y one.2 in
@@ -109,10 +109,10 @@ joined-parts p lie x y d e =
     let here : two.0 ≡ x = eqb-true two.0 x three.0 in
     (one.1 ∙ ap Some there, ap (λ v. section_ahead p lie v (opposite_direction d)) (sym there) ∙ two.1 ∙ ap Some here)
 
-pub joined-from : (p : PlantLists) (lie : ℕ → Option Lie) (x y : ℕ) (d : Dir) → section_ahead p lie x d ≡ Some y → section_ahead p lie y (opposite_direction d) ≡ Some x → joined_section p lie x d ≡ Some y
+pub joined-from : (p : PlantLists) (lie : ℕ → Option Lie) (x y : ℕ) (d : Dir) → section_ahead p lie x d ≡ Some y → section_ahead p lie y (opposite_direction d) ≡ Some x → mutual_section_ahead p lie x d ≡ Some y
 joined-from p lie x y d there back = let own : (x == x) ≡ true = eq-eqb x x refl in rw (there, back, own) refl
 
-pub joined-back : (p : PlantLists) (lie : ℕ → Option Lie) (x y : ℕ) (d : Dir) → joined_section p lie x d ≡ Some y → joined_section p lie y (opposite_direction d) ≡ Some x
+pub joined-back : (p : PlantLists) (lie : ℕ → Option Lie) (x y : ℕ) (d : Dir) → mutual_section_ahead p lie x d ≡ Some y → mutual_section_ahead p lie y (opposite_direction d) ≡ Some x
 joined-back p lie x y d e =
     let parts = joined-parts p lie x y d e in
     joined-from p lie y x (opposite_direction d) parts.1 (ap (section_ahead p lie x) (turned-twice d) ∙ parts.0)

@@ -11,7 +11,7 @@ use Rattle.ilk_plant.specs.declared.limits.TheConstants.{MAX_PATH}
 use Rattle.ilk_plant.specs.declared.state.RouteState.{RouteState}
 use Rattle.ilk_plant.specs.declared.state.State.{State}
 use Rattle.ilk_plant.specs.declared.table.Route.{Route}
-use Rattle.ilk_plant.proofs.Shapes.{counts_fit_path-counts}
+use Rattle.ilk_plant.proofs.Shapes.{seen_and_released_fit_path-counts}
 
 pub flat_map-pushed : {X Y : Type 0} (f : X → List Y) (xs : List X) (i : ℕ) (x : X) (start now next : List Y) → slice_get xs i ≡ Some x → now ≡ start ++ flat_map f (take i xs) → next ≡ now ++ f x → next ≡ start ++ flat_map f (take (i + 1) xs)
 flat_map-pushed f xs i x start now next at sofar grown =
@@ -29,6 +29,6 @@ counts-small p s plant shape k d within =
     let at : slice_get s.routes k ≡ Some now = slice_get-get_or s.routes k d within in
     let count = shape.routes in
     let mine : (route : Route) × (slice_get p.routes k ≡ Some route) = item_at p.routes k (omega arith) in
-    let fits = counts_fit_path-counts mine.0 now (shape.counts k mine.0 now mine.1 at) in
+    let fits = seen_and_released_fit_path-counts mine.0 now (shape.counts k mine.0 now mine.1 at) in
     let short = (plant.routes_known k mine.0 mine.1).path_ends in
     (omega (arith, fits.0, short), omega (arith, fits.1, short))

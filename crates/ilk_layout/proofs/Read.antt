@@ -12,7 +12,7 @@ use Rattle.ilk_base.specs.Option.{◌>>=◌}
 use Rattle.ilk_plant.specs.Network.{is_point}
 use Rattle.ilk_plant.specs.Plant.{IsPlant, PlantLists, point_count, point_number}
 use Rattle.ilk_plant.specs.Shape.{HasShape}
-use Rattle.ilk_plant.specs.Sound.{NoWalkReturns}
+use Rattle.ilk_plant.specs.Sound.{IsAcyclic}
 use Rattle.ilk_plant.specs.State.{detected_position}
 use Rattle.ilk_plant.specs.declared.network.Dir.TheVariants.{Up, Down}
 use Rattle.ilk_plant.specs.declared.network.Position.{Position}
@@ -32,16 +32,16 @@ use Rattle.ilk_layout.specs.Decoded.{trains_from_values, trains_of}
 use Rattle.ilk_layout.specs.Image.{image_of, occupancy_values, point_values, route_values}
 use Rattle.ilk_layout.specs.Laws.{ImagesDetermineStates, IsWellFormedAndSafe}
 use Rattle.ilk_layout.specs.Occupancy.{occupancy_of}
-use Rattle.ilk_layout.specs.Values.{aspect_value, hold_value, lie_from_value, lie_value, mode_value, occupancy_from_value, occupancy_value, position_value}
+use Rattle.ilk_layout.specs.Values.{aspect_value, lock_value, detected_from_value, detected_value, mode_value, occupancy_from_value, occupancy_value, commanded_value}
 use Rattle.ilk_layout.specs.Variables.{detected_var}
-use Rattle.ilk_layout.specs.Wellformed.{lie_from_values, occupancy_from_values}
+use Rattle.ilk_layout.specs.Wellformed.{detected_in_values, occupancy_in_values}
 use Rattle.ilk_layout.specs.declared.values.Occupancy.{Occupancy}
 use Rattle.ilk_layout.specs.declared.values.Occupancy.TheVariants.{Vacant, Taken, Crash}
 use Rattle.ilk_layout.proofs.Places.{length-points, length-routes}
 use Rattle.ilk_layout.proofs.Told.{trains-told}
 use Rattle.ilk_layout.proofs.Writes.{at-at, image_with, occupancy-at}
 
-pub lie-back : (l : Lie) → lie_from_value (lie_value l) ≡ Some l
+pub lie-back : (l : Lie) → detected_from_value (detected_value l) ≡ Some l
 lie-back LiesPlus = refl
 lie-back LiesMinus = refl
 lie-back Moving = refl
@@ -58,8 +58,8 @@ occupancy-back (Taken Down true false) = refl
 occupancy-back (Taken Down true true) = refl
 occupancy-back Crash = refl
 
-lie-own : (k l : Lie) → lie_value k ≡ lie_value l → k ≡ l
-lie-own k l e = same_Some k l (sym (lie-back k) ∙ ap lie_from_value e ∙ lie-back l)
+lie-own : (k l : Lie) → detected_value k ≡ detected_value l → k ≡ l
+lie-own k l e = same_Some k l (sym (lie-back k) ∙ ap detected_from_value e ∙ lie-back l)
 
 mode-own : (m n : Mode) → mode_value m ≡ mode_value n → m ≡ n
 mode-own Free Free e = refl
@@ -88,7 +88,7 @@ mode-own Occupied Allocating e = cc
 mode-own Occupied Locked e = cc
 mode-own Occupied Occupied e = refl
 
-position-own : (m n : Position) → position_value m ≡ position_value n → m ≡ n
+position-own : (m n : Position) → commanded_value m ≡ commanded_value n → m ≡ n
 position-own Plus Plus e = refl
 position-own Plus Minus e = cc
 position-own Minus Plus e = cc
@@ -100,7 +100,7 @@ aspect-own Open Closed e = cc
 aspect-own Closed Open e = cc
 aspect-own Closed Closed e = refl
 
-hold-own : (m n : Hold) → hold_value m ≡ hold_value n → m ≡ n
+hold-own : (m n : Hold) → lock_value m ≡ lock_value n → m ≡ n
 hold-own FreeLock FreeLock e = refl
 hold-own FreeLock LockedLock e = cc
 hold-own FreeLock UsedLock e = cc
@@ -139,9 +139,9 @@ points-same [] [] e = refl
 points-same [] (q ∷ qs) e = cc
 points-same (r ∷ rs) [] e = cc
 points-same (r ∷ rs) (q ∷ qs) e =
-    let l : lie_value r.at ≡ lie_value q.at = cc in
+    let l : detected_value r.at ≡ detected_value q.at = cc in
     let at : r.at ≡ q.at = lie-own r.at q.at l in
-    let t : position_value r.to ≡ position_value q.to = cc in
+    let t : commanded_value r.to ≡ commanded_value q.to = cc in
     let to : r.to ≡ q.to = position-own r.to q.to t in
     let later : flat_map point_values rs ≡ flat_map point_values qs = cc in
     let rest : rs ≡ qs = points-same rs qs later in
@@ -164,10 +164,10 @@ number-below p x n e =
     let is = cond_some (is_point section.0) (count_by is_point (take x p.sections)) n section.2 in
     subst (λ k. k < point_count p) is.1 (count_by-take-lt is_point p.sections x section.0 section.1 is.0)
 
-pub lie-read : (p : PlantLists) (s : State) (e : List ℕ) → HasShape p s → (x : ℕ) → lie_from_values p (image_with s e) x ≡ detected_position p s x
+pub lie-read : (p : PlantLists) (s : State) (e : List ℕ) → HasShape p s → (x : ℕ) → detected_in_values p (image_with s e) x ≡ detected_position p s x
 lie-read p s e shape x = by_number (point_number p x) refl
   where
-    by_number : (o : Option ℕ) → point_number p x ≡ o → (o >>= λ n. slice_get (image_with s e) (detected_var p n) >>= λ value. lie_from_value value) ≡ (o >>= λ n. slice_get s.points n >>= λ point. Some point.at)
+    by_number : (o : Option ℕ) → point_number p x ≡ o → (o >>= λ n. slice_get (image_with s e) (detected_var p n) >>= λ value. detected_from_value value) ≡ (o >>= λ n. slice_get s.points n >>= λ point. Some point.at)
     by_number None is = refl
     by_number (Some n) is =
         let less = number-below p x n is in
@@ -175,7 +175,7 @@ lie-read p s e shape x = by_number (point_number p x) refl
         let point : (q : PointState) × (slice_get s.points n ≡ Some q) = item_at s.points n (omega arith) in
         rw (at-at p s e shape n point.0 point.1, point.1) (lie-back point.0.at)
 
-pub occupancy-read : (p : PlantLists) (s : State) → HasShape p s → (x : ℕ) → x < length p.sections → occupancy_from_values p (image_of p s) x ≡ Some (occupancy_of p s x)
+pub occupancy-read : (p : PlantLists) (s : State) → HasShape p s → (x : ℕ) → x < length p.sections → occupancy_in_values p (image_of p s) x ≡ Some (occupancy_of p s x)
 occupancy-read p s shape x within =
     let at : slice_get (occupancy_values p s) x ≡ Some (occupancy_value (occupancy_of p s x)) =
     slice_get-map (λ y. occupancy_value (occupancy_of p s y)) (range_with_len 0 (length p.sections)) x
@@ -183,23 +183,23 @@ occupancy-read p s shape x within =
     in
     ap (λ o. o >>= λ value. occupancy_from_value value) (occupancy-at p s (occupancy_values p s) shape x ∙ at) ∙ occupancy-back (occupancy_of p s x)
 
-pub trains-read : (p : PlantLists) → IsPlant p → NoWalkReturns p → (s : State) → IsWellFormedAndSafe p s → IsPermutation s.trains (trains_from_values p (image_of p s))
+pub trains-read : (p : PlantLists) → IsPlant p → IsAcyclic p → (s : State) → IsWellFormedAndSafe p s → IsPermutation s.trains (trains_from_values p (image_of p s))
 trains-read p plant never s calm =
-    let lies : detected_position p s ≡ lie_from_values p (image_of p s) = λ i x. sym (lie-read p s (occupancy_values p s) calm.shape x) i in
-    let P : (ℕ → Option Lie) → Type 0 = λ lie. IsPermutation s.trains (trains_of p lie (occupancy_from_values p (image_of p s))) in
-    subst P lies (trains-told p plant never s calm.shape calm.no_hazard (occupancy_from_values p (image_of p s)) (occupancy-read p s calm.shape))
+    let lies : detected_position p s ≡ detected_in_values p (image_of p s) = λ i x. sym (lie-read p s (occupancy_values p s) calm.shape x) i in
+    let P : (ℕ → Option Lie) → Type 0 = λ lie. IsPermutation s.trains (trains_of p lie (occupancy_in_values p (image_of p s))) in
+    subst P lies (trains-told p plant never s calm.shape calm.no_hazard (occupancy_in_values p (image_of p s)) (occupancy-read p s calm.shape))
 
-pub images-tell : (p : PlantLists) → IsPlant p → NoWalkReturns p → ImagesDetermineStates p
+pub images-tell : (p : PlantLists) → IsPlant p → IsAcyclic p → ImagesDetermineStates p
 images-tell p plant never s t calm calm_too same =
     let a = front-same (flat_map route_values s.routes) (flat_map route_values t.routes) _ _ (length-routes-of ∙ sym length-routes-too) same in
     let b = front-same (flat_map point_values s.points) (flat_map point_values t.points) _ _ (length-points s.points ∙ ap (λ n. 2 * n) (calm.shape.points ∙ sym calm_too.shape.points) ∙ sym (length-points t.points)) a.1 in
     let c = front-same (map aspect_value s.boards) (map aspect_value t.boards) _ _ (length-map s.boards aspect_value ∙ calm.shape.boards ∙ sym calm_too.shape.boards ∙ sym (length-map t.boards aspect_value)) b.1 in
-    let d = front-same (map hold_value s.locks) (map hold_value t.locks) _ _ (length-map s.locks hold_value ∙ calm.shape.locks ∙ sym calm_too.shape.locks ∙ sym (length-map t.locks hold_value)) c.1 in
+    let d = front-same (map lock_value s.locks) (map lock_value t.locks) _ _ (length-map s.locks lock_value ∙ calm.shape.locks ∙ sym calm_too.shape.locks ∙ sym (length-map t.locks lock_value)) c.1 in
     record {
       routes = sym (routes-same s.routes t.routes a.0);
       points = sym (points-same s.points t.points b.0);
       boards = sym (map-same aspect_value aspect-own s.boards t.boards c.0);
-      locks = sym (map-same hold_value hold-own s.locks t.locks d.0);
+      locks = sym (map-same lock_value hold-own s.locks t.locks d.0);
       trains =
           (let mine = trains-read p plant never s calm in
           let other = trains-read p plant never t calm_too in

@@ -11,14 +11,14 @@ use Rattle.ilk_base.proofs.Once.{EachOnce}
 use Rattle.ilk_base.proofs.Ranges.{below_or_past, range-at}
 use Rattle.ilk_plant.specs.Network.{has_section}
 use Rattle.ilk_plant.specs.Plant.{IsPlant, PlantLists}
-use Rattle.ilk_plant.specs.Shape.{has_valid_body}
-use Rattle.ilk_plant.specs.Sound.{NoWalkReturns}
+use Rattle.ilk_plant.specs.Shape.{train_body_is_valid}
+use Rattle.ilk_plant.specs.Sound.{IsAcyclic}
 use Rattle.ilk_plant.specs.declared.state.State.{State}
 use Rattle.ilk_plant.specs.declared.state.Train.{Train}
 use Rattle.ilk_plant.proofs.InLists.{section-at}
 use Rattle.ilk_model.proofs.SharedSections.{has_more}
 use Rattle.ilk_layout.specs.Occupancy.{occupancy_of}
-use Rattle.ilk_layout.specs.Standing.{after_taking, with_train_on, HasTrainAdded}
+use Rattle.ilk_layout.specs.Standing.{occupancy_after_adding, occupancy_with_train_on, HasTrainAdded}
 use Rattle.ilk_layout.specs.declared.values.Occupancy.{Occupancy}
 use Rattle.ilk_layout.specs.declared.values.Occupancy.TheVariants.{Vacant}
 use Rattle.ilk_layout.proofs.Bodies.{first-at, last-at}
@@ -43,13 +43,13 @@ not-yet body i x once at =
 pub begun : (p : PlantLists) (s : State) (train : Train) (before : List Occupancy) → HasTrainAdded p s train (take 0 train.body) before before
 begun p s train before x = same train.body (slice_get before x)
   where
-    same : (body : List ℕ) (o : Option Occupancy) → o ≡ option_map (with_train_on p s train (take 0 body) x) o
+    same : (body : List ℕ) (o : Option Occupancy) → o ≡ option_map (occupancy_with_train_on p s train (take 0 body) x) o
     same [] None = refl
     same (y ∷ body) None = refl
     same [] (Some u) = refl
     same (y ∷ body) (Some u) = refl
 
-gone_same : (p : PlantLists) (s : State) (train : Train) (g h : List ℕ) (y : ℕ) → has_section y g ≡ has_section y h → (o : Option Occupancy) → option_map (with_train_on p s train g y) o ≡ option_map (with_train_on p s train h y) o
+gone_same : (p : PlantLists) (s : State) (train : Train) (g h : List ℕ) (y : ℕ) → has_section y g ≡ has_section y h → (o : Option Occupancy) → option_map (occupancy_with_train_on p s train g y) o ≡ option_map (occupancy_with_train_on p s train h y) o
 gone_same p s train g h y same None = refl
 gone_same p s train g h y same (Some u) = rw same refl
 
@@ -58,14 +58,14 @@ pub gone_on :
     (p : PlantLists) (s : State) (train : Train) (i x : ℕ) (u : Occupancy) (before now : List Occupancy) →
     EachOnce train.body → slice_get train.body i ≡ Some x → slice_get now x ≡ Some u →
     HasTrainAdded p s train (take i train.body) before now →
-    HasTrainAdded p s train (take (i + 1) train.body) before (set now x (after_taking p s train x i u))
+    HasTrainAdded p s train (take (i + 1) train.body) before (set now x (occupancy_after_adding p s train x i u))
 gone_on p s train i x u before now once at here with_front y =
     elim (cases_eq x y) [
       | inl same ↦
-          (let P : ℕ → Type 0 = λ v. slice_get (set now x (after_taking p s train x i u)) v ≡ option_map (with_train_on p s train (take (i + 1) train.body) v) (slice_get before v) in
-          subst P same (slice_get-set_same now x (after_taking p s train x i u) (slice_get_within now x u here) ∙ mine (slice_get before x) (sym here ∙ with_front x)))
+          (let P : ℕ → Type 0 = λ v. slice_get (set now x (occupancy_after_adding p s train x i u)) v ≡ option_map (occupancy_with_train_on p s train (take (i + 1) train.body) v) (slice_get before v) in
+          subst P same (slice_get-set_same now x (occupancy_after_adding p s train x i u) (slice_get_within now x u here) ∙ mine (slice_get before x) (sym here ∙ with_front x)))
       | inr other ↦
-          slice_get-set_other now x y (after_taking p s train x i u) other ∙ with_front y
+          slice_get-set_other now x y (occupancy_after_adding p s train x i u) other ∙ with_front y
           ∙ sym (let same : has_section y (take (i + 1) train.body) ≡ has_section y (take i train.body) =
           has_more y train.body i x (slice_get_within train.body i x at)
           ∙ (let differs : (get_or train.body i x == y) ≡ false = ap (λ v. v == y) (get_or_from_slice_get train.body i x x at) ∙ ne_eqb x y other in ap (λ b. has_section y (take i train.body) || b) differs)
@@ -83,7 +83,7 @@ gone_on p s train i x u before now once at here with_front y =
         or_true true = refl
         or_true false = refl
 
-    mine : (o : Option Occupancy) → Some u ≡ option_map (with_train_on p s train (take i train.body) x) o → Some (after_taking p s train x i u) ≡ option_map (with_train_on p s train (take (i + 1) train.body) x) o
+    mine : (o : Option Occupancy) → Some u ≡ option_map (occupancy_with_train_on p s train (take i train.body) x) o → Some (occupancy_after_adding p s train x i u) ≡ option_map (occupancy_with_train_on p s train (take (i + 1) train.body) x) o
     mine None e = cc
     mine (Some w) e =
         let none : has_section x (take i train.body) ≡ false = not-yet train.body i x once at in
@@ -91,7 +91,7 @@ gone_on p s train i x u before now once at here with_front y =
         let first = first-at train.body i x once at in
         let last = last-at train.body i x once at in
         let wrong = wrong-at p s train.body i x once at in
-        rw (has, first, last, wrong) (ap (λ v. Some (after_taking p s train x i v)) same)
+        rw (has, first, last, wrong) (ap (λ v. Some (occupancy_after_adding p s train x i v)) same)
 
 pub train_added : (p : PlantLists) (s : State) (ts : List Train) (t : Train) (before now : List Occupancy) →
     before ≡ map (occupancy_of p (with_trains s ts)) (range_with_len 0 (length p.sections)) →
@@ -104,12 +104,12 @@ train_added p s ts t before now is added = same_by_slice_get now (map (occupancy
 
     at : (x : ℕ) → slice_get now x ≡ slice_get (map (occupancy_of p (with_trains s (ts ++ t ∷ []))) (range_with_len 0 (length p.sections))) x
     at x =
-        added x ∙ ap (λ l. option_map (with_train_on p s t t.body x) (slice_get l x)) is
-        ∙ ap (option_map (with_train_on p s t t.body x)) (slice_get-map (occupancy_of p (with_trains s ts)) (range_with_len 0 (length p.sections)) x)
+        added x ∙ ap (λ l. option_map (occupancy_with_train_on p s t t.body x) (slice_get l x)) is
+        ∙ ap (option_map (occupancy_with_train_on p s t t.body x)) (slice_get-map (occupancy_of p (with_trains s ts)) (range_with_len 0 (length p.sections)) x)
         ∙ elim (below_or_past x (length p.sections)) [
           | inl below ↦ (let number = range-at (length p.sections) x below in
               ap
-              (λ o. option_map (with_train_on p s t t.body x)
+              (λ o. option_map (occupancy_with_train_on p s t t.body x)
               (option_map (occupancy_of p (with_trains s ts)) o)) number
               ∙ ap Some (sym (occupancy-more p s ts t x))
               ∙ sym
@@ -118,7 +118,7 @@ train_added p s ts t before now is added = same_by_slice_get now (map (occupancy
               ∙ ap (option_map (occupancy_of p (with_trains s (ts ++ t ∷ [])))) number))
           | inr past ↦ (let none : slice_get (range_with_len 0 (length p.sections)) x ≡ None = slice_get_past (range_with_len 0 (length p.sections)) x (let long = length-range_with_len 0 (length p.sections) in omega arith) in
               ap
-              (λ o. option_map (with_train_on p s t t.body x)
+              (λ o. option_map (occupancy_with_train_on p s t t.body x)
               (option_map (occupancy_of p (with_trains s ts)) o)) none
               ∙ sym
               (slice_get-map (occupancy_of p (with_trains s (ts ++ t ∷ [])))
@@ -126,28 +126,28 @@ train_added p s ts t before now is added = same_by_slice_get now (map (occupancy
               ∙ ap (option_map (occupancy_of p (with_trains s (ts ++ t ∷ [])))) none))
         ]
 
-pub section_at : (p : PlantLists) (train : Train) (i : ℕ) (items : List ℕ) → IsPlant p → has_valid_body p train ≡ true → items ≡ train.body → i < length items
+pub section_at : (p : PlantLists) (train : Train) (i : ℕ) (items : List ℕ) → IsPlant p → train_body_is_valid p train ≡ true → items ≡ train.body → i < length items
     → (get_or items i 0 < length p.sections) × (slice_get train.body i ≡ Some (get_or items i 0))
 section_at p train i items plant h is within =
     let at : slice_get train.body i ≡ Some (get_or items i 0) = ap (λ l. slice_get l i) (sym is) ∙ slice_get-get_or items i 0 within in
     (body-known p train i (get_or items i 0) plant h at, at)
 
-pub section_known : (p : PlantLists) (train : Train) (i : ℕ) (items : List ℕ) → IsPlant p → has_valid_body p train ≡ true → items ≡ train.body → i < length items → get_or train.body i 0 < length p.sections
+pub section_known : (p : PlantLists) (train : Train) (i : ℕ) (items : List ℕ) → IsPlant p → train_body_is_valid p train ≡ true → items ≡ train.body → i < length items → get_or train.body i 0 < length p.sections
 section_known p train i items plant h is within =
     let P : List ℕ → Type 0 = λ l. get_or l i 0 < length p.sections in
     subst P is (section_at p train i items plant h is within).0
 
 pub put_on :
     (p : PlantLists) (s : State) (train : Train) (i : ℕ) (items : List ℕ) (u v : Occupancy)
-    (before now : List Occupancy) → IsPlant p → NoWalkReturns p →
-    has_valid_body p train ≡ true → items ≡ train.body → i < length items →
-    slice_get now (get_or items i 0) ≡ Some u → v ≡ after_taking p s train (get_or train.body i 0) i u →
+    (before now : List Occupancy) → IsPlant p → IsAcyclic p →
+    train_body_is_valid p train ≡ true → items ≡ train.body → i < length items →
+    slice_get now (get_or items i 0) ≡ Some u → v ≡ occupancy_after_adding p s train (get_or train.body i 0) i u →
     HasTrainAdded p s train (take i train.body) before now →
     HasTrainAdded p s train (take (i + 1) train.body) before (set now (get_or items i 0) v)
 put_on p s train i items u v before now plant never h is within here after with_front =
     let x = get_or items i 0 in
     let at : slice_get train.body i ≡ Some x = (section_at p train i items plant h is within).1 in
-    let same : v ≡ after_taking p s train x i u = after ∙ ap (λ l. after_taking p s train (get_or l i 0) i u) (sym is) in
+    let same : v ≡ occupancy_after_adding p s train x i u = after ∙ ap (λ l. occupancy_after_adding p s train (get_or l i 0) i u) (sym is) in
     let P : Occupancy → Type 0 = λ w. HasTrainAdded p s train (take (i + 1) train.body) before (set now x w) in
     subst P (sym same) (gone_on p s train i x u before now (body-once p train never h) at here with_front)
 

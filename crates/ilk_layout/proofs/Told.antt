@@ -11,18 +11,18 @@ use Rattle.ilk_base.proofs.Ranges.{range-at, range_within}
 use Rattle.ilk_plant.specs.Network.{has_section}
 use Rattle.ilk_plant.specs.NetworkRules.{opposite_direction}
 use Rattle.ilk_plant.specs.Plant.{IsPlant, PlantLists}
-use Rattle.ilk_plant.specs.Shape.{HasShape, has_valid_body}
-use Rattle.ilk_plant.specs.Sound.{NoWalkReturns}
+use Rattle.ilk_plant.specs.Shape.{HasShape, train_body_is_valid}
+use Rattle.ilk_plant.specs.Sound.{IsAcyclic}
 use Rattle.ilk_plant.specs.State.{detected_position}
 use Rattle.ilk_plant.specs.declared.network.Dir.{Dir}
 use Rattle.ilk_plant.specs.declared.state.State.{State}
 use Rattle.ilk_plant.specs.declared.state.Train.{Train}
 use Rattle.ilk_plant.proofs.InLists.{section-from}
 use Rattle.ilk_plant.proofs.Alike.{own_direction}
-use Rattle.ilk_model.specs.Hazard.{hazard, is_hazardous}
-use Rattle.ilk_layout.specs.Decoded.{follow_steps, following_section, section_ahead_in_body, train_from_tail, trains_of}
-use Rattle.ilk_layout.specs.Occupancy.{occupancy_of, taken_by_any}
-use Rattle.ilk_layout.specs.Wellformed.{has_more_ahead, has_more_behind, joined_section, section_fits}
+use Rattle.ilk_model.specs.Hazard.{hazard, is_section_hazardous}
+use Rattle.ilk_layout.specs.Decoded.{follow_steps, next_body_section, section_ahead_in_body, train_from_tail, trains_of}
+use Rattle.ilk_layout.specs.Occupancy.{occupancy_of, occupancy_by_train_if_any}
+use Rattle.ilk_layout.specs.Wellformed.{has_more_ahead, has_more_behind, mutual_section_ahead, occupancy_is_consistent}
 use Rattle.ilk_layout.specs.declared.values.Occupancy.{Occupancy}
 use Rattle.ilk_layout.specs.declared.values.Occupancy.TheVariants.{Vacant, Taken, Crash}
 use Rattle.ilk_layout.proofs.Calm.{alone, body-of, calm-at, joined-in, not_moving, occupancy-in, taken-in}
@@ -38,12 +38,12 @@ taken_is e = (cc, cc, cc)
 pub train-is : (p : PlantLists) (lie : ℕ → _) (occupancy : ℕ → Option Occupancy) (x : ℕ) (u : Train) →
     train_from_tail p lie occupancy x (occupancy x) ≡ Some u →
     (d : Dir) × (head : Bool) × (occupancy x ≡ Some (Taken d true head)) ×
-    (record { dir = d; body = x ∷ follow_steps (length p.sections) (following_section p lie occupancy) x } ≡ u)
+    (record { dir = d; body = x ∷ follow_steps (length p.sections) (next_body_section p lie occupancy) x } ≡ u)
 train-is p lie occupancy x u e = by_occupancy (occupancy x) refl e
   where
     by_occupancy : (o : Option Occupancy) → occupancy x ≡ o → train_from_tail p lie occupancy x o ≡ Some u →
         (d : Dir) × (head : Bool) × (occupancy x ≡ Some (Taken d true head)) ×
-        (record { dir = d; body = x ∷ follow_steps (length p.sections) (following_section p lie occupancy) x } ≡ u)
+        (record { dir = d; body = x ∷ follow_steps (length p.sections) (next_body_section p lie occupancy) x } ≡ u)
     by_occupancy None is e = cc
     by_occupancy (Some Vacant) is e = cc
     by_occupancy (Some Crash) is e = cc
@@ -63,7 +63,7 @@ trains-once p lie occupancy =
     range-once : EachOnce (range_with_len 0 (length p.sections))
     range-once i j x at also = let one = (range_within (length p.sections) i x at).0 in let two = (range_within (length p.sections) j x also).0 in omega arith
 
-module _ (p : PlantLists) (plant : IsPlant p) (never : NoWalkReturns p) (s : State) (shape : HasShape p s)
+module _ (p : PlantLists) (plant : IsPlant p) (never : IsAcyclic p) (s : State) (shape : HasShape p s)
     (calm : hazard p s ≡ None) (occupancy : ℕ → Option Occupancy)
     (told : (x : ℕ) → x < length p.sections → occupancy x ≡ Some (occupancy_of p s x)) where
   told-in : (i k x : ℕ) (t : Train) → slice_get s.trains i ≡ Some t → slice_get t.body k ≡ Some x → occupancy x ≡ Some (Taken t.dir (k == 0) (k + 1 == length t.body))
@@ -76,12 +76,12 @@ module _ (p : PlantLists) (plant : IsPlant p) (never : NoWalkReturns p) (s : Sta
   before-taken : (k n : ℕ) (d : Dir) (tail : Bool) → suc k < n → has_more_ahead d (Taken d tail (k + 1 == n)) ≡ true
   before-taken k n d tail less = let no_head : (k + 1 == n) ≡ false = ne_eqb (k + 1) n (λ e. absurd (omega arith)) in rw (no_head, own_direction d) refl
 
-  -- The conditions of `section_fits`, at an index of a body.
+  -- The conditions of `occupancy_is_consistent`, at an index of a body.
   head_fits : (i k x : ℕ) (t : Train) → slice_get s.trains i ≡ Some t → slice_get t.body k ≡ Some x
-      → ((k + 1 == length t.body) || is_some_and (joined_section p (detected_position p s) x t.dir) (λ y. is_some_and (occupancy y) (has_more_behind t.dir))) ≡ true
+      → ((k + 1 == length t.body) || is_some_and (mutual_section_ahead p (detected_position p s) x t.dir) (λ y. is_some_and (occupancy y) (has_more_behind t.dir))) ≡ true
   head_fits i k x t at here = by_head (k + 1 == length t.body) refl
     where
-      by_head : (b : Bool) → (k + 1 == length t.body) ≡ b → (b || is_some_and (joined_section p (detected_position p s) x t.dir) (λ y. is_some_and (occupancy y) (has_more_behind t.dir))) ≡ true
+      by_head : (b : Bool) → (k + 1 == length t.body) ≡ b → (b || is_some_and (mutual_section_ahead p (detected_position p s) x t.dir) (λ y. is_some_and (occupancy y) (has_more_behind t.dir))) ≡ true
       by_head true e = refl
       by_head false e =
           let within = slice_get_within t.body k x here in
@@ -92,7 +92,7 @@ module _ (p : PlantLists) (plant : IsPlant p) (never : NoWalkReturns p) (s : Sta
           rw (joined, there) (next-taken k t.dir (suc k + 1 == length t.body))
 
   tail_fits : (i k x : ℕ) (t : Train) → slice_get s.trains i ≡ Some t → slice_get t.body k ≡ Some x
-      → ((k == 0) || is_some_and (joined_section p (detected_position p s) x (opposite_direction t.dir)) (λ y. is_some_and (occupancy y) (has_more_ahead t.dir))) ≡ true
+      → ((k == 0) || is_some_and (mutual_section_ahead p (detected_position p s) x (opposite_direction t.dir)) (λ y. is_some_and (occupancy y) (has_more_ahead t.dir))) ≡ true
   tail_fits i zero x t at here = refl
   tail_fits i (suc k) x t at here =
       let within = slice_get_within t.body (suc k) x here in
@@ -102,17 +102,17 @@ module _ (p : PlantLists) (plant : IsPlant p) (never : NoWalkReturns p) (s : Sta
       let no_tail : (suc k == 0) ≡ false = ne_eqb (suc k) 0 (λ e. absurd (omega arith)) in
       rw (no_tail, joined, there) (before-taken k (length t.body) t.dir (k == 0) within)
 
-  pub told-fits : (x : ℕ) → x < length p.sections → section_fits p (detected_position p s) occupancy x (occupancy x) ≡ true
-  told-fits x within = let P : Option Occupancy → Type 0 = λ o. section_fits p (detected_position p s) occupancy x o ≡ true in subst P (sym (told x within)) (by_occupancy (occupancy_of p s x) refl)
+  pub told-fits : (x : ℕ) → x < length p.sections → occupancy_is_consistent p (detected_position p s) occupancy x (occupancy x) ≡ true
+  told-fits x within = let P : Option Occupancy → Type 0 = λ o. occupancy_is_consistent p (detected_position p s) occupancy x o ≡ true in subst P (sym (told x within)) (by_occupancy (occupancy_of p s x) refl)
     where
-      crashed : is_hazardous p s x ≡ false → occupancy_of p s x ≡ Crash → ⊥
+      crashed : is_section_hazardous p s x ≡ false → occupancy_of p s x ≡ Crash → ⊥
       crashed safe e = by_found (find (has_x x) s.trains) (rw safe at e)
         where
-          by_found : (o : Option Train) → taken_by_any x o ≡ Crash → ⊥
+          by_found : (o : Option Train) → occupancy_by_train_if_any x o ≡ Crash → ⊥
           by_found None f = cc
           by_found (Some t) f = cc
 
-      by_occupancy : (o : Occupancy) → occupancy_of p s x ≡ o → section_fits p (detected_position p s) occupancy x (Some o) ≡ true
+      by_occupancy : (o : Occupancy) → occupancy_of p s x ≡ o → occupancy_is_consistent p (detected_position p s) occupancy x (Some o) ≡ true
       by_occupancy Vacant e = refl
       by_occupancy Crash e = absurd (crashed (calm-at p s x calm within) e)
       by_occupancy (Taken d tail head) e =
@@ -121,12 +121,12 @@ module _ (p : PlantLists) (plant : IsPlant p) (never : NoWalkReturns p) (s : Sta
           let t = at.1 in
           let k = at.2 in
           let same : Taken t.dir (k == 0) (k + 1 == length t.body) ≡ Taken d tail head = sym (occupancy-in p plant never s shape calm i k x t at.3 at.4) ∙ e in
-          let P : Occupancy → Type 0 = λ o. section_fits p (detected_position p s) occupancy x (Some o) ≡ true in
+          let P : Occupancy → Type 0 = λ o. occupancy_is_consistent p (detected_position p s) occupancy x (Some o) ≡ true in
           subst P same (and_from _ _ (and_from _ _ (not_moving p plant never s shape calm i k x t at.3 at.4) (head_fits i k x t at.3 at.4)) (tail_fits i k x t at.3 at.4))
 
   chain-from : (i k a : ℕ) (t : Train) (rest : List ℕ) → slice_get s.trains i ≡ Some t →
       ((j y : ℕ) → slice_get (a ∷ rest) j ≡ Some y → slice_get t.body (k + j) ≡ Some y) →
-      k + length (a ∷ rest) ≡ length t.body → IsChain (following_section p (detected_position p s) occupancy) a rest
+      k + length (a ∷ rest) ≡ length t.body → IsChain (next_body_section p (detected_position p s) occupancy) a rest
   chain-from i k a t [] at part long =
       let here : slice_get t.body k ≡ Some a = (let n : k + 0 ≡ k = omega arith in ap (slice_get t.body) (sym n) ∙ part 0 a refl) in
       let last : (k + 1 == length t.body) ≡ true = eq-eqb (k + 1) (length t.body) (omega arith) in
@@ -144,13 +144,13 @@ module _ (p : PlantLists) (plant : IsPlant p) (never : NoWalkReturns p) (s : Sta
       let here : slice_get t.body 0 ≡ Some a = ap (λ body. slice_get body 0) is in
       let body = body-of p plant never s shape calm i t at in
       let taken : occupancy a ≡ Some (Taken t.dir true (0 + 1 == length t.body)) = told-in i 0 a t at here in
-      let chain : IsChain (following_section p (detected_position p s) occupancy) a rest = chain-from i 0 a t rest at
+      let chain : IsChain (next_body_section p (detected_position p s) occupancy) a rest = chain-from i 0 a t rest at
       (λ j y found.
       (let n : 0 + j ≡ j = omega arith in
       ap (slice_get t.body) n ∙ ap (λ body. slice_get body j) is ∙ found))
       (ap (λ n. n) (let long = ap length is in omega arith)) in
-      let whole : IsChain (following_section p (detected_position p s) occupancy) a (follow_steps (length p.sections) (following_section p (detected_position p s) occupancy) a) =
-      chased (length p.sections) (IsTaken p occupancy) (following_section p (detected_position p s) occupancy) _
+      let whole : IsChain (next_body_section p (detected_position p s) occupancy) a (follow_steps (length p.sections) (next_body_section p (detected_position p s) occupancy) a) =
+      chased (length p.sections) (IsTaken p occupancy) (next_body_section p (detected_position p s) occupancy) _
       (tracks p plant never (detected_position p s) occupancy told-fits) a
       (record {
         dir = t.dir;
@@ -159,13 +159,13 @@ module _ (p : PlantLists) (plant : IsPlant p) (never : NoWalkReturns p) (s : Sta
         within = body-known p t 0 a plant body here;
         is = taken;
       }) in
-      let same : follow_steps (length p.sections) (following_section p (detected_position p s) occupancy) a ≡ rest = chain-same (following_section p (detected_position p s) occupancy) a _ rest whole chain in
+      let same : follow_steps (length p.sections) (next_body_section p (detected_position p s) occupancy) a ≡ rest = chain-same (next_body_section p (detected_position p s) occupancy) a _ rest whole chain in
       ap (train_from_tail p (detected_position p s) occupancy a) taken ∙ ap (λ r. Some (record { dir = t.dir; body = a ∷ r })) same ∙ ap (λ b. Some (record { dir = t.dir; body = b })) (sym is)
 
   body-begins : (i : ℕ) (t : Train) → slice_get s.trains i ≡ Some t → (a : ℕ) × (rest : List ℕ) × (t.body ≡ a ∷ rest)
   body-begins i t at = begins t.dir t.body (body-of p plant never s shape calm i t at)
     where
-      begins : (d : Dir) (body : List ℕ) → has_valid_body p (record { dir = d; body = body }) ≡ true → (a : ℕ) × (rest : List ℕ) × (body ≡ a ∷ rest)
+      begins : (d : Dir) (body : List ℕ) → train_body_is_valid p (record { dir = d; body = body }) ≡ true → (a : ℕ) × (rest : List ℕ) × (body ≡ a ∷ rest)
       begins d [] h = cc
       begins d (a ∷ rest) h = (a, rest, refl)
 

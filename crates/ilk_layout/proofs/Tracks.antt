@@ -7,14 +7,14 @@ use Rattle.ilk_base.proofs.Options.{some-and}
 use Rattle.ilk_plant.specs.Network.{has_section, same_direction}
 use Rattle.ilk_plant.specs.NetworkRules.{opposite_direction}
 use Rattle.ilk_plant.specs.Plant.{IsPlant, PlantLists, next_to}
-use Rattle.ilk_plant.specs.Shape.{is_connected}
-use Rattle.ilk_plant.specs.Sound.{NoWalkReturns}
+use Rattle.ilk_plant.specs.Shape.{is_connected_chain}
+use Rattle.ilk_plant.specs.Sound.{IsAcyclic}
 use Rattle.ilk_plant.specs.declared.network.Dir.{Dir}
 use Rattle.ilk_plant.specs.declared.state.Lie.{Lie}
 use Rattle.ilk_plant.proofs.Alike.{one_direction}
-use Rattle.ilk_routes.specs.Lies.{is_moving}
-use Rattle.ilk_layout.specs.Decoded.{preceding_section, section_behind_in_body, following_section, section_ahead_in_body}
-use Rattle.ilk_layout.specs.Wellformed.{has_more_ahead, has_more_behind, joined_section, section_fits}
+use Rattle.ilk_routes.specs.Lies.{is_detected_moving}
+use Rattle.ilk_layout.specs.Decoded.{previous_body_section, section_behind_in_body, next_body_section, section_ahead_in_body}
+use Rattle.ilk_layout.specs.Wellformed.{has_more_ahead, has_more_behind, mutual_section_ahead, occupancy_is_consistent}
 use Rattle.ilk_layout.specs.declared.values.Occupancy.{Occupancy}
 use Rattle.ilk_layout.specs.declared.values.Occupancy.TheVariants.{Vacant, Taken, Crash}
 use Rattle.ilk_layout.proofs.Chains.{GoesBack, IsWalk}
@@ -50,95 +50,95 @@ more-ahead d (Taken e tail head) h =
     (tail, ap (λ v. Taken v tail head) same ∙ ap (λ k. Taken d tail k) no_head)
 
 module _ (p : PlantLists) (lie : ℕ → Option Lie) (occupancy : ℕ → Option Occupancy) where
-  pub following_section-is : (x y : ℕ) → following_section p lie occupancy x ≡ Some y → (d : Dir) × (tail : Bool) × (occupancy x ≡ Some (Taken d tail false)) × (joined_section p lie x d ≡ Some y)
-  following_section-is x y e = by_occupancy (occupancy x) refl e
+  pub next_body_section-is : (x y : ℕ) → next_body_section p lie occupancy x ≡ Some y → (d : Dir) × (tail : Bool) × (occupancy x ≡ Some (Taken d tail false)) × (mutual_section_ahead p lie x d ≡ Some y)
+  next_body_section-is x y e = by_occupancy (occupancy x) refl e
     where
-      by_occupancy : (o : Option Occupancy) → occupancy x ≡ o → section_ahead_in_body p lie x o ≡ Some y → (d : Dir) × (tail : Bool) × (occupancy x ≡ Some (Taken d tail false)) × (joined_section p lie x d ≡ Some y)
+      by_occupancy : (o : Option Occupancy) → occupancy x ≡ o → section_ahead_in_body p lie x o ≡ Some y → (d : Dir) × (tail : Bool) × (occupancy x ≡ Some (Taken d tail false)) × (mutual_section_ahead p lie x d ≡ Some y)
       by_occupancy None is e = cc
       by_occupancy (Some Vacant) is e = cc
       by_occupancy (Some Crash) is e = cc
       by_occupancy (Some (Taken d tail true)) is e = cc
       by_occupancy (Some (Taken d tail false)) is e = (d, tail, is, e)
 
-  pub preceding_section-is : (x y : ℕ) → preceding_section p lie occupancy x ≡ Some y → (d : Dir) × (head : Bool) × (occupancy x ≡ Some (Taken d false head)) × (joined_section p lie x (opposite_direction d) ≡ Some y)
-  preceding_section-is x y e = by_occupancy (occupancy x) refl e
+  pub previous_body_section-is : (x y : ℕ) → previous_body_section p lie occupancy x ≡ Some y → (d : Dir) × (head : Bool) × (occupancy x ≡ Some (Taken d false head)) × (mutual_section_ahead p lie x (opposite_direction d) ≡ Some y)
+  previous_body_section-is x y e = by_occupancy (occupancy x) refl e
     where
-      by_occupancy : (o : Option Occupancy) → occupancy x ≡ o → section_behind_in_body p lie x o ≡ Some y → (d : Dir) × (head : Bool) × (occupancy x ≡ Some (Taken d false head)) × (joined_section p lie x (opposite_direction d) ≡ Some y)
+      by_occupancy : (o : Option Occupancy) → occupancy x ≡ o → section_behind_in_body p lie x o ≡ Some y → (d : Dir) × (head : Bool) × (occupancy x ≡ Some (Taken d false head)) × (mutual_section_ahead p lie x (opposite_direction d) ≡ Some y)
       by_occupancy None is e = cc
       by_occupancy (Some Vacant) is e = cc
       by_occupancy (Some Crash) is e = cc
       by_occupancy (Some (Taken d true head)) is e = cc
       by_occupancy (Some (Taken d false head)) is e = (d, head, is, e)
 
-module _ (p : PlantLists) (plant : IsPlant p) (never : NoWalkReturns p) (lie : ℕ → Option Lie) (occupancy : ℕ → Option Occupancy) (fits : (x : ℕ) → x < length p.sections → section_fits p lie occupancy x (occupancy x) ≡ true) where
+module _ (p : PlantLists) (plant : IsPlant p) (never : IsAcyclic p) (lie : ℕ → Option Lie) (occupancy : ℕ → Option Occupancy) (fits : (x : ℕ) → x < length p.sections → occupancy_is_consistent p lie occupancy x (occupancy x) ≡ true) where
   pub demands : (x : ℕ) (d : Dir) (tail head : Bool) → x < length p.sections →
       occupancy x ≡ Some (Taken d tail head) →
-      (not (is_some_and (lie x) is_moving) ≡ true) ×
-      ((head || is_some_and (joined_section p lie x d) (λ y. is_some_and (occupancy y) (has_more_behind d)))
+      (not (is_some_and (lie x) is_detected_moving) ≡ true) ×
+      ((head || is_some_and (mutual_section_ahead p lie x d) (λ y. is_some_and (occupancy y) (has_more_behind d)))
       ≡ true) ×
       ((tail
-      || is_some_and (joined_section p lie x (opposite_direction d))
+      || is_some_and (mutual_section_ahead p lie x (opposite_direction d))
       (λ y. is_some_and (occupancy y) (has_more_ahead d))) ≡ true)
   demands x d tail head within is =
-      let P : Option Occupancy → Type 0 = λ o. section_fits p lie occupancy x o ≡ true in
+      let P : Option Occupancy → Type 0 = λ o. occupancy_is_consistent p lie occupancy x o ≡ true in
       let all = subst P is (fits x within) in
       let two = and_parts _ _ all in
       let one = and_parts _ _ two.0 in
       (one.0, one.1, two.1)
 
-  pub step-forth : (x y : ℕ) → x < length p.sections → following_section p lie occupancy x ≡ Some y →
+  pub step-forth : (x y : ℕ) → x < length p.sections → next_body_section p lie occupancy x ≡ Some y →
       (d : Dir) × (tail head : Bool) × (occupancy x ≡ Some (Taken d tail false)) ×
-      (joined_section p lie x d ≡ Some y) × (y < length p.sections) × (has_section y (next_to p x d) ≡ true) ×
+      (mutual_section_ahead p lie x d ≡ Some y) × (y < length p.sections) × (has_section y (next_to p x d) ≡ true) ×
       (occupancy y ≡ Some (Taken d false head))
   step-forth x y within e =
-      let at : (d : Dir) × (tail : Bool) × (occupancy x ≡ Some (Taken d tail false)) × (joined_section p lie x d ≡ Some y) = following_section-is p lie occupancy x y e in
+      let at : (d : Dir) × (tail : Bool) × (occupancy x ≡ Some (Taken d tail false)) × (mutual_section_ahead p lie x d ≡ Some y) = next_body_section-is p lie occupancy x y e in
       let d = at.0 in
-      let next = some-and (joined_section p lie x d) (λ z. is_some_and (occupancy z) (has_more_behind d)) (demands x d at.1 false within at.2).1 in
+      let next = some-and (mutual_section_ahead p lie x d) (λ z. is_some_and (occupancy z) (has_more_behind d)) (demands x d at.1 false within at.2).1 in
       let o = some-and (occupancy next.0) (has_more_behind d) next.2 in
       let behind = more-behind d o.0 o.2 in
       let same : next.0 ≡ y = same_Some next.0 y (sym next.1 ∙ at.3) in
       let beside = ahead-neighbours_on p lie x y d (joined-parts p lie x y d at.3).0 in
       (d, at.1, behind.0, at.2, at.3, plant.neighbours x y d beside.1, beside.1, ap occupancy (sym same) ∙ o.1 ∙ ap Some behind.1)
 
-  pub step-back : (x y : ℕ) → x < length p.sections → preceding_section p lie occupancy x ≡ Some y →
+  pub step-back : (x y : ℕ) → x < length p.sections → previous_body_section p lie occupancy x ≡ Some y →
       (d : Dir) × (tail head : Bool) × (occupancy x ≡ Some (Taken d false head)) ×
-      (joined_section p lie x (opposite_direction d) ≡ Some y) × (y < length p.sections) ×
+      (mutual_section_ahead p lie x (opposite_direction d) ≡ Some y) × (y < length p.sections) ×
       (has_section y (next_to p x (opposite_direction d)) ≡ true) ×
       (occupancy y ≡ Some (Taken d tail false))
   step-back x y within e =
-      let at : (d : Dir) × (head : Bool) × (occupancy x ≡ Some (Taken d false head)) × (joined_section p lie x (opposite_direction d) ≡ Some y) = preceding_section-is p lie occupancy x y e in
+      let at : (d : Dir) × (head : Bool) × (occupancy x ≡ Some (Taken d false head)) × (mutual_section_ahead p lie x (opposite_direction d) ≡ Some y) = previous_body_section-is p lie occupancy x y e in
       let d = at.0 in
-      let before = some-and (joined_section p lie x (opposite_direction d)) (λ z. is_some_and (occupancy z) (has_more_ahead d)) (demands x d false at.1 within at.2).2 in
+      let before = some-and (mutual_section_ahead p lie x (opposite_direction d)) (λ z. is_some_and (occupancy z) (has_more_ahead d)) (demands x d false at.1 within at.2).2 in
       let o = some-and (occupancy before.0) (has_more_ahead d) before.2 in
       let ahead = more-ahead d o.0 o.2 in
       let same : before.0 ≡ y = same_Some before.0 y (sym before.1 ∙ at.3) in
       let beside = ahead-neighbours_on p lie x y (opposite_direction d) (joined-parts p lie x y (opposite_direction d) at.3).0 in
       (d, ahead.0, at.1, at.2, at.3, plant.neighbours x y (opposite_direction d) beside.1, beside.1, ap occupancy (sym same) ∙ o.1 ∙ ap Some ahead.1)
 
-  pub walk-forth : (x : ℕ) (walk : List ℕ) (d : Dir) (t h : Bool) → x < length p.sections → occupancy x ≡ Some (Taken d t h) → IsWalk (following_section p lie occupancy) x walk → is_connected p d x walk ≡ true
+  pub walk-forth : (x : ℕ) (walk : List ℕ) (d : Dir) (t h : Bool) → x < length p.sections → occupancy x ≡ Some (Taken d t h) → IsWalk (next_body_section p lie occupancy) x walk → is_connected_chain p d x walk ≡ true
   walk-forth x [] d t h within is w = refl
   walk-forth x (y ∷ walk) d t h within is w =
       let at = step-forth x y within w.0 in
       let same : at.0 ≡ d = (same_taken (sym at.3 ∙ is)).0 in
       let beside : has_section y (next_to p x d) ≡ true = ap (λ v. has_section y (next_to p x v)) (sym same) ∙ at.6 in
       let there : occupancy y ≡ Some (Taken d false at.2) = at.7 ∙ ap (λ v. Some (Taken v false at.2)) same in
-      and_from (has_section y (next_to p x d)) (is_connected p d y walk) beside (walk-forth y walk d false at.2 at.5 there w.1)
+      and_from (has_section y (next_to p x d)) (is_connected_chain p d y walk) beside (walk-forth y walk d false at.2 at.5 there w.1)
 
-  walk-back : (x : ℕ) (walk : List ℕ) (d : Dir) (t h : Bool) → x < length p.sections → occupancy x ≡ Some (Taken d t h) → IsWalk (preceding_section p lie occupancy) x walk → is_connected p (opposite_direction d) x walk ≡ true
+  walk-back : (x : ℕ) (walk : List ℕ) (d : Dir) (t h : Bool) → x < length p.sections → occupancy x ≡ Some (Taken d t h) → IsWalk (previous_body_section p lie occupancy) x walk → is_connected_chain p (opposite_direction d) x walk ≡ true
   walk-back x [] d t h within is w = refl
   walk-back x (y ∷ walk) d t h within is w =
       let at = step-back x y within w.0 in
       let same : at.0 ≡ d = (same_taken (sym at.3 ∙ is)).0 in
       let beside : has_section y (next_to p x (opposite_direction d)) ≡ true = ap (λ v. has_section y (next_to p x (opposite_direction v))) (sym same) ∙ at.6 in
       let there : occupancy y ≡ Some (Taken d at.1 false) = at.7 ∙ ap (λ v. Some (Taken v at.1 false)) same in
-      and_from (has_section y (next_to p x (opposite_direction d))) (is_connected p (opposite_direction d) y walk) beside (walk-back y walk d at.1 false at.5 there w.1)
+      and_from (has_section y (next_to p x (opposite_direction d))) (is_connected_chain p (opposite_direction d) y walk) beside (walk-back y walk d at.1 false at.5 there w.1)
 
-  pub tracks : GoesBack (length p.sections) (IsTaken p occupancy) (following_section p lie occupancy) (preceding_section p lie occupancy)
+  pub tracks : GoesBack (length p.sections) (IsTaken p occupancy) (next_body_section p lie occupancy) (previous_body_section p lie occupancy)
   tracks = record {
     back = λ x y on e. let at = step-forth x y on.within e in ap (section_behind_in_body p lie y) at.7 ∙ joined-back p lie x y at.0 at.4;
     forth = λ x y on e.
         (let at = step-back x y on.within e in
-        ap (section_ahead_in_body p lie y) at.7 ∙ ap (joined_section p lie y) (sym (turned-twice at.0)) ∙ joined-back p lie x y (opposite_direction at.0) at.4);
+        ap (section_ahead_in_body p lie y) at.7 ∙ ap (mutual_section_ahead p lie y) (sym (turned-twice at.0)) ∙ joined-back p lie x y (opposite_direction at.0) at.4);
     on_forth = λ x y on e. let at = step-forth x y on.within e in record { dir = at.0; tail = false; head = at.2; within = at.5; is = at.7 };
     on_back = λ x y on e. let at = step-back x y on.within e in record { dir = at.0; tail = at.1; head = false; within = at.5; is = at.7 };
     short_forth = λ x walk on w. walk-short p plant never on.dir x walk on.within (walk-forth x walk on.dir on.tail on.head on.within on.is w);

@@ -17,14 +17,14 @@ use Rattle.ilk_plant.specs.declared.state.Lie.TheVariants.{Plus, Minus, Moving}
 use Rattle.ilk_plant.specs.declared.state.State.{State}
 use Rattle.ilk_plant.specs.declared.state.Train.{Train}
 use Rattle.ilk_plant.proofs.InLists.{section-from}
-use Rattle.ilk_model.specs.Hazard.{is_hazardous, is_wrong_under_train, is_wrong_under_body}
+use Rattle.ilk_model.specs.Hazard.{is_section_hazardous, is_wrong_under_train, is_wrong_under_body}
 use Rattle.ilk_model.proofs.Straying.{is_wrong_under_body-has}
-use Rattle.ilk_layout.specs.Occupancy.{occupancy_of, taken_by, taken_by_any}
-use Rattle.ilk_layout.specs.Standing.{has_no_train, is_wrong_between, is_wrong_under, section_before, with_train_on}
+use Rattle.ilk_layout.specs.Occupancy.{occupancy_of, occupancy_by_train, occupancy_by_train_if_any}
+use Rattle.ilk_layout.specs.Standing.{is_vacant_occupancy, is_point_wrong_between, is_point_wrong_under, section_before, occupancy_with_train_on}
 use Rattle.ilk_layout.specs.declared.values.Occupancy.TheVariants.{Crash}
 use Rattle.ilk_layout.proofs.Bodies.{pair-at}
 
-pub wrong-has : (p : PlantLists) (s : State) (x : ℕ) (body : List ℕ) → is_wrong_under p s x body ≡ true → has_section x body ≡ true
+pub wrong-has : (p : PlantLists) (s : State) (x : ℕ) (body : List ℕ) → is_point_wrong_under p s x body ≡ true → has_section x body ≡ true
 wrong-has p s x body h = by_section (slice_get p.sections x) refl
   where
     by_section : (o : Option Section) → slice_get p.sections x ≡ o → has_section x body ≡ true
@@ -32,10 +32,10 @@ wrong-has p s x body h = by_section (slice_get p.sections x) refl
     by_section (Some (Linear down up b c)) e = absurd (false≢true (rw e at h))
     by_section (Some (Point stem plus minus faces)) e = is_wrong_under_body-has x plus minus (detected_position p s x) body (rw e at h)
 
-pub wrong-at : (p : PlantLists) (s : State) (body : List ℕ) (i x : ℕ) → EachOnce body → slice_get body i ≡ Some x → is_wrong_under p s x body ≡ is_wrong_between p s x (section_before body i) (slice_get body (i + 1))
+pub wrong-at : (p : PlantLists) (s : State) (body : List ℕ) (i x : ℕ) → EachOnce body → slice_get body i ≡ Some x → is_point_wrong_under p s x body ≡ is_point_wrong_between p s x (section_before body i) (slice_get body (i + 1))
 wrong-at p s body i x once at = by_section (slice_get p.sections x) refl (detected_position p s x) refl
   where
-    by_section : (o : Option Section) → slice_get p.sections x ≡ o → (l : Option Lie) → detected_position p s x ≡ l → is_wrong_under p s x body ≡ is_wrong_between p s x (section_before body i) (slice_get body (i + 1))
+    by_section : (o : Option Section) → slice_get p.sections x ≡ o → (l : Option Lie) → detected_position p s x ≡ l → is_point_wrong_under p s x body ≡ is_point_wrong_between p s x (section_before body i) (slice_get body (i + 1))
     by_section None e l f = rw e refl
     by_section (Some (Linear down up b c)) e l f = rw e refl
     by_section (Some (Point stem plus minus faces)) e None f = rw (e, f) refl
@@ -49,10 +49,10 @@ with_trains s trains = record s { trains = trains }
 abbrev pub has_x : ℕ → Train → Bool
 has_x x train = has_section x train.body
 
-wrong-more : (p : PlantLists) (s : State) (ts : List Train) (t : Train) (x : ℕ) → is_wrong_under_train p (with_trains s (ts ++ t ∷ [])) x ≡ (is_wrong_under_train p (with_trains s ts) x || is_wrong_under p s x t.body)
+wrong-more : (p : PlantLists) (s : State) (ts : List Train) (t : Train) (x : ℕ) → is_wrong_under_train p (with_trains s (ts ++ t ∷ [])) x ≡ (is_wrong_under_train p (with_trains s ts) x || is_point_wrong_under p s x t.body)
 wrong-more p s ts t x = by_section (slice_get p.sections x) refl
   where
-    by_section : (o : Option Section) → slice_get p.sections x ≡ o → is_wrong_under_train p (with_trains s (ts ++ t ∷ [])) x ≡ (is_wrong_under_train p (with_trains s ts) x || is_wrong_under p s x t.body)
+    by_section : (o : Option Section) → slice_get p.sections x ≡ o → is_wrong_under_train p (with_trains s (ts ++ t ∷ [])) x ≡ (is_wrong_under_train p (with_trains s ts) x || is_point_wrong_under p s x t.body)
     by_section None e = rw e refl
     by_section (Some (Linear down up b c)) e = rw e refl
     by_section (Some (Point stem plus minus faces)) e =
@@ -119,7 +119,7 @@ find-other-more : (p : Train → Bool) (ts : List Train) (t : Train) → p t ≡
 find-other-more p [] t away = rw away refl
 find-other-more p (u ∷ ts) t away = ap (cond (p u) (Some u)) (find-other-more p ts t away)
 
-pub occupancy-more : (p : PlantLists) (s : State) (ts : List Train) (t : Train) (x : ℕ) → occupancy_of p (with_trains s (ts ++ t ∷ [])) x ≡ with_train_on p s t t.body x (occupancy_of p (with_trains s ts) x)
+pub occupancy-more : (p : PlantLists) (s : State) (ts : List Train) (t : Train) (x : ℕ) → occupancy_of p (with_trains s (ts ++ t ∷ [])) x ≡ occupancy_with_train_on p s t t.body x (occupancy_of p (with_trains s ts) x)
 occupancy-more p s ts t x =
     elim (cases_Bool (has_section x t.body)) [
       | inl has ↦ elim (cases_Bool (list_any (has_x x) ts)) [ inl some ↦ second has some | inr none ↦ first has none ]
@@ -129,40 +129,40 @@ occupancy-more p s ts t x =
     count : count_by (has_x x) (ts ++ t ∷ []) ≡ count_by (has_x x) ts + cond (has_section x t.body) 1 0
     count = count-more (has_x x) ts t
 
-    other : has_section x t.body ≡ false → occupancy_of p (with_trains s (ts ++ t ∷ [])) x ≡ with_train_on p s t t.body x (occupancy_of p (with_trains s ts) x)
+    other : has_section x t.body ≡ false → occupancy_of p (with_trains s (ts ++ t ∷ [])) x ≡ occupancy_with_train_on p s t t.body x (occupancy_of p (with_trains s ts) x)
     other away =
         let none : ◌≡◌ {A = ℕ} (cond (has_section x t.body) 1 0) 0 = ap (λ b. cond b 1 0) away in
         let same : count_by (has_x x) (ts ++ t ∷ []) ≡ count_by (has_x x) ts = omega (arith, count, none) in
-        let right : is_wrong_under p s x t.body ≡ false = false_from_ne_true (is_wrong_under p s x t.body) (λ h. false≢true (sym away ∙ wrong-has p s x t.body h)) in
+        let right : is_point_wrong_under p s x t.body ≡ false = false_from_ne_true (is_point_wrong_under p s x t.body) (λ h. false≢true (sym away ∙ wrong-has p s x t.body h)) in
         let wrong : is_wrong_under_train p (with_trains s (ts ++ t ∷ [])) x ≡ is_wrong_under_train p (with_trains s ts) x =
         wrong-more p s ts t x ∙ ap (λ b. is_wrong_under_train p (with_trains s ts) x || b) right ∙ or-false (is_wrong_under_train p (with_trains s ts) x) in
         let found : find (has_x x) (ts ++ t ∷ []) ≡ find (has_x x) ts = find-other-more (has_x x) ts t away in
         rw (same, wrong, found, away) refl
 
-    first : has_section x t.body ≡ true → list_any (has_x x) ts ≡ false → occupancy_of p (with_trains s (ts ++ t ∷ [])) x ≡ with_train_on p s t t.body x (occupancy_of p (with_trains s ts) x)
+    first : has_section x t.body ≡ true → list_any (has_x x) ts ≡ false → occupancy_of p (with_trains s (ts ++ t ∷ [])) x ≡ occupancy_with_train_on p s t t.body x (occupancy_of p (with_trains s ts) x)
     first has none =
         let one : ◌≡◌ {A = ℕ} (cond (has_section x t.body) 1 0) 1 = ap (λ b. cond b 1 0) has in
         let zero_before : count_by (has_x x) ts ≡ 0 = count-none (has_x x) ts none in
         let n : count_by (has_x x) (ts ++ t ∷ []) ≡ 1 = omega (arith, count, one, zero_before) in
         let wrong_before : is_wrong_under_train p (with_trains s ts) x ≡ false = wrong-none p s ts x none in
-        let wrong : is_wrong_under_train p (with_trains s (ts ++ t ∷ [])) x ≡ is_wrong_under p s x t.body = wrong-more p s ts t x ∙ ap (λ b. b || is_wrong_under p s x t.body) wrong_before in
+        let wrong : is_wrong_under_train p (with_trains s (ts ++ t ∷ [])) x ≡ is_point_wrong_under p s x t.body = wrong-more p s ts t x ∙ ap (λ b. b || is_point_wrong_under p s x t.body) wrong_before in
         let found : find (has_x x) (ts ++ t ∷ []) ≡ Some t = find-none-more (has_x x) ts t none has in
         let found_before : find (has_x x) ts ≡ None = find-none (has_x x) ts none in
-        rw (n, wrong, found, zero_before, wrong_before, found_before, has) (turned (is_wrong_under p s x t.body))
+        rw (n, wrong, found, zero_before, wrong_before, found_before, has) (turned (is_point_wrong_under p s x t.body))
       where
-        turned : (b : Bool) → cond b Crash (taken_by x t) ≡ cond (true && not b) (taken_by x t) Crash
+        turned : (b : Bool) → cond b Crash (occupancy_by_train x t) ≡ cond (true && not b) (occupancy_by_train x t) Crash
         turned true = refl
         turned false = refl
 
-    second : has_section x t.body ≡ true → list_any (has_x x) ts ≡ true → occupancy_of p (with_trains s (ts ++ t ∷ [])) x ≡ with_train_on p s t t.body x (occupancy_of p (with_trains s ts) x)
+    second : has_section x t.body ≡ true → list_any (has_x x) ts ≡ true → occupancy_of p (with_trains s (ts ++ t ∷ [])) x ≡ occupancy_with_train_on p s t t.body x (occupancy_of p (with_trains s ts) x)
     second has some =
         let one : ◌≡◌ {A = ℕ} (cond (has_section x t.body) 1 0) 1 = ap (λ b. cond b 1 0) has in
         let before : 0 < count_by (has_x x) ts = count-some (has_x x) ts some in
         let two : nat_lt 1 (count_by (has_x x) (ts ++ t ∷ [])) ≡ true = (let more : 1 < count_by (has_x x) (ts ++ t ∷ []) = omega (arith, count, one, before) in grind (arith, nat_tests)) in
         let found = find-some (has_x x) ts some in
-        let taken : has_no_train (occupancy_of p (with_trains s ts) x) ≡ false = not_vacant (is_hazardous p (with_trains s ts) x) found.0 (find (has_x x) ts) found.1 in
+        let taken : is_vacant_occupancy (occupancy_of p (with_trains s ts) x) ≡ false = not_vacant (is_section_hazardous p (with_trains s ts) x) found.0 (find (has_x x) ts) found.1 in
         rw (two, has, taken) refl
       where
-        not_vacant : (b : Bool) (u : Train) (o : Option Train) → o ≡ Some u → has_no_train (cond b Crash (taken_by_any x o)) ≡ false
+        not_vacant : (b : Bool) (u : Train) (o : Option Train) → o ≡ Some u → is_vacant_occupancy (cond b Crash (occupancy_by_train_if_any x o)) ≡ false
         not_vacant true u o e = refl
         not_vacant false u o e = rw e refl

@@ -5,33 +5,33 @@ use Rattle.std.proofs.lemmas.Bool.{false≢true}
 use Rattle.std.proofs.lemmas.List.Sorted.{All-permutation, Contains-permutation, IsPermutation-append_left, IsPermutation-cons, IsPermutation-remove, IsPermutation-sym, IsPermutation-trans, list_any-IsPermutation, sum_by-IsPermutation}
 use Rattle.std.proofs.lemmas.List.Quantifiers.{position-Some}
 use Rattle.std.proofs.lemmas.Option.{get_or_from_slice_get, same_Some, slice_get-get_or, slice_get_within}
-use Rattle.ilk_base.specs.Option.{◌>>=◌, only_if}
+use Rattle.ilk_base.specs.Option.{◌>>=◌, then_some}
 use Rattle.ilk_base.proofs.Lists.{item_at, slice_get-set_same}
 use Rattle.ilk_base.proofs.Once.{EachOnce}
 use Rattle.ilk_base.proofs.Positions.{is_some-position, position-at}
 use Rattle.ilk_base.proofs.Tested.{All-tested, list_all-from_All}
 use Rattle.ilk_plant.specs.Network.{has_section}
-use Rattle.ilk_plant.specs.Plant.{IsPlant, PlantLists, board_of, border, point_number}
-use Rattle.ilk_plant.specs.Shape.{has_valid_body}
-use Rattle.ilk_plant.specs.Sound.{NoWalkReturns}
-use Rattle.ilk_plant.specs.State.{has_lock, is_clear, is_occupied, detected_position}
+use Rattle.ilk_plant.specs.Plant.{IsPlant, PlantLists, board_of, section_inward_if_border, point_number}
+use Rattle.ilk_plant.specs.Shape.{train_body_is_valid}
+use Rattle.ilk_plant.specs.Sound.{IsAcyclic}
+use Rattle.ilk_plant.specs.State.{has_lock_state, is_unlocked_and_vacant, is_occupied, detected_position}
 use Rattle.ilk_plant.specs.declared.network.Section.{Section}
 use Rattle.ilk_plant.specs.declared.network.Section.TheVariants.{Linear, Point}
 use Rattle.ilk_plant.specs.declared.state.Aspect.TheVariants.{Closed}
 use Rattle.ilk_plant.specs.declared.state.Hold.TheVariants.{Free as FreeLock, Locked as LockedLock, Used as UsedLock}
 use Rattle.ilk_plant.specs.declared.state.State.{State}
 use Rattle.ilk_plant.specs.declared.state.Train.{Train}
-use Rattle.ilk_motion.specs.Body.{has_head, has_tail_before_head, is_first_of_several, is_only_section, occupies_only, new_train_on, with_new_head, without_tail}
+use Rattle.ilk_motion.specs.Body.{has_head_at, has_movable_tail_at, is_first_of_several, is_only_section, occupies_only, new_train_on, with_new_head, without_tail}
 use Rattle.ilk_motion.specs.Trains.{with_board_closed}
 use Rattle.ilk_motion.specs.Ahead.{ahead}
 use Rattle.ilk_routes.specs.Modes.{is_allocating_or_locked, same_mode}
 use Rattle.ilk_plant.specs.TableRules.{sections_locked_for}
 use Rattle.ilk_plant.specs.declared.state.Mode.TheVariants.{Marked, Locked, Occupied}
 use Rattle.ilk_model.specs.Event.{next}
-use Rattle.ilk_model.specs.Hazard.{is_hazardous, is_wrong_under_train, is_wrong_under_body}
+use Rattle.ilk_model.specs.Hazard.{is_section_hazardous, is_wrong_under_train, is_wrong_under_body}
 use Rattle.ilk_model.specs.declared.event.Event.{Event}
 use Rattle.ilk_model.specs.declared.event.Event.TheVariants.{Mark, Allocate, Lock, Sense, Release, Finish, Throw, Settle, Enter, Head, Tail, Leave, Cancel}
-use Rattle.ilk_layout.specs.Laws.{DifferInOrder, DifferInOrderIfAny, IsWellFormedAndSafe, OrderIsIrrelevant}
+use Rattle.ilk_layout.specs.Laws.{DifferInTrainOrder, DifferInTrainOrderIfAny, IsWellFormedAndSafe, EventsIgnoreTrainOrder}
 use Rattle.ilk_layout.proofs.Bodies.{last-has}
 use Rattle.ilk_layout.proofs.Calm.{alone, no-hazard, none-hazardous}
 use Rattle.ilk_layout.proofs.Orders.{Within, kept-at, once-removed, permuted, removed-at, skip, skip-other}
@@ -39,17 +39,17 @@ use Rattle.ilk_layout.proofs.Told.{state-once}
 use Rattle.ilk_layout.proofs.Trains.{has_x, with_trains}
 
 -- Two sequences of steps differ only in order if each step does.
-unseen-bind : {A : Type 0} (o : Option A) (f g : A → Option State) → ((x : A) → DifferInOrderIfAny (f x) (g x)) → DifferInOrderIfAny (option_and_then f o) (option_and_then g o)
+unseen-bind : {A : Type 0} (o : Option A) (f g : A → Option State) → ((x : A) → DifferInTrainOrderIfAny (f x) (g x)) → DifferInTrainOrderIfAny (option_and_then f o) (option_and_then g o)
 unseen-bind None f g each = tt
 unseen-bind (Some x) f g each = each x
 
-unseen-if : (b c : Bool) (s t : State) → b ≡ c → DifferInOrder s t → DifferInOrderIfAny (only_if b s) (only_if c t)
+unseen-if : (b c : Bool) (s t : State) → b ≡ c → DifferInTrainOrder s t → DifferInTrainOrderIfAny (then_some b s) (then_some c t)
 unseen-if true true s t e d = d
 unseen-if false false s t e d = tt
 unseen-if true false s t e d = cc
 unseen-if false true s t e d = cc
 
-reordered : (s : State) (ts : List Train) → IsPermutation s.trains ts → DifferInOrder s (with_trains s ts)
+reordered : (s : State) (ts : List Train) → IsPermutation s.trains ts → DifferInTrainOrder s (with_trains s ts)
 reordered s ts order = record { routes = refl; points = refl; boards = refl; locks = refl; trains = order }
 
 within : (xs ys : List Train) → IsPermutation xs ys → Within xs ys
@@ -121,10 +121,10 @@ finds-same test xs ys order one = by_first (position test xs) refl (position tes
         inr (i, j, u.0, e, u.1, f, v.1 ∙ ap Some same)
 
 -- A train found by its head, its tail or its only section has that section.
-head-has : (x : ℕ) (t : Train) → has_head x t ≡ true → has_section x t.body ≡ true
+head-has : (x : ℕ) (t : Train) → has_head_at x t ≡ true → has_section x t.body ≡ true
 head-has x t h = last-has x t.body h
 
-tail-has : (x : ℕ) (t : Train) → has_tail_before_head x t ≡ true → has_section x t.body ≡ true
+tail-has : (x : ℕ) (t : Train) → has_movable_tail_at x t ≡ true → has_section x t.body ≡ true
 tail-has x t h = of t.body h
   where
     of : (body : List ℕ) → is_first_of_several x body ≡ true → has_section x body ≡ true
@@ -140,22 +140,22 @@ only-has x t h = of t.body h
     of (y ∷ []) h = rw h refl
     of (y ∷ z ∷ rest) h = cc
 
-closed : (m : Option ℕ) (s t : State) → DifferInOrder s t → DifferInOrder (with_board_closed m s) (with_board_closed m t)
+closed : (m : Option ℕ) (s t : State) → DifferInTrainOrder s t → DifferInTrainOrder (with_board_closed m s) (with_board_closed m t)
 closed None s t d = d
 closed (Some m) s t d = record { routes = d.routes; points = d.points; boards = ap (λ bs. set bs m Closed) d.boards; locks = d.locks; trains = d.trains }
 
-module _ (p : PlantLists) (plant : IsPlant p) (never : NoWalkReturns p) (s : State) (calm : IsWellFormedAndSafe p s) (ts : List Train) (order : IsPermutation s.trains ts) where
+module _ (p : PlantLists) (plant : IsPlant p) (never : IsAcyclic p) (s : State) (calm : IsWellFormedAndSafe p s) (ts : List Train) (order : IsPermutation s.trains ts) where
   abbrev t : State
   t = with_trains s ts
 
   occupied-same : is_occupied t ≡ is_occupied s
   occupied-same i x = list_any-IsPermutation (has_x x) ts s.trains (IsPermutation-sym s.trains ts order) i
 
-  clear-same : is_clear t ≡ is_clear s
-  clear-same i x = has_lock s x FreeLock && not (occupied-same i x)
+  clear-same : is_unlocked_and_vacant t ≡ is_unlocked_and_vacant s
+  clear-same i x = has_lock_state s x FreeLock && not (occupied-same i x)
 
   -- The other order has no hazard either.
-  hazardous-same : is_hazardous p t ≡ is_hazardous p s
+  hazardous-same : is_section_hazardous p t ≡ is_section_hazardous p s
   hazardous-same i x = nat_lt 1 (sum_by-IsPermutation (λ (u : Train). cond (has_section x u.body) 1 0) s.trains ts order i) || wrong-same x i
     where
       wrong-same : (x : ℕ) → is_wrong_under_train p t x ≡ is_wrong_under_train p s x
@@ -174,7 +174,7 @@ module _ (p : PlantLists) (plant : IsPlant p) (never : NoWalkReturns p) (s : Sta
       boards = calm.shape.boards;
       locks = calm.shape.locks;
       counts = calm.shape.counts;
-      bodies = list_all-from_All (has_valid_body p) ts (All-permutation (λ u. has_valid_body p u ≡ true) s.trains ts order (All-tested (has_valid_body p) (λ u. has_valid_body p u ≡ true) (λ u h. h) s.trains calm.shape.bodies));
+      bodies = list_all-from_All (train_body_is_valid p) ts (All-permutation (λ u. train_body_is_valid p u ≡ true) s.trains ts order (All-tested (train_body_is_valid p) (λ u. train_body_is_valid p u ≡ true) (λ u h. h) s.trains calm.shape.bodies));
     };
     no_hazard = no-hazard p t (ap (λ f. find f (range_with_len 0 (length p.sections))) hazardous-same ∙ none-hazardous p s calm.no_hazard);
   }
@@ -191,18 +191,18 @@ module _ (p : PlantLists) (plant : IsPlant p) (never : NoWalkReturns p) (s : Sta
   unseen-found : (x : ℕ) (test : Train → Bool) → ((u : Train) → test u ≡ true → has_section x u.body ≡ true) →
       (f g : ℕ → Train → Option State) →
       ((i j : ℕ) (u : Train) → slice_get s.trains i ≡ Some u → slice_get ts j ≡ Some u →
-      DifferInOrderIfAny (f i u) (g j u))
-      → DifferInOrderIfAny (position test s.trains >>= λ i. slice_get s.trains i >>= f i) (position test ts >>= λ j. slice_get ts j >>= g j)
+      DifferInTrainOrderIfAny (f i u) (g j u))
+      → DifferInTrainOrderIfAny (position test s.trains >>= λ i. slice_get s.trains i >>= f i) (position test ts >>= λ j. slice_get ts j >>= g j)
   unseen-found x test has f g each =
       elim (same-train x test has) [
         | inl none ↦ rw (none.0, none.1) tt
         | inr found ↦ rw (found.3, found.5, found.4, found.6) (each found.0 found.1 found.2 found.4 found.6)
       ]
 
-  with-replaced : (i j : ℕ) (u v : Train) → slice_get s.trains i ≡ Some u → slice_get ts j ≡ Some u → DifferInOrder (with_trains s (set s.trains i v)) (with_trains s (set ts j v))
+  with-replaced : (i j : ℕ) (u v : Train) → slice_get s.trains i ≡ Some u → slice_get ts j ≡ Some u → DifferInTrainOrder (with_trains s (set s.trains i v)) (with_trains s (set ts j v))
   with-replaced i j u v at also = record { routes = refl; points = refl; boards = refl; locks = refl; trains = replaced s.trains ts i j u v once once-too order at also }
 
-  pub unseen : (event : Event) → DifferInOrderIfAny (next p s event) (next p t event)
+  pub unseen : (event : Event) → DifferInTrainOrderIfAny (next p s event) (next p t event)
   unseen (Mark r) = unseen-bind (slice_get p.routes r) _ _ (λ route. unseen-bind (slice_get s.routes r) _ _ (λ now. unseen-if _ _ _ _ refl (reordered _ ts order)))
   unseen (Allocate r) =
       unseen-bind (slice_get p.routes r) _ _ (λ route. unseen-bind (slice_get s.routes r) _ _ (λ now.
@@ -210,28 +210,28 @@ module _ (p : PlantLists) (plant : IsPlant p) (never : NoWalkReturns p) (s : Sta
   unseen (Lock r) = unseen-bind (slice_get p.routes r) _ _ (λ route. unseen-bind (slice_get s.routes r) _ _ (λ now. unseen-if _ _ _ _ refl (reordered _ ts order)))
   unseen (Sense r) =
       unseen-bind (slice_get p.routes r) _ _ (λ route. unseen-bind (slice_get s.routes r) _ _ (λ now. unseen-bind (slice_get route.path now.seen) _ _ (λ x.
-      unseen-if _ _ _ _ (ap (λ f. (same_mode now.mode Locked || same_mode now.mode Occupied) && f x && has_lock s x LockedLock) (sym occupied-same)) (reordered _ ts order))))
+      unseen-if _ _ _ _ (ap (λ f. (same_mode now.mode Locked || same_mode now.mode Occupied) && f x && has_lock_state s x LockedLock) (sym occupied-same)) (reordered _ ts order))))
   unseen (Release r) =
       unseen-bind (slice_get p.routes r) _ _ (λ route. unseen-bind (slice_get s.routes r) _ _ (λ now. unseen-bind (slice_get route.path now.rel) _ _ (λ x.
-      unseen-if _ _ _ _ (ap (λ f. same_mode now.mode Occupied && nat_le (now.rel + 2) now.seen && not (f x) && has_lock s x UsedLock) (sym occupied-same)) (reordered _ ts order))))
+      unseen-if _ _ _ _ (ap (λ f. same_mode now.mode Occupied && nat_le (now.rel + 2) now.seen && not (f x) && has_lock_state s x UsedLock) (sym occupied-same)) (reordered _ ts order))))
   unseen (Finish r) =
       unseen-bind (slice_get p.routes r) _ _ (λ route. unseen-bind (slice_get s.routes r) _ _ (λ now. unseen-bind (last_or None route.path) _ _ (λ x. unseen-if _ _ _ _ refl (reordered _ ts order))))
   unseen (Cancel r) = unseen-bind (slice_get p.routes r) _ _ (λ route. unseen-bind (slice_get s.routes r) _ _ (λ now. unseen-if _ _ _ _ refl (reordered _ ts order)))
   unseen (Throw x) = unseen-bind (point_number p x) _ _ (λ n. unseen-bind (slice_get s.points n) _ _ (λ point. unseen-if _ _ _ _ refl (reordered _ ts order)))
   unseen (Settle x) = unseen-bind (point_number p x) _ _ (λ n. unseen-bind (slice_get s.points n) _ _ (λ point. unseen-if _ _ _ _ refl (reordered _ ts order)))
   unseen (Enter x) =
-      unseen-bind (border p x) _ _ (λ inward. unseen-if _ _ _ _ (ap (λ f. f x) (sym clear-same))
+      unseen-bind (section_inward_if_border p x) _ _ (λ inward. unseen-if _ _ _ _ (ap (λ f. f x) (sym clear-same))
       (record { routes = refl; points = refl; boards = refl; locks = refl; trains = IsPermutation-append_left (new_train_on x inward ∷ []) s.trains ts order }))
   unseen (Head x) =
-      unseen-found x (has_head x) (head-has x) _ _ (λ i j u at also. unseen-bind (ahead p s x u.dir) _ _ (λ y.
+      unseen-found x (has_head_at x) (head-has x) _ _ (λ i j u at also. unseen-bind (ahead p s x u.dir) _ _ (λ y.
       unseen-if _ _ _ _ refl (closed (board_of p x u.dir) _ _ (with-replaced i j u (with_new_head y u) at also))))
-  unseen (Tail x) = unseen-bind (slice_get p.sections x) _ _ (λ section. unseen-found x (has_tail_before_head x) (tail-has x) _ _ (λ i j u at also. with-replaced i j u (without_tail u) at also))
+  unseen (Tail x) = unseen-bind (slice_get p.sections x) _ _ (λ section. unseen-found x (has_movable_tail_at x) (tail-has x) _ _ (λ i j u at also. with-replaced i j u (without_tail u) at also))
   unseen (Leave x) =
       unseen-bind (slice_get p.sections x) _ _ (λ section. unseen-found x (occupies_only x) (only-has x) _ _ (λ i j u at also.
       unseen-if _ _ _ _ refl (record { routes = refl; points = refl; boards = refl; locks = refl; trains = without s.trains ts i j u once once-too order at also })))
 
-pub order-unseen : (p : PlantLists) → IsPlant p → NoWalkReturns p → OrderIsIrrelevant p
+pub order-unseen : (p : PlantLists) → IsPlant p → IsAcyclic p → EventsIgnoreTrainOrder p
 order-unseen p plant never s t event calm differ =
     let whole : with_trains s t.trains ≡ t = λ i. record { routes = sym differ.routes i; points = sym differ.points i; boards = sym differ.boards i; locks = sym differ.locks i; trains = t.trains } in
-    let P : State → Type 0 = λ u. DifferInOrderIfAny (next p s event) (next p u event) in
+    let P : State → Type 0 = λ u. DifferInTrainOrderIfAny (next p s event) (next p u event) in
     subst P whole (unseen p plant never s calm t.trains differ.trains event)

@@ -26,12 +26,12 @@ use Rattle.ilk_plant.specs.declared.table.Listed.{Listed}
 use Rattle.ilk_plant.specs.declared.table.Route.{Route}
 use Rattle.ilk_plant.proofs.PointNumbers.{point_number-below}
 use Rattle.ilk_routes.specs.Lies.{lie_from_position}
-use Rattle.ilk_layout.specs.Values.{aspect_value, hold_value, lie_value, mode_value, occupancy_value, position_value}
+use Rattle.ilk_layout.specs.Values.{aspect_value, lock_value, detected_value, mode_value, occupancy_value, commanded_value}
 use Rattle.ilk_layout.specs.Variables.{detected_var, board_var, lock_var, occupancy_var, points_ranges, ranges_of_plant, route_ranges, commanded_var}
 use Rattle.ilk_layout.specs.declared.values.Occupancy.{Occupancy}
 use Rattle.ilk_layout.specs.declared.values.Occupancy.TheVariants.{Vacant, Taken, Crash}
 use Rattle.ilk_layout.proofs.Parts.{get-fifth, get-first, get-fourth, get-second, get-third}
-use Rattle.ilk_layout.specs.Conditions.{is_point_detected, board_is, is_detected, lies_at_listed, lock_is, mode_is, no_train_at, occupancy_is, rel_is, seen_is, is_point_commanded, train_at}
+use Rattle.ilk_layout.specs.Conditions.{is_point_detected, board_is, section_point_is_detected, listed_is_detected, lock_is, mode_is, no_train_at, occupancy_is, rel_is, seen_is, is_point_commanded, train_at}
 
 pub mode-small : (m : Mode) → mode_value m < 5
 mode-small Free = omega arith
@@ -40,12 +40,12 @@ mode-small Allocating = omega arith
 mode-small Locked = omega arith
 mode-small Occupied = omega arith
 
-pub lie-small : (l : Lie) → lie_value l < 3
+pub lie-small : (l : Lie) → detected_value l < 3
 lie-small LiesPlus = omega arith
 lie-small LiesMinus = omega arith
 lie-small Moving = omega arith
 
-pub position-small : (q : Position) → position_value q < 2
+pub position-small : (q : Position) → commanded_value q < 2
 position-small Plus = omega arith
 position-small Minus = omega arith
 
@@ -53,7 +53,7 @@ pub aspect-small : (a : Aspect) → aspect_value a < 2
 aspect-small Open = omega arith
 aspect-small Closed = omega arith
 
-pub hold-small : (h : Hold) → hold_value h < 3
+pub hold-small : (h : Hold) → lock_value h < 3
 hold-small FreeLock = omega arith
 hold-small LockedLock = omega arith
 hold-small UsedLock = omega arith
@@ -164,12 +164,12 @@ module _ (p : PlantLists) where
 
   pub is_point_detected-valid : (n : ℕ) (lie : Lie) → n < point_count p → tree_valid (ranges_of_plant p) (is_point_detected p n lie) ≡ true
   is_point_detected-valid n lie within =
-      value-valid (ranges_of_plant p) (detected_var p n) (lie_value lie) 3 (get-second _ _ _ _ occupancies _ _ _ _ la lb lc ld (2 * n) (omega arith) ∙ at_range-at (point_count p) n within) (lie-small lie)
+      value-valid (ranges_of_plant p) (detected_var p n) (detected_value lie) 3 (get-second _ _ _ _ occupancies _ _ _ _ la lb lc ld (2 * n) (omega arith) ∙ at_range-at (point_count p) n within) (lie-small lie)
 
   pub is_point_commanded-valid : (n : ℕ) (to : Position) → n < point_count p → tree_valid (ranges_of_plant p) (is_point_commanded p n to) ≡ true
   is_point_commanded-valid n to within =
       let there : commanded_var p n ≡ 3 * length p.routes + (2 * n + 1) = omega arith in
-      value-valid (ranges_of_plant p) (commanded_var p n) (position_value to) 2
+      value-valid (ranges_of_plant p) (commanded_var p n) (commanded_value to) 2
       (ap (slice_get (ranges_of_plant p)) there
       ∙ get-second _ _ _ _ occupancies _ _ _ _ la lb lc ld (2 * n + 1) (omega arith)
       ∙ to_range-at (point_count p) n within)
@@ -181,7 +181,7 @@ module _ (p : PlantLists) where
 
   pub lock_is-valid : (x : ℕ) (hold : Hold) → x < length p.sections → tree_valid (ranges_of_plant p) (lock_is p x hold) ≡ true
   lock_is-valid x hold within =
-      value-valid (ranges_of_plant p) (lock_var p x) (hold_value hold) 3 (get-fourth _ _ _ _ occupancies _ _ _ _ la lb lc ld x within ∙ replicate-at (length p.sections) x 3 within) (hold-small hold)
+      value-valid (ranges_of_plant p) (lock_var p x) (lock_value hold) 3 (get-fourth _ _ _ _ occupancies _ _ _ _ la lb lc ld x within ∙ replicate-at (length p.sections) x 3 within) (hold-small hold)
 
   pub occupancy_is-valid : (x : ℕ) (o : Occupancy) → x < length p.sections → tree_valid (ranges_of_plant p) (occupancy_is p x o) ≡ true
   occupancy_is-valid x o within =
@@ -193,16 +193,16 @@ module _ (p : PlantLists) where
   pub train_at-valid : (x : ℕ) → x < length p.sections → tree_valid (ranges_of_plant p) (train_at p x) ≡ true
   train_at-valid x within = occupancy_is-valid x Vacant within
 
-  pub is_detected-valid : (x : ℕ) (lie : Lie) → tree_valid (ranges_of_plant p) (is_detected p x lie) ≡ true
-  is_detected-valid x lie = by_number (point_number p x) refl
+  pub section_point_is_detected-valid : (x : ℕ) (lie : Lie) → tree_valid (ranges_of_plant p) (section_point_is_detected p x lie) ≡ true
+  section_point_is_detected-valid x lie = by_number (point_number p x) refl
     where
-      by_number : (o : Option ℕ) → point_number p x ≡ o → tree_valid (ranges_of_plant p) (is_detected p x lie) ≡ true
+      by_number : (o : Option ℕ) → point_number p x ≡ o → tree_valid (ranges_of_plant p) (section_point_is_detected p x lie) ≡ true
       by_number None e = rw e refl
       by_number (Some n) e =
           let known = point_number-below p x in let less = rw e at known in rw e (is_point_detected-valid n lie less)
 
-  pub lies_at_listed-valid : (listed : Listed) → tree_valid (ranges_of_plant p) (lies_at_listed p listed) ≡ true
-  lies_at_listed-valid listed = is_detected-valid listed.point (lie_from_position listed.at)
+  pub listed_is_detected-valid : (listed : Listed) → tree_valid (ranges_of_plant p) (listed_is_detected p listed) ≡ true
+  listed_is_detected-valid listed = section_point_is_detected-valid listed.point (lie_from_position listed.at)
 
 all_positive-routes : (routes : List Route) → list_all (λ range. nat_lt 0 range) (flat_map route_ranges routes) ≡ true
 all_positive-routes [] = refl

@@ -14,7 +14,7 @@ use Rattle.ilk_plant.specs.declared.state.PointState.{PointState}
 use Rattle.ilk_plant.specs.declared.state.RouteState.{RouteState}
 use Rattle.ilk_plant.specs.declared.state.State.{State}
 use Rattle.ilk_layout.specs.Image.{point_values, route_values}
-use Rattle.ilk_layout.specs.Values.{aspect_value, hold_value, lie_value, mode_value, position_value}
+use Rattle.ilk_layout.specs.Values.{aspect_value, lock_value, detected_value, mode_value, commanded_value}
 use Rattle.ilk_layout.specs.Variables.{detected_var, board_var, lock_var, mode_var, occupancy_var, rel_var, seen_var, commanded_var}
 use Rattle.ilk_layout.proofs.Parts.{get-fifth, get-first, get-fourth, get-second, get-third, set-fifth, set-first, set-fourth, set-second, set-third}
 use Rattle.ilk_layout.proofs.Places.{get-at, get-mode, get-rel, get-seen, get-to, length-points, length-routes, set-at, set-mode, set-rel, set-seen, set-to}
@@ -22,7 +22,7 @@ use Rattle.ilk_layout.proofs.Places.{get-at, get-mode, get-rel, get-seen, get-to
 -- The image of a state with other occupancies.
 abbrev pub image_with : State → List ℕ → List ℕ
 image_with s occupancies =
-    flat_map route_values s.routes ++ (flat_map point_values s.points ++ (map aspect_value s.boards ++ (map hold_value s.locks ++ occupancies)))
+    flat_map route_values s.routes ++ (flat_map point_values s.points ++ (map aspect_value s.boards ++ (map lock_value s.locks ++ occupancies)))
 
 module _ (p : PlantLists) (s : State) (e : List ℕ) (shape : HasShape p s) where
   abbrev a : List ℕ
@@ -35,7 +35,7 @@ module _ (p : PlantLists) (s : State) (e : List ℕ) (shape : HasShape p s) wher
   c = map aspect_value s.boards
 
   abbrev d : List ℕ
-  d = map hold_value s.locks
+  d = map lock_value s.locks
 
   la : length (flat_map route_values s.routes) ≡ 3 * length p.routes
   la = length-routes s.routes ∙ ap (λ n. 3 * n) shape.routes
@@ -46,8 +46,8 @@ module _ (p : PlantLists) (s : State) (e : List ℕ) (shape : HasShape p s) wher
   lc : length (map aspect_value s.boards) ≡ length p.boards
   lc = length-map s.boards aspect_value ∙ shape.boards
 
-  ld : length (map hold_value s.locks) ≡ length p.sections
-  ld = length-map s.locks hold_value ∙ shape.locks
+  ld : length (map lock_value s.locks) ≡ length p.sections
+  ld = length-map s.locks lock_value ∙ shape.locks
 
   pub mode-at : (r : ℕ) (now : RouteState) → slice_get s.routes r ≡ Some now → slice_get (image_with s e) (mode_var r) ≡ Some (mode_value now.mode)
   mode-at r now at =
@@ -67,13 +67,13 @@ module _ (p : PlantLists) (s : State) (e : List ℕ) (shape : HasShape p s) wher
       let count = shape.routes in
       get-first _ _ _ _ e _ _ _ _ la lb lc ld (3 * r + 2) (omega arith) ∙ get-rel s.routes r now at
 
-  pub at-at : (n : ℕ) (point : PointState) → slice_get s.points n ≡ Some point → slice_get (image_with s e) (detected_var p n) ≡ Some (lie_value point.at)
+  pub at-at : (n : ℕ) (point : PointState) → slice_get s.points n ≡ Some point → slice_get (image_with s e) (detected_var p n) ≡ Some (detected_value point.at)
   at-at n point at =
       let within = slice_get_within s.points n point at in
       let count = shape.points in
       get-second _ _ _ _ e _ _ _ _ la lb lc ld (2 * n) (omega arith) ∙ get-at s.points n point at
 
-  pub to-at : (n : ℕ) (point : PointState) → slice_get s.points n ≡ Some point → slice_get (image_with s e) (commanded_var p n) ≡ Some (position_value point.to)
+  pub to-at : (n : ℕ) (point : PointState) → slice_get s.points n ≡ Some point → slice_get (image_with s e) (commanded_var p n) ≡ Some (commanded_value point.to)
   to-at n point at =
       let within = slice_get_within s.points n point at in
       let count = shape.points in
@@ -86,11 +86,11 @@ module _ (p : PlantLists) (s : State) (e : List ℕ) (shape : HasShape p s) wher
       let count = shape.boards in
       get-third _ _ _ _ e _ _ _ _ la lb lc ld m (omega arith) ∙ slice_get-map aspect_value s.boards m ∙ ap (option_map aspect_value) at
 
-  pub lock-at : (x : ℕ) (hold : Hold) → slice_get s.locks x ≡ Some hold → slice_get (image_with s e) (lock_var p x) ≡ Some (hold_value hold)
+  pub lock-at : (x : ℕ) (hold : Hold) → slice_get s.locks x ≡ Some hold → slice_get (image_with s e) (lock_var p x) ≡ Some (lock_value hold)
   lock-at x hold at =
       let within = slice_get_within s.locks x hold at in
       let count = shape.locks in
-      get-fourth _ _ _ _ e _ _ _ _ la lb lc ld x (omega arith) ∙ slice_get-map hold_value s.locks x ∙ ap (option_map hold_value) at
+      get-fourth _ _ _ _ e _ _ _ _ la lb lc ld x (omega arith) ∙ slice_get-map lock_value s.locks x ∙ ap (option_map lock_value) at
 
   pub occupancy-at : (x : ℕ) → slice_get (image_with s e) (occupancy_var p x) ≡ slice_get e x
   occupancy-at x = get-fifth _ _ _ _ e _ _ _ _ la lb lc ld x
@@ -113,26 +113,26 @@ module _ (p : PlantLists) (s : State) (e : List ℕ) (shape : HasShape p s) wher
       let count = shape.routes in
       set-first _ _ _ _ e _ _ _ _ la lb lc ld (3 * r + 2) k (omega arith) ∙ ap (λ u. u ++ (b ++ (c ++ (d ++ e)))) (set-rel s.routes r now k at)
 
-  pub at-written : (n : ℕ) (point : PointState) (lie : Lie) → slice_get s.points n ≡ Some point → set (image_with s e) (detected_var p n) (lie_value lie) ≡ image_with (record s { points = set s.points n (record point { at = lie }) }) e
+  pub at-written : (n : ℕ) (point : PointState) (lie : Lie) → slice_get s.points n ≡ Some point → set (image_with s e) (detected_var p n) (detected_value lie) ≡ image_with (record s { points = set s.points n (record point { at = lie }) }) e
   at-written n point lie at =
       let within = slice_get_within s.points n point at in
       let count = shape.points in
-      set-second _ _ _ _ e _ _ _ _ la lb lc ld (2 * n) (lie_value lie) (omega arith) ∙ ap (λ u. a ++ (u ++ (c ++ (d ++ e)))) (set-at s.points n point lie at)
+      set-second _ _ _ _ e _ _ _ _ la lb lc ld (2 * n) (detected_value lie) (omega arith) ∙ ap (λ u. a ++ (u ++ (c ++ (d ++ e)))) (set-at s.points n point lie at)
 
-  pub to-written : (n : ℕ) (point : PointState) (to : Position) → slice_get s.points n ≡ Some point → set (image_with s e) (commanded_var p n) (position_value to) ≡ image_with (record s { points = set s.points n (record point { to = to }) }) e
+  pub to-written : (n : ℕ) (point : PointState) (to : Position) → slice_get s.points n ≡ Some point → set (image_with s e) (commanded_var p n) (commanded_value to) ≡ image_with (record s { points = set s.points n (record point { to = to }) }) e
   to-written n point to at =
       let within = slice_get_within s.points n point at in
       let count = shape.points in
       let there : commanded_var p n ≡ 3 * length p.routes + (2 * n + 1) = omega arith in
-      ap (λ i. set (image_with s e) i (position_value to)) there ∙ set-second _ _ _ _ e _ _ _ _ la lb lc ld (2 * n + 1) (position_value to) (omega arith) ∙ ap (λ u. a ++ (u ++ (c ++ (d ++ e)))) (set-to s.points n point to at)
+      ap (λ i. set (image_with s e) i (commanded_value to)) there ∙ set-second _ _ _ _ e _ _ _ _ la lb lc ld (2 * n + 1) (commanded_value to) (omega arith) ∙ ap (λ u. a ++ (u ++ (c ++ (d ++ e)))) (set-to s.points n point to at)
 
   pub board-written : (m : ℕ) (aspect : Aspect) → m < length p.boards → set (image_with s e) (board_var p m) (aspect_value aspect) ≡ image_with (record s { boards = set s.boards m aspect }) e
   board-written m aspect within =
       set-third _ _ _ _ e _ _ _ _ la lb lc ld m (aspect_value aspect) within ∙ ap (λ u. a ++ (b ++ (u ++ (d ++ e)))) (sym (map-set aspect_value s.boards m aspect))
 
-  pub lock-written : (x : ℕ) (hold : Hold) → x < length p.sections → set (image_with s e) (lock_var p x) (hold_value hold) ≡ image_with (record s { locks = set s.locks x hold }) e
+  pub lock-written : (x : ℕ) (hold : Hold) → x < length p.sections → set (image_with s e) (lock_var p x) (lock_value hold) ≡ image_with (record s { locks = set s.locks x hold }) e
   lock-written x hold within =
-      set-fourth _ _ _ _ e _ _ _ _ la lb lc ld x (hold_value hold) within ∙ ap (λ u. a ++ (b ++ (c ++ (u ++ e)))) (sym (map-set hold_value s.locks x hold))
+      set-fourth _ _ _ _ e _ _ _ _ la lb lc ld x (lock_value hold) within ∙ ap (λ u. a ++ (b ++ (c ++ (u ++ e)))) (sym (map-set lock_value s.locks x hold))
 
   pub occupancy-written : (x v : ℕ) → set (image_with s e) (occupancy_var p x) v ≡ image_with s (set e x v)
   occupancy-written x v = set-fifth _ _ _ _ e _ _ _ _ la lb lc ld x v

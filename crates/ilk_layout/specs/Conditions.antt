@@ -9,7 +9,7 @@ use Rattle.ilk_plant.specs.declared.state.Lie.{Lie}
 use Rattle.ilk_plant.specs.declared.state.Mode.{Mode}
 use Rattle.ilk_plant.specs.declared.table.Listed.{Listed}
 use Rattle.ilk_routes.specs.Lies.{lie_from_position}
-use Rattle.ilk_layout.specs.Values.{aspect_value, hold_value, lie_value, mode_value, occupancy_value, position_value}
+use Rattle.ilk_layout.specs.Values.{aspect_value, lock_value, detected_value, mode_value, occupancy_value, commanded_value}
 use Rattle.ilk_layout.specs.Variables.{detected_var, board_var, lock_var, mode_var, occupancy_var, rel_var, seen_var, commanded_var}
 use Rattle.ilk_layout.specs.declared.values.Occupancy.{Occupancy}
 use Rattle.ilk_layout.specs.declared.values.Occupancy.TheVariants.{Vacant}
@@ -28,11 +28,11 @@ rel_is r count = is (rel_var r) count
 
 -- Point number `n` is detected in position `lie`.
 abbrev pub is_point_detected : PlantLists → ℕ → Lie → Tree
-is_point_detected p n lie = is (detected_var p n) (lie_value lie)
+is_point_detected p n lie = is (detected_var p n) (detected_value lie)
 
 -- Point number `n` is commanded to `position`.
 abbrev pub is_point_commanded : PlantLists → ℕ → Position → Tree
-is_point_commanded p n position = is (commanded_var p n) (position_value position)
+is_point_commanded p n position = is (commanded_var p n) (commanded_value position)
 
 -- Board `m` shows `aspect`.
 abbrev pub board_is : PlantLists → ℕ → Aspect → Tree
@@ -40,7 +40,7 @@ board_is p m aspect = is (board_var p m) (aspect_value aspect)
 
 -- Section `x` has this lock.
 abbrev pub lock_is : PlantLists → ℕ → Hold → Tree
-lock_is p x hold = is (lock_var p x) (hold_value hold)
+lock_is p x hold = is (lock_var p x) (lock_value hold)
 
 -- Section `x` has this occupancy.
 abbrev pub occupancy_is : PlantLists → ℕ → Occupancy → Tree
@@ -53,25 +53,25 @@ abbrev pub train_at : PlantLists → ℕ → Tree
 train_at p x = negation (no_train_at p x)
 
 -- The point on section `x` is detected in position `lie`; never holds if `x` has no point.
-abbrev pub is_detected : PlantLists → ℕ → Lie → Tree
-is_detected p x lie = of_point (point_number p x)
+abbrev pub section_point_is_detected : PlantLists → ℕ → Lie → Tree
+section_point_is_detected p x lie = of_point (point_number p x)
   where
     of_point : Option ℕ → Tree
     of_point None = no
     of_point (Some n) = is_point_detected p n lie
 
 -- A listed point is detected in its listed position.
-abbrev pub lies_at_listed : PlantLists → Listed → Tree
-lies_at_listed p listed = is_detected p listed.point (lie_from_position listed.at)
+abbrev pub listed_is_detected : PlantLists → Listed → Tree
+listed_is_detected p listed = section_point_is_detected p listed.point (lie_from_position listed.at)
 
 -- The point on section `x` is commanded to `position`; never holds if `x` has no point.
-abbrev pub is_commanded : PlantLists → ℕ → Position → Tree
-is_commanded p x position = of_point (point_number p x)
+abbrev pub section_point_is_commanded : PlantLists → ℕ → Position → Tree
+section_point_is_commanded p x position = of_point (point_number p x)
   where
     of_point : Option ℕ → Tree
     of_point None = no
     of_point (Some n) = is_point_commanded p n position
 
 -- A listed point is commanded to its listed position.
-abbrev pub commanded_at_listed : PlantLists → Listed → Tree
-commanded_at_listed p listed = is_commanded p listed.point listed.at
+abbrev pub listed_is_commanded : PlantLists → Listed → Tree
+listed_is_commanded p listed = section_point_is_commanded p listed.point listed.at

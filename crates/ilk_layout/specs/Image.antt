@@ -6,13 +6,13 @@ use Rattle.ilk_plant.specs.declared.state.PointState.{PointState}
 use Rattle.ilk_plant.specs.declared.state.RouteState.{RouteState}
 use Rattle.ilk_plant.specs.declared.state.State.{State}
 use Rattle.ilk_layout.specs.Occupancy.{occupancy_of}
-use Rattle.ilk_layout.specs.Values.{aspect_value, hold_value, lie_value, mode_value, occupancy_value, position_value}
+use Rattle.ilk_layout.specs.Values.{aspect_value, lock_value, detected_value, mode_value, occupancy_value, commanded_value}
 
 abbrev pub route_values : RouteState → List ℕ
 route_values now = mode_value now.mode ∷ now.seen ∷ now.rel ∷ []
 
 abbrev pub point_values : PointState → List ℕ
-point_values point = lie_value point.at ∷ position_value point.to ∷ []
+point_values point = detected_value point.at ∷ commanded_value point.to ∷ []
 
 -- The numbers of the occupancies of all sections.
 abbrev pub occupancy_values : PlantLists → State → List ℕ
@@ -23,5 +23,5 @@ image_of p s =
     flat_map route_values s.routes
     ++ (flat_map point_values s.points
     ++ (map aspect_value s.boards
-    ++ (map hold_value s.locks
+    ++ (map lock_value s.locks
     ++ occupancy_values p s)))

@@ -17,7 +17,7 @@ pub record IsWellFormedAndSafe (p : PlantLists) (s : State) : Type 0 where
   pub no_hazard : hazard p s ≡ None
 
 -- Holds if two states differ only in the order of trains.
-pub record DifferInOrder (s t : State) : Type 0 where
+pub record DifferInTrainOrder (s t : State) : Type 0 where
   pub routes : t.routes ≡ s.routes
   pub points : t.points ≡ s.points
   pub boards : t.boards ≡ s.boards
@@ -31,26 +31,26 @@ ImagesAreInRange p = (s : State) → HasShape p s → IsTrue (in_ranges (image_o
 -- Two well-formed states without hazard that have the same image differ only in the order of
 -- trains.
 abbrev pub ImagesDetermineStates : PlantLists → Type 0
-ImagesDetermineStates p = (s t : State) → IsWellFormedAndSafe p s → IsWellFormedAndSafe p t → image_of p s ≡ image_of p t → DifferInOrder s t
+ImagesDetermineStates p = (s t : State) → IsWellFormedAndSafe p s → IsWellFormedAndSafe p t → image_of p s ≡ image_of p t → DifferInTrainOrder s t
 
 -- Holds if the values are the image of a well-formed state without hazard.
-pub record AreImage (p : PlantLists) (values : List ℕ) : Type 0 where
+pub record AreImageOfSafeState (p : PlantLists) (values : List ℕ) : Type 0 where
   pub state : State
   pub calm : IsWellFormedAndSafe p state
   pub image : image_of p state ≡ values
 
 -- Values in range are well-formed if and only if they are the image of a well-formed state without
 -- hazard.
-abbrev pub WellformedAreImages : PlantLists → Type 0
-WellformedAreImages p = (values : List ℕ) → IsTrue (in_ranges values (ranges_of_plant p)) → IsTrue (is_wellformed p values) ↔ AreImage p values
+abbrev pub WellformedIffImage : PlantLists → Type 0
+WellformedIffImage p = (values : List ℕ) → IsTrue (in_ranges values (ranges_of_plant p)) → IsTrue (is_wellformed p values) ↔ AreImageOfSafeState p values
 
 -- Holds if both are `None`, or if both are states that differ only in the order of trains.
-abbrev pub DifferInOrderIfAny : Option State → Option State → Type 0
-DifferInOrderIfAny None None = Unit {0}
-DifferInOrderIfAny None (Some t) = ⊥
-DifferInOrderIfAny (Some s) None = ⊥
-DifferInOrderIfAny (Some s) (Some t) = DifferInOrder s t
+abbrev pub DifferInTrainOrderIfAny : Option State → Option State → Type 0
+DifferInTrainOrderIfAny None None = Unit {0}
+DifferInTrainOrderIfAny None (Some t) = ⊥
+DifferInTrainOrderIfAny (Some s) None = ⊥
+DifferInTrainOrderIfAny (Some s) (Some t) = DifferInTrainOrder s t
 
 -- No event depends on the order of trains in a well-formed state without hazard.
-abbrev pub OrderIsIrrelevant : PlantLists → Type 0
-OrderIsIrrelevant p = (s t : State) (event : Event) → IsWellFormedAndSafe p s → DifferInOrder s t → DifferInOrderIfAny (next p s event) (next p t event)
+abbrev pub EventsIgnoreTrainOrder : PlantLists → Type 0
+EventsIgnoreTrainOrder p = (s t : State) (event : Event) → IsWellFormedAndSafe p s → DifferInTrainOrder s t → DifferInTrainOrderIfAny (next p s event) (next p t event)

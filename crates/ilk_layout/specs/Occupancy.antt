@@ -5,7 +5,7 @@ use Rattle.ilk_plant.specs.Plant.{PlantLists}
 use Rattle.ilk_plant.specs.declared.state.State.{State}
 use Rattle.ilk_plant.specs.declared.state.Train.{Train}
 use Rattle.ilk_motion.specs.Body.{is_last_section}
-use Rattle.ilk_model.specs.Hazard.{is_hazardous}
+use Rattle.ilk_model.specs.Hazard.{is_section_hazardous}
 use Rattle.ilk_layout.specs.declared.values.Occupancy.{Occupancy}
 use Rattle.ilk_layout.specs.declared.values.Occupancy.TheVariants.{Vacant, Taken, Crash}
 
@@ -15,15 +15,15 @@ is_first x [] = false
 is_first x (y ∷ rest) = y == x
 
 -- The occupancy of `x` by this train: its direction, and whether its tail and its head are at `x`.
-abbrev pub taken_by : ℕ → Train → Occupancy
-taken_by x train = Taken train.dir (is_first x train.body) (is_last_section x train.body)
+abbrev pub occupancy_by_train : ℕ → Train → Occupancy
+occupancy_by_train x train = Taken train.dir (is_first x train.body) (is_last_section x train.body)
 
 -- The occupancy of `x` by the train that has it in its body, or `Vacant` if there is none.
-abbrev pub taken_by_any : ℕ → Option Train → Occupancy
-taken_by_any x None = Vacant
-taken_by_any x (Some train) = taken_by x train
+abbrev pub occupancy_by_train_if_any : ℕ → Option Train → Occupancy
+occupancy_by_train_if_any x None = Vacant
+occupancy_by_train_if_any x (Some train) = occupancy_by_train x train
 
 -- `Crash` if `x` has a hazard; otherwise the occupancy by the train with `x` in its body.
 abbrev pub occupancy_of : PlantLists → State → ℕ → Occupancy
 occupancy_of p s x =
-    if is_hazardous p s x then Crash else taken_by_any x (find (λ train. has_section x train.body) s.trains)
+    if is_section_hazardous p s x then Crash else occupancy_by_train_if_any x (find (λ train. has_section x train.body) s.trains)

@@ -11,30 +11,30 @@ use Rattle.ilk_plant.specs.declared.state.Lie.TheVariants.{Plus, Minus, Moving}
 use Rattle.ilk_plant.specs.declared.state.State.{State}
 use Rattle.ilk_plant.specs.declared.state.Train.{Train}
 use Rattle.ilk_model.specs.Hazard.{is_wrong_under_body}
-use Rattle.ilk_layout.specs.Occupancy.{taken_by}
+use Rattle.ilk_layout.specs.Occupancy.{occupancy_by_train}
 use Rattle.ilk_layout.specs.declared.values.Occupancy.{Occupancy}
 use Rattle.ilk_layout.specs.declared.values.Occupancy.TheVariants.{Vacant, Taken, Crash}
 
 -- Returns whether the occupancy is `Vacant`.
-abbrev pub has_no_train : Occupancy → Bool
-has_no_train Vacant = true
-has_no_train (Taken d tail head) = false
-has_no_train Crash = false
+abbrev pub is_vacant_occupancy : Occupancy → Bool
+is_vacant_occupancy Vacant = true
+is_vacant_occupancy (Taken d tail head) = false
+is_vacant_occupancy Crash = false
 
 -- Returns whether `before` or `after` is section `y`.
-abbrev pub is_beside : ℕ → Option ℕ → Option ℕ → Bool
-is_beside y before after = is_some_and before (λ z. z == y) || is_some_and after (λ z. z == y)
+abbrev pub is_before_or_after : ℕ → Option ℕ → Option ℕ → Bool
+is_before_or_after y before after = is_some_and before (λ z. z == y) || is_some_and after (λ z. z == y)
 
 -- Returns whether a body is `wrong` on the point on `x`, if `before` and `after` are next to `x` in
 -- it.
-abbrev pub is_wrong_between : PlantLists → State → ℕ → Option ℕ → Option ℕ → Bool
-is_wrong_between p s x before after = by_section (slice_get p.sections x)
+abbrev pub is_point_wrong_between : PlantLists → State → ℕ → Option ℕ → Option ℕ → Bool
+is_point_wrong_between p s x before after = by_section (slice_get p.sections x)
   where
     by_lie : ℕ → ℕ → Option Lie → Bool
     by_lie plus minus None = false
     by_lie plus minus (Some Moving) = true
-    by_lie plus minus (Some Plus) = is_beside minus before after
-    by_lie plus minus (Some Minus) = is_beside plus before after
+    by_lie plus minus (Some Plus) = is_before_or_after minus before after
+    by_lie plus minus (Some Minus) = is_before_or_after plus before after
 
     by_section : Option Section → Bool
     by_section None = false
@@ -46,15 +46,15 @@ abbrev pub section_before : List ℕ → ℕ → Option ℕ
 section_before body i = if i == 0 then None else slice_get body (i - 1)
 
 -- The new occupancy of section `x`, at index `i` of the train's body, if it was `before`.
-abbrev pub after_taking : PlantLists → State → Train → ℕ → ℕ → Occupancy → Occupancy
-after_taking p s train x i before =
-    if has_no_train before && not (is_wrong_between p s x (section_before train.body i) (slice_get train.body (i + 1)))
+abbrev pub occupancy_after_adding : PlantLists → State → Train → ℕ → ℕ → Occupancy → Occupancy
+occupancy_after_adding p s train x i before =
+    if is_vacant_occupancy before && not (is_point_wrong_between p s x (section_before train.body i) (slice_get train.body (i + 1)))
     then Taken train.dir (i == 0) (i + 1 == length train.body)
     else Crash
 
 -- Returns whether a body is `wrong` on the point on `x`.
-abbrev pub is_wrong_under : PlantLists → State → ℕ → List ℕ → Bool
-is_wrong_under p s x body = by_section (slice_get p.sections x)
+abbrev pub is_point_wrong_under : PlantLists → State → ℕ → List ℕ → Bool
+is_point_wrong_under p s x body = by_section (slice_get p.sections x)
   where
     by_section : Option Section → Bool
     by_section None = false
@@ -62,12 +62,12 @@ is_wrong_under p s x body = by_section (slice_get p.sections x)
     by_section (Some (Point stem plus minus faces)) = is_wrong_under_body x plus minus (detected_position p s x) body
 
 -- The occupancy of `x` after one more train is added, on the sections `gone` of its body so far.
-abbrev pub with_train_on : PlantLists → State → Train → List ℕ → ℕ → Occupancy → Occupancy
-with_train_on p s train gone x before =
+abbrev pub occupancy_with_train_on : PlantLists → State → Train → List ℕ → ℕ → Occupancy → Occupancy
+occupancy_with_train_on p s train gone x before =
     if has_section x gone
-    then (if has_no_train before && not (is_wrong_under p s x train.body) then taken_by x train else Crash)
+    then (if is_vacant_occupancy before && not (is_point_wrong_under p s x train.body) then occupancy_by_train x train else Crash)
     else before
 
 -- Holds if `now` is `before` with this train added on the sections `gone` of its body.
 abbrev pub HasTrainAdded : PlantLists → State → Train → List ℕ → List Occupancy → List Occupancy → Type 0
-HasTrainAdded p s train gone before now = (x : ℕ) → slice_get now x ≡ option_map (with_train_on p s train gone x) (slice_get before x)
+HasTrainAdded p s train gone before now = (x : ℕ) → slice_get now x ≡ option_map (occupancy_with_train_on p s train gone x) (slice_get before x)

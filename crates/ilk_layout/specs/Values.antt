@@ -21,23 +21,23 @@ mode_value Allocating = 2
 mode_value Locked = 3
 mode_value Occupied = 4
 
-abbrev pub lie_value : Lie → ℕ
-lie_value LiesPlus = 0
-lie_value LiesMinus = 1
-lie_value Moving = 2
+abbrev pub detected_value : Lie → ℕ
+detected_value LiesPlus = 0
+detected_value LiesMinus = 1
+detected_value Moving = 2
 
-abbrev pub position_value : Position → ℕ
-position_value Plus = 0
-position_value Minus = 1
+abbrev pub commanded_value : Position → ℕ
+commanded_value Plus = 0
+commanded_value Minus = 1
 
 abbrev pub aspect_value : Aspect → ℕ
 aspect_value Open = 0
 aspect_value Closed = 1
 
-abbrev pub hold_value : Hold → ℕ
-hold_value FreeLock = 0
-hold_value LockedLock = 1
-hold_value UsedLock = 2
+abbrev pub lock_value : Hold → ℕ
+lock_value FreeLock = 0
+lock_value LockedLock = 1
+lock_value UsedLock = 2
 
 -- 0 for `Vacant`, 9 for `Crash`; otherwise 1, plus 4 for a down train, 2 for its tail and 1 for its
 -- head.
@@ -57,8 +57,8 @@ occupancy_value Crash = 9
 abbrev pub from_value : {A : Type 0} → (A → ℕ) → List A → ℕ → Option A
 from_value value_of all number = find (λ a. value_of a == number) all
 
-abbrev pub lie_from_value : ℕ → Option Lie
-lie_from_value = from_value lie_value (LiesPlus ∷ LiesMinus ∷ Moving ∷ [])
+abbrev pub detected_from_value : ℕ → Option Lie
+detected_from_value = from_value detected_value (LiesPlus ∷ LiesMinus ∷ Moving ∷ [])
 
 abbrev pub all_occupancies : List Occupancy
 all_occupancies =

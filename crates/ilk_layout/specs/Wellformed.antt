@@ -2,29 +2,29 @@
 -- section and its neighbours.
 use Rattle.std.specs.Prelude.{ℕ, Bool, true, false, not, ◌&&◌, ◌||◌, ◌==◌, Option, Some, None, List, length, slice_get}
 use Rattle.ilk_base.specs.Each.{all_below}
-use Rattle.ilk_base.specs.Option.{◌>>=◌, is_some_and, only_if}
+use Rattle.ilk_base.specs.Option.{◌>>=◌, is_some_and, then_some}
 use Rattle.ilk_plant.specs.Network.{same_direction}
 use Rattle.ilk_plant.specs.NetworkRules.{opposite_direction}
 use Rattle.ilk_plant.specs.Plant.{PlantLists, point_number}
 use Rattle.ilk_plant.specs.declared.network.Dir.{Dir}
 use Rattle.ilk_plant.specs.declared.state.Lie.{Lie}
 use Rattle.ilk_motion.specs.Ahead.{section_led_to}
-use Rattle.ilk_routes.specs.Lies.{is_moving}
-use Rattle.ilk_layout.specs.Values.{lie_from_value, occupancy_from_value}
+use Rattle.ilk_routes.specs.Lies.{is_detected_moving}
+use Rattle.ilk_layout.specs.Values.{detected_from_value, occupancy_from_value}
 use Rattle.ilk_layout.specs.Variables.{detected_var, occupancy_var}
 use Rattle.ilk_layout.specs.declared.values.Occupancy.{Occupancy}
 use Rattle.ilk_layout.specs.declared.values.Occupancy.TheVariants.{Vacant, Taken, Crash}
 
 -- The detected position of the point on section `x` by these values, or `None` if `x` has no point.
-abbrev pub lie_from_values : PlantLists → List ℕ → ℕ → Option Lie
-lie_from_values p values x = do
+abbrev pub detected_in_values : PlantLists → List ℕ → ℕ → Option Lie
+detected_in_values p values x = do
   n ← point_number p x
   value ← slice_get values (detected_var p n)
-  lie_from_value value
+  detected_from_value value
 
 -- The occupancy of section `x` by these values.
-abbrev pub occupancy_from_values : PlantLists → List ℕ → ℕ → Option Occupancy
-occupancy_from_values p values x = do
+abbrev pub occupancy_in_values : PlantLists → List ℕ → ℕ → Option Occupancy
+occupancy_in_values p values x = do
   value ← slice_get values (occupancy_var p x)
   occupancy_from_value value
 
@@ -36,11 +36,11 @@ section_ahead p lie x d = do
 
 -- The section after `x` in a body that runs in direction `d`. It is the section ahead of `x`, if
 -- `x` is also ahead of it in the opposite direction.
-abbrev pub joined_section : PlantLists → (ℕ → Option Lie) → ℕ → Dir → Option ℕ
-joined_section p lie x d = do
+abbrev pub mutual_section_ahead : PlantLists → (ℕ → Option Lie) → ℕ → Dir → Option ℕ
+mutual_section_ahead p lie x d = do
   y ← section_ahead p lie x d
   back ← section_ahead p lie y (opposite_direction d)
-  only_if (back == x) y
+  then_some (back == x) y
 
 -- Returns whether the section has a train in direction `d` that continues behind it.
 abbrev pub has_more_behind : Dir → Occupancy → Bool
@@ -58,14 +58,14 @@ has_more_ahead d Crash = false
 -- train is moving. Unless the train's head is at `x`, the next section of its body has a train in
 -- the same direction with more behind. Unless its tail is at `x`, the section before has such a
 -- train with more ahead.
-abbrev pub section_fits : PlantLists → (ℕ → Option Lie) → (ℕ → Option Occupancy) → ℕ → Option Occupancy → Bool
-section_fits p lie occupancy x None = false
-section_fits p lie occupancy x (Some Vacant) = true
-section_fits p lie occupancy x (Some Crash) = false
-section_fits p lie occupancy x (Some (Taken d tail head)) =
-    not (is_some_and (lie x) is_moving)
-    && (head || is_some_and (joined_section p lie x d) (λ y. is_some_and (occupancy y) (has_more_behind d)))
-    && (tail || is_some_and (joined_section p lie x (opposite_direction d)) (λ y. is_some_and (occupancy y) (has_more_ahead d)))
+abbrev pub occupancy_is_consistent : PlantLists → (ℕ → Option Lie) → (ℕ → Option Occupancy) → ℕ → Option Occupancy → Bool
+occupancy_is_consistent p lie occupancy x None = false
+occupancy_is_consistent p lie occupancy x (Some Vacant) = true
+occupancy_is_consistent p lie occupancy x (Some Crash) = false
+occupancy_is_consistent p lie occupancy x (Some (Taken d tail head)) =
+    not (is_some_and (lie x) is_detected_moving)
+    && (head || is_some_and (mutual_section_ahead p lie x d) (λ y. is_some_and (occupancy y) (has_more_behind d)))
+    && (tail || is_some_and (mutual_section_ahead p lie x (opposite_direction d)) (λ y. is_some_and (occupancy y) (has_more_ahead d)))
 
 abbrev pub is_wellformed : PlantLists → List ℕ → Bool
-is_wellformed p values = all_below (length p.sections) (λ x. section_fits p (lie_from_values p values) (occupancy_from_values p values) x (occupancy_from_values p values x))
+is_wellformed p values = all_below (length p.sections) (λ x. occupancy_is_consistent p (detected_in_values p values) (occupancy_in_values p values) x (occupancy_in_values p values x))

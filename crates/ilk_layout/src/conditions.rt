@@ -5,7 +5,8 @@ ghost use Rattle.ilk_plant.specs.Plant.{point_count};
 ghost use Rattle.ilk_layout.specs.Conditions as conditions;
 
 use crate::values::{
-    Occupancy, aspect_value, hold_value, lie_value, mode_value, occupancy_value, position_value,
+    Occupancy, aspect_value, commanded_value, detected_value, lock_value, mode_value,
+    occupancy_value,
 };
 use crate::variable_numbers::{
     board_var, commanded_var, detected_var, lock_var, mode_var, occupancy_var, rel_var, seen_var,
@@ -44,7 +45,7 @@ pub fn is_point_detected(plant: &Plant, n: u32, lie: Lie) -> Form
     requires { n < point_count plant.now }
     ensures { tree_of result ≡ conditions.is_point_detected plant.now n lie }
 {
-    Form::Is(detected_var(plant, n), lie_value(lie))
+    Form::Is(detected_var(plant, n), detected_value(lie))
 }
 
 /// Returns the condition that point `n` is commanded to `position`.
@@ -52,7 +53,7 @@ pub fn is_point_commanded(plant: &Plant, n: u32, position: Position) -> Form
     requires { n < point_count plant.now }
     ensures { tree_of result ≡ conditions.is_point_commanded plant.now n position }
 {
-    Form::Is(commanded_var(plant, n), position_value(position))
+    Form::Is(commanded_var(plant, n), commanded_value(position))
 }
 
 /// Returns the condition that board `m` shows `aspect`.
@@ -68,7 +69,7 @@ pub fn lock_is(plant: &Plant, x: u32, hold: Hold) -> Form
     requires { x < length plant.now.sections }
     ensures { tree_of result ≡ conditions.lock_is plant.now x hold }
 {
-    Form::Is(lock_var(plant, x), hold_value(hold))
+    Form::Is(lock_var(plant, x), lock_value(hold))
 }
 
 /// Returns the condition that section `x` has this `occupancy`.
@@ -104,8 +105,8 @@ pub fn train_at(alloc: Global, plant: &Plant, x: u32) -> Result<Form, AllocError
 
 /// Returns the condition that the point on section `x` is detected in position `lie`. It never
 /// holds if `x` has no point.
-pub fn is_detected(plant: &Plant, x: u32, lie: Lie) -> Form
-    ensures { tree_of result ≡ conditions.is_detected plant.now x lie }
+pub fn section_point_is_detected(plant: &Plant, x: u32, lie: Lie) -> Form
+    ensures { tree_of result ≡ conditions.section_point_is_detected plant.now x lie }
 {
     match point_number_at(plant, x) {
         None => Form::No,
@@ -114,16 +115,16 @@ pub fn is_detected(plant: &Plant, x: u32, lie: Lie) -> Form
 }
 
 /// Returns the condition that a listed point is detected in its listed position.
-pub fn lies_at_listed(plant: &Plant, listed: &Listed) -> Form
-    ensures { tree_of result ≡ conditions.lies_at_listed plant.now listed.now }
+pub fn listed_is_detected(plant: &Plant, listed: &Listed) -> Form
+    ensures { tree_of result ≡ conditions.listed_is_detected plant.now listed.now }
 {
-    is_detected(plant, listed.point, lie_from_position(listed.at))
+    section_point_is_detected(plant, listed.point, lie_from_position(listed.at))
 }
 
 /// Returns the condition that the point on section `x` is commanded to `position`. It never holds
 /// if `x` has no point.
-pub fn is_commanded(plant: &Plant, x: u32, position: Position) -> Form
-    ensures { tree_of result ≡ conditions.is_commanded plant.now x position }
+pub fn section_point_is_commanded(plant: &Plant, x: u32, position: Position) -> Form
+    ensures { tree_of result ≡ conditions.section_point_is_commanded plant.now x position }
 {
     match point_number_at(plant, x) {
         None => Form::No,
@@ -132,8 +133,8 @@ pub fn is_commanded(plant: &Plant, x: u32, position: Position) -> Form
 }
 
 /// Returns the condition that a listed point is commanded to its listed position.
-pub fn commanded_at_listed(plant: &Plant, listed: &Listed) -> Form
-    ensures { tree_of result ≡ conditions.commanded_at_listed plant.now listed.now }
+pub fn listed_is_commanded(plant: &Plant, listed: &Listed) -> Form
+    ensures { tree_of result ≡ conditions.listed_is_commanded plant.now listed.now }
 {
-    is_commanded(plant, listed.point, listed.at)
+    section_point_is_commanded(plant, listed.point, listed.at)
 }

@@ -7,7 +7,7 @@ ghost use Rattle.ilk_layout.specs.Values as numbers;
 
 use crate::occupancies::occupancies;
 use crate::values::{
-    aspect_value, hold_value, lie_value, mode_value, occupancy_value, position_value,
+    aspect_value, commanded_value, detected_value, lock_value, mode_value, occupancy_value,
 };
 use ilk_base::Row;
 use ilk_ir::Values;
@@ -39,8 +39,8 @@ fn push_points(values: &mut Values, points: &Row<PointState>) -> Result<(), Allo
     ensures { OnOk result (values.new ≡ values.old ++ flat_map point_values points.now) }
 {
     for point in points.as_slice() {
-        values.push(lie_value(point.at))?;
-        values.push(position_value(point.to))?;
+        values.push(detected_value(point.at))?;
+        values.push(commanded_value(point.to))?;
     }
     Ok(())
 }
@@ -55,10 +55,10 @@ fn push_boards(values: &mut Values, boards: &Row<Aspect>) -> Result<(), AllocErr
 }
 
 fn push_locks(values: &mut Values, locks: &Row<Hold>) -> Result<(), AllocError>
-    ensures { OnOk result (values.new ≡ values.old ++ map numbers.hold_value locks.now) }
+    ensures { OnOk result (values.new ≡ values.old ++ map numbers.lock_value locks.now) }
 {
     for hold in locks.as_slice() {
-        values.push(hold_value(*hold))?;
+        values.push(lock_value(*hold))?;
     }
     Ok(())
 }
@@ -85,7 +85,7 @@ pub fn image(alloc: Global, plant: &Plant, s: &State) -> Result<Values, AllocErr
     requires { HasShape plant.now s.now }
     ensures { IfOk result (λ values. values ≡ image_of plant.now s.now) }
 {
-    plant.is_sound();
+    plant.prove_is_plant();
     let mut values = Row::new(alloc);
     push_routes(&mut values, &s.routes)?;
     push_points(&mut values, &s.points)?;

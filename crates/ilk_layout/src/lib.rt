@@ -31,16 +31,17 @@ mod variable_numbers;
 mod variables;
 
 pub use conditions::{
-    board_is, commanded_at_listed, is_commanded, is_detected, is_point_commanded,
-    is_point_detected, lies_at_listed, lock_is, mode_is, negated, no_train_at, occupancy_is,
-    rel_is, seen_is, train_at,
+    board_is, is_point_commanded, is_point_detected, listed_is_commanded, listed_is_detected,
+    lock_is, mode_is, negated, no_train_at, occupancy_is, rel_is, section_point_is_commanded,
+    section_point_is_detected, seen_is, train_at,
 };
 pub use images::image;
 pub use laws::{
-    images_are_in_range, images_determine_states, order_is_irrelevant, wellformed_are_images,
+    events_ignore_train_order, images_are_in_range, images_determine_states, wellformed_iff_image,
 };
 pub use values::{
-    Occupancy, aspect_value, hold_value, lie_value, mode_value, occupancy_value, position_value,
+    Occupancy, aspect_value, commanded_value, detected_value, lock_value, mode_value,
+    occupancy_value,
 };
 pub use variable_numbers::{
     board_var, commanded_var, detected_var, lock_var, mode_var, occupancy_var, rel_var, seen_var,

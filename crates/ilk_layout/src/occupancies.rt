@@ -1,8 +1,8 @@
 ghost use Rattle.std.specs.Prelude.{◌≡◌, ◌<◌, ◌+◌, IsTrue, Some, length, map, replicate, slice_index, IfOk};
 ghost use Rattle.std.specs.List.{range_with_len};
-ghost use Rattle.ilk_plant.specs.Shape.{HasShape, has_valid_body};
+ghost use Rattle.ilk_plant.specs.Shape.{HasShape, train_body_is_valid};
 ghost use Rattle.ilk_layout.specs.Occupancy.{occupancy_of};
-ghost use Rattle.ilk_layout.specs.Standing.{HasTrainAdded, after_taking, is_beside, has_no_train, is_wrong_between, section_before};
+ghost use Rattle.ilk_layout.specs.Standing.{HasTrainAdded, occupancy_after_adding, is_before_or_after, is_vacant_occupancy, is_point_wrong_between, section_before};
 
 use crate::values::Occupancy;
 use ilk_base::Row;
@@ -10,21 +10,21 @@ use ilk_plant::{Lie, Plant, Section, State, Train, detected_position};
 use std::alloc::{AllocError, Global};
 
 fn is_vacant(occupancy: Occupancy) -> bool
-    ensures { result ≡ has_no_train occupancy }
+    ensures { result ≡ is_vacant_occupancy occupancy }
 {
     occupancy == Occupancy::Vacant
 }
 
 // Returns whether `before` or `after` is section `y`.
-fn is_beside(y: u32, before: Option<u32>, after: Option<u32>) -> bool
-    ensures { result ≡ is_beside y before after }
+fn is_before_or_after(y: u32, before: Option<u32>, after: Option<u32>) -> bool
+    ensures { result ≡ is_before_or_after y before after }
 {
     before == Some(y) || after == Some(y)
 }
 
 // Returns whether a body is `wrong` on the point on `x`, if `before` and `after` are next to `x` in
 // it.
-fn is_wrong_between(
+fn is_point_wrong_between(
     plant: &Plant,
     s: &State,
     x: u32,
@@ -32,14 +32,14 @@ fn is_wrong_between(
     after: Option<u32>,
 ) -> bool
     requires { x < length plant.now.sections }
-    ensures { result ≡ is_wrong_between plant.now s.now x before after }
+    ensures { result ≡ is_point_wrong_between plant.now s.now x before after }
 {
     match *plant.section(x) {
         Section::Linear { .. } => false,
         Section::Point { plus, minus, .. } => match detected_position(plant, s, x) {
             None => false,
-            Some(Lie::Plus) => is_beside(minus, before, after),
-            Some(Lie::Minus) => is_beside(plus, before, after),
+            Some(Lie::Plus) => is_before_or_after(minus, before, after),
+            Some(Lie::Minus) => is_before_or_after(plus, before, after),
             Some(Lie::Moving) => true,
         },
     }
@@ -57,15 +57,23 @@ fn section_before(body: &[u32], i: usize) -> Option<u32>
 }
 
 // Returns the new occupancy of the section at index `i` of the train's body, if it was `before`.
-fn after_taking(plant: &Plant, s: &State, train: &Train, i: usize, before: Occupancy) -> Occupancy
+fn occupancy_after_adding(
+    plant: &Plant,
+    s: &State,
+    train: &Train,
+    i: usize,
+    before: Occupancy,
+) -> Occupancy
     requires within { i < length train.now.body }
     requires known { slice_index train.now.body i < length plant.now.sections }
     ensures { result
-        ≡ after_taking plant.now s.now train.now (slice_index train.now.body i) i before }
+        ≡ occupancy_after_adding plant.now s.now train.now (slice_index train.now.body i) i before }
 {
     let body = train.body.as_slice();
     let next = body.get(i + 1).copied();
-    if is_vacant(before) && !is_wrong_between(plant, s, body[i], section_before(body, i), next) {
+    if is_vacant(before)
+        && !is_point_wrong_between(plant, s, body[i], section_before(body, i), next)
+    {
         Occupancy::Taken {
             dir: train.dir,
             tail: i == 0,
@@ -78,18 +86,18 @@ fn after_taking(plant: &Plant, s: &State, train: &Train, i: usize, before: Occup
 
 // Adds one train to the occupancies of its sections.
 fn put_train(plant: &Plant, s: &State, occupancies: &mut Row<Occupancy>, train: &Train)
-    requires body { IsTrue (has_valid_body plant.now train.now) }
+    requires body { IsTrue (train_body_is_valid plant.now train.now) }
     requires sections { length occupancies.old ≡ length plant.now.sections }
     ensures { HasTrainAdded plant.now s.now train.now train.now.body occupancies.old
         occupancies.new }
 {
-    plant.is_sound();
-    plant.is_from_drafts();
+    plant.prove_is_plant();
+    plant.prove_from_drafts();
     let body = train.body.as_slice();
     for i in 0..body.len() {
         let x = body[i] as u64;
         let before = *occupancies.at(x);
-        *occupancies.at_mut(x) = after_taking(plant, s, train, i, before);
+        *occupancies.at_mut(x) = occupancy_after_adding(plant, s, train, i, before);
     }
 }
 

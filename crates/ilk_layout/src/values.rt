@@ -29,8 +29,8 @@ pub fn mode_value(mode: Mode) -> u8
 }
 
 /// Returns the value of a detected position in an image.
-pub fn lie_value(lie: Lie) -> u8
-    ensures { result ≡ numbers.lie_value lie }
+pub fn detected_value(lie: Lie) -> u8
+    ensures { result ≡ numbers.detected_value lie }
 {
     match lie {
         Lie::Plus => 0,
@@ -40,8 +40,8 @@ pub fn lie_value(lie: Lie) -> u8
 }
 
 /// Returns the value of a commanded position in an image.
-pub fn position_value(position: Position) -> u8
-    ensures { result ≡ numbers.position_value position }
+pub fn commanded_value(position: Position) -> u8
+    ensures { result ≡ numbers.commanded_value position }
 {
     match position {
         Position::Plus => 0,
@@ -60,8 +60,8 @@ pub fn aspect_value(aspect: Aspect) -> u8
 }
 
 /// Returns the value of a lock in an image.
-pub fn hold_value(hold: Hold) -> u8
-    ensures { result ≡ numbers.hold_value hold }
+pub fn lock_value(hold: Hold) -> u8
+    ensures { result ≡ numbers.lock_value hold }
 {
     match hold {
         Hold::Free => 0,

@@ -9,7 +9,7 @@ pub fn mode_var(plant: &Plant, r: u32) -> u32
     requires { r < length plant.now.routes }
     ensures { result ≡ variables.mode_var r }
 {
-    plant.is_sound();
+    plant.prove_is_plant();
     3 * r
 }
 
@@ -18,7 +18,7 @@ pub fn seen_var(plant: &Plant, r: u32) -> u32
     requires { r < length plant.now.routes }
     ensures { result ≡ variables.seen_var r }
 {
-    plant.is_sound();
+    plant.prove_is_plant();
     3 * r + 1
 }
 
@@ -27,7 +27,7 @@ pub fn rel_var(plant: &Plant, r: u32) -> u32
     requires { r < length plant.now.routes }
     ensures { result ≡ variables.rel_var r }
 {
-    plant.is_sound();
+    plant.prove_is_plant();
     3 * r + 2
 }
 
@@ -36,7 +36,7 @@ pub fn detected_var(plant: &Plant, n: u32) -> u32
     requires { n < point_count plant.now }
     ensures { result ≡ variables.detected_var plant.now n }
 {
-    plant.is_sound();
+    plant.prove_is_plant();
     3 * plant.routes() + 2 * n
 }
 
@@ -45,7 +45,7 @@ pub fn commanded_var(plant: &Plant, n: u32) -> u32
     requires { n < point_count plant.now }
     ensures { result ≡ variables.commanded_var plant.now n }
 {
-    plant.is_sound();
+    plant.prove_is_plant();
     3 * plant.routes() + 2 * n + 1
 }
 
@@ -53,7 +53,7 @@ pub fn commanded_var(plant: &Plant, n: u32) -> u32
 fn boards_begin(plant: &Plant) -> u32
     ensures { result ≡ variables.boards_begin plant.now }
 {
-    plant.is_sound();
+    plant.prove_is_plant();
     3 * plant.routes() + 2 * plant.points()
 }
 
@@ -62,7 +62,7 @@ pub fn board_var(plant: &Plant, m: u32) -> u32
     requires { m < length plant.now.boards }
     ensures { result ≡ variables.board_var plant.now m }
 {
-    plant.is_sound();
+    plant.prove_is_plant();
     boards_begin(plant) + m
 }
 
@@ -71,7 +71,7 @@ pub fn lock_var(plant: &Plant, x: u32) -> u32
     requires { x < length plant.now.sections }
     ensures { result ≡ variables.lock_var plant.now x }
 {
-    plant.is_sound();
+    plant.prove_is_plant();
     boards_begin(plant) + plant.boards() + x
 }
 
@@ -80,6 +80,6 @@ pub fn occupancy_var(plant: &Plant, x: u32) -> u32
     requires { x < length plant.now.sections }
     ensures { result ≡ variables.occupancy_var plant.now x }
 {
-    plant.is_sound();
+    plant.prove_is_plant();
     boards_begin(plant) + plant.boards() + plant.sections() + x
 }

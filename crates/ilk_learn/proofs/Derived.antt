@@ -4,15 +4,15 @@ use Rattle.std.specs.List.{filter}
 use Rattle.std.specs.Prelude.{slice_get}
 use Rattle.std.proofs.lemmas.Bool.{and_parts, and_from, or_cases, or_left, or_right, cases_Bool, not-true, not_from_false, true≢false}
 use Rattle.ilk_base.specs.Option.{is_some_and}
-use Rattle.ilk_cnf.specs.Literal.{Literal, negated_lit, same_lit, has_lit, has_var, vars_differ}
+use Rattle.ilk_cnf.specs.Literal.{Literal, negated_lit, same_lit, has_lit, has_var, has_distinct_vars}
 use Rattle.ilk_cnf.specs.Formula.{is_clause_over}
 use Rattle.ilk_trail.specs.declared.entry.Entry.{Entry}
 use Rattle.ilk_trail.specs.Laws.{lits_of}
 use Rattle.ilk_log.specs.declared.step.Step.{Step}
-use Rattle.ilk_log.specs.Propagation.{is_false, is_falsified, single_unset_lit, unit_lit, after_hint}
+use Rattle.ilk_log.specs.Propagation.{is_false, is_falsified, only_lit_if_unset, unit_lit, after_hint}
 use Rattle.ilk_log.specs.Derived.{negated_clause, hints_end_in_conflict, is_derived}
 use Rattle.ilk_log.specs.Fresh.{other_lits}
-use Rattle.ilk_learn.specs.Resolvent.{joined_clause, resolvent}
+use Rattle.ilk_learn.specs.Resolvent.{with_lits_of_new_vars, resolvent}
 use Rattle.ilk_learn.proofs.Members.{var-of, no-var, same-var, kept-at, differ-kept, within-kept, from-without, in-without, joined-left, joined-from, joined-var-right, joined-differ, joined-within, each-within}
 use Rattle.ilk_cnf.proofs.SameLiterals.{same-lit, lit-is, has-var}
 
@@ -52,10 +52,11 @@ none-open set (m ∷ d) f =
     let t : is_false set m ≡ true = f m (or_left (same_lit m m) (has_lit m d) (same-lit m)) in
     rw t (none-open set d (λ x h. f x (or_right (same_lit x m) (has_lit x d) h)))
 
-one-open : (set d : List Literal) (l : Literal) → vars_differ d ≡ true → has_lit l d ≡ true → is_false set l ≡ false → ((m : Literal) → has_lit m d ≡ true → same_lit l m ≡ false → is_false set m ≡ true) → filter (λ m. not (is_false set m)) d ≡ l ∷ []
+one-open : (set d : List Literal) (l : Literal) → has_distinct_vars d ≡ true → has_lit l d ≡ true → is_false set l ≡ false → ((m : Literal) → has_lit m d ≡ true → same_lit l m ≡ false → is_false set m ≡ true) →
+    filter (λ m. not (is_false set m)) d ≡ l ∷ []
 one-open set [] l d h o f = absurd (cc)
 one-open set (m ∷ c) l d h o f =
-    let p = and_parts (not (has_var m.var c)) (vars_differ c) d in
+    let p = and_parts (not (has_var m.var c)) (has_distinct_vars c) d in
     let away : has_var m.var c ≡ false = not-true (has_var m.var c) p.0 in
     elim (cases_Bool (same_lit l m)) [
       | inl e ↦ (let same : l ≡ m = lit-is l m e in
@@ -74,24 +75,24 @@ one-open set (m ∷ c) l d h o f =
           | inr e ↦ e
         ]
 
-pub unit-one : (set d : List Literal) (l : Literal) → vars_differ d ≡ true → has_lit l d ≡ true →
+pub unit-one : (set d : List Literal) (l : Literal) → has_distinct_vars d ≡ true → has_lit l d ≡ true →
     has_lit l set ≡ false → has_lit (negated_lit l) set ≡ false →
     ((m : Literal) → has_lit m d ≡ true → same_lit l m ≡ false → has_lit (negated_lit m) set ≡ true) →
     unit_lit set d ≡ Some l
-unit-one set d l v h n o f = (let one = one-open set d l v h o f in ap (single_unset_lit set) one ∙ rw n refl)
+unit-one set d l v h n o f = (let one = one-open set d l v h o f in ap (only_lit_if_unset set) one ∙ rw n refl)
 
 -- A working clause: over different variables of 1 to `n`, false under the entries, and its hints
 -- end at a false clause.
 pub record InHand (n : ℕ) (clauses : List (List Literal)) (es : List Entry) (s : Step) : Type 0 where
   pub denied : (m : Literal) → has_lit m s.clause ≡ true → has_lit (negated_lit m) (lits_of es) ≡ true
-  pub differ : vars_differ s.clause ≡ true
+  pub differ : has_distinct_vars s.clause ≡ true
   pub within : is_clause_over n s.clause ≡ true
   pub hinted : (k : ℕ) × (hs : List ℕ) × (s.hints ≡ k ∷ hs)
   pub shown : (set : List Literal) → ((m : Literal) → has_lit m s.clause ≡ true → has_lit (negated_lit m) set ≡ true) → ((m : Literal) → has_lit m set ≡ true → has_lit m (lits_of es) ≡ true) → hints_end_in_conflict clauses set s.hints ≡ true
 
 pub in_hand-start : (n : ℕ) (clauses : List (List Literal)) (es : List Entry) (i : ℕ) (c : List Literal) →
     slice_get clauses i ≡ Some c →
-    ((m : Literal) → has_lit m c ≡ true → has_lit (negated_lit m) (lits_of es) ≡ true) → vars_differ c ≡ true →
+    ((m : Literal) → has_lit m c ≡ true → has_lit (negated_lit m) (lits_of es) ≡ true) → has_distinct_vars c ≡ true →
     is_clause_over n c ≡ true → InHand n clauses es (record { clause = c; hints = (i + 1) ∷ [] })
 in_hand-start n clauses es i c at f d w = record {
   denied = f;
@@ -113,24 +114,24 @@ in_hand-skip n clauses e es s k u = record {
   shown = λ set f g. k.shown set f (λ m h. or_right (same_lit m e.lit) (has_lit m (lits_of es)) (g m h));
 }
 
-other-var : (d : List Literal) (l m : Literal) → vars_differ d ≡ true → has_lit l d ≡ true → has_lit m d ≡ true → same_lit l m ≡ false → m.var ≡ l.var → ⊥
+other-var : (d : List Literal) (l m : Literal) → has_distinct_vars d ≡ true → has_lit l d ≡ true → has_lit m d ≡ true → same_lit l m ≡ false → m.var ≡ l.var → ⊥
 other-var d l m v h k n e = true≢false (sym (same-lit l) ∙ ap (same_lit l) (sym (same-var d m l v k h e)) ∙ n)
 
 pub in_hand-resolve :
     (n : ℕ) (clauses : List (List Literal)) (e : Entry) (es : List Entry) (s : Step) (r : ℕ)
     (d : List Literal) →
     InHand n clauses (e ∷ es) s → slice_get clauses r ≡ Some d → has_lit e.lit d ≡ true →
-    is_falsified (lits_of es) (other_lits e.lit d) ≡ true → vars_differ d ≡ true → is_clause_over n d ≡ true →
-    vars_differ (lits_of es) ≡ true → has_var e.lit.var (lits_of es) ≡ false →
+    is_falsified (lits_of es) (other_lits e.lit d) ≡ true → has_distinct_vars d ≡ true → is_clause_over n d ≡ true →
+    has_distinct_vars (lits_of es) ≡ true → has_var e.lit.var (lits_of es) ≡ false →
     InHand n clauses es (record { clause = resolvent e.lit.var s.clause d; hints = (r + 1) ∷ s.hints })
 in_hand-resolve n clauses e es s r d k at has falsified differ within once unset = record {
-  denied = λ m h. (let w = from-without e.lit.var (joined_clause s.clause d) m h in
+  denied = λ m h. (let w = from-without e.lit.var (with_lits_of_new_vars s.clause d) m h in
       elim (joined-from m s.clause d w.0) [
         | inl a ↦ earlier m (k.denied m a) w.1
         | inr a ↦ reason-denied m a (apart m w.1)
       ]);
-  differ = differ-kept (λ l. not (eqb l.var e.lit.var)) (joined_clause s.clause d) (joined-differ s.clause d k.differ);
-  within = within-kept n (λ l. not (eqb l.var e.lit.var)) (joined_clause s.clause d) (joined-within n s.clause d k.within within);
+  differ = differ-kept (λ l. not (eqb l.var e.lit.var)) (with_lits_of_new_vars s.clause d) (joined-differ s.clause d k.differ);
+  within = within-kept n (λ l. not (eqb l.var e.lit.var)) (with_lits_of_new_vars s.clause d) (joined-within n s.clause d k.within within);
   hinted = (r + 1, s.hints, refl);
   shown = λ set f g. (let one : unit_lit set d ≡ Some e.lit = unit-one set d e.lit differ has (unset-in set g e.lit refl) (unset-in set g (negated_lit e.lit) refl) (λ m a b. reason-false set f g m a b) in
       let q : r + 1 ≡ suc r = add-one r in
@@ -171,9 +172,9 @@ in_hand-resolve n clauses e es s r d k at has falsified differ within once unset
         ((m : Literal) → has_lit m set ≡ true → has_lit m (lits_of es) ≡ true) → (m : Literal) →
         has_lit m d ≡ true → same_lit e.lit m ≡ false → has_lit (negated_lit m) set ≡ true
     reason-false set f g m a b =
-        let x = var-of (joined_clause s.clause d) m.var (joined-var-right m.var s.clause d (has-var m d a)) in
+        let x = var-of (with_lits_of_new_vars s.clause d) m.var (joined-var-right m.var s.clause d (has-var m d a)) in
         let u : x.0.var ≡ e.lit.var → ⊥ = λ q. other-var d e.lit m differ has a b (sym x.1 ∙ q) in
-        let set-x = f x.0 (in-without e.lit.var (joined_clause s.clause d) x.0 x.2 u) in
+        let set-x = f x.0 (in-without e.lit.var (with_lits_of_new_vars s.clause d) x.0 x.2 u) in
         let same : negated_lit x.0 ≡ negated_lit m = same-var (lits_of es) (negated_lit x.0) (negated_lit m) once (g (negated_lit x.0) set-x) (reason-denied m a b) x.1 in
         ap (λ (l : Literal). has_lit l set) (sym same) ∙ set-x
 
@@ -181,16 +182,16 @@ in_hand-resolve n clauses e es s r d k at has falsified differ within once unset
     more-false set f m a = elim (or_cases (same_lit (negated_lit m) e.lit) (has_lit (negated_lit m) (lits_of es)) (k.denied m a)) [
       | inl x ↦ or_left (same_lit (negated_lit m) e.lit) (has_lit (negated_lit m) set) x
       | inr x ↦ (let u : m.var ≡ e.lit.var → ⊥ = λ q. no-var (lits_of es) (negated_lit m) (ap (λ (w : ℕ). has_var w (lits_of es)) q ∙ unset) x in
-          or_right (same_lit (negated_lit m) e.lit) (has_lit (negated_lit m) set) (f m (in-without e.lit.var (joined_clause s.clause d) m (joined-left m s.clause d a) u)))
+          or_right (same_lit (negated_lit m) e.lit) (has_lit (negated_lit m) set) (f m (in-without e.lit.var (with_lits_of_new_vars s.clause d) m (joined-left m s.clause d a) u)))
     ]
 
 pub in_hand-derived :
     (n : ℕ) (clauses : List (List Literal)) (es : List Entry) (s : Step) (c : List Literal) →
     InHand n clauses es s → ((m : Literal) → has_lit m c ≡ true → has_lit m s.clause ≡ true) →
-    ((m : Literal) → has_lit m s.clause ≡ true → has_lit m c ≡ true) → vars_differ c ≡ true →
+    ((m : Literal) → has_lit m s.clause ≡ true → has_lit m c ≡ true) → has_distinct_vars c ≡ true →
     is_derived n clauses (record s { clause = c }) ≡ true
 in_hand-derived n clauses es s c k fewer more differ =
     let within : is_clause_over n c ≡ true = each-within n c s.clause fewer k.within in
     let ends : hints_end_in_conflict clauses (negated_clause c) s.hints ≡ true =
     k.shown (negated_clause c) (λ m h. has-negated_lit c m (more m h)) (λ m h. (let o = negated_lit-of c m h in ap (λ (l : Literal). has_lit l (lits_of es)) o.2 ∙ k.denied o.0 (fewer o.0 o.1))) in
-    and_from (is_clause_over n c && vars_differ c) (hints_end_in_conflict clauses (negated_clause c) s.hints) (and_from (is_clause_over n c) (vars_differ c) within differ) ends
+    and_from (is_clause_over n c && has_distinct_vars c) (hints_end_in_conflict clauses (negated_clause c) s.hints) (and_from (is_clause_over n c) (has_distinct_vars c) within differ) ends

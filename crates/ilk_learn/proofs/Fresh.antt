@@ -2,10 +2,10 @@
 use Rattle.std.proofs.Common.{◌≡◌, ℕ, ◌<◌, ◌≤◌, zero, suc, inl, inr, true, false, ◌&&◌, ◌||◌, not, List, [], ◌∷◌, refl, sym, ap, ◌∙◌, Some, arith}
 use Rattle.std.specs.Prelude.{nat_le, nat_lt, slice_get}
 use Rattle.std.proofs.lemmas.Bool.{and_parts, or_cases, or_left, or_right, cases_Bool, eqb-true, leb-true, le-leb, ltb-true, not-true, true≢false}
-use Rattle.ilk_cnf.specs.Literal.{Literal, negated_lit, same_lit, has_lit, has_var, vars_differ}
+use Rattle.ilk_cnf.specs.Literal.{Literal, negated_lit, same_lit, has_lit, has_var, has_distinct_vars}
 use Rattle.ilk_log.proofs.Closed.{stays-open}
 use Rattle.ilk_log.specs.Propagation.{is_saturated, is_falsified}
-use Rattle.ilk_log.specs.Fresh.{other_lits, IsFresh}
+use Rattle.ilk_log.specs.Fresh.{other_lits, IsEmpowering}
 use Rattle.ilk_trail.specs.declared.entry.Entry.{Entry}
 use Rattle.ilk_trail.specs.Trail.{entries_up_to, level_of}
 use Rattle.ilk_trail.specs.Laws.{lits_of}
@@ -50,13 +50,13 @@ entries_up_to-from k (x ∷ es) m h =
       | inr t ↦ (let f = entries_up_to-from k es m (rw t at h) in (suc f.0, f.1, f.2, f.3, f.4))
     ]
 
-pub has-entries_up_to : (k : ℕ) (es : List Entry) (m : Literal) → vars_differ (lits_of es) ≡ true → has_lit m (lits_of es) ≡ true → level_at es m ≤ k → has_lit m (lits_of (entries_up_to k es)) ≡ true
+pub has-entries_up_to : (k : ℕ) (es : List Entry) (m : Literal) → has_distinct_vars (lits_of es) ≡ true → has_lit m (lits_of es) ≡ true → level_at es m ≤ k → has_lit m (lits_of (entries_up_to k es)) ≡ true
 has-entries_up_to k es m d h l =
     let f = entry-of es m h in
     let same : level_at es m ≡ f.1.level = ap (level_at es) f.3 ∙ level-entry es f.0 f.1 d f.2 in
     ap (λ (x : Literal). has_lit x (lits_of (entries_up_to k es))) f.3 ∙ entries_up_to-at k es f.0 f.1 f.2 (omega (arith, same, l))
 
-not-entries_up_to : (k : ℕ) (es : List Entry) (l : Literal) → vars_differ (lits_of es) ≡ true → k < level_at es l → has_var l.var (lits_of (entries_up_to k es)) ≡ false
+not-entries_up_to : (k : ℕ) (es : List Entry) (l : Literal) → has_distinct_vars (lits_of es) ≡ true → k < level_at es l → has_var l.var (lits_of (entries_up_to k es)) ≡ false
 not-entries_up_to k es l d h =
     elim (cases_Bool (has_var l.var (lits_of (entries_up_to k es)))) [
       | inr t ↦ t
@@ -67,7 +67,7 @@ not-entries_up_to k es l d h =
           omega (arith, level, same, h, f.4))
     ]
 
-pub fresh : (clauses : List (List Literal)) (es : List Entry) (c : List Literal) → vars_differ (lits_of es) ≡ true → is_asserting es c ≡ true → is_saturated clauses (lits_of (entries_up_to (back_level es c) es)) ≡ true → IsFresh clauses c
+pub fresh : (clauses : List (List Literal)) (es : List Entry) (c : List Literal) → has_distinct_vars (lits_of es) ≡ true → is_asserting es c ≡ true → is_saturated clauses (lits_of (entries_up_to (back_level es c) es)) ≡ true → IsEmpowering clauses c
 fresh clauses es [] d a k = absurd (cc)
 fresh clauses es (l ∷ c) d a k =
     let top = highest_level es c in

@@ -5,10 +5,10 @@ use Rattle.std.specs.Prelude.{nat_le}
 use Rattle.ilk_base.proofs.Tested.{list_any-at, list_any-from}
 use Rattle.std.proofs.lemmas.Bool.{and_parts, and_from, or_cases, or_left, or_right, cases_Bool, cases_eq, eqb-true, eq-eqb, leb-true, leb-false, not-true, true≢false}
 use Rattle.std.proofs.lemmas.Option.{same_Some}
-use Rattle.ilk_cnf.specs.Literal.{Literal, same_lit, has_lit, has_var, vars_differ}
+use Rattle.ilk_cnf.specs.Literal.{Literal, same_lit, has_lit, has_var, has_distinct_vars}
 use Rattle.ilk_trail.specs.declared.entry.Entry.{Entry}
 use Rattle.ilk_learn.specs.Resolvent.{without_variable}
-use Rattle.ilk_learn.specs.Levels.{level_at, highest_level, with_moved_to_front, with_highest_first}
+use Rattle.ilk_learn.specs.Levels.{level_at, highest_level, with_lit_first, with_highest_first}
 use Rattle.ilk_learn.specs.Asserting.{has_first_at_level}
 use Rattle.ilk_learn.proofs.Members.{no-var, in-without, kept-at, from-without, front-from, front-has, front-differ}
 use Rattle.ilk_cnf.proofs.SameLiterals.{same-lit, lit-is}
@@ -56,10 +56,10 @@ highest-at es m (n ∷ c) =
       | inr t ↦ (r.0, or_right (same_lit r.0 m) (has_lit r.0 (n ∷ c)) r.1, omega (arith, r.2, leb-false (highest_level es (n ∷ c)) (level_at es m) t))
     ]
 
-pub with_moved_to_front-both : (P : List Literal → Type 0) (p : Literal → Bool) (c : List Literal) → (find p c ≡ None → P c) → ((l : Literal) → has_lit l c ≡ true → p l ≡ true → P (l ∷ without_variable l.var c)) → P (with_moved_to_front (find p c) c)
-with_moved_to_front-both P p c f g = go (find p c) refl
+pub with_lit_first-both : (P : List Literal → Type 0) (p : Literal → Bool) (c : List Literal) → (find p c ≡ None → P c) → ((l : Literal) → has_lit l c ≡ true → p l ≡ true → P (l ∷ without_variable l.var c)) → P (with_lit_first (find p c) c)
+with_lit_first-both P p c f g = go (find p c) refl
   where
-    go : (o : Option Literal) → find p c ≡ o → P (with_moved_to_front o c)
+    go : (o : Option Literal) → find p c ≡ o → P (with_lit_first o c)
     go None e = f e
     go (Some l) e = (let q = find-has p c l e in g l q.0 q.1)
 
@@ -68,19 +68,19 @@ at_highest es c l = eqb (level_at es l) (highest_level es c)
 
 pub with_highest_first-from : (es : List Entry) (c : List Literal) (m : Literal) → has_lit m (with_highest_first es c) ≡ true → has_lit m c ≡ true
 with_highest_first-from es c m =
-    with_moved_to_front-both (λ x. has_lit m x ≡ true → has_lit m c ≡ true) (at_highest es c) c (λ _ h. h) (λ l h _ k. front-from l m c h k)
+    with_lit_first-both (λ x. has_lit m x ≡ true → has_lit m c ≡ true) (at_highest es c) c (λ _ h. h) (λ l h _ k. front-from l m c h k)
 
-pub with_highest_first-has : (es : List Entry) (c : List Literal) (m : Literal) → vars_differ c ≡ true → has_lit m c ≡ true → has_lit m (with_highest_first es c) ≡ true
+pub with_highest_first-has : (es : List Entry) (c : List Literal) (m : Literal) → has_distinct_vars c ≡ true → has_lit m c ≡ true → has_lit m (with_highest_first es c) ≡ true
 with_highest_first-has es c m d k =
-    with_moved_to_front-both (λ x. has_lit m x ≡ true) (at_highest es c) c (λ _. k) (λ l h _. front-has l m c d h k)
+    with_lit_first-both (λ x. has_lit m x ≡ true) (at_highest es c) c (λ _. k) (λ l h _. front-has l m c d h k)
 
-pub with_highest_first-differ : (es : List Entry) (c : List Literal) → vars_differ c ≡ true → vars_differ (with_highest_first es c) ≡ true
+pub with_highest_first-differ : (es : List Entry) (c : List Literal) → has_distinct_vars c ≡ true → has_distinct_vars (with_highest_first es c) ≡ true
 with_highest_first-differ es c d =
-    with_moved_to_front-both (λ x. vars_differ x ≡ true) (at_highest es c) c (λ _. d) (λ l h _. front-differ l c d)
+    with_lit_first-both (λ x. has_distinct_vars x ≡ true) (at_highest es c) c (λ _. d) (λ l h _. front-differ l c d)
 
-pub with_highest_first-begins : (es : List Entry) (c : List Literal) → vars_differ c ≡ true → has_first_at_level es (highest_level es (with_highest_first es c)) (with_highest_first es c) ≡ true
+pub with_highest_first-begins : (es : List Entry) (c : List Literal) → has_distinct_vars c ≡ true → has_first_at_level es (highest_level es (with_highest_first es c)) (with_highest_first es c) ≡ true
 with_highest_first-begins es c d =
-    with_moved_to_front-both (λ x. has_first_at_level es (highest_level es x) x ≡ true) (at_highest es c) c (λ e. nothing c e) (λ l h t. first l h t)
+    with_lit_first-both (λ x. has_first_at_level es (highest_level es x) x ≡ true) (at_highest es c) c (λ e. nothing c e) (λ l h t. first l h t)
   where
     nothing : (c : List Literal) → find (at_highest es c) c ≡ None → has_first_at_level es (highest_level es c) c ≡ true
     nothing [] e = refl
@@ -112,10 +112,10 @@ none-passes p (m ∷ c) f =
     let t : p m ≡ false = f m (or_left (same_lit m m) (has_lit m c) (same-lit m)) in
     rw t (none-passes p c (λ x h. f x (or_right (same_lit x m) (has_lit x c) h)))
 
-one-passes : (p : Literal → Bool) (c : List Literal) (l : Literal) → vars_differ c ≡ true → has_lit l c ≡ true → p l ≡ true → ((m : Literal) → has_lit m c ≡ true → p m ≡ true → m.var ≡ l.var) → filter p c ≡ l ∷ []
+one-passes : (p : Literal → Bool) (c : List Literal) (l : Literal) → has_distinct_vars c ≡ true → has_lit l c ≡ true → p l ≡ true → ((m : Literal) → has_lit m c ≡ true → p m ≡ true → m.var ≡ l.var) → filter p c ≡ l ∷ []
 one-passes p [] l d h t f = absurd (cc)
 one-passes p (m ∷ c) l d h t f =
-    let q = and_parts (not (has_var m.var c)) (vars_differ c) d in
+    let q = and_parts (not (has_var m.var c)) (has_distinct_vars c) d in
     let away : has_var m.var c ≡ false = not-true (has_var m.var c) q.0 in
     elim (or_cases (same_lit l m) (has_lit l c) h) [
       | inl e ↦ (let same : l ≡ m = lit-is l m e in
@@ -132,7 +132,8 @@ one-passes p (m ∷ c) l d h t f =
           rw gone (one-passes p c l q.1 r t (λ x k y. f x (or_right (same_lit x m) (has_lit x c) k) y)))
     ]
 
-pub another-passes : (p : Literal → Bool) (c : List Literal) (v : ℕ) (l : Literal) → vars_differ c ≡ true → has_lit l c ≡ true → p l ≡ true → eqb (length (filter p c)) 1 ≡ false → (m : Literal) × (has_lit m c ≡ true) × (p m ≡ true) × (m.var ≡ v → ⊥)
+pub another-passes : (p : Literal → Bool) (c : List Literal) (v : ℕ) (l : Literal) → has_distinct_vars c ≡ true → has_lit l c ≡ true → p l ≡ true → eqb (length (filter p c)) 1 ≡ false →
+    (m : Literal) × (has_lit m c ≡ true) × (p m ≡ true) × (m.var ≡ v → ⊥)
 another-passes p c v l d h t n =
     elim (cases_eq l.var v) [
       | inr u ↦ (l, h, t, u)
@@ -169,11 +170,11 @@ pub front-some : (es : List Entry) (c clause x : List Literal) (l first : Litera
     Some first ≡ find (λ m. eqb (level_at es m) (highest_level es c)) c →
     x ≡ clause ++ (first ∷ without_variable first.var c) → x ≡ l ∷ with_highest_first es c
 front-some es c clause x l first h f e =
-    e ∙ ap (λ (xs : List Literal). xs ++ (first ∷ without_variable first.var c)) h ∙ ap (λ (o : Option Literal). l ∷ with_moved_to_front o c) f
+    e ∙ ap (λ (xs : List Literal). xs ++ (first ∷ without_variable first.var c)) h ∙ ap (λ (o : Option Literal). l ∷ with_lit_first o c) f
 
 pub front-none : (es : List Entry) (c clause : List Literal) (l : Literal) → clause ≡ l ∷ [] → None ≡ find (λ m. eqb (level_at es m) (highest_level es c)) c → clause ≡ l ∷ with_highest_first es c
 front-none es c clause l h f =
-    h ∙ ap (λ (xs : List Literal). l ∷ xs) (sym (empty c f)) ∙ ap (λ (o : Option Literal). l ∷ with_moved_to_front o c) f
+    h ∙ ap (λ (xs : List Literal). l ∷ xs) (sym (empty c f)) ∙ ap (λ (o : Option Literal). l ∷ with_lit_first o c) f
   where
     empty : (c : List Literal) → None ≡ find (at_highest es c) c → c ≡ []
     empty [] f = refl

@@ -10,10 +10,10 @@ use Rattle.std.proofs.lemmas.List.{get_or-set_same, get_or-set_other, get_or_rea
 use Rattle.std.proofs.lemmas.List.Elements.{filter-append}
 use Rattle.std.proofs.lemmas.List.Filters.{length-filter_both}
 use Rattle.ilk_base.proofs.Tested.{list_all-slice_get}
-use Rattle.ilk_watches.specs.Reasons.{clause_at, HasReasons}
-use Rattle.ilk_cnf.specs.Literal.{Literal, negated_lit, same_lit, has_lit, has_var, vars_differ}
+use Rattle.ilk_watches.specs.Reasons.{nth_clause_or_empty, HasReasons}
+use Rattle.ilk_cnf.specs.Literal.{Literal, negated_lit, same_lit, has_lit, has_var, has_distinct_vars}
 use Rattle.ilk_cnf.specs.Formula.{Formula, IsFormula, is_lit_over, is_clause_over}
-use Rattle.ilk_cnf.proofs.Literals.{vars_differ-push, is_lit_over-parts}
+use Rattle.ilk_cnf.proofs.Literals.{has_distinct_vars-push, is_lit_over-parts}
 use Rattle.ilk_log.specs.Propagation.{is_falsified}
 use Rattle.ilk_log.specs.Fresh.{other_lits}
 use Rattle.ilk_trail.specs.declared.entry.Entry.{Entry}
@@ -21,9 +21,9 @@ use Rattle.ilk_trail.specs.Trail.{TrailList, entry_of, level_of}
 use Rattle.ilk_trail.specs.Laws.{IsTrail, lits_of, is_set}
 use Rattle.ilk_trail.proofs.Entries.{found}
 use Rattle.ilk_trail.proofs.Literals.{is_clause_over-push, count_of_vars}
-use Rattle.ilk_learn.specs.Resolvent.{without_variable, with_lit, joined_clause}
+use Rattle.ilk_learn.specs.Resolvent.{without_variable, with_lit_of_new_var, with_lits_of_new_vars}
 use Rattle.ilk_learn.specs.Levels.{level_at, is_current}
-use Rattle.ilk_learn.specs.Hand.{HoldsClause, all_set}
+use Rattle.ilk_learn.specs.Hand.{FieldsHoldClause, all_set}
 use Rattle.ilk_learn.proofs.Members.{differ-kept, within-kept, kept-at, none-without, var-push}
 use Rattle.ilk_learn.proofs.Derived.{false-at}
 use Rattle.ilk_learn.proofs.Highest.{all-from}
@@ -36,24 +36,24 @@ mark-read marks i v b e h r = sym (get_or_read marks v b h (rw e at r) false)
 pub level-read : (es : List Entry) (l : Literal) (k : ℕ) → option_map (λ (e : Entry). e.level) (entry_of es l.var) ≡ Some k → level_at es l ≡ k
 level-read es l k h = ap (λ (o : Option ℕ). unwrap_or o 0) h
 
-pub within-marks : (t : TrailList) (marks : List Bool) (current : ℕ) (lower c : List Literal) (l : Literal) → HoldsClause t marks current lower c → is_lit_over t.vars l ≡ true → l.var < length marks
+pub within-marks : (t : TrailList) (marks : List Bool) (current : ℕ) (lower c : List Literal) (l : Literal) → FieldsHoldClause t marks current lower c → is_lit_over t.vars l ≡ true → l.var < length marks
 within-marks t marks current lower c l h w = (let p = is_lit_over-parts t.vars l w in omega (arith, h.sized, p.1))
 
-pub few : (t : TrailList) (marks : List Bool) (current : ℕ) (lower c : List Literal) → HoldsClause t marks current lower c → IsTrail t → current ≤ 2 ^ 62 + 1
+pub few : (t : TrailList) (marks : List Bool) (current : ℕ) (lower c : List Literal) → FieldsHoldClause t marks current lower c → IsTrail t → current ≤ 2 ^ 62 + 1
 few t marks current lower c h k =
     let all = count_of_vars t.vars c h.within h.differ in
     let both = length-filter_both (is_current t.entries) (λ l. not (is_current t.entries l)) (λ l. refl) c in
     omega (arith, all, both, h.counted, k.few)
 
-pub holds-known : (t : TrailList) (marks : List Bool) (current : ℕ) (lower c : List Literal) (l : Literal) → HoldsClause t marks current lower c → get_or marks l.var false ≡ true → HoldsClause t marks current lower (with_lit c l)
+pub holds-known : (t : TrailList) (marks : List Bool) (current : ℕ) (lower c : List Literal) (l : Literal) → FieldsHoldClause t marks current lower c → get_or marks l.var false ≡ true → FieldsHoldClause t marks current lower (with_lit_of_new_var c l)
 holds-known t marks current lower c l h m = (let known : has_var l.var c ≡ true = sym (h.marked l.var) ∙ m in rw known h)
 
 holds-push :
     (t : TrailList) (marks : List Bool) (current more : ℕ) (lower longer c : List Literal) (l : Literal) →
-    HoldsClause t marks current lower c → is_lit_over t.vars l ≡ true → has_var l.var c ≡ false →
+    FieldsHoldClause t marks current lower c → is_lit_over t.vars l ≡ true → has_var l.var c ≡ false →
     more ≡ length (filter (is_current t.entries) (c ++ l ∷ [])) →
     longer ≡ filter (λ m. not (is_current t.entries m)) (c ++ l ∷ []) →
-    HoldsClause t (set marks l.var true) more longer (c ++ l ∷ [])
+    FieldsHoldClause t (set marks l.var true) more longer (c ++ l ∷ [])
 holds-push t marks current more lower longer c l h w u e f = record {
   sized = simp length-set h.sized;
   marked = λ v. elim (cases_eq v l.var) [
@@ -68,7 +68,7 @@ holds-push t marks current more lower longer c l h w u e f = record {
   ];
   counted = e;
   rest = f;
-  differ = vars_differ-push c l h.differ u;
+  differ = has_distinct_vars-push c l h.differ u;
   within = is_clause_over-push t.vars c l h.within w;
 }
   where
@@ -77,8 +77,8 @@ holds-push t marks current more lower longer c l h w u e f = record {
     other false b e = rw e refl
 
 pub holds-current : (t : TrailList) (marks : List Bool) (current : ℕ) (lower c : List Literal) (l : Literal) →
-    HoldsClause t marks current lower c → is_lit_over t.vars l ≡ true → get_or marks l.var false ≡ false →
-    is_current t.entries l ≡ true → HoldsClause t (set marks l.var true) (current + 1) lower (with_lit c l)
+    FieldsHoldClause t marks current lower c → is_lit_over t.vars l ≡ true → get_or marks l.var false ≡ false →
+    is_current t.entries l ≡ true → FieldsHoldClause t (set marks l.var true) (current + 1) lower (with_lit_of_new_var c l)
 holds-current t marks current lower c l h w m k =
     let u : has_var l.var c ≡ false = sym (h.marked l.var) ∙ m in
     let p : Literal → Bool = is_current t.entries in
@@ -89,9 +89,9 @@ holds-current t marks current lower c l h w m k =
     rw u (holds-push t marks current (current + 1) lower lower c l h w u long (h.rest ∙ sym (append-nil (filter q c)) ∙ sym none))
 
 pub holds-lower : (t : TrailList) (marks : List Bool) (current : ℕ) (lower c : List Literal) (l : Literal) →
-    HoldsClause t marks current lower c → is_lit_over t.vars l ≡ true → get_or marks l.var false ≡ false →
+    FieldsHoldClause t marks current lower c → is_lit_over t.vars l ≡ true → get_or marks l.var false ≡ false →
     is_current t.entries l ≡ false →
-    HoldsClause t (set marks l.var true) current (lower ++ l ∷ []) (with_lit c l)
+    FieldsHoldClause t (set marks l.var true) current (lower ++ l ∷ []) (with_lit_of_new_var c l)
 holds-lower t marks current lower c l h w m k =
     let u : has_var l.var c ≡ false = sym (h.marked l.var) ∙ m in
     let p : Literal → Bool = is_current t.entries in
@@ -100,16 +100,16 @@ holds-lower t marks current lower c l h w m k =
     let none : filter p (c ++ l ∷ []) ≡ filter p c ++ [] = filter-append p c (l ∷ []) ∙ rw k refl in
     rw u (holds-push t marks current current lower (lower ++ l ∷ []) c l h w u (h.counted ∙ ap length (sym (append-nil (filter p c)) ∙ sym none)) (ap (λ xs. xs ++ l ∷ []) h.rest ∙ sym one))
 
-joined-suc : (k d : List Literal) (i : ℕ) (x : Literal) → slice_get d i ≡ Some x → joined_clause k (take (suc i) d) ≡ with_lit (joined_clause k (take i d)) x
+joined-suc : (k d : List Literal) (i : ℕ) (x : Literal) → slice_get d i ≡ Some x → with_lits_of_new_vars k (take (suc i) d) ≡ with_lit_of_new_var (with_lits_of_new_vars k (take i d)) x
 joined-suc k [] i x h = absurd (cc)
-joined-suc k (y ∷ d) zero x h = (let q : y ≡ x = cc in ap (with_lit k) q)
-joined-suc k (y ∷ d) (suc i) x h = joined-suc (with_lit k y) d i x h
+joined-suc k (y ∷ d) zero x h = (let q : y ≡ x = cc in ap (with_lit_of_new_var k) q)
+joined-suc k (y ∷ d) (suc i) x h = joined-suc (with_lit_of_new_var k y) d i x h
 
-pub joined-more : (k d : List Literal) (i : ℕ) (x : Literal) → slice_get d i ≡ Some x → joined_clause k (take (i + 1) d) ≡ with_lit (joined_clause k (take i d)) x
-joined-more k d i x h = ap (λ (n : ℕ). joined_clause k (take n d)) (add-one i) ∙ joined-suc k d i x h
+pub joined-more : (k d : List Literal) (i : ℕ) (x : Literal) → slice_get d i ≡ Some x → with_lits_of_new_vars k (take (i + 1) d) ≡ with_lit_of_new_var (with_lits_of_new_vars k (take i d)) x
+joined-more k d i x h = ap (λ (n : ℕ). with_lits_of_new_vars k (take n d)) (add-one i) ∙ joined-suc k d i x h
 
-pub joined-whole : (k d : List Literal) (n : ℕ) → n ≡ length d → joined_clause k (take n d) ≡ joined_clause k d
-joined-whole k d n e = ap (λ (m : ℕ). joined_clause k (take m d)) e ∙ ap (joined_clause k) (take-length d)
+pub joined-whole : (k d : List Literal) (n : ℕ) → n ≡ length d → with_lits_of_new_vars k (take n d) ≡ with_lits_of_new_vars k d
+joined-whole k d n e = ap (λ (m : ℕ). with_lits_of_new_vars k (take m d)) e ∙ ap (with_lits_of_new_vars k) (take-length d)
 
 pub set-at : (t : TrailList) (d : List Literal) (i : ℕ) (l : Literal) → all_set t d ≡ true → slice_get d i ≡ Some l → (is_lit_over t.vars l ≡ true) × (is_set t.entries l.var ≡ true)
 set-at t d i l h at = and_parts (is_lit_over t.vars l) (is_set t.entries l.var) (list_all-slice_get (λ (m : Literal). is_lit_over t.vars m && is_set t.entries m.var) d i l h at)
@@ -125,10 +125,10 @@ without-absent v (m ∷ c) h =
       | inr t ↦ rw t (ap (λ (xs : List Literal). m ∷ xs) (without-absent v c (sym (ap (λ (b : Bool). b || has_var v c) t) ∙ h)))
     ]
 
-one-less : (p : Literal → Bool) (v : ℕ) (c : List Literal) → vars_differ c ≡ true → has_var v c ≡ true → ((l : Literal) → l.var ≡ v → p l ≡ true) → length (filter p c) ≡ length (filter p (without_variable v c)) + 1
+one-less : (p : Literal → Bool) (v : ℕ) (c : List Literal) → has_distinct_vars c ≡ true → has_var v c ≡ true → ((l : Literal) → l.var ≡ v → p l ≡ true) → length (filter p c) ≡ length (filter p (without_variable v c)) + 1
 one-less p v [] d h f = absurd (cc)
 one-less p v (m ∷ c) d h f =
-    let q = and_parts (not (has_var m.var c)) (vars_differ c) d in
+    let q = and_parts (not (has_var m.var c)) (has_distinct_vars c) d in
     elim (cases_Bool (eqb m.var v)) [
       | inl t ↦ (let e = eqb-true m.var v t in
           let here : p m ≡ true = f m e in
@@ -157,15 +157,15 @@ var-without v w (m ∷ c) n =
       | inr t ↦ rw t (ap (λ (b : Bool). eqb m.var w || b) (var-without v w c n))
     ]
 
-pub some-current : (t : TrailList) (marks : List Bool) (current : ℕ) (lower c : List Literal) (l : Literal) → HoldsClause t marks current lower c → has_var l.var c ≡ true → is_current t.entries l ≡ true → 1 ≤ current
+pub some-current : (t : TrailList) (marks : List Bool) (current : ℕ) (lower c : List Literal) (l : Literal) → FieldsHoldClause t marks current lower c → has_var l.var c ≡ true → is_current t.entries l ≡ true → 1 ≤ current
 some-current t marks current lower c l h k u =
     let r = one-less (is_current t.entries) l.var c h.differ k (λ m e. same-level t.entries m l e ∙ u) in
     omega (arith, h.counted, r)
 
 pub holds-drop : (t : TrailList) (marks : List Bool) (current : ℕ) (lower c : List Literal) (l : Literal) →
-    HoldsClause t marks current lower c → is_lit_over t.vars l ≡ true → has_var l.var c ≡ true →
+    FieldsHoldClause t marks current lower c → is_lit_over t.vars l ≡ true → has_var l.var c ≡ true →
     is_current t.entries l ≡ true →
-    HoldsClause t (set marks l.var false) (current - 1) lower (without_variable l.var c)
+    FieldsHoldClause t (set marks l.var false) (current - 1) lower (without_variable l.var c)
 holds-drop t marks current lower c l h w k u =
     let cur : (m : Literal) → m.var ≡ l.var → is_current t.entries m ≡ true = λ m e. same-level t.entries m l e ∙ u in
     let r = one-less (is_current t.entries) l.var c h.differ k cur in
@@ -185,11 +185,11 @@ holds-drop t marks current lower c l h w k u =
 pub reason-known : (f : Formula) (t : TrailList) (v r : ℕ) → IsFormula f → f.vars ≡ t.vars →
     HasReasons f.clauses t.entries → is_set t.entries v ≡ true →
     option_map (λ (e : Entry). e.reason) (entry_of t.entries v) ≡ Some (Some r) →
-    (r < length f.clauses) × (all_set t (clause_at f.clauses r) ≡ true)
+    (r < length f.clauses) × (all_set t (nth_clause_or_empty f.clauses r) ≡ true)
 reason-known f t v r form same reasons set h =
     let x = found t.entries v set in
     let why : x.entry.reason ≡ Some r = same_Some x.entry.reason (Some r) (sym (ap (option_map (λ (e : Entry). e.reason)) x.first) ∙ h) in
-    let d = clause_at f.clauses r in
+    let d = nth_clause_or_empty f.clauses r in
     let p = and_parts (has_lit x.entry.lit d) (is_falsified (lits_of (take x.place t.entries)) (other_lits x.entry.lit d)) (reasons x.place x.entry r x.stands why) in
     let at = stands f.clauses r x.entry.lit p.0 in
     let within : is_clause_over t.vars d ≡ true = ap (λ (n : ℕ). is_clause_over n d) (sym same) ∙ list_all-slice_get (is_clause_over f.vars) f.clauses r d form.within at in (

@@ -6,16 +6,16 @@ use Rattle.std.proofs.lemmas.Bool.{and_parts, and_from, or_cases, or_parts, or_f
 use Rattle.std.proofs.lemmas.List.{reverse-append}
 use Rattle.std.proofs.lemmas.List.Folds.{list_any-append}
 use Rattle.ilk_base.proofs.Lists.{item_at}
-use Rattle.ilk_cnf.specs.Literal.{Literal, negated_lit, same_lit, has_lit, has_var, vars_differ}
+use Rattle.ilk_cnf.specs.Literal.{Literal, negated_lit, same_lit, has_lit, has_var, has_distinct_vars}
 use Rattle.ilk_log.specs.Propagation.{is_falsified}
 use Rattle.ilk_log.specs.Fresh.{other_lits}
-use Rattle.ilk_watches.specs.Reasons.{clause_at, is_reason, HasReasons}
+use Rattle.ilk_watches.specs.Reasons.{nth_clause_or_empty, is_reason, HasReasons}
 use Rattle.ilk_trail.specs.declared.entry.Entry.{Entry}
 use Rattle.ilk_trail.specs.Trail.{TrailList, entry_of, last_level, level_of}
 use Rattle.ilk_trail.specs.Laws.{IsTrail, lits_of, is_next_level, has_rising_levels}
 use Rattle.ilk_trail.proofs.Entries.{lits_of-push, found, set-at}
 use Rattle.ilk_trail.proofs.Levels.{last_level-push, has_rising_levels-front, next-level}
-use Rattle.ilk_trail.proofs.Literals.{vars_differ-front}
+use Rattle.ilk_trail.proofs.Literals.{has_distinct_vars-front}
 use Rattle.ilk_learn.specs.Levels.{level_at}
 use Rattle.ilk_learn.proofs.Derived.{false-from, false-at}
 use Rattle.ilk_cnf.proofs.SameLiterals.{lit-is}
@@ -35,10 +35,10 @@ abbrev pub Latest : List (List Literal) → List Entry → List Entry → Type 0
 Latest clauses all [] = Unit {0}
 Latest clauses all (e ∷ es) = IsLatest clauses all e es × Latest clauses all es
 
-pub latest-differ : (clauses : List (List Literal)) (all es : List Entry) → Latest clauses all es → vars_differ (lits_of es) ≡ true
+pub latest-differ : (clauses : List (List Literal)) (all es : List Entry) → Latest clauses all es → has_distinct_vars (lits_of es) ≡ true
 latest-differ clauses all [] h = refl
 latest-differ clauses all (e ∷ es) h =
-    and_from (not (has_var e.lit.var (lits_of es))) (vars_differ (lits_of es)) (not_from_false (has_var e.lit.var (lits_of es)) h.0.unset) (latest-differ clauses all es h.1)
+    and_from (not (has_var e.lit.var (lits_of es))) (has_distinct_vars (lits_of es)) (not_from_false (has_var e.lit.var (lits_of es)) h.0.unset) (latest-differ clauses all es h.1)
 
 pub latest-level : (clauses : List (List Literal)) (all es : List Entry) (l : Literal) → Latest clauses all es → has_lit l (lits_of es) ≡ true → level_at all l ≤ top_level es
 latest-level clauses all [] l h k = absurd (cc)
@@ -88,12 +88,12 @@ top-reverse es (suc n) h =
     let x = item_at es n (omega arith) in
     ap top_level (reverse-one-more es n x.0 x.1) ∙ sym (last_level-push 0 (take n es) x.0) ∙ ap (last_level 0) (sym (take-one-more es n x.0 x.1))
 
-differ-front : (es : List Entry) (n : ℕ) → vars_differ (lits_of es) ≡ true → vars_differ (lits_of (take n es)) ≡ true
+differ-front : (es : List Entry) (n : ℕ) → has_distinct_vars (lits_of es) ≡ true → has_distinct_vars (lits_of (take n es)) ≡ true
 differ-front es zero h = refl
 differ-front [] (suc n) h = refl
 differ-front (e ∷ es) (suc n) h =
-    let p = and_parts (not (has_var e.lit.var (lits_of es))) (vars_differ (lits_of es)) h in
-    and_from (not (has_var e.lit.var (lits_of (take n es)))) (vars_differ (lits_of (take n es)))
+    let p = and_parts (not (has_var e.lit.var (lits_of es))) (has_distinct_vars (lits_of es)) h in
+    and_from (not (has_var e.lit.var (lits_of (take n es)))) (has_distinct_vars (lits_of (take n es)))
     (not_from_false (has_var e.lit.var (lits_of (take n es)))
     (var-front es n e.lit.var (not-true (has_var e.lit.var (lits_of es)) p.0)))
     (differ-front es n p.1)
@@ -112,32 +112,32 @@ has_rising_levels-take k (e ∷ es) (suc n) h =
     let p = and_parts (is_next_level k e) (has_rising_levels e.level es) h in
     and_from (is_next_level k e) (has_rising_levels e.level (take n es)) p.0 (has_rising_levels-take e.level es n p.1)
 
-one-place : (es : List Entry) (i j : ℕ) (x y : Entry) → vars_differ (lits_of es) ≡ true → slice_get es i ≡ Some x → slice_get es j ≡ Some y → x.lit.var ≡ y.lit.var → x ≡ y
+one-place : (es : List Entry) (i j : ℕ) (x y : Entry) → has_distinct_vars (lits_of es) ≡ true → slice_get es i ≡ Some x → slice_get es j ≡ Some y → x.lit.var ≡ y.lit.var → x ≡ y
 one-place [] i j x y d h k e = absurd (cc)
 one-place (z ∷ es) zero zero x y d h k e = cc
 one-place (z ∷ es) zero (suc j) x y d h k e =
-    let p = and_parts (not (has_var z.lit.var (lits_of es))) (vars_differ (lits_of es)) d in
+    let p = and_parts (not (has_var z.lit.var (lits_of es))) (has_distinct_vars (lits_of es)) d in
     let same : z ≡ x = cc in
     absurd (true≢false (sym (set-at es j y k) ∙ ap (λ (v : ℕ). has_var v (lits_of es)) (sym e ∙ sym (ap (λ (w : Entry). w.lit.var) same)) ∙ not-true (has_var z.lit.var (lits_of es)) p.0))
 one-place (z ∷ es) (suc i) zero x y d h k e =
-    let p = and_parts (not (has_var z.lit.var (lits_of es))) (vars_differ (lits_of es)) d in
+    let p = and_parts (not (has_var z.lit.var (lits_of es))) (has_distinct_vars (lits_of es)) d in
     let same : z ≡ y = cc in
     absurd (true≢false (sym (set-at es i x h) ∙ ap (λ (v : ℕ). has_var v (lits_of es)) (e ∙ sym (ap (λ (w : Entry). w.lit.var) same)) ∙ not-true (has_var z.lit.var (lits_of es)) p.0))
 one-place (z ∷ es) (suc i) (suc j) x y d h k e =
-    let p = and_parts (not (has_var z.lit.var (lits_of es))) (vars_differ (lits_of es)) d in
+    let p = and_parts (not (has_var z.lit.var (lits_of es))) (has_distinct_vars (lits_of es)) d in
     one-place es i j x y p.1 h k e
 
-pub entry-at : (es : List Entry) (i : ℕ) (e : Entry) → vars_differ (lits_of es) ≡ true → slice_get es i ≡ Some e → entry_of es e.lit.var ≡ Some e
+pub entry-at : (es : List Entry) (i : ℕ) (e : Entry) → has_distinct_vars (lits_of es) ≡ true → slice_get es i ≡ Some e → entry_of es e.lit.var ≡ Some e
 entry-at es i e d h =
     let f = found es e.lit.var (set-at es i e h) in
     f.first ∙ ap Some (one-place es f.place i f.entry e d f.stands h f.named)
 
-pub level-entry : (es : List Entry) (i : ℕ) (e : Entry) → vars_differ (lits_of es) ≡ true → slice_get es i ≡ Some e → level_at es e.lit ≡ e.level
+pub level-entry : (es : List Entry) (i : ℕ) (e : Entry) → has_distinct_vars (lits_of es) ≡ true → slice_get es i ≡ Some e → level_at es e.lit ≡ e.level
 level-entry es i e d h = rw (entry-at es i e d h) refl
 
 reason-reverse : (clauses : List (List Literal)) (es : List Entry) (l : Literal) (r : ℕ) → is_reason clauses (lits_of es) l r ≡ true → is_reason clauses (lits_of (reverse es)) l r ≡ true
 reason-reverse clauses es l r h =
-    let d = clause_at clauses r in
+    let d = nth_clause_or_empty clauses r in
     let p = and_parts (has_lit l d) (is_falsified (lits_of es) (other_lits l d)) h in
     and_from (has_lit l d) (is_falsified (lits_of (reverse es)) (other_lits l d)) p.0 (false-from (lits_of (reverse es)) (other_lits l d) (λ m k. has-reverse (negated_lit m) es ∙ false-at (lits_of es) (other_lits l d) m p.1 k))
 
@@ -147,8 +147,8 @@ latest-take clauses t (suc n) r k h =
     let es = t.entries in
     let x = item_at es n (omega arith) in
     let e = x.0 in
-    let differ : vars_differ (lits_of (take n es ++ e ∷ [])) ≡ true = ap (λ (ys : List Entry). vars_differ (lits_of ys)) (sym (take-one-more es n e x.1)) ∙ differ-front es (suc n) k.once in
-    let apart = vars_differ-front (lits_of (take n es)) e.lit (ap vars_differ (sym (lits_of-push (take n es) e)) ∙ differ) in
+    let differ : has_distinct_vars (lits_of (take n es ++ e ∷ [])) ≡ true = ap (λ (ys : List Entry). has_distinct_vars (lits_of ys)) (sym (take-one-more es n e x.1)) ∙ differ-front es (suc n) k.once in
+    let apart = has_distinct_vars-front (lits_of (take n es)) e.lit (ap has_distinct_vars (sym (lits_of-push (take n es) e)) ∙ differ) in
     let climbing : has_rising_levels 0 (take n es ++ e ∷ []) ≡ true = ap (has_rising_levels 0) (sym (take-one-more es n e x.1)) ∙ has_rising_levels-take 0 es (suc n) k.climbing in
     let here : IsLatest clauses es e (reverse (take n es)) = record {
       forced = λ c q. reason-reverse clauses (take n es) e.lit c (r n e c x.1 q);

@@ -5,8 +5,8 @@ use Rattle.std.specs.List.{list_any, filter}
 use Rattle.std.proofs.lemmas.Bool.{and_parts, and_from, or_cases, or_left, or_right, cases_Bool, cases_eq, eqb-true, eqb-false, eq-eqb, ltb-true, lt-ltb, not_from_false, true≢false}
 use Rattle.std.proofs.lemmas.Option.{slice_get-get_or}
 use Rattle.ilk_base.proofs.Tested.{list_any-at, list_any-from, list_any-none, list_all-slice_get}
-use Rattle.ilk_watches.specs.Reasons.{clause_at, is_conflict, HasReasons}
-use Rattle.ilk_cnf.specs.Literal.{Literal, negated_lit, same_lit, has_lit, has_var, vars_differ}
+use Rattle.ilk_watches.specs.Reasons.{nth_clause_or_empty, is_conflict, HasReasons}
+use Rattle.ilk_cnf.specs.Literal.{Literal, negated_lit, same_lit, has_lit, has_var, has_distinct_vars}
 use Rattle.ilk_cnf.specs.Formula.{Formula, IsFormula, is_clause_over}
 use Rattle.ilk_log.specs.declared.step.Step.{Step}
 use Rattle.ilk_log.specs.Propagation.{is_falsified}
@@ -17,7 +17,7 @@ use Rattle.ilk_trail.specs.Laws.{IsTrail, lits_of}
 use Rattle.ilk_cnf.proofs.Gates.{negated_lit-negated_lit}
 use Rattle.ilk_learn.specs.Resolvent.{without_variable}
 use Rattle.ilk_learn.specs.Levels.{level_at, is_current, highest_level, with_highest_first}
-use Rattle.ilk_learn.specs.Learning.{has_one_current, implication_point_first, learned_step}
+use Rattle.ilk_learn.specs.Learning.{has_one_current, in_asserting_order, learned_step}
 use Rattle.ilk_learn.specs.Asserting.{has_first_at_level, is_asserting}
 use Rattle.ilk_learn.proofs.Members.{var-of, no-var, same-var, differ-kept, from-without, in-without}
 use Rattle.ilk_learn.proofs.Derived.{false-from, false-at, in_hand-start, in_hand-derived}
@@ -36,14 +36,14 @@ has-point n clauses all e es s w h =
       | inr y ↦ absurd (no-var (lits_of es) (negated_lit x.0) (ap (λ (v : ℕ). has_var v (lits_of es)) x.1 ∙ w.latest.0.unset) y)
     ]
 
-point-from : (all : List Entry) (e : Entry) (c : List Literal) (m : Literal) → has_lit (negated_lit e.lit) c ≡ true → has_lit m (implication_point_first all e.lit c) ≡ true → has_lit m c ≡ true
+point-from : (all : List Entry) (e : Entry) (c : List Literal) (m : Literal) → has_lit (negated_lit e.lit) c ≡ true → has_lit m (in_asserting_order all e.lit c) ≡ true → has_lit m c ≡ true
 point-from all e c m p h =
     elim (or_cases (same_lit m (negated_lit e.lit)) (has_lit m (with_highest_first all (without_variable e.lit.var c))) h) [
       | inl x ↦ ap (λ (l : Literal). has_lit l c) (lit-is m (negated_lit e.lit) x) ∙ p
       | inr x ↦ (from-without e.lit.var c m (with_highest_first-from all (without_variable e.lit.var c) m x)).0
     ]
 
-point-has : (all : List Entry) (e : Entry) (c : List Literal) (m : Literal) → vars_differ c ≡ true → has_lit (negated_lit e.lit) c ≡ true → has_lit m c ≡ true → has_lit m (implication_point_first all e.lit c) ≡ true
+point-has : (all : List Entry) (e : Entry) (c : List Literal) (m : Literal) → has_distinct_vars c ≡ true → has_lit (negated_lit e.lit) c ≡ true → has_lit m c ≡ true → has_lit m (in_asserting_order all e.lit c) ≡ true
 point-has all e c m d p h =
     let rest = with_highest_first all (without_variable e.lit.var c) in
     elim (cases_eq m.var e.lit.var) [
@@ -51,14 +51,14 @@ point-has all e c m d p h =
       | inr v ↦ or_right (same_lit m (negated_lit e.lit)) (has_lit m rest) (with_highest_first-has all (without_variable e.lit.var c) m (differ-kept (λ l. not (eqb l.var e.lit.var)) c d) (in-without e.lit.var c m h v))
     ]
 
-point-differ : (all : List Entry) (e : Entry) (c : List Literal) → vars_differ c ≡ true → vars_differ (implication_point_first all e.lit c) ≡ true
+point-differ : (all : List Entry) (e : Entry) (c : List Literal) → has_distinct_vars c ≡ true → has_distinct_vars (in_asserting_order all e.lit c) ≡ true
 point-differ all e c d =
     let rest = with_highest_first all (without_variable e.lit.var c) in
     let apart : has_var e.lit.var rest ≡ false = elim (cases_Bool (has_var e.lit.var rest)) [
       | inl x ↦ absurd (let m = var-of rest e.lit.var x in (from-without e.lit.var c m.0 (with_highest_first-from all (without_variable e.lit.var c) m.0 m.2)).1 m.1)
       | inr x ↦ x
     ] in
-    and_from (not (has_var e.lit.var rest)) (vars_differ rest) (not_from_false (has_var e.lit.var rest) apart) (with_highest_first-differ all (without_variable e.lit.var c) (differ-kept (λ l. not (eqb l.var e.lit.var)) c d))
+    and_from (not (has_var e.lit.var rest)) (has_distinct_vars rest) (not_from_false (has_var e.lit.var rest) apart) (with_highest_first-differ all (without_variable e.lit.var c) (differ-kept (λ l. not (eqb l.var e.lit.var)) c d))
 
 pub has-current : (t : TrailList) (c : List Literal) → IsTrail t → is_falsified (lits_of t.entries) c ≡ true →
     is_falsified (lits_of (entries_up_to (level_of t.entries - 1) t.entries)) c ≡ false →
@@ -85,9 +85,9 @@ pub walking-start : (f : Formula) (t : TrailList) (c : ℕ) → IsFormula f → 
     (0 < level_of t.entries →
     is_conflict f.clauses (lits_of (entries_up_to (level_of t.entries - 1) t.entries)) c ≡ false) →
     Walking f.vars f.clauses t.entries (reverse t.entries)
-    (record { clause = clause_at f.clauses c; hints = (c + 1) ∷ [] })
+    (record { clause = nth_clause_or_empty f.clauses c; hints = (c + 1) ∷ [] })
 walking-start f t c form trail reasons conflict below =
-    let p = and_parts (nat_lt c (length f.clauses)) (is_falsified (lits_of t.entries) (clause_at f.clauses c)) conflict in
+    let p = and_parts (nat_lt c (length f.clauses)) (is_falsified (lits_of t.entries) (nth_clause_or_empty f.clauses c)) conflict in
     let i = ltb-true c (length f.clauses) p.0 in
     let at = slice_get-get_or f.clauses c [] i in
     let k = latest f.clauses t reasons trail in
@@ -96,13 +96,13 @@ walking-start f t c form trail reasons conflict below =
     record {
       latest = k;
       low = omega (arith, top-is t.entries);
-      hand = in_hand-start f.vars f.clauses (reverse t.entries) c (clause_at f.clauses c) at
+      hand = in_hand-start f.vars f.clauses (reverse t.entries) c (nth_clause_or_empty f.clauses c) at
           (λ m h. has-reverse (negated_lit m) t.entries
-          ∙ false-at (lits_of t.entries) (clause_at f.clauses c) m p.1 h)
-          (list_all-slice_get vars_differ f.clauses c (clause_at f.clauses c) form.differ at)
-          (list_all-slice_get (is_clause_over f.vars) f.clauses c (clause_at f.clauses c) form.within at);
+          ∙ false-at (lits_of t.entries) (nth_clause_or_empty f.clauses c) m p.1 h)
+          (list_all-slice_get has_distinct_vars f.clauses c (nth_clause_or_empty f.clauses c) form.differ at)
+          (list_all-slice_get (is_clause_over f.vars) f.clauses c (nth_clause_or_empty f.clauses c) form.within at);
       current = record {
-        some = λ pos. has-current t (clause_at f.clauses c) trail p.1 (ap (λ (b : Bool). b && is_falsified (lits_of (entries_up_to (level_of t.entries - 1) t.entries)) (clause_at f.clauses c)) (sym p.0) ∙ below pos) low;
+        some = λ pos. has-current t (nth_clause_or_empty f.clauses c) trail p.1 (ap (λ (b : Bool). b && is_falsified (lits_of (entries_up_to (level_of t.entries - 1) t.entries)) (nth_clause_or_empty f.clauses c)) (sym p.0) ∙ below pos) low;
       };
       within = λ m h. sym (has-reverse m t.entries) ∙ h;
     }
@@ -123,7 +123,7 @@ point-derived n clauses all s a =
     let p = and_parts (has_var e.lit.var c) (has_one_current all c) a.point in
     let has = has-point n clauses all e a.before a.step a.walking p.0 in
     ap (is_derived n clauses) a.is
-    ∙ in_hand-derived n clauses (e ∷ a.before) a.step (implication_point_first all e.lit c) a.walking.hand
+    ∙ in_hand-derived n clauses (e ∷ a.before) a.step (in_asserting_order all e.lit c) a.walking.hand
     (λ m h. point-from all e c m has h) (λ m h. point-has all e c m a.walking.hand.differ has h)
     (point-differ all e c a.walking.hand.differ)
 
@@ -153,7 +153,7 @@ point-asserting n clauses all s a =
     let rest = with_highest_first all (without_variable e.lit.var c) in
     let level : level_at all e.lit ≡ level_of all = w.latest.0.level ∙ walking-level n clauses all e a.before a.step w in
     let current : is_current all (negated_lit e.lit) ≡ true = eq-eqb (level_at all e.lit) (level_of all) level in
-    let falsified : is_falsified (lits_of all) (implication_point_first all e.lit c) ≡ true = false-from (lits_of all) (implication_point_first all e.lit c) (λ m h. w.within (negated_lit m) (w.hand.denied m (point-from all e c m has h))) in
+    let falsified : is_falsified (lits_of all) (in_asserting_order all e.lit c) ≡ true = false-from (lits_of all) (in_asserting_order all e.lit c) (λ m h. w.within (negated_lit m) (w.hand.denied m (point-from all e c m has h))) in
     let other : (m : Literal) → has_lit m rest ≡ true → level_at all m ≤ level_of all - 1 = λ m h. (let q = from-without e.lit.var c m (with_highest_first-from all (without_variable e.lit.var c) m h) in
     let le : level_at all m ≤ e.level = latest-level clauses all (e ∷ a.before) (negated_lit m) w.latest (w.hand.denied m q.0) in
     let ne : level_at all m ≡ level_of all → ⊥ = λ z. q.1 (ap (λ (l : Literal). l.var) (lone-passes (is_current all) c m (negated_lit e.lit) one.1 q.0 (eq-eqb (level_at all m) (level_of all) z) has current)) in
@@ -164,7 +164,7 @@ point-asserting n clauses all s a =
     ap (λ (x : Step). is_asserting all x.clause) a.is
     ∙ and_from _ (has_first_at_level all (highest_level all rest) rest)
     (and_from _ (nat_lt (highest_level all rest) (level_of all))
-    (and_from (is_falsified (lits_of all) (implication_point_first all e.lit c))
+    (and_from (is_falsified (lits_of all) (in_asserting_order all e.lit c))
     (is_current all (negated_lit e.lit)) falsified current)
     (lt-ltb (highest_level all rest) (level_of all) lower)) begins
 

@@ -3,11 +3,11 @@ use Rattle.std.proofs.Common.{◌≡◌, ◌⊎◌, ℕ, inl, inr, Bool, true, f
 use Rattle.std.specs.List.{filter}
 use Rattle.std.proofs.lemmas.Bool.{and_parts, and_from, or_cases, or_parts, or_from, or_left, or_right, cases_Bool, eqb-true, eqb-false, ne_eqb, cond_both, not-true, not_from_false, true≢false}
 use Rattle.std.proofs.lemmas.List.Folds.{list_any-append}
-use Rattle.ilk_cnf.specs.Literal.{Literal, same_lit, has_lit, has_var, vars_differ}
+use Rattle.ilk_cnf.specs.Literal.{Literal, same_lit, has_lit, has_var, has_distinct_vars}
 use Rattle.ilk_cnf.specs.Formula.{is_lit_over, is_clause_over}
-use Rattle.ilk_cnf.proofs.Literals.{vars_differ-push}
+use Rattle.ilk_cnf.proofs.Literals.{has_distinct_vars-push}
 use Rattle.ilk_trail.proofs.Literals.{is_clause_over-push}
-use Rattle.ilk_learn.specs.Resolvent.{without_variable, with_lit, joined_clause}
+use Rattle.ilk_learn.specs.Resolvent.{without_variable, with_lit_of_new_var, with_lits_of_new_vars}
 use Rattle.ilk_cnf.proofs.SameLiterals.{same-lit, lit-is, has-var, is_lit_over-clause}
 
 abbrev pub Has : Literal → List Literal → Type 0
@@ -24,10 +24,10 @@ var-of (m ∷ c) v h =
 pub no-var : (c : List Literal) (l : Literal) → has_var l.var c ≡ false → has_lit l c ≡ true → ⊥
 no-var c l n h = true≢false (sym (has-var l c h) ∙ n)
 
-pub same-var : (c : List Literal) (a b : Literal) → vars_differ c ≡ true → has_lit a c ≡ true → has_lit b c ≡ true → a.var ≡ b.var → a ≡ b
+pub same-var : (c : List Literal) (a b : Literal) → has_distinct_vars c ≡ true → has_lit a c ≡ true → has_lit b c ≡ true → a.var ≡ b.var → a ≡ b
 same-var [] a b d h k e = absurd (cc)
 same-var (m ∷ c) a b d h k e =
-    let p = and_parts (not (has_var m.var c)) (vars_differ c) d in
+    let p = and_parts (not (has_var m.var c)) (has_distinct_vars c) d in
     let away : has_var m.var c ≡ false = not-true (has_var m.var c) p.0 in
     elim (or_cases (same_lit a m) (has_lit a c) h) [
       | inl x ↦ elim (or_cases (same_lit b m) (has_lit b c) k) [
@@ -70,12 +70,12 @@ var-kept p (m ∷ c) v h =
       | inr t ↦ rw t (var-kept p c v q.1)
     ]
 
-pub differ-kept : (p : Literal → Bool) (c : List Literal) → vars_differ c ≡ true → vars_differ (filter p c) ≡ true
+pub differ-kept : (p : Literal → Bool) (c : List Literal) → has_distinct_vars c ≡ true → has_distinct_vars (filter p c) ≡ true
 differ-kept p [] h = refl
 differ-kept p (m ∷ c) h =
-    let q = and_parts (not (has_var m.var c)) (vars_differ c) h in
+    let q = and_parts (not (has_var m.var c)) (has_distinct_vars c) h in
     elim (cases_Bool (p m)) [
-      | inl t ↦ rw t (and_from (not (has_var m.var (filter p c))) (vars_differ (filter p c)) (not_from_false (has_var m.var (filter p c)) (var-kept p c m.var (not-true (has_var m.var c) q.0))) (differ-kept p c q.1))
+      | inl t ↦ rw t (and_from (not (has_var m.var (filter p c))) (has_distinct_vars (filter p c)) (not_from_false (has_var m.var (filter p c)) (var-kept p c m.var (not-true (has_var m.var c) q.0))) (differ-kept p c q.1))
       | inr t ↦ rw t (differ-kept p c q.1)
     ]
 
@@ -104,8 +104,8 @@ none-without v (m ∷ c) =
       | inr t ↦ rw t (or_from (eqb m.var v) (has_var v (without_variable v c)) t (none-without v c))
     ]
 
-pub with_lit-both : (P : List Literal → Type 0) (c : List Literal) (l : Literal) → (has_var l.var c ≡ true → P c) → (has_var l.var c ≡ false → P (c ++ l ∷ [])) → P (with_lit c l)
-with_lit-both P c l f g = cond_both (has_var l.var c) c (c ++ l ∷ []) P f g
+pub with_lit_of_new_var-both : (P : List Literal → Type 0) (c : List Literal) (l : Literal) → (has_var l.var c ≡ true → P c) → (has_var l.var c ≡ false → P (c ++ l ∷ [])) → P (with_lit_of_new_var c l)
+with_lit_of_new_var-both P c l f g = cond_both (has_var l.var c) c (c ++ l ∷ []) P f g
 
 has-left : (m : Literal) (c d : List Literal) → has_lit m c ≡ true → has_lit m (c ++ d) ≡ true
 has-left m c d h = list_any-append (same_lit m) c d ∙ or_left (has_lit m c) (has_lit m d) h
@@ -113,48 +113,49 @@ has-left m c d h = list_any-append (same_lit m) c d ∙ or_left (has_lit m c) (h
 pub var-push : (v : ℕ) (c : List Literal) (l : Literal) → has_var v (c ++ l ∷ []) ≡ (has_var v c || (eqb l.var v || false))
 var-push v c l = list_any-append (λ (m : Literal). eqb m.var v) c (l ∷ [])
 
-pub joined-left : (m : Literal) (c d : List Literal) → has_lit m c ≡ true → has_lit m (joined_clause c d) ≡ true
+pub joined-left : (m : Literal) (c d : List Literal) → has_lit m c ≡ true → has_lit m (with_lits_of_new_vars c d) ≡ true
 joined-left m c [] h = h
 joined-left m c (l ∷ d) h =
-    joined-left m (with_lit c l) d (with_lit-both (λ x. has_lit m x ≡ true) c l (λ _. h) (λ _. has-left m c (l ∷ []) h))
+    joined-left m (with_lit_of_new_var c l) d (with_lit_of_new_var-both (λ x. has_lit m x ≡ true) c l (λ _. h) (λ _. has-left m c (l ∷ []) h))
 
-pub joined-from : (m : Literal) (c d : List Literal) → has_lit m (joined_clause c d) ≡ true → (has_lit m c ≡ true) ⊎ (has_lit m d ≡ true)
+pub joined-from : (m : Literal) (c d : List Literal) → has_lit m (with_lits_of_new_vars c d) ≡ true → (has_lit m c ≡ true) ⊎ (has_lit m d ≡ true)
 joined-from m c [] h = inl h
 joined-from m c (l ∷ d) h =
-    elim (joined-from m (with_lit c l) d h) [
-      | inl k ↦ with_lit-both (λ x. has_lit m x ≡ true → (has_lit m c ≡ true) ⊎ (has_lit m (l ∷ d) ≡ true)) c l (λ _ k. inl k) (λ _ k. elim (or_cases (has_lit m c) (same_lit m l || false) (sym (list_any-append (same_lit m) c (l ∷ [])) ∙ k)) [
-        | inl a ↦ inl a
-        | inr a ↦ elim (or_cases (same_lit m l) false a) [ inl e ↦ inr (or_left (same_lit m l) (has_lit m d) e) | inr n ↦ absurd (cc) ]
-      ]) k
+    elim (joined-from m (with_lit_of_new_var c l) d h) [
+      | inl k ↦ with_lit_of_new_var-both (λ x. has_lit m x ≡ true → (has_lit m c ≡ true) ⊎ (has_lit m (l ∷ d) ≡ true)) c l (λ _ k. inl k)
+          (λ _ k. elim (or_cases (has_lit m c) (same_lit m l || false) (sym (list_any-append (same_lit m) c (l ∷ [])) ∙ k)) [
+            | inl a ↦ inl a
+            | inr a ↦ elim (or_cases (same_lit m l) false a) [ inl e ↦ inr (or_left (same_lit m l) (has_lit m d) e) | inr n ↦ absurd (cc) ]
+          ]) k
       | inr k ↦ inr (or_right (same_lit m l) (has_lit m d) k)
     ]
 
-pub joined-var-left : (v : ℕ) (c d : List Literal) → has_var v c ≡ true → has_var v (joined_clause c d) ≡ true
+pub joined-var-left : (v : ℕ) (c d : List Literal) → has_var v c ≡ true → has_var v (with_lits_of_new_vars c d) ≡ true
 joined-var-left v c d h =
     let f = var-of c v h in
-    ap (λ (w : ℕ). has_var w (joined_clause c d)) (sym f.1) ∙ has-var f.0 (joined_clause c d) (joined-left f.0 c d f.2)
+    ap (λ (w : ℕ). has_var w (with_lits_of_new_vars c d)) (sym f.1) ∙ has-var f.0 (with_lits_of_new_vars c d) (joined-left f.0 c d f.2)
 
-pub joined-var-right : (v : ℕ) (c d : List Literal) → has_var v d ≡ true → has_var v (joined_clause c d) ≡ true
+pub joined-var-right : (v : ℕ) (c d : List Literal) → has_var v d ≡ true → has_var v (with_lits_of_new_vars c d) ≡ true
 joined-var-right v c [] h = absurd (cc)
 joined-var-right v c (l ∷ d) h =
     elim (or_cases (eqb l.var v) (has_var v d) h) [
-      | inl e ↦ joined-var-left v (with_lit c l) d
-          (with_lit-both (λ x. has_var v x ≡ true) c l
+      | inl e ↦ joined-var-left v (with_lit_of_new_var c l) d
+          (with_lit_of_new_var-both (λ x. has_var v x ≡ true) c l
           (λ t. ap (λ (w : ℕ). has_var w c) (sym (eqb-true l.var v e)) ∙ t)
           (λ _. var-push v c l
           ∙ or_right (has_var v c) (eqb l.var v || false) (or_left (eqb l.var v) false e)))
-      | inr r ↦ joined-var-right v (with_lit c l) d r
+      | inr r ↦ joined-var-right v (with_lit_of_new_var c l) d r
     ]
 
-pub joined-differ : (c d : List Literal) → vars_differ c ≡ true → vars_differ (joined_clause c d) ≡ true
+pub joined-differ : (c d : List Literal) → has_distinct_vars c ≡ true → has_distinct_vars (with_lits_of_new_vars c d) ≡ true
 joined-differ c [] h = h
-joined-differ c (l ∷ d) h = joined-differ (with_lit c l) d (with_lit-both (λ x. vars_differ x ≡ true) c l (λ _. h) (λ n. vars_differ-push c l h n))
+joined-differ c (l ∷ d) h = joined-differ (with_lit_of_new_var c l) d (with_lit_of_new_var-both (λ x. has_distinct_vars x ≡ true) c l (λ _. h) (λ n. has_distinct_vars-push c l h n))
 
-pub joined-within : (n : ℕ) (c d : List Literal) → is_clause_over n c ≡ true → is_clause_over n d ≡ true → is_clause_over n (joined_clause c d) ≡ true
+pub joined-within : (n : ℕ) (c d : List Literal) → is_clause_over n c ≡ true → is_clause_over n d ≡ true → is_clause_over n (with_lits_of_new_vars c d) ≡ true
 joined-within n c [] h k = h
 joined-within n c (l ∷ d) h k =
     let p = and_parts (is_lit_over n l) (is_clause_over n d) k in
-    joined-within n (with_lit c l) d (with_lit-both (λ x. is_clause_over n x ≡ true) c l (λ _. h) (λ _. is_clause_over-push n c l h p.0)) p.1
+    joined-within n (with_lit_of_new_var c l) d (with_lit_of_new_var-both (λ x. is_clause_over n x ≡ true) c l (λ _. h) (λ _. is_clause_over-push n c l h p.0)) p.1
 
 pub front-from : (l m : Literal) (c : List Literal) → has_lit l c ≡ true → has_lit m (l ∷ without_variable l.var c) ≡ true → has_lit m c ≡ true
 front-from l m c h k =
@@ -163,16 +164,16 @@ front-from l m c h k =
       | inr r ↦ (from-without l.var c m r).0
     ]
 
-pub front-has : (l m : Literal) (c : List Literal) → vars_differ c ≡ true → has_lit l c ≡ true → has_lit m c ≡ true → has_lit m (l ∷ without_variable l.var c) ≡ true
+pub front-has : (l m : Literal) (c : List Literal) → has_distinct_vars c ≡ true → has_lit l c ≡ true → has_lit m c ≡ true → has_lit m (l ∷ without_variable l.var c) ≡ true
 front-has l m c d h k =
     elim (cases_Bool (eqb m.var l.var)) [
       | inl e ↦ or_left (same_lit m l) (has_lit m (without_variable l.var c)) (ap (λ (x : Literal). same_lit m x) (sym (same-var c m l d k h (eqb-true m.var l.var e))) ∙ same-lit m)
       | inr e ↦ or_right (same_lit m l) (has_lit m (without_variable l.var c)) (in-without l.var c m k (eqb-false m.var l.var e))
     ]
 
-pub front-differ : (l : Literal) (c : List Literal) → vars_differ c ≡ true → vars_differ (l ∷ without_variable l.var c) ≡ true
+pub front-differ : (l : Literal) (c : List Literal) → has_distinct_vars c ≡ true → has_distinct_vars (l ∷ without_variable l.var c) ≡ true
 front-differ l c d =
-    and_from (not (has_var l.var (without_variable l.var c))) (vars_differ (without_variable l.var c)) (not_from_false (has_var l.var (without_variable l.var c)) (none-without l.var c)) (differ-kept (λ m. not (eqb m.var l.var)) c d)
+    and_from (not (has_var l.var (without_variable l.var c))) (has_distinct_vars (without_variable l.var c)) (not_from_false (has_var l.var (without_variable l.var c)) (none-without l.var c)) (differ-kept (λ m. not (eqb m.var l.var)) c d)
 
 pub each-within : (n : ℕ) (c d : List Literal) → ((m : Literal) → has_lit m c ≡ true → has_lit m d ≡ true) → is_clause_over n d ≡ true → is_clause_over n c ≡ true
 each-within n [] d f h = refl

@@ -4,9 +4,9 @@ use Rattle.std.specs.Prelude.{nat_lt, unwrap_or, slice_get}
 use Rattle.std.specs.List.{filter, list_all}
 use Rattle.std.proofs.lemmas.Bool.{and_parts, and_cases, or_cases, cases_Bool, eqb-true, eq-eqb, lt-ltb, cases_lt, or_right, true≢false}
 use Rattle.ilk_base.proofs.Tested.{list_all-slice_get}
-use Rattle.ilk_base.specs.Option.{◌>>=◌, only_if}
-use Rattle.ilk_watches.specs.Reasons.{clause_at}
-use Rattle.ilk_cnf.specs.Literal.{Literal, negated_lit, same_lit, has_lit, has_var, vars_differ}
+use Rattle.ilk_base.specs.Option.{◌>>=◌, then_some}
+use Rattle.ilk_watches.specs.Reasons.{nth_clause_or_empty}
+use Rattle.ilk_cnf.specs.Literal.{Literal, negated_lit, same_lit, has_lit, has_var, has_distinct_vars}
 use Rattle.ilk_cnf.specs.Formula.{is_clause_over, are_clauses_over}
 use Rattle.ilk_log.specs.declared.step.Step.{Step}
 use Rattle.ilk_log.specs.Propagation.{is_falsified}
@@ -15,9 +15,9 @@ use Rattle.ilk_trail.specs.declared.entry.Entry.{Entry}
 use Rattle.ilk_trail.specs.Trail.{level_of}
 use Rattle.ilk_trail.specs.Laws.{lits_of}
 use Rattle.ilk_trail.proofs.Levels.{next-level}
-use Rattle.ilk_learn.specs.Resolvent.{joined_clause, resolvent}
+use Rattle.ilk_learn.specs.Resolvent.{with_lits_of_new_vars, resolvent}
 use Rattle.ilk_learn.specs.Levels.{level_at, is_current}
-use Rattle.ilk_learn.specs.Learning.{has_one_current, is_implication_point, implication_point_first, resolved_with_reason, resolved_to_point}
+use Rattle.ilk_learn.specs.Learning.{has_one_current, is_implication_point, in_asserting_order, resolved_with_reason, resolved_to_point}
 use Rattle.ilk_learn.proofs.Members.{joined-left, in-without}
 use Rattle.ilk_learn.proofs.Derived.{InHand, in_hand-skip, in_hand-resolve}
 use Rattle.ilk_learn.proofs.Highest.{another-passes}
@@ -30,7 +30,7 @@ pub record HasCurrent (all : List Entry) (c : List Literal) : Type 0 where
 
 pub record AreClauses (n : ℕ) (clauses : List (List Literal)) : Type 0 where
   pub within : are_clauses_over n clauses ≡ true
-  pub differ : list_all vars_differ clauses ≡ true
+  pub differ : list_all has_distinct_vars clauses ≡ true
 
 -- The progress of the walk: the entries that are left, latest first, and the working clause.
 pub record Walking (n : ℕ) (clauses : List (List Literal)) (all es : List Entry) (s : Step) : Type 0 where
@@ -47,7 +47,7 @@ pub record AtPoint (n : ℕ) (clauses : List (List Literal)) (all : List Entry) 
   pub step : Step
   pub walking : Walking n clauses all (entry ∷ before) step
   pub point : is_implication_point all entry.lit step.clause ≡ true
-  pub is : result ≡ record step { clause = implication_point_first all entry.lit step.clause }
+  pub is : result ≡ record step { clause = in_asserting_order all entry.lit step.clause }
 
 -- At level 0 the walk ends with no entry left.
 pub record AtEnd (n : ℕ) (clauses : List (List Literal)) (all : List Entry) (result : Step) : Type 0 where
@@ -58,17 +58,17 @@ pub record AtEnd (n : ℕ) (clauses : List (List Literal)) (all : List Entry) (r
 pub resolved_with_reason-not : (clauses : List (List Literal)) (e : Entry) (s : Step) → has_var e.lit.var s.clause ≡ false → resolved_with_reason clauses e s ≡ s
 resolved_with_reason-not clauses e s h = rw h (go e.reason)
   where
-    go : (o : Option ℕ) → unwrap_or (o >>= (λ (r : ℕ). only_if false (let t : Step = record { clause = resolvent e.lit.var s.clause (clause_at clauses r); hints = (r + 1) ∷ s.hints } in t))) s ≡ s
+    go : (o : Option ℕ) → unwrap_or (o >>= (λ (r : ℕ). then_some false (let t : Step = record { clause = resolvent e.lit.var s.clause (nth_clause_or_empty clauses r); hints = (r + 1) ∷ s.hints } in t))) s ≡ s
     go None = refl
     go (Some r) = refl
 
 pub resolved_with_reason-is : (clauses : List (List Literal)) (e : Entry) (s : Step) (r : ℕ) →
     has_var e.lit.var s.clause ≡ true → e.reason ≡ Some r →
     resolved_with_reason clauses e s
-    ≡ record { clause = resolvent e.lit.var s.clause (clause_at clauses r); hints = (r + 1) ∷ s.hints }
+    ≡ record { clause = resolvent e.lit.var s.clause (nth_clause_or_empty clauses r); hints = (r + 1) ∷ s.hints }
 resolved_with_reason-is clauses e s r h q = rw (q, h) refl
 
-pub stands : (clauses : List (List Literal)) (r : ℕ) (l : Literal) → has_lit l (clause_at clauses r) ≡ true → slice_get clauses r ≡ Some (clause_at clauses r)
+pub stands : (clauses : List (List Literal)) (r : ℕ) (l : Literal) → has_lit l (nth_clause_or_empty clauses r) ≡ true → slice_get clauses r ≡ Some (nth_clause_or_empty clauses r)
 stands [] r l h = absurd (cc)
 stands (c ∷ clauses) zero l h = refl
 stands (c ∷ clauses) (suc r) l h = stands clauses r l h
@@ -130,16 +130,16 @@ walking-next n clauses all e es s a w p = (let after = next in record {
           subst P q (in_hand-skip n clauses e es s w.hand u, w.current))
       | inl u ↦ (let many : has_one_current all s.clause ≡ false = elim (and_cases (has_var e.lit.var s.clause) (has_one_current all s.clause) p) [ inl x ↦ absurd (true≢false (sym u ∙ x)) | inr x ↦ x ] in
           let r = has-reason n clauses all e es s w.latest w.low w.hand w.current many in
-          let d = clause_at clauses r.0 in
+          let d = nth_clause_or_empty clauses r.0 in
           let parts = and_parts (has_lit e.lit d) (is_falsified (lits_of es) (other_lits e.lit d)) (w.latest.0.forced r.0 r.1) in
           let at = stands clauses r.0 e.lit parts.0 in
-          let differ = list_all-slice_get vars_differ clauses r.0 d a.differ at in
+          let differ = list_all-slice_get has_distinct_vars clauses r.0 d a.differ at in
           let within = list_all-slice_get (is_clause_over n) clauses r.0 d a.within at in
           let q = sym (resolved_with_reason-is clauses e s r.0 u r.1) in
           let P : Step → Type 0 = λ t. InHand n clauses es t × HasCurrent all t.clause in
           subst P q (
             in_hand-resolve n clauses e es s r.0 d w.hand at parts.0 parts.1 differ within (latest-differ clauses all es w.latest.1) w.latest.0.unset,
-            record { some = λ pos. (let m = other-left n clauses all e es s w.hand w.current many pos in (m.0, in-without e.lit.var (joined_clause s.clause d) m.0 (joined-left m.0 s.clause d m.1) m.3, m.2)) },
+            record { some = λ pos. (let m = other-left n clauses all e es s w.hand w.current many pos in (m.0, in-without e.lit.var (with_lits_of_new_vars s.clause d) m.0 (joined-left m.0 s.clause d m.1) m.3, m.2)) },
           ))
     ]
 
@@ -147,13 +147,13 @@ pub walking-reason :
     (n : ℕ) (clauses : List (List Literal)) (all : List Entry) (e : Entry) (es : List Entry) (s : Step) →
     Walking n clauses all (e ∷ es) s → has_var e.lit.var s.clause ≡ true →
     is_implication_point all e.lit s.clause ≡ false →
-    (r : ℕ) × (e.reason ≡ Some r) × (slice_get clauses r ≡ Some (clause_at clauses r)) ×
-    (has_lit e.lit (clause_at clauses r) ≡ true) ×
-    (is_falsified (lits_of es) (other_lits e.lit (clause_at clauses r)) ≡ true)
+    (r : ℕ) × (e.reason ≡ Some r) × (slice_get clauses r ≡ Some (nth_clause_or_empty clauses r)) ×
+    (has_lit e.lit (nth_clause_or_empty clauses r) ≡ true) ×
+    (is_falsified (lits_of es) (other_lits e.lit (nth_clause_or_empty clauses r)) ≡ true)
 walking-reason n clauses all e es s w u p =
     let many : has_one_current all s.clause ≡ false = elim (and_cases (has_var e.lit.var s.clause) (has_one_current all s.clause) p) [ inl x ↦ absurd (true≢false (sym u ∙ x)) | inr x ↦ x ] in
     let r = has-reason n clauses all e es s w.latest w.low w.hand w.current many in
-    let d = clause_at clauses r.0 in
+    let d = nth_clause_or_empty clauses r.0 in
     let parts = and_parts (has_lit e.lit d) (is_falsified (lits_of es) (other_lits e.lit d)) (w.latest.0.forced r.0 r.1) in
     (r.0, r.1, stands clauses r.0 e.lit parts.0, parts.0, parts.1)
 

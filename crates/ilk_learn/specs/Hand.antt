@@ -2,8 +2,8 @@
 -- and the clause.
 use Rattle.std.specs.Prelude.{ℕ, ◌≡◌, ◌+◌, ◌-◌, ◌<◌, ◌&&◌, Bool, false, not, List, [], ◌∷◌, Option, Some, None, length, reverse, slice_index_or, IsTrue}
 use Rattle.std.specs.List.{filter, list_all}
-use Rattle.ilk_watches.specs.Reasons.{clause_at, is_conflict, HasReasons}
-use Rattle.ilk_cnf.specs.Literal.{Literal, negated_lit, has_var, vars_differ}
+use Rattle.ilk_watches.specs.Reasons.{nth_clause_or_empty, is_conflict, HasReasons}
+use Rattle.ilk_cnf.specs.Literal.{Literal, negated_lit, has_var, has_distinct_vars}
 use Rattle.ilk_cnf.specs.Formula.{Formula, is_lit_over, is_clause_over}
 use Rattle.ilk_log.specs.declared.step.Step.{Step}
 use Rattle.ilk_trail.specs.declared.entry.Entry.{Entry}
@@ -19,22 +19,22 @@ all_set t c = list_all (λ l. is_lit_over t.vars l && is_set t.entries l.var) c
 
 -- Holds if the marks by variable, the count of literals of the current level, and the other
 -- literals store clause `c`.
-pub record HoldsClause (t : TrailList) (marks : List Bool) (current : ℕ) (lower : List Literal) (c : List Literal) : Type 0 where
+pub record FieldsHoldClause (t : TrailList) (marks : List Bool) (current : ℕ) (lower : List Literal) (c : List Literal) : Type 0 where
   pub sized : length marks ≡ t.vars + 1
   pub marked : (v : ℕ) → slice_index_or marks v false ≡ has_var v c
   pub counted : current ≡ length (filter (is_current t.entries) c)
   pub rest : lower ≡ filter (λ l. not (is_current t.entries l)) c
-  pub differ : IsTrue (vars_differ c)
+  pub differ : IsTrue (has_distinct_vars c)
   pub within : IsTrue (is_clause_over t.vars c)
 
 -- Holds if the fields of the working clause `h` store clause `c`.
-abbrev pub StoresClause : TrailList → WorkingClause → List Literal → Type 0
-StoresClause t h c = HoldsClause t h.marks.items h.current h.lower.items c
+abbrev pub WorkingClauseHolds : TrailList → WorkingClause → List Literal → Type 0
+WorkingClauseHolds t h c = FieldsHoldClause t h.marks.items h.current h.lower.items c
 
 -- Holds if the fields of the working clause `h` store the clause of a step, and its hints in
 -- reverse order.
-pub record StoresStep (t : TrailList) (h : WorkingClause) (s : Step) : Type 0 where
-  pub holds : HoldsClause t h.marks.items h.current h.lower.items s.clause
+pub record WorkingClauseHoldsStep (t : TrailList) (h : WorkingClause) (s : Step) : Type 0 where
+  pub holds : FieldsHoldClause t h.marks.items h.current h.lower.items s.clause
   pub hinted : s.hints ≡ reverse h.hints.items
 
 -- The clause at point `l`, if there is one, with the literals of lower levels.
@@ -48,8 +48,8 @@ pub record HasWalkedTo (t : TrailList) (clauses : List (List Literal)) (c : ℕ)
   pub is : learned_step clauses t.entries c ≡ record { clause = point_clause t.entries point h.lower.items; hints = reverse h.hints.items }
 
 -- The step with clause `c` and its one hint, from which the walk for the conflict at `c` starts.
-abbrev pub conflict_step : List (List Literal) → ℕ → Step
-conflict_step clauses c = record { clause = clause_at clauses c; hints = (c + 1) ∷ [] }
+abbrev pub conflict_walk_start : List (List Literal) → ℕ → Step
+conflict_walk_start clauses c = record { clause = nth_clause_or_empty clauses c; hints = (c + 1) ∷ [] }
 
 -- Holds if clause `c` is false at the current level, but not at the level below.
 pub record IsConflict (f : Formula) (t : TrailList) (c : ℕ) : Type 0 where

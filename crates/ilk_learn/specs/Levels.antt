@@ -20,10 +20,10 @@ highest_level entries [] = 0
 highest_level entries (l ∷ ls) = max (level_at entries l) (highest_level entries ls)
 
 -- The literals with this one in front.
-abbrev pub with_moved_to_front : Option Literal → List Literal → List Literal
-with_moved_to_front None ls = ls
-with_moved_to_front (Some l) ls = l ∷ without_variable l.var ls
+abbrev pub with_lit_first : Option Literal → List Literal → List Literal
+with_lit_first None ls = ls
+with_lit_first (Some l) ls = l ∷ without_variable l.var ls
 
 -- The literals with the first of the highest level in front.
 abbrev pub with_highest_first : List Entry → List Literal → List Literal
-with_highest_first entries ls = with_moved_to_front (find (λ l. level_at entries l == highest_level entries ls) ls) ls
+with_highest_first entries ls = with_lit_first (find (λ l. level_at entries l == highest_level entries ls) ls) ls

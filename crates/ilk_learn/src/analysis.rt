@@ -8,14 +8,14 @@ ghost use Rattle.ilk_cnf.specs.Literal.{negated_lit};
 ghost use Rattle.ilk_cnf.specs.Formula.{is_clause_over};
 ghost use Rattle.ilk_log.specs.Propagation.{is_saturated};
 ghost use Rattle.ilk_log.specs.Derived.{is_derived};
-ghost use Rattle.ilk_log.specs.Fresh.{IsFresh};
+ghost use Rattle.ilk_log.specs.Fresh.{IsEmpowering};
 ghost use Rattle.ilk_trail.specs.Trail.{level_of, entries_up_to};
 ghost use Rattle.ilk_trail.specs.Laws.{lits_of};
 ghost use Rattle.ilk_learn.specs.Resolvent.{without_variable};
 ghost use Rattle.ilk_learn.specs.Levels.{with_highest_first, highest_level, level_at};
 ghost use Rattle.ilk_learn.specs.Learning.{learned_step};
 ghost use Rattle.ilk_learn.specs.Asserting.{back_level, is_asserting};
-ghost use Rattle.ilk_learn.specs.Hand.{IsConflict, StoresStep, all_set, conflict_step};
+ghost use Rattle.ilk_learn.specs.Hand.{IsConflict, WorkingClauseHoldsStep, all_set, conflict_walk_start};
 
 use crate::hand::WorkingClause;
 use ilk_cnf::{Lit, Lits};
@@ -61,7 +61,7 @@ pub fn learn(
         (λ l.
         IsTrue (is_saturated clauses.now.clauses
         (lits_of (entries_up_to l.level trail.now.entries))) →
-        IsFresh clauses.now.clauses l.step.clause) }
+        IsEmpowering clauses.now.clauses l.step.clause) }
 {
     let _count = clauses.count();
     let _level = trail.level();
@@ -122,12 +122,12 @@ fn started(
     conflict: u64,
 ) -> Result<WorkingClause, AllocError>
     requires { IsConflict (formula_of clauses.now) trail.now conflict }
-    ensures { IfOk result (λ h. StoresStep trail.now h
-        (conflict_step clauses.now.clauses conflict)) }
+    ensures { IfOk result (λ h. WorkingClauseHoldsStep trail.now h
+        (conflict_walk_start clauses.now.clauses conflict)) }
 {
     let _count = clauses.count();
     let mut hand = WorkingClause::new(alloc, trail, clauses.vars())?;
-    hand.add_literals_of(clauses, trail, conflict)?;
+    hand.add_lits_of_new_vars(clauses, trail, conflict)?;
     hand.hints.push(conflict + 1)?;
     Ok(hand)
 }

@@ -2,17 +2,17 @@
 
 ghost use Rattle.std.specs.Prelude.{◌≡◌, ◌+◌, ◌-◌, ◌<◌, ◌^◌, true, false, [], ◌∷◌, ◌++◌, List, Some, length, slice_index_or, IfOk, OnOk, IsTrue};
 ghost use Rattle.ilk_watches.specs.Chained.{formula_of};
-ghost use Rattle.ilk_watches.specs.Reasons.{clause_at, HasReasons};
+ghost use Rattle.ilk_watches.specs.Reasons.{nth_clause_or_empty, HasReasons};
 ghost use Rattle.ilk_cnf.specs.Literal.{Literal, has_var};
 ghost use Rattle.ilk_cnf.specs.Formula.{is_lit_over};
 ghost use Rattle.ilk_log.specs.declared.step.Step.{Step as StepValue};
 ghost use Rattle.ilk_trail.specs.declared.entry.Entry.{Entry};
 ghost use Rattle.ilk_trail.specs.Trail.{entry_of};
 ghost use Rattle.ilk_trail.specs.Laws.{is_set};
-ghost use Rattle.ilk_learn.specs.Resolvent.{with_lit, joined_clause, resolvent};
+ghost use Rattle.ilk_learn.specs.Resolvent.{with_lit_of_new_var, with_lits_of_new_vars, resolvent};
 ghost use Rattle.ilk_learn.specs.Levels.{is_current};
 ghost use Rattle.ilk_learn.specs.Learning.{is_implication_point, resolved_with_reason};
-ghost use Rattle.ilk_learn.specs.Hand.{StoresClause, IsConflict, StoresStep, HasWalkedTo, all_set, conflict_step};
+ghost use Rattle.ilk_learn.specs.Hand.{WorkingClauseHolds, IsConflict, WorkingClauseHoldsStep, HasWalkedTo, all_set, conflict_walk_start};
 
 use ilk_cnf::Lit;
 use ilk_trail::Trail;
@@ -42,7 +42,7 @@ impl WorkingClause {
     pub fn new(alloc: Global, trail: &Trail, vars: u64) -> Result<WorkingClause, AllocError>
         requires few { vars < 2 ^ 63 }
         requires vars { vars ≡ trail.now.vars }
-        ensures holds { IfOk result (λ h. StoresClause trail.now h []) }
+        ensures holds { IfOk result (λ h. WorkingClauseHolds trail.now h []) }
         ensures hints { IfOk result (λ h. h.hints.items ≡ []) }
     {
         Ok(WorkingClause {
@@ -55,12 +55,12 @@ impl WorkingClause {
 
     // Adds `lit`, if the clause has no literal of its variable.
     fn meet(&mut self, trail: &Trail, lit: Lit) -> Result<(), AllocError>
-        requires held { (c : List Literal) × StoresClause trail.now self.old c }
+        requires held { (c : List Literal) × WorkingClauseHolds trail.now self.old c }
         requires within { IsTrue (is_lit_over trail.now.vars lit) }
         requires set { IsTrue (is_set trail.now.entries lit.var) }
         ensures holds { OnOk result
-            ((c : List Literal) → StoresClause trail.now self.old c →
-            StoresClause trail.now self.new (with_lit c lit)) }
+            ((c : List Literal) → WorkingClauseHolds trail.now self.old c →
+            WorkingClauseHolds trail.now self.new (with_lit_of_new_var c lit)) }
         ensures hints { self.new.hints ≡ self.old.hints }
     {
         let var = lit.var() as usize;
@@ -77,18 +77,19 @@ impl WorkingClause {
     }
 
     /// Adds the literals of clause `c` over variables that the working clause does not have.
-    pub fn add_literals_of(
+    pub fn add_lits_of_new_vars(
         &mut self,
         clauses: &Clauses,
         trail: &Trail,
         c: u64,
     ) -> Result<(), AllocError>
-        requires held { (k : List Literal) × StoresClause trail.now self.old k }
+        requires held { (k : List Literal) × WorkingClauseHolds trail.now self.old k }
         requires known { c < length clauses.now.clauses }
-        requires set { IsTrue (all_set trail.now (clause_at clauses.now.clauses c)) }
+        requires set { IsTrue (all_set trail.now (nth_clause_or_empty clauses.now.clauses c)) }
         ensures holds { OnOk result
-            ((k : List Literal) → StoresClause trail.now self.old k →
-            StoresClause trail.now self.new (joined_clause k (clause_at clauses.now.clauses c))) }
+            ((k : List Literal) → WorkingClauseHolds trail.now self.old k →
+            WorkingClauseHolds trail.now self.new
+            (with_lits_of_new_vars k (nth_clause_or_empty clauses.now.clauses c))) }
         ensures hints { self.new.hints ≡ self.old.hints }
     {
         for i in 0..clauses.length(c) {
@@ -105,21 +106,22 @@ impl WorkingClause {
         lit: Lit,
         reason: u64,
     ) -> Result<(), AllocError>
-        requires held { (k : List Literal) × StoresClause trail.now self.old k ×
+        requires held { (k : List Literal) × WorkingClauseHolds trail.now self.old k ×
             IsTrue (has_var lit.var k) }
         requires within { IsTrue (is_lit_over trail.now.vars lit) }
         requires current { IsTrue (is_current trail.now.entries lit) }
         requires known { reason < length clauses.now.clauses }
         requires numbered { reason + 1 < 2 ^ 64 }
-        requires set { IsTrue (all_set trail.now (clause_at clauses.now.clauses reason)) }
+        requires set { IsTrue (all_set trail.now (nth_clause_or_empty clauses.now.clauses reason)) }
         ensures holds { OnOk result
-            ((k : List Literal) → StoresClause trail.now self.old k → IsTrue (has_var lit.var k) →
-            StoresClause trail.now self.new
-            (resolvent lit.var k (clause_at clauses.now.clauses reason))) }
+            ((k : List Literal) → WorkingClauseHolds trail.now self.old k →
+            IsTrue (has_var lit.var k) →
+            WorkingClauseHolds trail.now self.new
+            (resolvent lit.var k (nth_clause_or_empty clauses.now.clauses reason))) }
         ensures hints { OnOk result
             (self.new.hints.items ≡ self.old.hints.items ++ (reason + 1) ∷ []) }
     {
-        self.add_literals_of(clauses, trail, reason)?;
+        self.add_lits_of_new_vars(clauses, trail, reason)?;
         self.marks[lit.var() as usize] = false;
         self.current -= 1;
         self.hints.push(reason + 1)?;
@@ -128,7 +130,7 @@ impl WorkingClause {
 
     // Passes the entry of `lit`. If the clause has its variable, resolves with its reason.
     fn pass(&mut self, clauses: &Clauses, trail: &Trail, lit: Lit) -> Result<(), AllocError>
-        requires held { (s : StepValue) × StoresStep trail.now self.old s }
+        requires held { (s : StepValue) × WorkingClauseHoldsStep trail.now self.old s }
         requires reasons { HasReasons clauses.now.clauses trail.now.entries }
         requires vars { clauses.now.vars ≡ trail.now.vars }
         requires within { IsTrue (is_lit_over trail.now.vars lit) }
@@ -137,8 +139,9 @@ impl WorkingClause {
             IsTrue (is_current trail.now.entries lit) }
         ensures { OnOk result
             ((e : Entry) (s : StepValue) → entry_of trail.now.entries lit.var ≡ Some e →
-            StoresStep trail.now self.old s →
-            StoresStep trail.now self.new (resolved_with_reason clauses.now.clauses e s)) }
+            WorkingClauseHoldsStep trail.now self.old s →
+            WorkingClauseHoldsStep trail.now self.new
+            (resolved_with_reason clauses.now.clauses e s)) }
     {
         let _count = clauses.count();
         if self.marks[lit.var() as usize] {
@@ -152,9 +155,9 @@ impl WorkingClause {
     // Returns whether the clause has the variable of `lit` and exactly one literal of the current
     // level, which is above 0.
     fn is_point(&self, trail: &Trail, lit: Lit) -> bool
-        requires held { (c : List Literal) × StoresClause trail.now self.now c }
+        requires held { (c : List Literal) × WorkingClauseHolds trail.now self.now c }
         requires within { IsTrue (is_lit_over trail.now.vars lit) }
-        ensures { (c : List Literal) → StoresClause trail.now self.now c →
+        ensures { (c : List Literal) → WorkingClauseHolds trail.now self.now c →
             result ≡ is_implication_point trail.now.entries lit c }
     {
         let marked = self.marks[lit.var() as usize];
@@ -172,7 +175,8 @@ impl WorkingClause {
         conflict: u64,
     ) -> Result<Option<Lit>, AllocError>
         requires conflict { IsConflict (formula_of clauses.now) trail.now conflict }
-        requires held { StoresStep trail.now self.old (conflict_step clauses.now.clauses conflict) }
+        requires held { WorkingClauseHoldsStep trail.now self.old
+            (conflict_walk_start clauses.now.clauses conflict) }
         ensures { IfOk result
             (λ point. HasWalkedTo trail.now clauses.now.clauses conflict self.new point) }
     {

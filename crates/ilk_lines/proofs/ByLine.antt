@@ -6,7 +6,7 @@ use Rattle.std.proofs.lemmas.Bool.Decides.{nat_tests}
 use Rattle.std.proofs.lemmas.Slice.Eq.{bytes_eq-Decides}
 use Rattle.ilk_base.specs.Result.{◌>>=◌}
 use Rattle.ilk_lines.specs.Lines.{Bytes}
-use Rattle.ilk_lines.specs.Reading.{LinesPart, lines_after, values_from_lines, leading_values, prepend_option}
+use Rattle.ilk_lines.specs.Reading.{ParsedPrefix, strip_first_line, item_values_from_lines, leading_values, prepend_or_stop}
 use Rattle.ilk_base.proofs.Results.{err_is}
 use Rattle.ilk_lines.proofs.InOrder.{told_with, values_left}
 
@@ -49,7 +49,7 @@ same_bytes bytes = (bytes_eq-Decides bytes bytes).1 refl
 
 -- A wanted line, then the next reader.
 abbrev pub after_then : {T : Type 0} → Bytes → ℕ → Reader T → Reader T
-after_then wanted n next lines bytes = lines_after wanted n lines >>= (λ more. next more bytes)
+after_then wanted n next lines bytes = strip_first_line wanted n lines >>= (λ more. next more bytes)
 
 after_passes : {T : Type 0} (wanted : Bytes) (n : ℕ) (next : Reader T) (line : Bytes) → bytes_eq line wanted ≡ true → (more : List Bytes) (bytes : Bytes) → after_then wanted n next (line ∷ more) bytes ≡ next more bytes
 after_passes wanted n next line same more bytes = ap (λ b. cond {A = Result (List Bytes) ℕ} b (Ok more) (Err n) >>= (λ ls. next ls bytes)) same
@@ -73,15 +73,15 @@ after_by_line wanted n next by = record { fills = after_fills wanted n next by.f
             let here : n ≡ m = err_is (sym (after_refuses wanted n next line differs lines bytes) ∙ e) in
             fails_first n m (after_then wanted n next) (line ∷ lines) (sym here) (λ some more others. after_refuses wanted n next line differs more others ∙ ap (λ k. Err k) here) (after_fills wanted n next by.fills)
 
-abbrev with_value : {A : Type 0} → A → LinesPart A → LinesPart A
+abbrev with_value : {A : Type 0} → A → ParsedPrefix A → ParsedPrefix A
 with_value v part = record part { values = v ∷ part.values }
 
 -- Lines for items, then the next reader.
-abbrev pub each_then : {A T : Type 0} → (ℕ → Bytes → Option A) → List ℕ → ℕ → (LinesPart A → Bytes → Result T ℕ) → Reader T
-each_then value items n next lines bytes = values_from_lines value items n lines >>= (λ part. next part bytes)
+abbrev pub each_then : {A T : Type 0} → (ℕ → Bytes → Option A) → List ℕ → ℕ → (ParsedPrefix A → Bytes → Result T ℕ) → Reader T
+each_then value items n next lines bytes = item_values_from_lines value items n lines >>= (λ part. next part bytes)
 
 -- The next reader after these values.
-abbrev pub part_reader : {A T : Type 0} → (LinesPart A → Bytes → Result T ℕ) → List A → ℕ → Reader T
+abbrev pub part_reader : {A T : Type 0} → (ParsedPrefix A → Bytes → Result T ℕ) → List A → ℕ → Reader T
 part_reader next values number lines bytes = next (record { values = values; number = number; lines = lines }) bytes
 
 none_enough : (k : ℕ) → (0 == suc k) ≡ false
@@ -89,21 +89,21 @@ none_enough k = grind (arith, nat_tests)
 
 no_values : {A : Type 0} (x : ℕ) (items : List ℕ) (n : ℕ) (lines : List Bytes) → told_with {A = A} (x ∷ items) n lines [] ≡ Err (n + 0)
 no_values {A = A} x items n lines =
-    ap (λ b. cond {A = Result (LinesPart A) ℕ} b (Ok (record { values = []; number = n + length (x ∷ items); lines = drop (length (x ∷ items)) lines })) (Err (n + 0))) (none_enough (length items))
+    ap (λ b. cond {A = Result (ParsedPrefix A) ℕ} b (Ok (record { values = []; number = n + length (x ∷ items); lines = drop (length (x ∷ items)) lines })) (Err (n + 0))) (none_enough (length items))
 
-each_missing : {A T : Type 0} (value : ℕ → Bytes → Option A) (x : ℕ) (items : List ℕ) (n : ℕ) (next : LinesPart A → Bytes → Result T ℕ) (bytes : Bytes) → each_then value (x ∷ items) n next [] bytes ≡ Err (n + 0)
-each_missing {A = A} value x items n next bytes = ap (λ (r : Result (LinesPart A) ℕ). r >>= (λ part. next part bytes)) (no_values x items n [])
+each_missing : {A T : Type 0} (value : ℕ → Bytes → Option A) (x : ℕ) (items : List ℕ) (n : ℕ) (next : ParsedPrefix A → Bytes → Result T ℕ) (bytes : Bytes) → each_then value (x ∷ items) n next [] bytes ≡ Err (n + 0)
+each_missing {A = A} value x items n next bytes = ap (λ (r : Result (ParsedPrefix A) ℕ). r >>= (λ part. next part bytes)) (no_values x items n [])
 
 each_refuses :
     {A T : Type 0} (value : ℕ → Bytes → Option A) (x : ℕ) (items : List ℕ) (n : ℕ)
-    (next : LinesPart A → Bytes → Result T ℕ) (line : Bytes) →
+    (next : ParsedPrefix A → Bytes → Result T ℕ) (line : Bytes) →
     value x line ≡ None → (more : List Bytes) (bytes : Bytes) →
     each_then value (x ∷ items) n next (line ∷ more) bytes ≡ Err (n + 0)
 each_refuses {A = A} value x items n next line none more bytes =
-    ap (λ (o : Option A). told_with (x ∷ items) n (line ∷ more) (prepend_option o (values_left value items more)) >>= (λ part. next part bytes)) none
-    ∙ ap (λ (r : Result (LinesPart A) ℕ). r >>= (λ part. next part bytes)) (no_values x items n (line ∷ more))
+    ap (λ (o : Option A). told_with (x ∷ items) n (line ∷ more) (prepend_or_stop o (values_left value items more)) >>= (λ part. next part bytes)) none
+    ∙ ap (λ (r : Result (ParsedPrefix A) ℕ). r >>= (λ part. next part bytes)) (no_values x items n (line ∷ more))
 
-told_more : {A T : Type 0} (x : ℕ) (items : List ℕ) (n : ℕ) (line : Bytes) (more : List Bytes) (v : A) (values : List A) (next : LinesPart A → Bytes → Result T ℕ) (bytes : Bytes)
+told_more : {A T : Type 0} (x : ℕ) (items : List ℕ) (n : ℕ) (line : Bytes) (more : List Bytes) (v : A) (values : List A) (next : ParsedPrefix A → Bytes → Result T ℕ) (bytes : Bytes)
     → (told_with (x ∷ items) n (line ∷ more) (v ∷ values) >>= (λ part. next part bytes)) ≡ (told_with items (n + 1) more values >>= (λ part. next (with_value v part) bytes))
 told_more {A = A} x items n line more v values next bytes = by_count (length values == length items) refl
   where
@@ -119,12 +119,12 @@ told_more {A = A} x items n line more v values next bytes = by_count (length val
 
 each_goes :
     {A T : Type 0} (value : ℕ → Bytes → Option A) (x : ℕ) (items : List ℕ) (n : ℕ)
-    (next : LinesPart A → Bytes → Result T ℕ) (line : Bytes) (v : A) →
+    (next : ParsedPrefix A → Bytes → Result T ℕ) (line : Bytes) (v : A) →
     value x line ≡ Some v → (more : List Bytes) (bytes : Bytes) →
     each_then value (x ∷ items) n next (line ∷ more) bytes
     ≡ each_then value items (n + 1) (λ part. next (with_value v part)) more bytes
 each_goes value x items n next line v some more bytes =
-    ap (λ o. told_with (x ∷ items) n (line ∷ more) (prepend_option o (values_left value items more)) >>= (λ part. next part bytes)) some
+    ap (λ o. told_with (x ∷ items) n (line ∷ more) (prepend_or_stop o (values_left value items more)) >>= (λ part. next part bytes)) some
     ∙ told_more x items n line more v (values_left value items more) next bytes
 
 abbrev pub HasLine : {A : Type 0} → (ℕ → Bytes → Option A) → ℕ → Type 0
@@ -132,7 +132,7 @@ HasLine {A} value x = (line : Bytes) × (v : A) × (value x line ≡ Some v)
 
 each_more :
     {A T : Type 0} (value : ℕ → Bytes → Option A) (x : ℕ) (items : List ℕ) (n : ℕ)
-    (next : LinesPart A → Bytes → Result T ℕ) →
+    (next : ParsedPrefix A → Bytes → Result T ℕ) →
     HasLine value x →
     ((v : A) → IsByLine (n + 1) (each_then value items (n + 1) (λ part. next (with_value v part)))) →
     IsByLine n (each_then value (x ∷ items) n next)
@@ -159,7 +159,7 @@ each_more {A = A} value x items n next own rest = record { fills = fills; fails 
 
 pub each_by_line :
     {A T : Type 0} (value : ℕ → Bytes → Option A) (items : List ℕ) (n : ℕ)
-    (next : LinesPart A → Bytes → Result T ℕ) →
+    (next : ParsedPrefix A → Bytes → Result T ℕ) →
     ((i x : ℕ) → slice_get items i ≡ Some x → HasLine value x) →
     ((values : List A) → IsByLine (n + length items) (part_reader next values (n + length items))) →
     IsByLine n (each_then value items n next)
@@ -174,7 +174,7 @@ each_by_line {A = A} value (x ∷ items) n next has by =
 
 -- Lines with values, a wanted line, then the next reader.
 abbrev taken_then : {A T : Type 0} → Bytes → ℕ → (List A → ℕ → Reader T) → List Bytes → Bytes → List A → Result T ℕ
-taken_then wanted n next lines bytes values = lines_after wanted (n + length values) (drop (length values) lines) >>= (λ more. next values (n + length values + 1) more bytes)
+taken_then wanted n next lines bytes values = strip_first_line wanted (n + length values) (drop (length values) lines) >>= (λ more. next values (n + length values + 1) more bytes)
 
 abbrev pub leading_then : {A T : Type 0} → (Bytes → Option A) → Bytes → ℕ → (List A → ℕ → Reader T) → Reader T
 leading_then value wanted n next lines bytes = taken_then wanted n next lines bytes (leading_values value lines)
@@ -188,8 +188,8 @@ leading_goes :
 leading_goes {A = A} value wanted n next line v some more bytes =
     let values : List A = leading_values value more in
     let number : n + length (v ∷ values) ≡ n + 1 + length values = omega arith in
-    ap (λ (o : Option A). taken_then wanted n next (line ∷ more) bytes (prepend_option o values)) some
-    ∙ ap (λ k. lines_after wanted k (drop (length values) more) >>= (λ ls. next (v ∷ values) (k + 1) ls bytes)) number
+    ap (λ (o : Option A). taken_then wanted n next (line ∷ more) bytes (prepend_or_stop o values)) some
+    ∙ ap (λ k. strip_first_line wanted k (drop (length values) more) >>= (λ ls. next (v ∷ values) (k + 1) ls bytes)) number
 
 leading_stops :
     {A T : Type 0} (value : Bytes → Option A) (wanted : Bytes) (n : ℕ) (next : List A → ℕ → Reader T)
@@ -199,8 +199,8 @@ leading_stops :
     ≡ after_then wanted n (next [] (n + 1)) (line ∷ more) bytes
 leading_stops {A = A} value wanted n next line none more bytes =
     let number : n + 0 ≡ n = omega arith in
-    ap (λ (o : Option A). taken_then wanted n next (line ∷ more) bytes (prepend_option o (leading_values value more))) none
-    ∙ ap (λ k. lines_after wanted k (line ∷ more) >>= (λ ls. next [] (k + 1) ls bytes)) number
+    ap (λ (o : Option A). taken_then wanted n next (line ∷ more) bytes (prepend_or_stop o (leading_values value more))) none
+    ∙ ap (λ k. strip_first_line wanted k (line ∷ more) >>= (λ ls. next [] (k + 1) ls bytes)) number
 
 leading_fills : {A T : Type 0} (value : Bytes → Option A) (wanted : Bytes) (n : ℕ) (next : List A → ℕ → Reader T) → value wanted ≡ None → Fills (next [] (n + 1)) → Fills (leading_then value wanted n next)
 leading_fills value wanted n next none (more, t, e) =

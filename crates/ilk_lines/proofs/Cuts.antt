@@ -5,7 +5,7 @@ use Rattle.std.proofs.lemmas.Bool.{ltb-true}
 use Rattle.std.proofs.lemmas.Iterator.Adapters.{position_from-zero}
 use Rattle.std.proofs.lemmas.List.Splits.{slice_split_first}
 use Rattle.ilk_lines.specs.Reading.{expect_end}
-use Rattle.ilk_lines.specs.Lines.{after_lines, last_part, lines_of, parts_at, parts_but_last}
+use Rattle.ilk_lines.specs.Lines.{unterminated_tail, last_part, lines_of, parts_at, parts_but_last}
 
 none_by : (b : Bool) (c i x : ℕ) (xs : List ℕ) →
     (position_from (λ b. b == c) (i + 1) xs ≡ None → parts_at c xs ≡ xs ∷ []) →
@@ -39,16 +39,16 @@ parts_follow c (x ∷ xs) = follow (x == c) c x xs (parts_follow c xs)
     follow true c x xs rest = ([], parts_at c xs, refl)
     follow false c x xs (part, parts, e) = (x ∷ part, parts, ap (onto_first x) e)
 
-pub lines_cut : (text line rest : List ℕ) → parts_at 10 text ≡ line ∷ parts_at 10 rest → (lines_of text ≡ line ∷ lines_of rest) × (after_lines text ≡ after_lines rest)
+pub lines_cut : (text line rest : List ℕ) → parts_at 10 text ≡ line ∷ parts_at 10 rest → (lines_of text ≡ line ∷ lines_of rest) × (unterminated_tail text ≡ unterminated_tail rest)
 lines_cut text line rest e = by_parts (parts_follow 10 rest)
   where
-    by_parts : ((part : List ℕ) × (parts : List (List ℕ)) × (parts_at 10 rest ≡ part ∷ parts)) → (lines_of text ≡ line ∷ lines_of rest) × (after_lines text ≡ after_lines rest)
+    by_parts : ((part : List ℕ) × (parts : List (List ℕ)) × (parts_at 10 rest ≡ part ∷ parts)) → (lines_of text ≡ line ∷ lines_of rest) × (unterminated_tail text ≡ unterminated_tail rest)
     by_parts (part, parts, follows) = (rw (e, follows) refl, rw (e, follows) refl)
 
 pub lines_none : (text line : List ℕ) → parts_at 10 text ≡ line ∷ [] → lines_of text ≡ []
 lines_none text line e = ap parts_but_last e
 
-pub not_at_end : (n : ℕ) (text : List ℕ) → 0 < length text → expect_end n (lines_of text) (after_lines text) ≡ Err n
+pub not_at_end : (n : ℕ) (text : List ℕ) → 0 < length text → expect_end n (lines_of text) (unterminated_tail text) ≡ Err n
 not_at_end n [] some = absurd (omega arith)
 not_at_end n (b ∷ text) some = by_first (b == 10) (parts_follow 10 text)
   where

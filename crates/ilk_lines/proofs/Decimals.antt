@@ -11,7 +11,7 @@ use Rattle.std.proofs.lemmas.Bool.Decides.{nat_tests}
 use Rattle.std.proofs.lemmas.Fmt.{decimal-digits_value, decimal_digit, decimal_nonempty, digits_decimal, digits_value-decimal, first_decimal}
 use Rattle.std.proofs.lemmas.Option.{cond_some}
 use Rattle.std.proofs.lemmas.Str.Parse.{IsNumeralModel, numerals_by_value, tells_all_ascii_digits}
-use Rattle.ilk_base.specs.Option.{only_if}
+use Rattle.ilk_base.specs.Option.{then_some}
 use Rattle.ilk_lines.specs.Decimal.{decimal_up_to, is_decimal}
 use Rattle.ilk_lines.specs.Lines.{Bytes}
 use Rattle.ilk_lines.specs.Written.{LacksByte}
@@ -67,7 +67,7 @@ decimal_back limit n small below =
     let number : is_decimal (decimal n) ≡ true = and_from _ _ (and_from _ _ digits nonempty) (first_of_decimal n (omega arith)) in
     let value : digits_value 10 (decimal n) ≡ n = digits_value-decimal own n (omega arith) in
     let within : nat_le (digits_value 10 (decimal n)) limit ≡ true = ap (λ k. nat_le k limit) value ∙ le-leb n limit below in
-    ap (λ b. only_if b (digits_value 10 (decimal n))) (and_from _ _ number within) ∙ ap (λ k. Some k) value
+    ap (λ b. then_some b (digits_value 10 (decimal n))) (and_from _ _ number within) ∙ ap (λ k. Some k) value
 
 pub decimal_lacks : (c n : ℕ) → is_ascii_digit c ≡ false → n < 2 ^ 64 → LacksByte c (decimal n)
 decimal_lacks c n other small = lacks_failing is_ascii_digit c (decimal n) other (digits_same (decimal n) ∙ digits_decimal own n small)

@@ -6,7 +6,7 @@ use Rattle.std.proofs.lemmas.Bool.Decides.{nat_tests}
 use Rattle.ilk_base.specs.Result.{◌>>=◌}
 use Rattle.ilk_base.proofs.Results.{err_is, ok_no_err}
 use Rattle.ilk_lines.specs.FirstBad.{BeginsSomeText, IsFirstBadLine, IsWritten, IsWrittenFor}
-use Rattle.ilk_lines.specs.Lines.{Bytes, after_lines, lines_of}
+use Rattle.ilk_lines.specs.Lines.{Bytes, unterminated_tail, lines_of}
 use Rattle.ilk_lines.specs.Reading.{expect_end}
 use Rattle.ilk_lines.specs.Written.{text_of}
 use Rattle.ilk_lines.proofs.ByLine.{FailsAt, Fills, IsByLine, Reader, fails_first}
@@ -29,7 +29,7 @@ end_by_line {T = T} t n = record { fills = fills; fails = fails }
 
 -- The result of reading a text.
 abbrev pub from_text : {T : Type 0} → Reader T → Bytes → Result T ℕ
-from_text read text = read (lines_of text) (after_lines text)
+from_text read text = read (lines_of text) (unterminated_tail text)
 
 -- The reader reads exactly the texts that are written.
 pub record ReadsWritten {T : Type 0} (Has : T → Type 0) (lines_for : T → List Bytes) (read : Reader T) : Type 0 where
@@ -42,10 +42,10 @@ pub text_exactly : {T : Type 0} (Has : T → Type 0) (lines_for : T → List Byt
     (text : Bytes) (t : T) → (from_text read text ≡ Ok t) ↔ IsWrittenFor Has lines_for t text
 text_exactly Has lines_for read reads text t = (
   λ e. (
-    reads.has (lines_of text) (after_lines text) t e,
+    reads.has (lines_of text) (unterminated_tail text) t e,
     text-lines text
-        ∙ ap (λ ls. text_of ls ++ after_lines text) (reads.lines_are (lines_of text) (after_lines text) t e)
-        ∙ ap (λ bs. text_of (lines_for t) ++ bs) (reads.none_after (lines_of text) (after_lines text) t e)
+        ∙ ap (λ ls. text_of ls ++ unterminated_tail text) (reads.lines_are (lines_of text) (unterminated_tail text) t e)
+        ∙ ap (λ bs. text_of (lines_for t) ++ bs) (reads.none_after (lines_of text) (unterminated_tail text) t e)
         ∙ append-nil (text_of (lines_for t)),
   ),
   λ is. ap (from_text read) is.1 ∙ reads.back t is.0,
@@ -56,8 +56,8 @@ pub lines_exactly : {T : Type 0} (Has : T → Type 0) (lines_for : T → List By
 lines_exactly Has lines_for read reads t is =
     let text : Bytes = text_of (lines_for t) in
     let e = reads.back t is in
-    let lines = reads.lines_are (lines_of text) (after_lines text) t e in
-    let none = reads.none_after (lines_of text) (after_lines text) t e in
+    let lines = reads.lines_are (lines_of text) (unterminated_tail text) t e in
+    let none = reads.none_after (lines_of text) (unterminated_tail text) t e in
     (λ i. read (sym lines i) (sym none i)) ∙ e
 
 prefix : (n k : ℕ) (lines : List Bytes) → n ≤ k → (rest : List Bytes) × (take k lines ≡ take n lines ++ rest)
@@ -76,7 +76,7 @@ named_first :
     ReadsWritten Has lines_for read → IsByLine 1 read →
     (text : Bytes) (n : ℕ) → from_text read text ≡ Err n → IsFirstBadLine Has lines_for text n
 named_first Has lines_for read reads by text n e =
-    let fails = by.fails (lines_of text) (after_lines text) n e in
+    let fails = by.fails (lines_of text) (unterminated_tail text) n e in
     let one : n - 1 ≡ fails.passed = omega (arith, fails.at) in
     let first : n ≡ suc fails.passed = omega (arith, fails.at) in
     let begun : List Bytes = take fails.passed (lines_of text) ++ fails.before.0 in

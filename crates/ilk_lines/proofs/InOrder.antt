@@ -5,7 +5,7 @@ use Rattle.std.proofs.lemmas.Grind.{common_steps}
 use Rattle.std.proofs.lemmas.List.{drop-drop, drop_more, length_push}
 use Rattle.std.proofs.lemmas.Option.{same_Some}
 use Rattle.ilk_lines.specs.Lines.{Bytes}
-use Rattle.ilk_lines.specs.Reading.{LinesPart, values_from_lines, leading_values, prepend_option}
+use Rattle.ilk_lines.specs.Reading.{ParsedPrefix, item_values_from_lines, leading_values, prepend_or_stop}
 
 -- The value of the first line for item `x`, and the lines after it.
 abbrev pub one_told : {A : Type 0} → (ℕ → Bytes → Option A) → ℕ → List Bytes → Option (A × List Bytes)
@@ -41,7 +41,7 @@ at_next {A = A} value items n lines taken new x left following number next (line
         let rests : after ≡ more = ap (λ q. q.1) pair in
         let long : length new ≡ length taken + 1 = ap length f ∙ length_push taken v in
         record {
-          values_are = at.values_are ∙ ap (λ xs. taken ++ values_left value xs (line ∷ after)) e ∙ ap (λ o. taken ++ prepend_option o (values_left value following after)) this
+          values_are = at.values_are ∙ ap (λ xs. taken ++ values_left value xs (line ∷ after)) e ∙ ap (λ o. taken ++ prepend_or_stop o (values_left value following after)) this
               ∙ ap (λ u. taken ++ u ∷ values_left value following after) same ∙ ap (λ ls. taken ++ v ∷ values_left value following ls) rests
               ∙ sym (append_assoc taken (v ∷ []) (values_left value following more)) ∙ ap (λ xs. xs ++ values_left value following more) (sym f);
           counts_are = let c = at.counts_are in let d : length left ≡ length following + 1 = ap length e ∙ omega arith in omega arith;
@@ -50,14 +50,14 @@ at_next {A = A} value items n lines taken new x left following number next (line
         }
 
 -- The result for these values.
-abbrev pub told_with : {A : Type 0} → List ℕ → ℕ → List Bytes → List A → Result (LinesPart A) ℕ
+abbrev pub told_with : {A : Type 0} → List ℕ → ℕ → List Bytes → List A → Result (ParsedPrefix A) ℕ
 told_with items n lines values = if length values == length items then Ok (record { values = values; number = n + length items; lines = drop (length items) lines }) else Err (n + length values)
 
 nothing_left : {A : Type 0} (value : ℕ → Bytes → Option A) (x : ℕ) (following : List ℕ) (rest : List Bytes) → one_told value x rest ≡ None → values_left value (x ∷ following) rest ≡ []
 nothing_left value x following [] none = refl
 nothing_left {A = A} value x following (line ∷ after) none = by_value (value x line) none
   where
-    by_value : (o : Option A) → option_map {U = A × List Bytes} (λ w. (w, after)) o ≡ None → prepend_option o (values_left value following after) ≡ []
+    by_value : (o : Option A) → option_map {U = A × List Bytes} (λ w. (w, after)) o ≡ None → prepend_or_stop o (values_left value following after) ≡ []
     by_value None that = refl
     by_value (Some w) that = cc
 
@@ -66,7 +66,7 @@ pub at_bad :
     {A : Type 0} (value : ℕ → Bytes → Option A) (items : List ℕ) (n : ℕ) (lines : List Bytes) (taken : List A)
     (x : ℕ) (left following : List ℕ) (number : ℕ) (rest : List Bytes) →
     IsAt value items n lines taken left number rest → left ≡ x ∷ following → one_told value x rest ≡ None →
-    values_from_lines value items n lines ≡ Err number
+    item_values_from_lines value items n lines ≡ Err number
 at_bad value items n lines taken x left following number rest at e refused =
     let none : values_left value left rest ≡ [] = ap (λ xs. values_left value xs rest) e ∙ nothing_left value x following rest refused in
     let d : length left ≡ length following + 1 = ap length e ∙ omega arith in
@@ -89,6 +89,6 @@ pub item_missing :
     {A : Type 0} (value : ℕ → Bytes → Option A) (items : List ℕ) (n : ℕ) (lines : List Bytes) (taken : List A)
     (i number : ℕ) (rest : List Bytes) →
     IsAt value items n lines taken (drop i items) number rest → i < length items → rest ≡ [] →
-    values_from_lines value items n lines ≡ Err number
+    item_values_from_lines value items n lines ≡ Err number
 item_missing value items n lines taken i number rest at below none =
     at_bad value items n lines taken (get_or items i 0) (drop i items) (drop (i + 1) items) number rest at (drop_more items i 0 below) (ap (one_told value (get_or items i 0)) none)

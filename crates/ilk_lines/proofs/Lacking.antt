@@ -5,7 +5,7 @@ use Rattle.std.proofs.lemmas.Bool.{and_parts, or_from, or_parts}
 use Rattle.std.proofs.lemmas.Bool.Decides.{Decides-eqb}
 use Rattle.std.proofs.lemmas.List.Folds.{list_any-append}
 use Rattle.ilk_lines.specs.Lines.{Bytes, parts_at}
-use Rattle.ilk_lines.specs.Written.{LacksByte, word_and_rest}
+use Rattle.ilk_lines.specs.Written.{LacksByte, join_word_and_rest}
 
 lacks_more : (test : ℕ → Bool) (b : Bool) (c d : ℕ) (rest : Bool) → (d == c) ≡ b → test c ≡ false → test d ≡ true → rest ≡ false → (b || rest) ≡ false
 lacks_more test true c d rest same other passes lacks = let equal : d ≡ c = (Decides-eqb d c).0 same in let wrong : test d ≡ false = ap test equal ∙ other in cc
@@ -20,7 +20,7 @@ lacks_failing test c (d ∷ text) other passes =
 pub lacks_append : (c : ℕ) (xs ys : Bytes) → LacksByte c xs → LacksByte c ys → LacksByte c (xs ++ ys)
 lacks_append c xs ys first second = list_any-append (λ b. b == c) xs ys ∙ or_from _ _ first second
 
-pub lacks_spaced : (word rest : Bytes) → LacksByte 10 word → LacksByte 10 rest → LacksByte 10 (word_and_rest word rest)
+pub lacks_spaced : (word rest : Bytes) → LacksByte 10 word → LacksByte 10 rest → LacksByte 10 (join_word_and_rest word rest)
 lacks_spaced word rest first second = lacks_append 10 word (32 ∷ rest) first second
 
 pub part_alone : (c : ℕ) (text : Bytes) → LacksByte c text → parts_at c text ≡ text ∷ []

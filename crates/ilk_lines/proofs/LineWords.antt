@@ -9,10 +9,10 @@ use Rattle.std.proofs.lemmas.List.{drop_at, drop_more, length_push, take-append-
 use Rattle.std.proofs.lemmas.List.Quantifiers.{position-Some}
 use Rattle.std.proofs.lemmas.Option.{cond_some, same_Some}
 use Rattle.std.proofs.lemmas.Slice.Eq.{bytes_eq-Decides}
-use Rattle.ilk_base.specs.Option.{◌>>=◌, only_if}
+use Rattle.ilk_base.specs.Option.{◌>>=◌, then_some}
 use Rattle.ilk_lines.specs.Lines.{Bytes, parts_at}
-use Rattle.ilk_lines.specs.Words.{strip_start, strip_first_word, split_first_word, words_of}
-use Rattle.ilk_lines.specs.Written.{LacksByte, line_of, word_and_rest}
+use Rattle.ilk_lines.specs.Words.{strip_start, strip_first_word, split_at_first_space, words_of}
+use Rattle.ilk_lines.specs.Written.{LacksByte, line_of, join_word_and_rest}
 use Rattle.ilk_lines.proofs.Cuts.{parts_follow}
 use Rattle.ilk_base.proofs.Options.{bind_some}
 use Rattle.ilk_lines.proofs.Lacking.{part_alone, part_first}
@@ -26,7 +26,7 @@ place_from i (x ∷ word) rest lacks =
 abbrev some_pair : Bytes → Bytes → Option (Bytes × Bytes)
 some_pair front back = Some (front, back)
 
-pub first_back : (word rest : Bytes) → LacksByte 32 word → split_first_word (word_and_rest word rest) ≡ Some (word, rest)
+pub first_back : (word rest : Bytes) → LacksByte 32 word → split_at_first_space (join_word_and_rest word rest) ≡ Some (word, rest)
 first_back word rest lacks =
     let place : position (λ b. b == 32) (word ++ 32 ∷ rest) ≡ Some (length word) = position_from-zero (λ b. b == 32) (word ++ 32 ∷ rest) ∙ place_from 0 word rest lacks ∙ ap Some (zero-add (length word)) in
     let front : take (length word) (word ++ 32 ∷ rest) ≡ word = take_at word (32 ∷ rest) (length word) refl in
@@ -40,10 +40,10 @@ lacks_before c line zero before = refl
 lacks_before c [] (suc i) before = refl
 lacks_before c (x ∷ line) (suc i) before = rw (before zero (omega arith)) (lacks_before c line i (λ k below. before (suc k) (omega arith)))
 
-pub split_first_word-joins : (line word rest : Bytes) → split_first_word line ≡ Some (word, rest) → (line ≡ word_and_rest word rest) × LacksByte 32 word
-split_first_word-joins line word rest e = by_place (position (λ b. b == 32) line) refl e
+pub split_at_first_space-joins : (line word rest : Bytes) → split_at_first_space line ≡ Some (word, rest) → (line ≡ join_word_and_rest word rest) × LacksByte 32 word
+split_at_first_space-joins line word rest e = by_place (position (λ b. b == 32) line) refl e
   where
-    by_place : (o : Option ℕ) → position (λ b. b == 32) line ≡ o → option_map {U = Bytes × Bytes} (λ i. (take i line, drop (i + 1) line)) o ≡ Some (word, rest) → (line ≡ word_and_rest word rest) × LacksByte 32 word
+    by_place : (o : Option ℕ) → position (λ b. b == 32) line ≡ o → option_map {U = Bytes × Bytes} (λ i. (take i line, drop (i + 1) line)) o ≡ Some (word, rest) → (line ≡ join_word_and_rest word rest) × LacksByte 32 word
     by_place None this that = cc
     by_place (Some i) this that =
         let pair : ◌≡◌ {A = Bytes × Bytes} (take i line, drop (i + 1) line) (word, rest) = same_Some _ _ that in
@@ -60,7 +60,7 @@ strip_start-joins beginning line rest e =
     let same : take (length beginning) line ≡ beginning = (bytes_eq-Decides (take (length beginning) line) beginning).0 begins.0 in
     sym (take-append-drop (length beginning) line) ∙ ap (λ xs. xs ++ drop (length beginning) line) same ∙ ap (λ ys. beginning ++ ys) begins.1
 
-pub strip_first_word-joins : (word line rest : Bytes) → strip_first_word word line ≡ Some rest → line ≡ word_and_rest word rest
+pub strip_first_word-joins : (word line rest : Bytes) → strip_first_word word line ≡ Some rest → line ≡ join_word_and_rest word rest
 strip_first_word-joins word line rest e =
     let a = bind_some (strip_start word line) _ rest e in
     strip_start-joins word line a.0 a.1 ∙ ap (λ xs. word ++ xs) (strip_start-joins (32 ∷ []) a.0 rest a.2)
@@ -70,9 +70,9 @@ start_back beginning rest =
     let front : take (length beginning) (beginning ++ rest) ≡ beginning = take_at beginning rest (length beginning) refl in
     let back : drop (length beginning) (beginning ++ rest) ≡ rest = drop_at beginning rest (length beginning) refl in
     let same : bytes_eq (take (length beginning) (beginning ++ rest)) beginning ≡ true = (bytes_eq-Decides _ _).1 front in
-    ap (λ b. only_if b (drop (length beginning) (beginning ++ rest))) same ∙ ap (λ (r : Bytes). Some r) back
+    ap (λ b. then_some b (drop (length beginning) (beginning ++ rest))) same ∙ ap (λ (r : Bytes). Some r) back
 
-pub word_back : (word rest : Bytes) → strip_first_word word (word_and_rest word rest) ≡ Some rest
+pub word_back : (word rest : Bytes) → strip_first_word word (join_word_and_rest word rest) ≡ Some rest
 word_back word rest = ap (λ (o : Option Bytes). o >>= strip_start (32 ∷ [])) (start_back word (32 ∷ rest)) ∙ start_back (32 ∷ []) rest
 
 pub parts-joined : (c : ℕ) (xs : Bytes) → c ∷ xs ≡ flat_map (λ part. c ∷ part) (parts_at c xs)

@@ -3,7 +3,7 @@ use Rattle.std.specs.Prelude.{ℕ, Bool, ◌==◌, ◌&&◌, ◌||◌, Option, l
 use Rattle.std.specs.Char.{is_ascii_digit}
 use Rattle.std.specs.List.{list_all}
 use Rattle.std.specs.Str.Parse.{digits_value}
-use Rattle.ilk_base.specs.Option.{only_if}
+use Rattle.ilk_base.specs.Option.{then_some}
 use Rattle.ilk_lines.specs.Lines.{Bytes}
 
 -- Returns whether a word is a decimal number: one or more digits, without a leading 0 except in 0
@@ -13,4 +13,4 @@ is_decimal word = list_all is_ascii_digit word && not (length word == 0) && (len
 
 -- The number that a word writes in decimal, if it is at most `limit`.
 abbrev pub decimal_up_to : ℕ → Bytes → Option ℕ
-decimal_up_to limit word = only_if (is_decimal word && nat_le (digits_value 10 word) limit) (digits_value 10 word)
+decimal_up_to limit word = then_some (is_decimal word && nat_le (digits_value 10 word) limit) (digits_value 10 word)

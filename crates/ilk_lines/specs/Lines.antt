@@ -27,5 +27,5 @@ abbrev pub lines_of : Bytes → List Bytes
 lines_of text = parts_but_last (parts_at 10 text)
 
 -- The bytes after the last line feed, which aren't a line.
-abbrev pub after_lines : Bytes → Bytes
-after_lines text = last_part (parts_at 10 text)
+abbrev pub unterminated_tail : Bytes → Bytes
+unterminated_tail text = last_part (parts_at 10 text)

@@ -8,14 +8,14 @@ abbrev pub text_of : List Bytes → Bytes
 text_of lines = flat_map (λ line. line ++ 10 ∷ []) lines
 
 -- A word, one space and the rest.
-abbrev pub word_and_rest : Bytes → Bytes → Bytes
-word_and_rest word rest = word ++ 32 ∷ rest
+abbrev pub join_word_and_rest : Bytes → Bytes → Bytes
+join_word_and_rest word rest = word ++ 32 ∷ rest
 
 -- The words with one space between each two.
 abbrev pub line_of : List Bytes → Bytes
 line_of [] = []
 line_of (word ∷ []) = word
-line_of (word ∷ next ∷ more) = word_and_rest word (line_of (next ∷ more))
+line_of (word ∷ next ∷ more) = join_word_and_rest word (line_of (next ∷ more))
 
 -- Returns whether a text has the byte `c`.
 abbrev pub has_byte : ℕ → Bytes → Bool

@@ -1,6 +1,6 @@
 ghost use Rattle.std.specs.Prelude.{◌≡◌, ◌<◌, ◌+◌, ◌^◌, [], ◌∷◌, length, OnOk, IfOk, IfErr, OnErr, IfSome, IfNone, Ok, Err};
-ghost use Rattle.ilk_lines.specs.LinesLeft.{lines_from};
-ghost use Rattle.ilk_lines.specs.Reading.{lines_after, expect_end};
+ghost use Rattle.ilk_lines.specs.LinesLeft.{lines_numbered_from};
+ghost use Rattle.ilk_lines.specs.Reading.{strip_first_line, expect_end};
 ghost use Rattle.ilk_lines.specs.declared.fault.LineFault.TheVariants.{BadLine};
 
 use crate::LineFault;
@@ -17,11 +17,11 @@ pub struct Lines<'a> {
 
 impl<'a> Model for Lines<'a> {
     ghost use Rattle.std.specs.Prelude.{◌<◌, ◌+◌, ◌^◌, length};
-    ghost use Rattle.ilk_lines.specs.LinesLeft.{LinesLeft, lines_from};
+    ghost use Rattle.ilk_lines.specs.LinesLeft.{LinesLeft, lines_numbered_from};
 
     ghost Value = { LinesLeft };
 
-    ghost view = { λ l. lines_from l.number l.rest.now };
+    ghost view = { λ l. lines_numbered_from l.number l.rest.now };
 
     ghost invariant = { λ l. l.number + length l.rest.now < 2 ^ 64 };
 }
@@ -29,7 +29,7 @@ impl<'a> Model for Lines<'a> {
 impl<'a> Lines<'a> {
     /// Creates the lines of a text, numbered from 1.
     pub fn from_text(text: &'a [u8]) -> Lines<'a>
-        ensures { result ≡ lines_from 1 text.now }
+        ensures { result ≡ lines_numbered_from 1 text.now }
     {
         Lines {
             rest: text,
@@ -73,7 +73,7 @@ impl<'a> Lines<'a> {
     }
 
     /// Reads the next line. If no line is left, the line with the next number is bad.
-    pub fn read_line(&mut self) -> Result<&'a [u8], LineFault>
+    pub fn require_line(&mut self) -> Result<&'a [u8], LineFault>
         ensures line { IfOk result (λ line. self.old.lines ≡ line.now ∷ self.new.lines) }
         ensures after { self.new.after ≡ self.old.after }
         ensures number { OnOk result (self.new.number ≡ self.old.number + 1) }
@@ -90,11 +90,11 @@ impl<'a> Lines<'a> {
     /// Reads the next line, which must be `wanted`; otherwise that line is bad.
     pub fn expect_line(&mut self, wanted: &[u8]) -> Result<(), LineFault>
         ensures ok { OnOk result
-            (lines_after wanted.now self.old.number self.old.lines ≡ Ok self.new.lines) }
+            (strip_first_line wanted.now self.old.number self.old.lines ≡ Ok self.new.lines) }
         ensures after { self.new.after ≡ self.old.after }
         ensures number { OnOk result (self.new.number ≡ self.old.number + 1) }
         ensures bad { OnErr result
-            (lines_after wanted.now self.old.number self.old.lines ≡ Err self.old.number) }
+            (strip_first_line wanted.now self.old.number self.old.lines ≡ Err self.old.number) }
         ensures same { OnErr result (self.new ≡ self.old) }
         ensures fault { IfErr result (λ fault. fault ≡ BadLine self.old.number) }
     {
@@ -109,7 +109,7 @@ impl<'a> Lines<'a> {
 
     /// Checks that neither a line nor a byte is left; otherwise the next line is bad.
     #[tactic(auto, using(crate::proofs::Cuts::not_at_end))]
-    pub fn finish(&self) -> Result<(), LineFault>
+    pub fn check_at_end(&self) -> Result<(), LineFault>
         ensures ok { OnOk result
             (expect_end self.now.number self.now.lines self.now.after ≡ Ok tt) }
         ensures bad { OnErr result

@@ -2,7 +2,7 @@ ghost use Rattle.std.specs.Prelude.{◌≡◌, ◌<◌, ◌*◌, ◌+◌, ◌-�
 ghost use Rattle.std.specs.Char.{is_ascii_digit};
 ghost use Rattle.std.specs.Fmt.{decimal};
 ghost use Rattle.std.specs.List.{list_all};
-ghost use Rattle.ilk_base.specs.Option.{only_if};
+ghost use Rattle.ilk_base.specs.Option.{then_some};
 ghost use Rattle.ilk_lines.specs.Decimal.{decimal_up_to, is_decimal};
 
 use std::alloc::AllocError;
@@ -23,7 +23,7 @@ pub fn is_decimal(word: &[u8]) -> bool
 
 // Returns the number with one more digit at its end, if it is at most `limit`.
 fn with_digit(number: u64, digit: u64, limit: u64) -> Option<u64>
-    ensures { result ≡ only_if (nat_le (number * 10 + digit) limit) (number * 10 + digit) }
+    ensures { result ≡ then_some (nat_le (number * 10 + digit) limit) (number * 10 + digit) }
 {
     let next = number.checked_mul(10)?.checked_add(digit)?;
     if next <= limit { Some(next) } else { None }

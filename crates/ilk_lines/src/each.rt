@@ -1,8 +1,8 @@
 ghost use Rattle.std.specs.Prelude.{ℕ, ◌≡◌, ◌<◌, ◌≤◌, ◌^◌, length, Option, Ok, IfOk, OnOk};
-ghost use Rattle.ilk_lines.specs.Answers.{MatchesPartResult, part_with};
+ghost use Rattle.ilk_lines.specs.Answers.{MatchesPrefixResult, prefix_with_rest};
 ghost use Rattle.ilk_lines.specs.Lines.{Bytes};
 ghost use Rattle.ilk_lines.specs.LinesLeft.{TookFirstLines};
-ghost use Rattle.ilk_lines.specs.Reading.{values_from_lines, leading_values, leading_part};
+ghost use Rattle.ilk_lines.specs.Reading.{item_values_from_lines, leading_values, parsed_prefix};
 
 use crate::{LineFault, Lines};
 use ilk_base::Row;
@@ -10,8 +10,8 @@ use std::alloc::{AllocError, Global};
 
 /// Reads one line for each item, in order, and returns their values: `tell` returns the value of an
 /// item and its line. The first missing line, or line without a value, is bad. If `tell` computes
-/// the function `value`, the result is that of the definition `values_from_lines` for `value`. In
-/// every case the lines read are the first ones, at most one for each item, and the others are
+/// the function `value`, the result is that of the definition `item_values_from_lines` for `value`.
+/// In every case the lines read are the first ones, at most one for each item, and the others are
 /// left.
 pub fn read_lines<T: Drop, F: Fn(u32, &[u8]) -> Option<T>>(
     alloc: Global,
@@ -22,7 +22,8 @@ pub fn read_lines<T: Drop, F: Fn(u32, &[u8]) -> Option<T>>(
     requires { F.IsAlwaysCallable tell }
     ensures told { (value : ℕ → Bytes → Option T) →
         ((x : ℕ) (line : _) (v : _) → x < 2 ^ 32 → F.post tell x line v → v ≡ value x line.now) →
-        MatchesPartResult (values_from_lines value items.now lines.old.number lines.old.lines)
+        MatchesPrefixResult (item_values_from_lines value items.now lines.old.number
+        lines.old.lines)
         lines.new result }
     ensures after { OnOk result (lines.new.after ≡ lines.old.after) }
     ensures left { (n : ℕ) × (n ≤ length items.now) × TookFirstLines n lines.old lines.new }
@@ -43,7 +44,7 @@ pub fn read_lines<T: Drop, F: Fn(u32, &[u8]) -> Option<T>>(
 
 /// Reads the next lines as long as they have values, and returns these: `tell` returns the value of
 /// a line, or an error if memory runs out. If it computes the function `value`, the result is that
-/// of the definition `leading_part` for `value`. In every case the lines read are the first ones,
+/// of the definition `parsed_prefix` for `value`. In every case the lines read are the first ones,
 /// each with a value, and the others are left.
 pub fn read_while_some<T: Drop, F: Fn(&[u8]) -> Result<Option<T>, AllocError>>(
     alloc: Global,
@@ -54,8 +55,8 @@ pub fn read_while_some<T: Drop, F: Fn(&[u8]) -> Result<Option<T>, AllocError>>(
     ensures told { (value : Bytes → Option T) →
         ((line : _) (v : _) → F.post tell line (Ok v) → v ≡ value line.now) →
         IfOk result
-        (λ values. leading_part value lines.old.number lines.old.lines
-        ≡ part_with values lines.new) }
+        (λ values. parsed_prefix value lines.old.number lines.old.lines
+        ≡ prefix_with_rest values lines.new) }
     ensures after { lines.new.after ≡ lines.old.after }
     ensures left { (n : ℕ) × TookFirstLines n lines.old lines.new × ((value : Bytes → Option T)
         → ((line : _) (v : _) → F.post tell line (Ok v) → v ≡ value line.now)

@@ -1,13 +1,13 @@
 ghost use Rattle.std.specs.Prelude.{◌≡◌, [], ◌∷◌, Some, None, codes};
 ghost use Rattle.ilk_lines.specs.Decimal.{decimal_up_to};
-ghost use Rattle.ilk_lines.specs.Lines.{after_lines, lines_of};
-ghost use Rattle.ilk_lines.specs.Words.{strip_first_word, split_first_word, words_of};
+ghost use Rattle.ilk_lines.specs.Lines.{unterminated_tail, lines_of};
+ghost use Rattle.ilk_lines.specs.Words.{strip_first_word, split_at_first_space, words_of};
 
 // Lines of texts, and the bytes after them.
 fn lines_of_texts()
     ensures two { lines_of (codes "a\n\n") ≡ codes "a" ∷ [] ∷ [] }
     ensures unfed { lines_of (codes "a\nb") ≡ codes "a" ∷ [] }
-    ensures after { after_lines (codes "a\nb") ≡ codes "b" }
+    ensures after { unterminated_tail (codes "a\nb") ≡ codes "b" }
     ensures none { lines_of [] ≡ [] }
 {}
 
@@ -16,8 +16,8 @@ fn words_of_lines()
     ensures two { words_of (codes "a b") ≡ codes "a" ∷ codes "b" ∷ [] }
     ensures spaces { words_of (codes "a  b") ≡ codes "a" ∷ [] ∷ codes "b" ∷ [] }
     ensures empty { words_of [] ≡ [] ∷ [] }
-    ensures first { split_first_word (codes "a b c") ≡ Some (codes "a", codes "b c") }
-    ensures alone { split_first_word (codes "a") ≡ None }
+    ensures first { split_at_first_space (codes "a b c") ≡ Some (codes "a", codes "b c") }
+    ensures alone { split_at_first_space (codes "a") ≡ None }
     ensures after { strip_first_word (codes "a") (codes "a b") ≡ Some (codes "b") }
     ensures longer { strip_first_word (codes "a") (codes "ab c") ≡ None }
 {}
@@ -30,7 +30,8 @@ fn numbers_of_words()
     ensures led { decimal_up_to 10 (codes "01") ≡ None }
     ensures signed { decimal_up_to 10 (codes "+1") ≡ None }
     ensures empty { decimal_up_to 10 [] ≡ None }
-    ensures greatest { decimal_up_to 18446744073709551615 (codes "18446744073709551615")
+    ensures pick_greatest_positive { decimal_up_to 18446744073709551615
+        (codes "18446744073709551615")
         ≡ Some 18446744073709551615 }
     ensures beyond { decimal_up_to 18446744073709551615 (codes "18446744073709551616") ≡ None }
 {}

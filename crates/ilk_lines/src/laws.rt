@@ -1,19 +1,19 @@
 ghost use Rattle.std.specs.Prelude.{ℕ, ◌≡◌, ◌≤◌, ◌++◌, ◌<◌, ◌↔◌, List, All, Some, length};
 ghost use Rattle.std.specs.Fmt.{decimal};
 ghost use Rattle.ilk_lines.specs.Decimal.{decimal_up_to};
-ghost use Rattle.ilk_lines.specs.Lines.{Bytes, after_lines, lines_of};
-ghost use Rattle.ilk_lines.specs.Words.{strip_first_word, split_first_word, words_of};
-ghost use Rattle.ilk_lines.specs.Written.{LacksByte, line_of, word_and_rest, text_of};
+ghost use Rattle.ilk_lines.specs.Lines.{Bytes, unterminated_tail, lines_of};
+ghost use Rattle.ilk_lines.specs.Words.{strip_first_word, split_at_first_space, words_of};
+ghost use Rattle.ilk_lines.specs.Written.{LacksByte, line_of, join_word_and_rest, text_of};
 
 /// A text is its lines, each with its line feed, and the bytes after them. Lines and a rest without
 /// line feeds are read back as written. Proof only; no run-time effect.
 pub fn texts_are_their_lines(text: &[u8])
-    ensures whole { text.now ≡ text_of (lines_of text.now) ++ after_lines text.now }
+    ensures whole { text.now ≡ text_of (lines_of text.now) ++ unterminated_tail text.now }
     ensures lines { (lines : List Bytes) (after : Bytes) →
         All (LacksByte 10) lines → LacksByte 10 after → lines_of (text_of lines ++ after) ≡ lines }
     ensures after { (lines : List Bytes) (after : Bytes) →
         All (LacksByte 10) lines → LacksByte 10 after →
-        after_lines (text_of lines ++ after) ≡ after }
+        unterminated_tail (text_of lines ++ after) ≡ after }
 {}
 
 /// A line is its words with one space between each two, and one or more words without spaces are
@@ -24,10 +24,10 @@ pub fn lines_are_their_words(line: &[u8])
     ensures words { (words : List Bytes) → 0 < length words → All (LacksByte 32) words →
         words_of (line_of words) ≡ words }
     ensures first { (word rest : Bytes) →
-        (split_first_word line.now ≡ Some (word, rest)) ↔
-        ((line.now ≡ word_and_rest word rest) × LacksByte 32 word) }
+        (split_at_first_space line.now ≡ Some (word, rest)) ↔
+        ((line.now ≡ join_word_and_rest word rest) × LacksByte 32 word) }
     ensures after { (word rest : Bytes) →
-        (strip_first_word word line.now ≡ Some rest) ↔ (line.now ≡ word_and_rest word rest) }
+        (strip_first_word word line.now ≡ Some rest) ↔ (line.now ≡ join_word_and_rest word rest) }
 {}
 
 /// A word is read as a number up to a limit if and only if it is the decimal text of that number.

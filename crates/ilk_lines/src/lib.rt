@@ -6,17 +6,18 @@
 //! results of consecutive lines with the number of the first bad line. A format's definition is
 //! therefore a list of parts. Its reader is a list of calls, each with its part as contract.
 //!
-//! `Lines::from_text` starts the reading of a text, and `finish` ends it. In between, line by line:
+//! `Lines::from_text` starts the reading of a text, and `check_at_end` ends it. In between, line by
+//! line:
 //!
 //! - `expect_line` reads a required line.
 //! - `read_lines` reads one line for each item.
 //! - `read_while_some` reads as many lines as match.
-//! - `next`, `read_line` and `split_first` serve loops of the caller.
+//! - `next`, `require_line` and `split_first` serve loops of the caller.
 //!
-//! `split_at_byte` splits a text of another form at a byte. `strip_first_word`, `split_first_word`
-//! and `split_next_word` split a line, and `decimal_up_to` reads its numbers. `push_decimal` writes
-//! a number. The laws state that written texts, and only these, are read back:
-//! `texts_are_their_lines`, `lines_are_their_words`, `decimals_are_those_written`.
+//! `split_at_byte` splits a text of another form at a byte. `strip_first_word`,
+//! `split_at_first_space` and `split_off_first_word` split a line, and `decimal_up_to` reads its
+//! numbers. `push_decimal` writes a number. The laws state that written texts, and only these, are
+//! read back: `texts_are_their_lines`, `lines_are_their_words`, `decimals_are_those_written`.
 //!
 //! A long text can be taken in pieces without holding all of it. `ShortBytes` has its few most
 //! recent bytes; `itoa` writes its numbers without memory. `RemainingBytes` is the untaken rest of
@@ -42,4 +43,4 @@ pub use laws::{decimals_are_those_written, lines_are_their_words, texts_are_thei
 pub use parts::split_at_byte;
 pub use token::ShortBytes;
 pub use untaken::RemainingBytes;
-pub use words::{split_first_word, split_next_word, strip_first_word, strip_start};
+pub use words::{split_at_first_space, split_off_first_word, strip_first_word, strip_start};

@@ -1,6 +1,6 @@
 ghost use Rattle.std.specs.Prelude.{◌≡◌, ◌<◌, ◌==◌, ◌+◌, [], ◌∷◌, length, IfSome, position};
 ghost use Rattle.std.specs.Option.{option_map_or};
-ghost use Rattle.ilk_lines.specs.Lines.{after_lines, lines_of, parts_at};
+ghost use Rattle.ilk_lines.specs.Lines.{unterminated_tail, lines_of, parts_at};
 
 /// Returns the index of the first byte `at`.
 pub(crate) fn place_of(text: &[u8], at: u8) -> Option<usize>
@@ -27,7 +27,8 @@ pub fn split_at_byte(text: &[u8], at: u8) -> (&[u8], Option<&[u8]>)
 pub(crate) fn first_line(text: &[u8]) -> Option<(&[u8], &[u8])>
     ensures lines { lines_of text.now
         ≡ option_map_or (λ cut. cut.0.now ∷ lines_of cut.1.now) result [] }
-    ensures after { IfSome result (λ cut. after_lines text.now ≡ after_lines cut.1.now) }
+    ensures after { IfSome result
+        (λ cut. unterminated_tail text.now ≡ unterminated_tail cut.1.now) }
     ensures shorter { IfSome result (λ cut. length cut.1.now < length text.now) }
 {
     let (line, rest) = split_at_byte(text, b'\n');

@@ -1,14 +1,15 @@
 ghost use Rattle.std.specs.Prelude.{◌≡◌, ◌<◌, [], ◌∷◌, length, IfSome, option_map};
 ghost use Rattle.std.specs.Option.{option_map_or};
-ghost use Rattle.ilk_lines.specs.Words.{strip_start, strip_first_word, split_first_word, words_of};
+ghost use Rattle.ilk_lines.specs.Words.{strip_start, strip_first_word, split_at_first_space, words_of};
 
 use crate::parts::{place_of, split_at_byte};
 
 #[tactic(auto, using(std::proofs::lemmas::List::take_rest))]
 /// Returns the parts of a line before and after its first space. Returns `None` if and only if
 /// there is no space.
-pub fn split_first_word(line: &[u8]) -> Option<(&[u8], &[u8])>
-    ensures { option_map (λ words. (words.0.now, words.1.now)) result ≡ split_first_word line.now }
+pub fn split_at_first_space(line: &[u8]) -> Option<(&[u8], &[u8])>
+    ensures { option_map (λ words. (words.0.now, words.1.now)) result
+        ≡ split_at_first_space line.now }
 {
     let i = place_of(line, b' ')?;
     Some((&line[..i], &line[i + 1..]))
@@ -33,7 +34,7 @@ pub fn strip_first_word<'a>(line: &'a [u8], word: &[u8]) -> Option<&'a [u8]>
 
 /// Returns the first word of a line, and the rest with the other words. The rest is `None` if and
 /// only if that word is the last.
-pub fn split_next_word(line: &[u8]) -> (&[u8], Option<&[u8]>)
+pub fn split_off_first_word(line: &[u8]) -> (&[u8], Option<&[u8]>)
     ensures words { words_of line.now
         ≡ result.0.now ∷ option_map_or (λ rest. words_of rest.now) result.1 [] }
     ensures shorter { IfSome result.1 (λ rest. length rest.now < length line.now) }

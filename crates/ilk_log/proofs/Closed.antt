@@ -9,9 +9,9 @@ use Rattle.ilk_base.proofs.Options.{some-and}
 use Rattle.ilk_base.proofs.Tested.{list_any-at, list_any-from, list_all-slice_get}
 use Rattle.ilk_base.proofs.Options.{bind_some}
 use Rattle.ilk_cnf.specs.Literal.{Literal, negated_lit, same_lit, has_lit, has_var}
-use Rattle.ilk_log.specs.Propagation.{is_saturated, is_false, is_falsified, single_unset_lit, unit_lit, after_hint, after_hints}
+use Rattle.ilk_log.specs.Propagation.{is_saturated, is_false, is_falsified, only_lit_if_unset, unit_lit, after_hint, after_hints}
 use Rattle.ilk_log.specs.Derived.{negated_clause, hints_end_in_conflict}
-use Rattle.ilk_log.specs.Fresh.{other_lits, StaysUndetermined}
+use Rattle.ilk_log.specs.Fresh.{other_lits, LitStaysUndetermined}
 use Rattle.ilk_cnf.proofs.SameLiterals.{same-lit, lit-is, has-var}
 
 -- Propagation is complete, stated for each clause.
@@ -68,7 +68,7 @@ false-more set all (m ∷ c) w f =
     let p = and_parts (is_false set m) (is_falsified set c) f in
     and_from (is_false all m) (is_falsified all c) (w (negated_lit m) p.0) (false-more set all c w p.1)
 
-pub lone-is : (set ls : List Literal) (l : Literal) → single_unset_lit set ls ≡ Some l → ls ≡ l ∷ []
+pub lone-is : (set ls : List Literal) (l : Literal) → only_lit_if_unset set ls ≡ Some l → ls ≡ l ∷ []
 lone-is set [] l h = absurd (cc)
 lone-is set (m ∷ []) l h = elim (cases_Bool (has_lit m set)) [
   | inl t ↦ absurd (let z : None ≡ Some l = rw t at h in cc)
@@ -88,7 +88,7 @@ unit-within clauses set all c i l k w at u =
         | inl f ↦ (let none : filter q c ≡ [] = few ∙ rw f refl in
             true≢false (sym (none-left all c none) ∙ k.quiet i c at))
         | inr f ↦ (let lone : filter q c ≡ l ∷ [] = few ∙ rw f refl in
-            let s : unit_lit all c ≡ Some l = ap (single_unset_lit all) lone ∙ rw t refl in
+            let s : unit_lit all c ≡ Some l = ap (only_lit_if_unset all) lone ∙ rw t refl in
             let n : None ≡ Some l = sym (k.settled i c at) ∙ s in
             cc)
       ])
@@ -140,7 +140,7 @@ has-var-at ls all v w h =
     among : (xs : List Literal) (v : ℕ) (l : Literal) → l.var ≡ v → has_lit l xs ≡ true → has_var v xs ≡ true
     among xs v l e h = (let P : ℕ → Type 0 = λ j. has_var j xs ≡ true in subst P e (has-var l xs h))
 
-stay-open : (clauses : List (List Literal)) (all c : List Literal) (l : Literal) → IsClosed clauses all → Within (negated_clause (other_lits l c)) all → has_var l.var all ≡ false → StaysUndetermined clauses c l
+stay-open : (clauses : List (List Literal)) (all c : List Literal) (l : Literal) → IsClosed clauses all → Within (negated_clause (other_lits l c)) all → has_var l.var all ≡ false → LitStaysUndetermined clauses c l
 stay-open clauses all c l k w u = λ hints next e.
     (let n = hints-taken clauses (negated_clause (other_lits l c)) all next hints k w e in (
       elim (cases_Bool (has_var l.var next)) [
@@ -168,5 +168,5 @@ each-closed clauses all h =
 pub no-false-end : (clauses : List (List Literal)) (set all : List Literal) (hints : List ℕ) → is_saturated clauses all ≡ true → Within set all → hints_end_in_conflict clauses set hints ≡ false
 no-false-end clauses set all hints k w = no-end-false clauses set all hints (each-closed clauses all k) w
 
-pub stays-open : (clauses : List (List Literal)) (all c : List Literal) (l : Literal) → is_saturated clauses all ≡ true → Within (negated_clause (other_lits l c)) all → has_var l.var all ≡ false → StaysUndetermined clauses c l
+pub stays-open : (clauses : List (List Literal)) (all c : List Literal) (l : Literal) → is_saturated clauses all ≡ true → Within (negated_clause (other_lits l c)) all → has_var l.var all ≡ false → LitStaysUndetermined clauses c l
 stays-open clauses all c l k w u = stay-open clauses all c l (each-closed clauses all k) w u

@@ -11,12 +11,12 @@ use Rattle.std.proofs.lemmas.Map.Keys.{IsDistinct-cons}
 use Rattle.std.proofs.Math.Nat.{pow-succ'}
 use Rattle.ilk_base.proofs.Lists.{at-before}
 use Rattle.ilk_base.proofs.Tested.{list_any-from}
-use Rattle.ilk_cnf.specs.Literal.{Literal, positive_lit, negative_lit, negated_lit, same_lit, has_lit, has_var, vars_differ}
+use Rattle.ilk_cnf.specs.Literal.{Literal, positive_lit, negative_lit, negated_lit, same_lit, has_lit, has_var, has_distinct_vars}
 use Rattle.ilk_cnf.specs.Formula.{Formula, is_lit_over, is_clause_over}
 use Rattle.ilk_log.specs.declared.step.Step.{Step}
-use Rattle.ilk_log.specs.Propagation.{is_false, is_falsified, single_unset_lit, unit_lit, after_hints}
-use Rattle.ilk_log.specs.Derived.{negated_clause, is_derived, each_derived, is_derived_log, is_empty}
-use Rattle.ilk_log.specs.Fresh.{other_lits, IsFresh, EachFresh}
+use Rattle.ilk_log.specs.Propagation.{is_false, is_falsified, only_lit_if_unset, unit_lit, after_hints}
+use Rattle.ilk_log.specs.Derived.{negated_clause, is_derived, each_derived, is_derived_log, is_empty_clause}
+use Rattle.ilk_log.specs.Fresh.{other_lits, IsEmpowering, EachEmpowering}
 use Rattle.ilk_cnf.proofs.SameLiterals.{same-lit, lit-is, has-var}
 
 -- 1 for the positive literal of `v`, 2 for the negative one, 0 for neither.
@@ -62,10 +62,10 @@ code-positive (suc n) v c d p h =
 no-lit : (l : Literal) (ls : List Literal) → has_var l.var ls ≡ false → has_lit l ls ≡ false
 no-lit l ls h = elim (cases_Bool (has_lit l ls)) [ inl t ↦ absurd (true≢false (sym (has-var l ls t) ∙ h)) | inr f ↦ f ]
 
-not-both : (v : ℕ) (c : List Literal) → vars_differ c ≡ true → has_lit (positive_lit v) c ≡ true → has_lit (negative_lit v) c ≡ true → ⊥
+not-both : (v : ℕ) (c : List Literal) → has_distinct_vars c ≡ true → has_lit (positive_lit v) c ≡ true → has_lit (negative_lit v) c ≡ true → ⊥
 not-both v [] d p m = absurd (cc)
 not-both v (l ∷ c) d p m =
-    let q = and_parts (not (has_var l.var c)) (vars_differ c) d in
+    let q = and_parts (not (has_var l.var c)) (has_distinct_vars c) d in
     let none : has_var l.var c ≡ false = not-true (has_var l.var c) q.0 in
     let N : ℕ → Type 0 = λ j. has_var j c ≡ false in
     elim (or_cases (same_lit (positive_lit v) l) (has_lit (positive_lit v) c) p) [
@@ -100,7 +100,7 @@ digit-negative_lit v c e = go (has_lit (positive_lit v) c) (has_lit (negative_li
     go false false e = absurd (omega (arith, e))
 
 -- If two clauses have one code, each literal of one is in the other.
-includes : (n : ℕ) (c s : List Literal) (v : ℕ) (b : Bool) → code n c ≡ code n s → vars_differ c ≡ true → 0 < v → v ≤ n → has_lit (record { var = v; positive = b }) c ≡ true → has_lit (record { var = v; positive = b }) s ≡ true
+includes : (n : ℕ) (c s : List Literal) (v : ℕ) (b : Bool) → code n c ≡ code n s → has_distinct_vars c ≡ true → 0 < v → v ≤ n → has_lit (record { var = v; positive = b }) c ≡ true → has_lit (record { var = v; positive = b }) s ≡ true
 includes n c s v true e d p h i =
     let x : digit c v ≡ 1 = rw i refl in
     digit-positive_lit v s (sym (digits-same n v c s e p h) ∙ x)
@@ -147,13 +147,13 @@ none-open set l (m ∷ c) h f =
     let q : is_false set m ≡ true = f m (or_left (same_lit m m) _ (same-lit m)) p.0 in
     rw q (none-open set l c p.1 (λ x i d. f x (or_right (same_lit x m) _ i) d))
 
-one-open : (set : List Literal) (l : Literal) (c : List Literal) → vars_differ c ≡ true → has_lit l c ≡ true →
+one-open : (set : List Literal) (l : Literal) (c : List Literal) → has_distinct_vars c ≡ true → has_lit l c ≡ true →
     is_false set l ≡ false →
     ((m : Literal) → has_lit m c ≡ true → same_lit l m ≡ false → is_false set m ≡ true) →
     filter (λ m. not (is_false set m)) c ≡ l ∷ []
 one-open set l [] d h o f = absurd (cc)
 one-open set l (m ∷ c) d h o f =
-    let q = and_parts (not (has_var m.var c)) (vars_differ c) d in
+    let q = and_parts (not (has_var m.var c)) (has_distinct_vars c) d in
     let rest : (x : Literal) → has_lit x c ≡ true → same_lit l x ≡ false → is_false set x ≡ true = λ x i e. f x (or_right (same_lit x m) _ i) e in
     elim (cases_Bool (same_lit l m)) [
       | inl t ↦ (let e : l ≡ m = lit-is l m t in
@@ -167,7 +167,7 @@ one-open set l (m ∷ c) d h o f =
     ]
 
 -- A fresh clause differs, as a set, from every clause before.
-fresh-new : (n i : ℕ) (clauses : List (List Literal)) (c s : List Literal) → IsFresh clauses s → slice_get clauses i ≡ Some c → vars_differ c ≡ true → is_clause_over n c ≡ true → code n c ≡ code n s → ⊥
+fresh-new : (n i : ℕ) (clauses : List (List Literal)) (c s : List Literal) → IsEmpowering clauses s → slice_get clauses i ≡ Some c → has_distinct_vars c ≡ true → is_clause_over n c ≡ true → code n c ≡ code n s → ⊥
 fresh-new n i clauses c s fr at d ci e =
     let l = fr.0 in
     let set = negated_clause (other_lits l s) in
@@ -178,7 +178,7 @@ fresh-new n i clauses c s fr at d ci e =
     elim (cases_Bool (has_lit l c)) [
       | inl t ↦ (let unset-not : is_false set l ≡ false = no-lit (negated_lit l) set start.0 in
           let unset : has_lit l set ≡ false = no-lit l set start.0 in
-          let u : unit_lit set c ≡ Some l = ap (single_unset_lit set) (one-open set l c d t unset-not falses) ∙ rw unset refl in
+          let u : unit_lit set c ≡ Some l = ap (only_lit_if_unset set) (one-open set l c d t unset-not falses) ∙ rw unset refl in
           let step : after_hints clauses set (suc i ∷ []) ≡ Some (l ∷ set) = rw (at, u) refl in
           let late = fr.2 (suc i ∷ []) (l ∷ set) step in
           true≢false (sym (or_left (eqb l.var l.var) (has_var l.var set) (eq-eqb l.var l.var refl)) ∙ late.0))
@@ -186,18 +186,18 @@ fresh-new n i clauses c s fr at d ci e =
     ]
 
 abbrev has_literal : Step → Bool
-has_literal s = not (is_empty s.clause)
+has_literal s = not (is_empty_clause s.clause)
 
 later-differ : (n i : ℕ) (clauses : List (List Literal)) (c : List Literal) (log : List Step) →
-    each_derived n clauses log ≡ true → EachFresh clauses log → slice_get clauses i ≡ Some c →
-    vars_differ c ≡ true → is_clause_over n c ≡ true →
+    each_derived n clauses log ≡ true → EachEmpowering clauses log → slice_get clauses i ≡ Some c →
+    has_distinct_vars c ≡ true → is_clause_over n c ≡ true →
     AllByRecursion (λ y. eqb (code n c) y ≡ false)
-    (map (λ (s : Step). code n s.clause) (filter (λ (s : Step). not (is_empty s.clause)) log))
+    (map (λ (s : Step). code n s.clause) (filter (λ (s : Step). not (is_empty_clause s.clause)) log))
 later-differ n i clauses c [] dl fr at d ci = tt
 later-differ n i clauses c (s ∷ log) dl fr at d ci =
     let p = and_parts (is_derived n clauses s) (each_derived n (clauses ++ s.clause ∷ []) log) dl in
     let rest = later-differ n i (clauses ++ s.clause ∷ []) c log p.1 fr.1 (at-before clauses (s.clause ∷ []) i c at) d ci in
-    elim (cases_Bool (is_empty s.clause)) [
+    elim (cases_Bool (is_empty_clause s.clause)) [
       | inl t ↦ rw t rest
       | inr t ↦ rw t (ne_eqb (code n c) (code n s.clause) (λ e. fresh-new n i clauses c s.clause (fr.0 t) at d ci e), rest)
     ]
@@ -206,20 +206,21 @@ at-last : (xs : List (List Literal)) (x : List Literal) → slice_get (xs ++ x �
 at-last [] x = refl
 at-last (y ∷ xs) x = at-last xs x
 
-codes-distinct : (n : ℕ) (clauses : List (List Literal)) (log : List Step) → each_derived n clauses log ≡ true → EachFresh clauses log → IsDistinct eqb (map (λ (s : Step). code n s.clause) (filter (λ (s : Step). not (is_empty s.clause)) log))
+codes-distinct : (n : ℕ) (clauses : List (List Literal)) (log : List Step) → each_derived n clauses log ≡ true → EachEmpowering clauses log →
+    IsDistinct eqb (map (λ (s : Step). code n s.clause) (filter (λ (s : Step). not (is_empty_clause s.clause)) log))
 unfolding IsDistinct
 codes-distinct n clauses [] dl fr = tt
 codes-distinct n clauses (s ∷ log) dl fr =
     let p = and_parts (is_derived n clauses s) (each_derived n (clauses ++ s.clause ∷ []) log) dl in
-    let q = and_parts (is_clause_over n s.clause && vars_differ s.clause) _ p.0 in
-    let r = and_parts (is_clause_over n s.clause) (vars_differ s.clause) q.0 in
+    let q = and_parts (is_clause_over n s.clause && has_distinct_vars s.clause) _ p.0 in
+    let r = and_parts (is_clause_over n s.clause) (has_distinct_vars s.clause) q.0 in
     let rest = codes-distinct n (clauses ++ s.clause ∷ []) log p.1 fr.1 in
-    elim (cases_Bool (is_empty s.clause)) [
+    elim (cases_Bool (is_empty_clause s.clause)) [
       | inl t ↦ rw t rest
       | inr t ↦ rw t (later-differ n (length clauses) (clauses ++ s.clause ∷ []) s.clause log p.1 fr.1 (at-last clauses s.clause) r.1 r.0, rest)
     ]
 
-positive-code : (n : ℕ) (c : List Literal) → is_empty c ≡ false → is_clause_over n c ≡ true → 0 < code n c
+positive-code : (n : ℕ) (c : List Literal) → is_empty_clause c ≡ false → is_clause_over n c ≡ true → 0 < code n c
 positive-code n [] e ci = absurd (cc)
 positive-code n (l ∷ c) e ci =
     let h : has_lit l (l ∷ c) ≡ true = or_left (same_lit l l) _ (same-lit l) in
@@ -234,13 +235,14 @@ positive-code n (l ∷ c) e ci =
         go true b e = omega arith
         go false b e = rw e (omega arith)
 
-code-range : (n q : ℕ) (clauses : List (List Literal)) (log : List Step) → each_derived n clauses log ≡ true → list_any (eqb q) (map (λ (s : Step). code n s.clause) (filter (λ (s : Step). not (is_empty s.clause)) log)) ≡ true → (0 < q) × (q < 3 ^ n)
+code-range : (n q : ℕ) (clauses : List (List Literal)) (log : List Step) → each_derived n clauses log ≡ true →
+    list_any (eqb q) (map (λ (s : Step). code n s.clause) (filter (λ (s : Step). not (is_empty_clause s.clause)) log)) ≡ true → (0 < q) × (q < 3 ^ n)
 code-range n q clauses [] dl h = absurd (cc)
 code-range n q clauses (s ∷ log) dl h =
     let p = and_parts (is_derived n clauses s) (each_derived n (clauses ++ s.clause ∷ []) log) dl in
-    let k = and_parts (is_clause_over n s.clause && vars_differ s.clause) _ p.0 in
-    let r = and_parts (is_clause_over n s.clause) (vars_differ s.clause) k.0 in
-    elim (cases_Bool (is_empty s.clause)) [
+    let k = and_parts (is_clause_over n s.clause && has_distinct_vars s.clause) _ p.0 in
+    let r = and_parts (is_clause_over n s.clause) (has_distinct_vars s.clause) k.0 in
+    elim (cases_Bool (is_empty_clause s.clause)) [
       | inl t ↦ code-range n q (clauses ++ s.clause ∷ []) log p.1 (rw t at h)
       | inr t ↦ elim (or_cases (eqb q (code n s.clause)) _ (rw t at h)) [
         | inl e ↦ (omega (arith, eqb-true q (code n s.clause) e, positive-code n s.clause t r.0), omega (arith, eqb-true q (code n s.clause) e, code-below n s.clause))
@@ -253,10 +255,10 @@ no-zero n clauses log dl [] f = tt
 no-zero n clauses log dl (x ∷ xs) f =
     (ne_eqb 0 x (λ e. (let p = f x (or_left (eqb x x) _ (eq-eqb x x refl)) in absurd (omega (arith, e, p)))), no-zero n clauses log dl xs (λ q h. f q (or_right (eqb q x) _ h)))
 
-pub fresh_few : (f : Formula) (log : List Step) → is_derived_log f log ≡ true → EachFresh f.clauses log → count_by (λ s. not (is_empty s.clause)) log < 3 ^ f.vars
+pub fresh_few : (f : Formula) (log : List Step) → is_derived_log f log ≡ true → EachEmpowering f.clauses log → count_by (λ s. not (is_empty_clause s.clause)) log < 3 ^ f.vars
 fresh_few f log dl fr =
     let n = f.vars in
-    let steps : List Step = filter (λ (s : Step). not (is_empty s.clause)) log in
+    let steps : List Step = filter (λ (s : Step). not (is_empty_clause s.clause)) log in
     let xs : List ℕ = map (λ (s : Step). code n s.clause) steps in
     let d = codes-distinct n f.clauses log dl fr in
     let range : (q : ℕ) → list_any (eqb q) xs ≡ true → (0 < q) × (q < 3 ^ n) = λ q h. code-range n q f.clauses log dl h in
@@ -269,5 +271,5 @@ fresh_few f log dl fr =
     ] in
     let l : length (0 ∷ xs) ≤ 3 ^ n = length-le_from_distinct_below (0 ∷ xs) (3 ^ n) all below in
     let a : length xs ≡ length steps = length-map steps (λ (s : Step). code n s.clause) in
-    let b : length steps ≡ count_by (λ (s : Step). not (is_empty s.clause)) log = length-filter (λ (s : Step). not (is_empty s.clause)) log in
+    let b : length steps ≡ count_by (λ (s : Step). not (is_empty_clause s.clause)) log = length-filter (λ (s : Step). not (is_empty_clause s.clause)) log in
     omega (arith, l, a, b)

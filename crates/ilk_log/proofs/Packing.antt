@@ -10,7 +10,7 @@ use Rattle.ilk_cnf.specs.Literal.{Literal}
 use Rattle.ilk_cnf.specs.Formula.{is_clause_over, is_lit_over}
 use Rattle.ilk_lines.specs.Lines.{Bytes}
 use Rattle.ilk_log.specs.declared.step.Step.{Step}
-use Rattle.ilk_log.specs.Packed.{ContainsNumbers, decoded_numbers, append_bits, add_delta, number_from_lit, lit_from_number, step_from_numbers}
+use Rattle.ilk_log.specs.Packed.{ContainsNumbers, decoded_numbers, append_bits, add_delta, code_from_lit, lit_from_code, step_from_numbers}
 
 pub high-told : (bytes : Bytes) (ns : List ℕ) (last way bits : ℕ) → bits < 128 → ContainsNumbers bytes ns last way → ContainsNumbers (bytes ++ (128 + bits) ∷ []) ns last (append_bits way bits)
 high-told bytes ns last way bits h t = record {
@@ -61,10 +61,10 @@ all-told bytes ns last t = ap (decoded_numbers 0 0) (sym (append-nil bytes)) ∙
 pub hints-told : (bytes : Bytes) (ns hints : List ℕ) (i last : ℕ) → length hints ≤ i → ContainsNumbers bytes (ns ++ take i hints) last 0 → decoded_numbers 0 0 bytes ≡ ns ++ hints
 hints-told bytes ns hints i last h t = all-told bytes (ns ++ take i hints) last t ∙ ap (λ (xs : List ℕ). ns ++ xs) (take_all i hints h)
 
-literal-back : (l : Literal) → is_lit_over (2 ^ 62) l ≡ true → lit_from_number (number_from_lit l) ≡ l
+literal-back : (l : Literal) → is_lit_over (2 ^ 62) l ≡ true → lit_from_code (code_from_lit l) ≡ l
 literal-back l h = (let p = and_parts (nat_lt 0 l.var) (nat_le l.var (2 ^ 62)) h in go l.var l.positive (ltb-true 0 l.var p.0) (leb-true l.var (2 ^ 62) p.1))
   where
-    go : (v : ℕ) (b : Bool) → 0 < v → v ≤ 2 ^ 62 → lit_from_number (number_from_lit (record { var = v; positive = b })) ≡ record { var = v; positive = b }
+    go : (v : ℕ) (b : Bool) → 0 < v → v ≤ 2 ^ 62 → lit_from_code (code_from_lit (record { var = v; positive = b })) ≡ record { var = v; positive = b }
     go v true p q =
         let n : (2 * (v - 1) + 1) / 2 % 2 ^ 62 + 1 ≡ v = omega (arith, p, q) in
         let s : (2 * (v - 1) + 1) % 2 ≡ 1 = omega (arith, p, q) in
@@ -74,25 +74,25 @@ literal-back l h = (let p = and_parts (nat_lt 0 l.var) (nat_le l.var (2 ^ 62)) h
         let s : (2 * (v - 1) + 0) % 2 ≡ 0 = omega (arith, p, q) in
         rw (n, s) refl
 
-literals-back : (ls : List Literal) → is_clause_over (2 ^ 62) ls ≡ true → map lit_from_number (map number_from_lit ls) ≡ ls
+literals-back : (ls : List Literal) → is_clause_over (2 ^ 62) ls ≡ true → map lit_from_code (map code_from_lit ls) ≡ ls
 literals-back [] h = refl
 literals-back (l ∷ ls) h =
     let p = and_parts (is_lit_over (2 ^ 62) l) (is_clause_over (2 ^ 62) ls) h in
-    ap (λ (m : Literal). m ∷ map lit_from_number (map number_from_lit ls)) (literal-back l p.0) ∙ ap (λ (ms : List Literal). l ∷ ms) (literals-back ls p.1)
+    ap (λ (m : Literal). m ∷ map lit_from_code (map code_from_lit ls)) (literal-back l p.0) ∙ ap (λ (ms : List Literal). l ∷ ms) (literals-back ls p.1)
 
-pub step_back : (s : Step) → is_clause_over (2 ^ 62) s.clause ≡ true → step_from_numbers (length s.clause) (map number_from_lit s.clause ++ s.hints) ≡ s
+pub step_back : (s : Step) → is_clause_over (2 ^ 62) s.clause ≡ true → step_from_numbers (length s.clause) (map code_from_lit s.clause ++ s.hints) ≡ s
 step_back s h =
-    let ns : List ℕ = map number_from_lit s.clause in
+    let ns : List ℕ = map code_from_lit s.clause in
     let front : take (length ns) (ns ++ s.hints) ≡ ns = take-append_seam ns s.hints in
     let rest : drop (length ns) (ns ++ s.hints) ≡ s.hints = front_rest (ns ++ s.hints) ns s.hints refl in
-    ap (λ (k : ℕ). step_from_numbers k (ns ++ s.hints)) (sym (length-map s.clause number_from_lit))
-    ∙ ap (λ (xs : List ℕ). told (map lit_from_number xs) (drop (length ns) (ns ++ s.hints))) front
-    ∙ ap (told (map lit_from_number ns)) rest
+    ap (λ (k : ℕ). step_from_numbers k (ns ++ s.hints)) (sym (length-map s.clause code_from_lit))
+    ∙ ap (λ (xs : List ℕ). told (map lit_from_code xs) (drop (length ns) (ns ++ s.hints))) front
+    ∙ ap (told (map lit_from_code ns)) rest
     ∙ ap (λ (ls : List Literal). told ls s.hints) (literals-back s.clause h)
   where
     told : List Literal → List ℕ → Step
     told ls hs = record { clause = ls; hints = hs }
 
-pub packed-back : (s : Step) (bytes : Bytes) (count : ℕ) → is_clause_over (2 ^ 62) s.clause ≡ true → count ≡ length s.clause → decoded_numbers 0 0 bytes ≡ map number_from_lit s.clause ++ s.hints
+pub packed-back : (s : Step) (bytes : Bytes) (count : ℕ) → is_clause_over (2 ^ 62) s.clause ≡ true → count ≡ length s.clause → decoded_numbers 0 0 bytes ≡ map code_from_lit s.clause ++ s.hints
     → step_from_numbers count (decoded_numbers 0 0 bytes) ≡ s
 packed-back s bytes count h n told = ap (λ (k : ℕ). step_from_numbers k (decoded_numbers 0 0 bytes)) n ∙ ap (step_from_numbers (length s.clause)) told ∙ step_back s h

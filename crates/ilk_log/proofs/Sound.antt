@@ -6,12 +6,12 @@ use Rattle.std.proofs.lemmas.Option.{cond_some, same_Some}
 use Rattle.ilk_base.specs.Option.{◌>>=◌}
 use Rattle.ilk_base.proofs.Tested.{list_any-at, list_all-slice_get, list_all-more}
 use Rattle.ilk_base.proofs.Options.{some-and, bind_some}
-use Rattle.ilk_cnf.specs.Literal.{Literal, negated_lit, same_lit, has_lit, vars_differ}
+use Rattle.ilk_cnf.specs.Literal.{Literal, negated_lit, same_lit, has_lit, has_distinct_vars}
 use Rattle.ilk_cnf.specs.Formula.{Formula, is_clause_over}
 use Rattle.ilk_cnf.specs.Truth.{value, is_true, is_clause_true, satisfies}
 use Rattle.ilk_log.specs.declared.step.Step.{Step}
-use Rattle.ilk_log.specs.Propagation.{is_false, is_falsified, single_unset_lit, unit_lit, clause_numbered, after_hint}
-use Rattle.ilk_log.specs.Derived.{negated_clause, hints_end_in_conflict, is_derived, each_derived, is_derived_log, is_empty, ends_with_empty_clause, is_refutation}
+use Rattle.ilk_log.specs.Propagation.{is_false, is_falsified, only_lit_if_unset, unit_lit, clause_numbered, after_hint}
+use Rattle.ilk_log.specs.Derived.{negated_clause, hints_end_in_conflict, is_derived, each_derived, is_derived_log, is_empty_clause, only_last_clause_is_empty, is_refutation}
 use Rattle.ilk_cnf.proofs.SameLiterals.{lit-is}
 
 set-true : (a : List Bool) (set : List Literal) (l : Literal) → list_all (is_true a) set ≡ true → has_lit l set ≡ true → is_true a l ≡ true
@@ -60,7 +60,7 @@ open-true a set (l ∷ c) h t =
           elim (cases_Bool (is_false set l)) [ inl f ↦ rw f r | inr f ↦ rw f (or_right (is_true a l) _ r) ])
     ]
 
-lone-true : (a : List Bool) (set ls : List Literal) (l : Literal) → single_unset_lit set ls ≡ Some l → is_clause_true a ls ≡ true → is_true a l ≡ true
+lone-true : (a : List Bool) (set ls : List Literal) (l : Literal) → only_lit_if_unset set ls ≡ Some l → is_clause_true a ls ≡ true → is_true a l ≡ true
 lone-true a set [] l h t = absurd (cc)
 lone-true a set (m ∷ []) l h t =
     let e = cond_some (not (has_lit m set)) m l h in
@@ -97,29 +97,29 @@ denied-true a (l ∷ c) h =
 
 pub step-true : (a : List Bool) (n : ℕ) (clauses : List (List Literal)) (s : Step) → satisfies a clauses ≡ true → is_derived n clauses s ≡ true → is_clause_true a s.clause ≡ true
 step-true a n clauses s h d =
-    let p = and_parts (is_clause_over n s.clause && vars_differ s.clause) _ d in
+    let p = and_parts (is_clause_over n s.clause && has_distinct_vars s.clause) _ d in
     elim (cases_Bool (is_clause_true a s.clause)) [
       | inl t ↦ t
       | inr f ↦ absurd (no-end a clauses (negated_clause s.clause) s.hints h (denied-true a s.clause f) p.1)
     ]
 
-log-refutes : (a : List Bool) (n : ℕ) (clauses : List (List Literal)) (log : List Step) → satisfies a clauses ≡ true → each_derived n clauses log ≡ true → ends_with_empty_clause log ≡ true → ⊥
+log-refutes : (a : List Bool) (n : ℕ) (clauses : List (List Literal)) (log : List Step) → satisfies a clauses ≡ true → each_derived n clauses log ≡ true → only_last_clause_is_empty log ≡ true → ⊥
 log-refutes a n clauses [] h d e = absurd (cc)
 log-refutes a n clauses (s ∷ []) h d e =
     let p = and_parts (is_derived n clauses s) _ d in
     none s.clause e (step-true a n clauses s h p.0)
   where
-    none : (c : List Literal) → is_empty c ≡ true → is_clause_true a c ≡ true → ⊥
+    none : (c : List Literal) → is_empty_clause c ≡ true → is_clause_true a c ≡ true → ⊥
     none [] e t = absurd (cc)
     none (l ∷ c) e t = absurd (cc)
 log-refutes a n clauses (s ∷ (t ∷ log)) h d e =
     let p = and_parts (is_derived n clauses s) _ d in
-    let q = and_parts (not (is_empty s.clause)) _ e in
+    let q = and_parts (not (is_empty_clause s.clause)) _ e in
     log-refutes a n (clauses ++ s.clause ∷ []) (t ∷ log) (list_all-more (is_clause_true a) clauses s.clause h (step-true a n clauses s h p.0)) p.1 q.1
 
 pub refutation_refutes : (a : List Bool) (f : Formula) (log : List Step) → is_refutation f log ≡ true → satisfies a f.clauses ≡ false
 refutation_refutes a f log r =
-    let p = and_parts (is_derived_log f log) (ends_with_empty_clause log) r in
+    let p = and_parts (is_derived_log f log) (only_last_clause_is_empty log) r in
     elim (cases_Bool (satisfies a f.clauses)) [
       | inl h ↦ absurd (log-refutes a f.vars f.clauses log h p.0 p.1)
       | inr h ↦ h

@@ -8,7 +8,7 @@ use Rattle.ilk_base.proofs.Options.{mapped-Some, bind_some}
 use Rattle.std.proofs.lemmas.Slice.Eq.{bytes_eq-Decides}
 use Rattle.std.proofs.lemmas.List.Elements.{All-nil, All-cons, All-append}
 use Rattle.std.proofs.lemmas.Option.{cond_some, some_pair_parts, same_Some}
-use Rattle.ilk_base.specs.Option.{◌>>=◌, only_if}
+use Rattle.ilk_base.specs.Option.{◌>>=◌, then_some}
 use Rattle.ilk_cnf.specs.Literal.{Literal}
 use Rattle.ilk_cnf.specs.Formula.{is_lit_over, is_clause_over}
 use Rattle.ilk_lines.specs.Lines.{Bytes}
@@ -20,22 +20,22 @@ use Rattle.ilk_lines.proofs.Cuts.{parts_follow}
 use Rattle.ilk_lines.proofs.LineWords.{line-words, words_back}
 use Rattle.ilk_log.specs.declared.step.Step.{Step}
 use Rattle.ilk_log.specs.StepText.{lit_word, step_words, step_text, has_writable_numbers}
-use Rattle.ilk_log.specs.StepReading.{lits_from_words, no_words, hints_from_words, step_from_words}
-use Rattle.ilk_log.specs.StepWords.{count_from_word, lit_from_word}
+use Rattle.ilk_log.specs.StepReading.{lits_from_words, has_no_words, hints_from_words, step_from_words}
+use Rattle.ilk_log.specs.StepWords.{nonzero_from_word, lit_from_word}
 
-count-written : (limit n : ℕ) (word : Bytes) → limit < 2 ^ 64 → count_from_word limit word ≡ Some n → (word ≡ decimal n) × (0 < n) × (n ≤ limit)
+count-written : (limit n : ℕ) (word : Bytes) → limit < 2 ^ 64 → nonzero_from_word limit word ≡ Some n → (word ≡ decimal n) × (0 < n) × (n ≤ limit)
 count-written limit n word small e =
-    let b = bind_some (decimal_up_to limit word) (λ (m : ℕ). only_if (nat_lt 0 m) m) n e in
+    let b = bind_some (decimal_up_to limit word) (λ (m : ℕ). then_some (nat_lt 0 m) m) n e in
     let c = cond_some (nat_lt 0 b.0) b.0 n b.2 in
     let r = decimal-written limit word b.0 small b.1 in
     let p : 0 < b.0 = ltb-true 0 b.0 c.0 in
     (r.0 ∙ ap decimal c.1, omega (arith, c.1, p), omega (arith, c.1, r.1))
 
-count-back : (limit n : ℕ) → limit < 2 ^ 64 → 0 < n → n ≤ limit → count_from_word limit (decimal n) ≡ Some n
+count-back : (limit n : ℕ) → limit < 2 ^ 64 → 0 < n → n ≤ limit → nonzero_from_word limit (decimal n) ≡ Some n
 count-back limit n small p h =
     let d = decimal_back limit n small h in
     let q : nat_lt 0 n ≡ true = lt-ltb 0 n p in
-    ap (λ (o : Option ℕ). o >>= (λ (m : ℕ). only_if (nat_lt 0 m) m)) d ∙ ap (λ (b : Bool). only_if b n) q
+    ap (λ (o : Option ℕ). o >>= (λ (m : ℕ). then_some (nat_lt 0 m) m)) d ∙ ap (λ (b : Bool). then_some b n) q
 
 word-is : (word wanted : Bytes) → bytes_eq word wanted ≡ true → word ≡ wanted
 word-is word wanted h = (bytes_eq-Decides word wanted).0 h
@@ -43,7 +43,7 @@ word-is word wanted h = (bytes_eq-Decides word wanted).0 h
 zero-word : (word : Bytes) → bytes_eq word (codes "0") ≡ true → word ≡ codes "0"
 zero-word word h = word-is word (codes "0") h
 
-lit-plain : (word : Bytes) → LacksByte 45 word → lit_from_word word ≡ option_map (λ (v : ℕ). let r : Literal = record { var = v; positive = true } in r) (count_from_word (2 ^ 62) word)
+lit-plain : (word : Bytes) → LacksByte 45 word → lit_from_word word ≡ option_map (λ (v : ℕ). let r : Literal = record { var = v; positive = true } in r) (nonzero_from_word (2 ^ 62) word)
 lit-plain [] h = refl
 lit-plain (b ∷ word) h = (let p = or_parts (b == 45) (list_any (λ x. x == 45) word) h in rw p.0 refl)
 
@@ -51,12 +51,12 @@ within-numbers : (v : ℕ) (b : Bool) → 0 < v → v ≤ 2 ^ 62 → is_lit_over
 within-numbers v b p h = and_from (nat_lt 0 v) (nat_le v (2 ^ 62)) (lt-ltb 0 v p) (le-leb v (2 ^ 62) h)
 
 signed : (b : Bool) (word : Bytes) (l : Literal) →
-    option_map (λ (v : ℕ). let r : Literal = record { var = v; positive = b } in r) (count_from_word (2 ^ 62) word)
+    option_map (λ (v : ℕ). let r : Literal = record { var = v; positive = b } in r) (nonzero_from_word (2 ^ 62) word)
     ≡ Some l →
     (n : ℕ) × (word ≡ decimal n) × (is_lit_over (2 ^ 62) l ≡ true) × (l ≡ record { var = n; positive = b })
 signed b word l h =
     let f : ℕ → Literal = λ v. record { var = v; positive = b } in
-    let m = mapped-Some f (count_from_word (2 ^ 62) word) l h in
+    let m = mapped-Some f (nonzero_from_word (2 ^ 62) word) l h in
     let c = count-written (2 ^ 62) m.0 word (lit< tt) m.1 in
     let L : Literal → Type 0 = λ x. is_lit_over (2 ^ 62) x ≡ true in
     (m.0, c.0, subst L m.2 (within-numbers m.0 b c.1 c.2), sym m.2)
@@ -83,9 +83,9 @@ not-zero word l h = elim (cases_Bool (bytes_eq word (codes "0"))) [
   | inr e ↦ e
 ]
 
-count-not-zero : (word : Bytes) (n : ℕ) → count_from_word (2 ^ 64 - 1) word ≡ Some n → bytes_eq word (codes "0") ≡ false
+count-not-zero : (word : Bytes) (n : ℕ) → nonzero_from_word (2 ^ 64 - 1) word ≡ Some n → bytes_eq word (codes "0") ≡ false
 count-not-zero word n h = elim (cases_Bool (bytes_eq word (codes "0"))) [
-  | inl e ↦ absurd (let m : None ≡ Some n = sym (ap (count_from_word (2 ^ 64 - 1)) (zero-word word e)) ∙ h in cc)
+  | inl e ↦ absurd (let m : None ≡ Some n = sym (ap (nonzero_from_word (2 ^ 64 - 1)) (zero-word word e)) ∙ h in cc)
   | inr e ↦ e
 ]
 
@@ -120,10 +120,10 @@ hints-written : (words : List Bytes) (hs : List ℕ) → hints_from_words words 
 hints-written [] hs h = absurd (cc)
 hints-written (word ∷ words) hs h =
     elim (cases_Bool (bytes_eq word (codes "0"))) [
-      | inl e ↦ (let q = cond_some (no_words words) [] hs (rw e at h) in
+      | inl e ↦ (let q = cond_some (has_no_words words) [] hs (rw e at h) in
           let P : List ℕ → Type 0 = λ xs. (word ∷ words ≡ map decimal xs ++ codes "0" ∷ []) × (list_all (λ h. nat_lt 0 h && nat_lt h (2 ^ 64)) xs ≡ true) in
           subst P q.1 (ap (λ (w : Bytes). w ∷ words) (zero-word word e) ∙ ap (λ (ws : List Bytes). codes "0" ∷ ws) (none words q.0), refl))
-      | inr e ↦ (let b = bind_some (count_from_word (2 ^ 64 - 1) word) (λ (n : ℕ). hints_from_words words >>= (λ (r : List ℕ). Some (n ∷ r))) hs (rw e at h) in
+      | inr e ↦ (let b = bind_some (nonzero_from_word (2 ^ 64 - 1) word) (λ (n : ℕ). hints_from_words words >>= (λ (r : List ℕ). Some (n ∷ r))) hs (rw e at h) in
           let d = bind_some (hints_from_words words) (λ (r : List ℕ). Some (b.0 ∷ r)) hs b.2 in
           let q : b.0 ∷ d.0 ≡ hs = same_Some (b.0 ∷ d.0) hs d.2 in
           let w = count-written (2 ^ 64 - 1) b.0 word (lit< tt) b.1 in
@@ -133,7 +133,7 @@ hints-written (word ∷ words) hs h =
           subst P q (ap (λ (x : Bytes). x ∷ words) w.0 ∙ ap (λ (ws : List Bytes). decimal b.0 ∷ ws) i.0, and_from (nat_lt 0 b.0 && nat_lt b.0 (2 ^ 64)) (list_all (λ h. nat_lt 0 h && nat_lt h (2 ^ 64)) d.0) fits i.1))
     ]
   where
-    none : (ws : List Bytes) → no_words ws ≡ true → ws ≡ []
+    none : (ws : List Bytes) → has_no_words ws ≡ true → ws ≡ []
     none [] h = refl
     none (w ∷ ws) h = absurd (cc)
 
@@ -218,9 +218,10 @@ hints_more whole left taken word rest a e h =
 read_back : (told : Option Step) (line : Bytes) → told ≡ step_from_words (words_of line) → (s : Step) → (told ≡ Some s) ↔ ((line ≡ step_text s) × (has_writable_numbers s ≡ true))
 read_back told line e s = (let x = step_exactly line s in ((λ h. x.0 (sym e ∙ h)), (λ is. e ∙ x.1 is)))
 
-pub told-exactly : {E : Type 0} (r : Result Bool E) (t : Step) (line : Bytes) → IfOk r (λ b. only_if b t ≡ step_from_words (words_of line)) → IfOk r (λ b. (s : Step) → (only_if b t ≡ Some s) ↔ ((line ≡ step_text s) × (has_writable_numbers s ≡ true)))
+pub told-exactly : {E : Type 0} (r : Result Bool E) (t : Step) (line : Bytes) → IfOk r (λ b. then_some b t ≡ step_from_words (words_of line)) →
+    IfOk r (λ b. (s : Step) → (then_some b t ≡ Some s) ↔ ((line ≡ step_text s) × (has_writable_numbers s ≡ true)))
 told-exactly (Err e) t line h = tt
-told-exactly (Ok b) t line h = λ s. read_back (only_if b t) line h s
+told-exactly (Ok b) t line h = λ s. read_back (then_some b t) line h s
 
 pub copied-exactly : {E : Type 0} (r : Result (Option Step) E) (o : Option Step) (line : Bytes) → IfOk r (λ told. told ≡ o) →
     ((s : Step) → (o ≡ Some s) ↔ ((line ≡ step_text s) × (has_writable_numbers s ≡ true))) → IfOk r (λ told. (s : Step) → (told ≡ Some s) ↔ ((line ≡ step_text s) × (has_writable_numbers s ≡ true)))

@@ -1,7 +1,7 @@
 -- The steps that follow from a formula, and refutations.
 use Rattle.std.specs.Prelude.{ℕ, Bool, true, false, ◌&&◌, not, List, [], ◌∷◌, ◌++◌, map}
 use Rattle.ilk_base.specs.Option.{is_some_and}
-use Rattle.ilk_cnf.specs.Literal.{Literal, negated_lit, vars_differ}
+use Rattle.ilk_cnf.specs.Literal.{Literal, negated_lit, has_distinct_vars}
 use Rattle.ilk_cnf.specs.Formula.{Formula, is_clause_over}
 use Rattle.ilk_log.specs.declared.step.Step.{Step}
 use Rattle.ilk_log.specs.Propagation.{is_falsified, clause_numbered, after_hint}
@@ -20,7 +20,7 @@ hints_end_in_conflict clauses set (h ∷ (k ∷ hints)) = is_some_and (after_hin
 -- Returns whether a step follows from the clauses over the variables 1 to `n`. Its clause is over
 -- different ones of them, and if its literals are set false, its hints end at a false clause.
 abbrev pub is_derived : ℕ → List (List Literal) → Step → Bool
-is_derived n clauses s = is_clause_over n s.clause && vars_differ s.clause && hints_end_in_conflict clauses (negated_clause s.clause) s.hints
+is_derived n clauses s = is_clause_over n s.clause && has_distinct_vars s.clause && hints_end_in_conflict clauses (negated_clause s.clause) s.hints
 
 abbrev pub step_clauses : List Step → List (List Literal)
 step_clauses steps = map (λ (s : Step). s.clause) steps
@@ -34,16 +34,16 @@ abbrev pub is_derived_log : Formula → List Step → Bool
 is_derived_log f log = each_derived f.vars f.clauses log
 
 -- Returns whether a clause has no literal.
-abbrev pub is_empty : List Literal → Bool
-is_empty [] = true
-is_empty (l ∷ ls) = false
+abbrev pub is_empty_clause : List Literal → Bool
+is_empty_clause [] = true
+is_empty_clause (l ∷ ls) = false
 
 -- Returns whether the last step, and no other, has the empty clause.
-abbrev pub ends_with_empty_clause : List Step → Bool
-ends_with_empty_clause [] = false
-ends_with_empty_clause (s ∷ []) = is_empty s.clause
-ends_with_empty_clause (s ∷ (t ∷ steps)) = not (is_empty s.clause) && ends_with_empty_clause (t ∷ steps)
+abbrev pub only_last_clause_is_empty : List Step → Bool
+only_last_clause_is_empty [] = false
+only_last_clause_is_empty (s ∷ []) = is_empty_clause s.clause
+only_last_clause_is_empty (s ∷ (t ∷ steps)) = not (is_empty_clause s.clause) && only_last_clause_is_empty (t ∷ steps)
 
 -- Returns whether a log refutes the formula.
 abbrev pub is_refutation : Formula → List Step → Bool
-is_refutation f log = is_derived_log f log && ends_with_empty_clause log
+is_refutation f log = is_derived_log f log && only_last_clause_is_empty log

@@ -5,7 +5,7 @@ use Rattle.ilk_cnf.specs.Literal.{Literal, same_lit, has_lit, has_var}
 use Rattle.ilk_cnf.specs.Formula.{Formula}
 use Rattle.ilk_log.specs.declared.step.Step.{Step}
 use Rattle.ilk_log.specs.Propagation.{is_falsified, after_hints}
-use Rattle.ilk_log.specs.Derived.{negated_clause, hints_end_in_conflict, is_derived, is_empty, step_clauses}
+use Rattle.ilk_log.specs.Derived.{negated_clause, hints_end_in_conflict, is_derived, is_empty_clause, step_clauses}
 
 -- The literals of a clause other than `l`.
 abbrev pub other_lits : Literal → List Literal → List Literal
@@ -13,20 +13,20 @@ other_lits l c = filter (λ m. not (same_lit l m)) c
 
 -- Holds if hints can't determine `l`. If the other literals of `c` are false, and after any hints
 -- that can be taken, its variable is unset and no clause has all its literals false.
-abbrev pub StaysUndetermined : List (List Literal) → List Literal → Literal → Type 0
-StaysUndetermined clauses c l = (hints : List ℕ) (set : List Literal) → after_hints clauses (negated_clause (other_lits l c)) hints ≡ Some set → (has_var l.var set ≡ false) × (list_any (is_falsified set) clauses ≡ false)
+abbrev pub LitStaysUndetermined : List (List Literal) → List Literal → Literal → Type 0
+LitStaysUndetermined clauses c l = (hints : List ℕ) (set : List Literal) → after_hints clauses (negated_clause (other_lits l c)) hints ≡ Some set → (has_var l.var set ≡ false) × (list_any (is_falsified set) clauses ≡ false)
 
 -- Holds if some literal of the clause stays open.
-abbrev pub IsFresh : List (List Literal) → List Literal → Type 0
-IsFresh clauses c = (l : Literal) × IsTrue (has_lit l c) × StaysUndetermined clauses c l
+abbrev pub IsEmpowering : List (List Literal) → List Literal → Type 0
+IsEmpowering clauses c = (l : Literal) × IsTrue (has_lit l c) × LitStaysUndetermined clauses c l
 
 -- Holds if each step with a literal is fresh over the clauses and the steps before it.
-abbrev pub EachFresh : List (List Literal) → List Step → Type 0
-EachFresh clauses [] = Unit {0}
-EachFresh clauses (s ∷ steps) = (is_empty s.clause ≡ false → IsFresh clauses s.clause) × EachFresh (clauses ++ s.clause ∷ []) steps
+abbrev pub EachEmpowering : List (List Literal) → List Step → Type 0
+EachEmpowering clauses [] = Unit {0}
+EachEmpowering clauses (s ∷ steps) = (is_empty_clause s.clause ≡ false → IsEmpowering clauses s.clause) × EachEmpowering (clauses ++ s.clause ∷ []) steps
 
 -- Holds if no list of hints derives the empty clause, and a derived and fresh step could add some
 -- clause that has a literal.
-pub record IsStuck (f : Formula) (log : List Step) : Type 0 where
+pub record CanLearnButNotRefute (f : Formula) (log : List Step) : Type 0 where
   pub unrefuted : (hints : List ℕ) → hints_end_in_conflict (f.clauses ++ step_clauses log) [] hints ≡ false
-  pub next : (s : Step) × IsTrue (is_derived f.vars (f.clauses ++ step_clauses log) s) × IsFresh (f.clauses ++ step_clauses log) s.clause
+  pub next : (s : Step) × IsTrue (is_derived f.vars (f.clauses ++ step_clauses log) s) × IsEmpowering (f.clauses ++ step_clauses log) s.clause

@@ -21,16 +21,16 @@ decoded_numbers last way (b ∷ bytes) =
     if nat_lt b 128 then add_delta last (append_bits way b) ∷ decoded_numbers (add_delta last (append_bits way b)) 0 bytes else decoded_numbers last (append_bits way (b - 128)) bytes
 
 -- The number of a literal, from 0.
-abbrev pub number_from_lit : Literal → ℕ
-number_from_lit l = 2 * (l.var - 1) + (if l.positive then 1 else 0)
+abbrev pub code_from_lit : Literal → ℕ
+code_from_lit l = 2 * (l.var - 1) + (if l.positive then 1 else 0)
 
 -- The literal of a number.
-abbrev pub lit_from_number : ℕ → Literal
-lit_from_number n = record { var = n / 2 % 2 ^ 62 + 1; positive = n % 2 == 1 }
+abbrev pub lit_from_code : ℕ → Literal
+lit_from_code n = record { var = n / 2 % 2 ^ 62 + 1; positive = n % 2 == 1 }
 
 -- The step of numbers, the first of which are those of its literals.
 abbrev pub step_from_numbers : ℕ → List ℕ → Step
-step_from_numbers literals numbers = record { clause = map lit_from_number (take literals numbers); hints = drop literals numbers }
+step_from_numbers literals numbers = record { clause = map lit_from_code (take literals numbers); hints = drop literals numbers }
 
 -- The step that is left from byte `at` on.
 abbrev pub unread_step : Bytes → ℕ → ℕ → ℕ → Step

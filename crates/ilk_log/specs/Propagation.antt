@@ -2,7 +2,7 @@
 -- false but one, which is then true.
 use Rattle.std.specs.Prelude.{ℕ, zero, suc, Bool, List, [], ◌∷◌, ◌&&◌, Option, Some, None, is_none, not, slice_get}
 use Rattle.std.specs.List.{filter, list_all}
-use Rattle.ilk_base.specs.Option.{◌>>=◌, only_if}
+use Rattle.ilk_base.specs.Option.{◌>>=◌, then_some}
 use Rattle.ilk_cnf.specs.Literal.{Literal, negated_lit, has_lit}
 
 -- Returns whether a literal is false, if the set literals are true.
@@ -14,14 +14,14 @@ abbrev pub is_falsified : List Literal → List Literal → Bool
 is_falsified set c = list_all (is_false set) c
 
 -- The literal, if there is just one and it is not set.
-abbrev pub single_unset_lit : List Literal → List Literal → Option Literal
-single_unset_lit set [] = None
-single_unset_lit set (l ∷ []) = only_if (not (has_lit l set)) l
-single_unset_lit set (l ∷ (m ∷ ls)) = None
+abbrev pub only_lit_if_unset : List Literal → List Literal → Option Literal
+only_lit_if_unset set [] = None
+only_lit_if_unset set (l ∷ []) = then_some (not (has_lit l set)) l
+only_lit_if_unset set (l ∷ (m ∷ ls)) = None
 
 -- The unset literal of a clause, if there is one and all others are false.
 abbrev pub unit_lit : List Literal → List Literal → Option Literal
-unit_lit set c = single_unset_lit set (filter (λ l. not (is_false set l)) c)
+unit_lit set c = only_lit_if_unset set (filter (λ l. not (is_false set l)) c)
 
 -- The clause with number `h`; clauses are numbered from 1.
 abbrev pub clause_numbered : List (List Literal) → ℕ → Option (List Literal)

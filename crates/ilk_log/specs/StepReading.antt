@@ -1,9 +1,9 @@
 -- Reading the words of a line one by one, for private contracts and proofs.
 use Rattle.std.specs.Prelude.{ℕ, Bool, true, false, ◌-◌, ◌^◌, List, [], ◌∷◌, Option, Some, None, bytes_eq, codes, if◌then◌else◌}
-use Rattle.ilk_base.specs.Option.{◌>>=◌, only_if}
+use Rattle.ilk_base.specs.Option.{◌>>=◌, then_some}
 use Rattle.ilk_cnf.specs.Literal.{Literal}
 use Rattle.ilk_lines.specs.Lines.{Bytes}
-use Rattle.ilk_log.specs.StepWords.{count_from_word, lit_from_word}
+use Rattle.ilk_log.specs.StepWords.{nonzero_from_word, lit_from_word}
 use Rattle.ilk_log.specs.declared.step.Step.{Step}
 
 -- The literals before the word 0, and the words after it.
@@ -15,16 +15,16 @@ lits_from_words (word ∷ words) =
       rest ← lits_from_words words
       Some (l ∷ rest.0, rest.1))
 
-abbrev pub no_words : List Bytes → Bool
-no_words [] = true
-no_words (word ∷ words) = false
+abbrev pub has_no_words : List Bytes → Bool
+has_no_words [] = true
+has_no_words (word ∷ words) = false
 
 -- The hints before the word 0, if it is the last word.
 abbrev pub hints_from_words : List Bytes → Option (List ℕ)
 hints_from_words [] = None
 hints_from_words (word ∷ words) =
-    if bytes_eq word (codes "0") then only_if (no_words words) [] else (do
-      h ← count_from_word (2 ^ 64 - 1) word
+    if bytes_eq word (codes "0") then then_some (has_no_words words) [] else (do
+      h ← nonzero_from_word (2 ^ 64 - 1) word
       rest ← hints_from_words words
       Some (h ∷ rest))
 

@@ -1,17 +1,17 @@
 -- The number and the literal of a word.
 use Rattle.std.specs.Prelude.{ℕ, ◌==◌, ◌^◌, [], ◌∷◌, Option, None, true, false, nat_lt, option_map, if◌then◌else◌}
-use Rattle.ilk_base.specs.Option.{◌>>=◌, only_if}
+use Rattle.ilk_base.specs.Option.{◌>>=◌, then_some}
 use Rattle.ilk_cnf.specs.Literal.{Literal}
 use Rattle.ilk_lines.specs.Lines.{Bytes}
 use Rattle.ilk_lines.specs.Decimal.{decimal_up_to}
 
 -- A number from 1 to the limit.
-abbrev pub count_from_word : ℕ → Bytes → Option ℕ
-count_from_word limit word = do
+abbrev pub nonzero_from_word : ℕ → Bytes → Option ℕ
+nonzero_from_word limit word = do
   n ← decimal_up_to limit word
-  only_if (nat_lt 0 n) n
+  then_some (nat_lt 0 n) n
 
 -- A literal, over a variable from 1 to 2^62.
 abbrev pub lit_from_word : Bytes → Option Literal
 lit_from_word [] = None
-lit_from_word (b ∷ word) = if b == 45 then option_map (λ v. record { var = v; positive = false }) (count_from_word (2 ^ 62) word) else option_map (λ v. record { var = v; positive = true }) (count_from_word (2 ^ 62) (b ∷ word))
+lit_from_word (b ∷ word) = if b == 45 then option_map (λ v. record { var = v; positive = false }) (nonzero_from_word (2 ^ 62) word) else option_map (λ v. record { var = v; positive = true }) (nonzero_from_word (2 ^ 62) (b ∷ word))

@@ -1,9 +1,9 @@
 ghost use Rattle.std.specs.Prelude.{◌≡◌, ◌<◌, ◌^◌, List, Bool, false, IsTrue};
 ghost use Rattle.ilk_cnf.specs.Formula.{Formula};
 ghost use Rattle.ilk_cnf.specs.Truth.{satisfies};
-ghost use Rattle.ilk_log.specs.Conflicts.{conflicts_of};
+ghost use Rattle.ilk_log.specs.Conflicts.{count_learned_clauses};
 ghost use Rattle.ilk_log.specs.Derived.{is_derived_log, is_refutation};
-ghost use Rattle.ilk_log.specs.Fresh.{EachFresh};
+ghost use Rattle.ilk_log.specs.Fresh.{EachEmpowering};
 ghost use Rattle.ilk_log.specs.declared.step.Step.{Step as StepValue};
 
 /// No assignment satisfies a formula that a log refutes. Proof only; no run-time effect.
@@ -16,7 +16,7 @@ pub fn refutations_refute()
 /// Over n variables, a log of derived and fresh steps has fewer than 3^n steps with a literal.
 /// Proof only; no run-time effect.
 #[tactic(auto, using(crate::proofs::Count::fresh_few))]
-pub fn fresh_steps_are_few()
+pub fn empowering_steps_are_few()
     ensures { (f : Formula) (log : List StepValue) → IsTrue (is_derived_log f log) →
-        EachFresh f.clauses log → conflicts_of log < 3 ^ f.vars }
+        EachEmpowering f.clauses log → count_learned_clauses log < 3 ^ f.vars }
 {}

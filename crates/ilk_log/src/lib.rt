@@ -6,14 +6,15 @@
 //! and `Derived` in `specs/`). `Fresh` defines the clauses that propagation alone does not give.
 //! These definitions use only lists of clauses and numbers.
 //!
-//! `write_step` returns the line of a step, `push_step` appends it to a text, and `read_step`
+//! `write_step` returns the line of a step, `push_step_text` appends it to a text, and `read_step`
 //! accepts exactly these lines. `read_step_into` does the same with memory that is reused from line
 //! to line (`StepLine`). `LogText` is the text of a log, produced in pieces. A `Log` is a list of
 //! steps: `push` adds one, `at` returns one. It keeps each packed, in little more than a byte a
-//! number. `conflicts_in` counts the steps with a literal.
+//! number. `count_learned_clauses` counts the steps with a literal.
 //!
 //! There are two laws. No assignment satisfies a formula that a log refutes (`refutations_refute`).
-//! Over n variables, fewer than 3^n derived steps with a literal are fresh (`fresh_steps_are_few`).
+//! Over n variables, fewer than 3^n derived steps with a literal are fresh
+//! (`empowering_steps_are_few`).
 #![tactic(auto)]
 
 mod conflicts;
@@ -32,12 +33,12 @@ mod steps_left;
 mod unpack;
 mod write;
 
-pub use conflicts::conflicts_in;
+pub use conflicts::count_learned_clauses;
 pub use hints::Hints;
-pub use laws::{fresh_steps_are_few, refutations_refute};
+pub use laws::{empowering_steps_are_few, refutations_refute};
 pub use log_text::LogText;
 pub use read::{read_step, read_step_into};
 pub use step::Step;
 pub use step_line::StepLine;
 pub use steps::Log;
-pub use write::{push_step, write_step};
+pub use write::{push_step_text, write_step};

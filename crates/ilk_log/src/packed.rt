@@ -1,13 +1,13 @@
 ghost use Rattle.std.specs.Prelude.{◌≡◌, ◌^◌, ◌++◌, [], ℕ, List, map, not, IfOk, IsTrue, OnOk};
 ghost use Rattle.ilk_cnf.specs.Formula.{is_clause_over, is_lit_over};
-ghost use Rattle.ilk_log.specs.Derived.{is_empty};
-ghost use Rattle.ilk_log.specs.Packed.{number_from_lit, decoded_numbers, step_from_numbers, ContainsNumbers};
+ghost use Rattle.ilk_log.specs.Derived.{is_empty_clause};
+ghost use Rattle.ilk_log.specs.Packed.{code_from_lit, decoded_numbers, step_from_numbers, ContainsNumbers};
 
 use crate::hints::Hints;
 use crate::numbers::decode_number;
 use crate::numbers_written::push_number;
 use crate::step::Step;
-use crate::unpack::{read_hints, read_literals};
+use crate::unpack::{unpack_hints, unpack_literals};
 use ilk_cnf::Lit;
 use std::alloc::{AllocError, Global};
 use std::marker::Model;
@@ -50,14 +50,14 @@ impl PackedStep {
         ensures { IfOk result (λ step. step ≡ self.now) }
     {
         let bytes = self.bytes.as_slice();
-        let (clause, at, last) = read_literals(alloc, bytes, self.literals)?;
-        let hints = read_hints(alloc, bytes, at, last)?;
+        let (clause, at, last) = unpack_literals(alloc, bytes, self.literals)?;
+        let hints = unpack_hints(alloc, bytes, at, last)?;
         Ok(Step { clause, hints })
     }
 
     /// Returns whether its clause has a literal.
     pub(crate) fn has_literal(&self) -> bool
-        ensures { result ≡ not (is_empty self.now.clause) }
+        ensures { result ≡ not (is_empty_clause self.now.clause) }
     {
         self.literals > 0 && decode_number(self.bytes.as_slice(), 0, 0).is_some()
     }
@@ -73,9 +73,9 @@ impl PackedStep {
 }
 
 // Returns the number of a literal, from 0.
-fn number_from_lit(l: Lit) -> u64
+fn code_from_lit(l: Lit) -> u64
     requires { IsTrue (is_lit_over (2 ^ 62) l) }
-    ensures { result ≡ number_from_lit l }
+    ensures { result ≡ code_from_lit l }
 {
     2 * (l.var() - 1) + l.positive() as u64
 }
@@ -84,13 +84,13 @@ fn number_from_lit(l: Lit) -> u64
 fn push_literals(bytes: &mut Vec<u8>, lits: &[Lit]) -> Result<u64, AllocError>
     requires { ContainsNumbers bytes.old.items [] 0 0 }
     ensures numbers { IfOk result
-        (λ last. ContainsNumbers bytes.new.items (map number_from_lit lits.now) last 0) }
+        (λ last. ContainsNumbers bytes.new.items (map code_from_lit lits.now) last 0) }
     ensures numbered { OnOk result (IsTrue (is_clause_over (2 ^ 62) lits.now)) }
 {
     let mut last = 0;
     for lit in lits {
         lit.var_is_in_range();
-        let number = number_from_lit(*lit);
+        let number = code_from_lit(*lit);
         push_number(bytes, last, number)?;
         last = number;
     }

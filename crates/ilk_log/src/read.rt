@@ -1,21 +1,21 @@
 ghost use Rattle.std.specs.Prelude.{◌≡◌, ◌↔◌, IfOk, Some, [], option_map, IsTrue};
 ghost use Rattle.std.specs.Option.{option_map_or};
-ghost use Rattle.ilk_base.specs.Option.{only_if};
+ghost use Rattle.ilk_base.specs.Option.{then_some};
 ghost use Rattle.ilk_lines.specs.Words.{words_of};
 ghost use Rattle.ilk_log.specs.StepReading.{hints_from_words, lits_from_words, step_from_words};
 ghost use Rattle.ilk_log.specs.StepText.{has_writable_numbers, step_text};
 ghost use Rattle.ilk_log.specs.declared.step.Step.{Step as StepValue};
-ghost use Rattle.ilk_log.specs.StepWords.{count_from_word, lit_from_word};
+ghost use Rattle.ilk_log.specs.StepWords.{nonzero_from_word, lit_from_word};
 
 use crate::step::Step;
 use crate::step_line::StepLine;
 use ilk_cnf::Lit;
-use ilk_lines::{decimal_up_to, split_next_word};
+use ilk_lines::{decimal_up_to, split_off_first_word};
 use std::alloc::{AllocError, Global};
 
 // Returns the number from 1 to `limit` that `word` is, or `None` if it is not one.
-fn count_from_word(word: &[u8], limit: u64) -> Option<u64>
-    ensures { result ≡ count_from_word limit word.now }
+fn nonzero_from_word(word: &[u8], limit: u64) -> Option<u64>
+    ensures { result ≡ nonzero_from_word limit word.now }
 {
     let n = decimal_up_to(word, limit)?;
     if n > 0 { Some(n) } else { None }
@@ -30,8 +30,8 @@ fn lit_from_word(word: &[u8]) -> Option<Lit>
     ensures { result ≡ lit_from_word word.now }
 {
     match word {
-        [b'-', var @ ..] => Some(Lit::new(count_from_word(var, MAX_VAR)?, false)),
-        _ => Some(Lit::new(count_from_word(word, MAX_VAR)?, true)),
+        [b'-', var @ ..] => Some(Lit::new(nonzero_from_word(var, MAX_VAR)?, false)),
+        _ => Some(Lit::new(nonzero_from_word(word, MAX_VAR)?, true)),
     }
 }
 
@@ -50,7 +50,7 @@ fn read_lits<'a>(
     lits.clear();
     let mut left = line;
     'words: loop {
-        let (word, rest) = split_next_word(left);
+        let (word, rest) = split_off_first_word(left);
         if word == b"0".as_slice() {
             return Ok(Some(rest));
         }
@@ -66,21 +66,21 @@ fn read_lits<'a>(
 }
 
 #[tactic(auto, using(crate::proofs::Words::hints_more))]
-fn read_hints(hints: &mut Vec<u64>, line: &[u8]) -> Result<bool, AllocError>
-    ensures { IfOk result (λ told. only_if told hints.new.items
+fn unpack_hints(hints: &mut Vec<u64>, line: &[u8]) -> Result<bool, AllocError>
+    ensures { IfOk result (λ told. then_some told hints.new.items
         ≡ hints_from_words (words_of line.now)) }
 {
     hints.clear();
     let mut left = line;
     'words: loop {
-        let (word, rest) = split_next_word(left);
+        let (word, rest) = split_off_first_word(left);
         if word == b"0".as_slice() {
             return match rest {
                 Some(_) => Ok(false),
                 None => Ok(true),
             };
         }
-        let Some(h) = count_from_word(word, u64::MAX) else {
+        let Some(h) = nonzero_from_word(word, u64::MAX) else {
             return Ok(false);
         };
         let Some(rest) = rest else {
@@ -94,11 +94,11 @@ fn read_hints(hints: &mut Vec<u64>, line: &[u8]) -> Result<bool, AllocError>
 fn read_words(step: &mut StepLine, line: &[u8]) -> Result<bool, AllocError>
     ensures { IfOk result
         (λ told.
-        only_if told
+        then_some told
         (record { clause = step.new.clause.items; hints = step.new.hints.items })
         ≡ step_from_words (words_of line.now)) }
 {
-    let (word, rest) = split_next_word(line);
+    let (word, rest) = split_off_first_word(line);
     if word != b"step".as_slice() {
         return Ok(false);
     }
@@ -111,7 +111,7 @@ fn read_words(step: &mut StepLine, line: &[u8]) -> Result<bool, AllocError>
     let Some(rest) = rest else {
         return Ok(false);
     };
-    read_hints(&mut step.hints, rest)
+    unpack_hints(&mut step.hints, rest)
 }
 
 /// Reads the step whose line this is into `step`. Returns whether it is the line of a step with
@@ -119,7 +119,7 @@ fn read_words(step: &mut StepLine, line: &[u8]) -> Result<bool, AllocError>
 pub fn read_step_into(step: &mut StepLine, line: &[u8]) -> Result<bool, AllocError>
     ensures { IfOk result
         (λ told. (s : StepValue) →
-        (only_if told
+        (then_some told
         (record { clause = step.new.clause.items; hints = step.new.hints.items })
         ≡ Some s) ↔
         ((line.now ≡ step_text s) × IsTrue (has_writable_numbers s))) }

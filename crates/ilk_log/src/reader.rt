@@ -2,7 +2,7 @@ ghost use Rattle.std.specs.Prelude.{◌≡◌, ◌++◌, [], IfNone, option_to_l
 
 use crate::numbers::decode_number;
 use crate::packed::PackedStep;
-use crate::unpack::lit_from_number;
+use crate::unpack::lit_from_code;
 use ilk_cnf::Lit;
 use std::alloc::Global;
 use std::marker::Model;
@@ -63,7 +63,7 @@ impl StepReader {
         self.literals -= 1;
         self.last = number;
         self.at = next;
-        Some(lit_from_number(number))
+        Some(lit_from_code(number))
     }
 
     /// Reads the next hint, after all literals. Returns `None` if none is left.

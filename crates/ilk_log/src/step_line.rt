@@ -1,5 +1,5 @@
 ghost use Rattle.std.specs.Prelude.{◌≡◌, [], IfOk};
-ghost use Rattle.ilk_base.specs.Option.{only_if};
+ghost use Rattle.ilk_base.specs.Option.{then_some};
 
 use crate::step::Step;
 use ilk_base::Row;
@@ -40,7 +40,7 @@ impl StepLine {
     pub(crate) fn copy_if(&self, alloc: Global, wanted: bool) -> Result<Option<Step>, AllocError>
         ensures { IfOk result
             (λ copy. copy
-            ≡ only_if wanted
+            ≡ then_some wanted
             (record { clause = self.now.clause.items; hints = self.now.hints.items })) }
     {
         if !wanted {

@@ -4,7 +4,7 @@
 ghost use Rattle.std.specs.Prelude.{◌≡◌, ◌<◌, ◌∷◌, ◌++◌, [], length, map};
 ghost use Rattle.ilk_lines.specs.Written.{text_of};
 ghost use Rattle.ilk_log.specs.StepText.{lit_word, step_text};
-ghost use Rattle.ilk_log.specs.TextLeft.{FitsPlace, hints_left, line_left, literals_left};
+ghost use Rattle.ilk_log.specs.TextLeft.{RemainingStepFitsPlace, text_from_hints_on, remaining_line_text, text_from_lits_on};
 
 use crate::packed::PackedStep;
 use crate::reader::StepReader;
@@ -38,14 +38,14 @@ impl Model for StepsLeft {
     ghost use Rattle.std.specs.Prelude.{ℕ, ◌++◌, List, drop, map};
     ghost use Rattle.ilk_lines.specs.Written.{text_of};
     ghost use Rattle.ilk_log.specs.StepText.{step_text};
-    ghost use Rattle.ilk_log.specs.TextLeft.{FitsPlace, line_left};
+    ghost use Rattle.ilk_log.specs.TextLeft.{RemainingStepFitsPlace, remaining_line_text};
 
     ghost Value = { List ℕ };
 
-    ghost view = { λ left. line_left left.place left.step
+    ghost view = { λ left. remaining_line_text left.place left.step
         ++ text_of (map step_text (drop left.next left.steps)) };
 
-    ghost invariant = { λ left. FitsPlace left.place left.step };
+    ghost invariant = { λ left. RemainingStepFitsPlace left.place left.step };
 }
 
 #[inline]
@@ -65,9 +65,9 @@ fn lead_literal(token: &mut ShortBytes, l: Lit)
 #[inline]
 fn make_literal(step: &mut StepReader, token: &mut ShortBytes) -> Place
     requires { token.old ≡ [] }
-    ensures bytes { literals_left step.old ≡ token.new ++ line_left result step.new }
+    ensures bytes { text_from_lits_on step.old ≡ token.new ++ remaining_line_text result step.new }
     ensures some { 0 < length token.new }
-    ensures fits { FitsPlace result step.new }
+    ensures fits { RemainingStepFitsPlace result step.new }
 {
     match step.next_literal() {
         Some(l) => {
@@ -86,9 +86,10 @@ fn make_literal(step: &mut StepReader, token: &mut ShortBytes) -> Place
 fn make_hint(step: &mut StepReader, token: &mut ShortBytes) -> Place
     requires empty { token.old ≡ [] }
     requires alone { step.old.clause ≡ [] }
-    ensures bytes { hints_left step.old.hints ≡ token.new ++ line_left result step.new }
+    ensures bytes { text_from_hints_on step.old.hints
+        ≡ token.new ++ remaining_line_text result step.new }
     ensures some { 0 < length token.new }
-    ensures fits { FitsPlace result step.new }
+    ensures fits { RemainingStepFitsPlace result step.new }
 {
     match step.next_hint() {
         Some(n) => {

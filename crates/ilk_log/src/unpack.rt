@@ -1,5 +1,5 @@
 ghost use Rattle.std.specs.Prelude.{◌≡◌, drop, map, take, IfOk};
-ghost use Rattle.ilk_log.specs.Packed.{lit_from_number, decoded_numbers};
+ghost use Rattle.ilk_log.specs.Packed.{lit_from_code, decoded_numbers};
 
 use crate::hints::Hints;
 use crate::numbers::decode_number;
@@ -7,20 +7,20 @@ use ilk_cnf::{Lit, Lits};
 use std::alloc::{AllocError, Global};
 
 /// Returns the literal that `number` encodes.
-pub fn lit_from_number(number: u64) -> Lit
-    ensures { result ≡ lit_from_number number }
+pub fn lit_from_code(number: u64) -> Lit
+    ensures { result ≡ lit_from_code number }
 {
     Lit::new(number / 2 % (1 << 62) + 1, number % 2 == 1)
 }
 
 /// Returns the literals of the first `count` numbers, the start of the next number, and the last.
-pub fn read_literals(
+pub fn unpack_literals(
     alloc: Global,
     bytes: &[u8],
     count: u64,
 ) -> Result<(Lits, usize, u64), AllocError>
     ensures literals { IfOk result
-        (λ r. r.0 ≡ map lit_from_number (take count (decoded_numbers 0 0 bytes.now))) }
+        (λ r. r.0 ≡ map lit_from_code (take count (decoded_numbers 0 0 bytes.now))) }
     ensures rest { IfOk result
         (λ r. decoded_numbers r.2 0 (drop r.1 bytes.now)
         ≡ drop count (decoded_numbers 0 0 bytes.now)) }
@@ -32,7 +32,7 @@ pub fn read_literals(
         let Some((number, next)) = decode_number(bytes, at, last) else {
             return Ok((lits, at, last));
         };
-        lits.push(lit_from_number(number))?;
+        lits.push(lit_from_code(number))?;
         at = next;
         last = number;
     }
@@ -40,7 +40,7 @@ pub fn read_literals(
 }
 
 /// Returns the numbers from byte `at` on, after `last`.
-pub fn read_hints(alloc: Global, bytes: &[u8], at: usize, last: u64) -> Result<Hints, AllocError>
+pub fn unpack_hints(alloc: Global, bytes: &[u8], at: usize, last: u64) -> Result<Hints, AllocError>
     ensures { IfOk result (λ hints. hints ≡ decoded_numbers last 0 (drop at bytes.now)) }
 {
     let mut hints = Hints::with_capacity(alloc, bytes.len() as u64)?;

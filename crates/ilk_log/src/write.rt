@@ -42,7 +42,7 @@ fn push_hints(text: &mut String, hints: &Hints) -> Result<(), AllocError>
 #[tactic(auto, using(crate::proofs::Texts::text_is))]
 /// Appends the line of a step, without its line feed, to a text. If memory runs out, the content of
 /// the text is unspecified.
-pub fn push_step(text: &mut String, step: &Step) -> Result<(), AllocError>
+pub fn push_step_text(text: &mut String, step: &Step) -> Result<(), AllocError>
     requires { IsTrue (list_all (λ h. nat_lt 0 h) step.now.hints) }
     ensures { OnOk result (string_bytes text.new ≡ string_bytes text.old ++ step_text step.now) }
 {
@@ -59,6 +59,6 @@ pub fn write_step(alloc: Global, step: &Step) -> Result<Vec<u8>, AllocError>
     ensures { IfOk result (λ line. line.items ≡ step_text step.now) }
 {
     let mut text = String::new(alloc);
-    push_step(&mut text, step)?;
+    push_step_text(&mut text, step)?;
     Ok(text.into_bytes())
 }

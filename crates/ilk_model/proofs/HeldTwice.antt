@@ -16,9 +16,9 @@ use Rattle.ilk_plant.specs.TableRules.{protecting_points_of}
 use Rattle.ilk_plant.specs.declared.state.RouteState.{RouteState}
 use Rattle.ilk_plant.specs.declared.state.State.{State}
 use Rattle.ilk_plant.specs.declared.table.Route.{Route}
-use Rattle.ilk_routes.specs.Claims.{sections_beside_path}
+use Rattle.ilk_routes.specs.Claims.{sections_outside_path}
 use Rattle.ilk_model.specs.Families.{keeps_v2}
-use Rattle.ilk_model.specs.Holding.{holds_section, holds_sections, is_unreleased_on_path, route_holds}
+use Rattle.ilk_model.specs.Holding.{holds_section, is_holding_state, is_unreleased_on_path, route_holds}
 use Rattle.ilk_model.specs.Shared.{is_held_by_two_routes, is_shared}
 use Rattle.ilk_model.specs.declared.shared.SharedSections.{SharedSections}
 
@@ -38,12 +38,12 @@ kept_from rel x k (y ∷ path) = elim (below_or_past k rel) [
 
 -- A route that holds sections holds its overlap, its protecting points, and its path from index
 -- rel.
-pub held_parts : (route : Route) (now : RouteState) (x : ℕ) → holds_sections now ≡ true → holds_section x route now ≡ ((has_section x route.overlap || has_section x (protecting_points_of route)) || has_section x (drop now.rel route.path))
+pub held_parts : (route : Route) (now : RouteState) (x : ℕ) → is_holding_state now ≡ true → holds_section x route now ≡ ((has_section x route.overlap || has_section x (protecting_points_of route)) || has_section x (drop now.rel route.path))
 held_parts route now x holds =
-    let beside : has_section x (sections_beside_path route) ≡ (has_section x route.overlap || has_section x (protecting_points_of route)) = list_any-append (λ y. y == x) route.overlap (protecting_points_of route) in
+    let beside : has_section x (sections_outside_path route) ≡ (has_section x route.overlap || has_section x (protecting_points_of route)) = list_any-append (λ y. y == x) route.overlap (protecting_points_of route) in
     let whole : now.rel - 0 ≡ now.rel = omega arith in
     let kept : is_unreleased_on_path route now x ≡ has_section x (drop now.rel route.path) = kept_from now.rel x 0 route.path ∙ ap (λ n. has_section x (drop n route.path)) whole in
-    ap (λ b. b && (has_section x (sections_beside_path route) || is_unreleased_on_path route now x)) holds
+    ap (λ b. b && (has_section x (sections_outside_path route) || is_unreleased_on_path route now x)) holds
     ∙ ap (λ b. b || is_unreleased_on_path route now x) beside
     ∙ ap (λ b. (has_section x route.overlap || has_section x (protecting_points_of route)) || b) kept
 

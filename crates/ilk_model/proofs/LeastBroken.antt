@@ -10,17 +10,17 @@ use Rattle.ilk_plant.specs.declared.state.RouteState.{RouteState}
 use Rattle.ilk_plant.specs.declared.state.State.{State}
 use Rattle.ilk_motion.specs.TwoSections.{two_sections}
 use Rattle.ilk_routes.specs.Locks.{with_locks}
-use Rattle.ilk_model.specs.Meets.{least_broken_family}
+use Rattle.ilk_model.specs.Meets.{first_broken_family}
 use Rattle.ilk_model.specs.Run.{run}
 use Rattle.ilk_model.specs.declared.event.Event.TheVariants.{Enter}
 use Rattle.ilk_model.proofs.Examples.{station}
 
 -- Two sections without boards. A train that has entered is on no route's path: its head violates
 -- V7, its body V8.
-nothing_at_the_start : least_broken_family two_sections (start two_sections) ≡ None
+nothing_at_the_start : first_broken_family two_sections (start two_sections) ≡ None
 nothing_at_the_start = refl
 
-one_has_entered : option_map (least_broken_family two_sections) (run two_sections (start two_sections) (Enter 0 ∷ [])) ≡ Some (Some 7)
+one_has_entered : option_map (first_broken_family two_sections) (run two_sections (start two_sections) (Enter 0 ∷ [])) ≡ Some (Some 7)
 one_has_entered = refl
 
 -- The station, but the route from track t1 to b2 has the board on b1 as a protecting board.
@@ -49,8 +49,8 @@ both_are_locked = record (start protected) {
   locks = with_locks (start protected).locks (1 ∷ 2 ∷ 4 ∷ 5 ∷ []) LockedLock;
 }
 
-the_board_on_b1_is_open : least_broken_family protected both_are_locked ≡ Some 9
+the_board_on_b1_is_open : first_broken_family protected both_are_locked ≡ Some 9
 the_board_on_b1_is_open = refl
 
-no_board_is_protecting : least_broken_family station both_are_locked ≡ None
+no_board_is_protecting : first_broken_family station both_are_locked ≡ None
 no_board_is_protecting = refl

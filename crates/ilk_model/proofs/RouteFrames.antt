@@ -9,7 +9,7 @@ use Rattle.std.proofs.lemmas.Option.{cond_some, option_and_then_some}
 use Rattle.ilk_base.proofs.Lists.{item_at, last_or-at}
 use Rattle.ilk_base.proofs.Truth.{fails}
 use Rattle.ilk_plant.specs.Plant.{PlantLists}
-use Rattle.ilk_plant.specs.State.{has_lock, is_clear, is_occupied}
+use Rattle.ilk_plant.specs.State.{has_lock_state, is_unlocked_and_vacant, is_occupied}
 use Rattle.ilk_plant.specs.TableRules.{sections_locked_for}
 use Rattle.ilk_plant.specs.declared.state.Aspect.TheVariants.{Open, Closed}
 use Rattle.ilk_plant.specs.declared.state.Hold.TheVariants.{Free as FreeLock, Locked as LockedLock, Used as UsedLock}
@@ -18,7 +18,7 @@ use Rattle.ilk_plant.specs.declared.state.RouteState.{RouteState}
 use Rattle.ilk_plant.specs.declared.state.State.{State}
 use Rattle.ilk_plant.specs.declared.table.Route.{Route}
 use Rattle.ilk_routes.specs.Boards.{has_aspect, is_held_closed}
-use Rattle.ilk_routes.specs.Claims.{sections_beside_path, required_points}
+use Rattle.ilk_routes.specs.Claims.{sections_outside_path, required_points}
 use Rattle.ilk_routes.specs.Lies.{is_detected_as_listed, with_commands}
 use Rattle.ilk_routes.specs.Locks.{with_locks}
 use Rattle.ilk_routes.specs.Modes.{same_mode}
@@ -68,7 +68,7 @@ pub record IsAllocated (p : PlantLists) (s t : State) (r : ℕ) : Type 0 where
   pub now : RouteState
   pub changes : ChangesRoute p s t r route now (record now { mode = Allocating })
   pub was : now.mode ≡ Marked
-  pub clear : list_all (is_clear s) (sections_locked_for route) ≡ true
+  pub clear : list_all (is_unlocked_and_vacant s) (sections_locked_for route) ≡ true
   pub points : t.points ≡ with_commands p s.points (required_points route)
   pub boards : t.boards ≡ s.boards
   pub locks : t.locks ≡ with_locks s.locks (sections_locked_for route) LockedLock
@@ -86,7 +86,7 @@ allocate-frame p s t r e =
       now = now;
       changes = record { known = known; state = state; routes = same.routes };
       was = one_mode now.mode Marked asked.0;
-      clear = (and_parts _ (list_all (is_clear s) (sections_locked_for route)) asked.1).1;
+      clear = (and_parts _ (list_all (is_unlocked_and_vacant s) (sections_locked_for route)) asked.1).1;
       points = same.points;
       boards = same.boards;
       locks = same.locks;
@@ -144,7 +144,7 @@ pub record IsSensed (p : PlantLists) (s t : State) (r : ℕ) : Type 0 where
   pub was : is_locked_or_occupied now ≡ true
   pub next : slice_get route.path now.seen ≡ Some x
   pub occupied : is_occupied s x ≡ true
-  pub locked : has_lock s x LockedLock ≡ true
+  pub locked : has_lock_state s x LockedLock ≡ true
   pub points : t.points ≡ s.points
   pub boards : t.boards ≡ (if now.seen == 0 then set s.boards route.source Closed else s.boards)
   pub locks : t.locks ≡ set s.locks x UsedLock
@@ -157,7 +157,7 @@ sense-frame p s t r e =
     option_and_then_some _ (slice_get route.path now.seen) t e2 (λ x next e3.
     let done = cond_some _ _ t e3 in
     let same = same-lists _ t done.1 in
-    let asked = and_parts (is_locked_or_occupied now && is_occupied s x) (has_lock s x LockedLock) done.0 in
+    let asked = and_parts (is_locked_or_occupied now && is_occupied s x) (has_lock_state s x LockedLock) done.0 in
     let both = and_parts (is_locked_or_occupied now) (is_occupied s x) asked.0 in
     record {
       route = route;
@@ -186,7 +186,7 @@ pub record IsReleased (p : PlantLists) (s t : State) (r : ℕ) : Type 0 where
   pub behind : now.rel + 2 ≤ now.seen
   pub first : slice_get route.path now.rel ≡ Some x
   pub vacant : is_occupied s x ≡ false
-  pub used : has_lock s x UsedLock ≡ true
+  pub used : has_lock_state s x UsedLock ≡ true
   pub points : t.points ≡ s.points
   pub boards : t.boards ≡ s.boards
   pub locks : t.locks ≡ set s.locks x FreeLock
@@ -200,7 +200,7 @@ release-frame p s t r e =
     let done = cond_some _ _ t e3 in
     let same = same-lists _ t done.1 in
     let mode = same_mode now.mode Occupied in
-    let asked = and_parts (mode && nat_le (now.rel + 2) now.seen && not (is_occupied s x)) (has_lock s x UsedLock) done.0 in
+    let asked = and_parts (mode && nat_le (now.rel + 2) now.seen && not (is_occupied s x)) (has_lock_state s x UsedLock) done.0 in
     let three = and_parts (mode && nat_le (now.rel + 2) now.seen) (not (is_occupied s x)) asked.0 in
     let both = and_parts mode (nat_le (now.rel + 2) now.seen) three.0 in
     record {
@@ -241,7 +241,7 @@ pub record IsFinished (p : PlantLists) (s t : State) (r : ℕ) : Type 0 where
   pub last : slice_get route.path now.rel ≡ Some x
   pub points : t.points ≡ s.points
   pub boards : t.boards ≡ s.boards
-  pub locks : t.locks ≡ with_locks (set s.locks x FreeLock) (sections_beside_path route) FreeLock
+  pub locks : t.locks ≡ with_locks (set s.locks x FreeLock) (sections_outside_path route) FreeLock
   pub trains : t.trains ≡ s.trains
 
 pub finish-frame : (p : PlantLists) (s t : State) (r : ℕ) → after_finish p s r ≡ Some t → IsFinished p s t r

@@ -7,13 +7,13 @@ use Rattle.ilk_plant.specs.Network.{has_section}
 use Rattle.ilk_plant.specs.declared.state.Lie.{Lie}
 use Rattle.ilk_plant.specs.declared.state.Lie.TheVariants.{Plus, Minus, Moving}
 use Rattle.ilk_plant.proofs.InLists.{rest-has}
-use Rattle.ilk_model.specs.Hazard.{are_adjacent_in, is_wrong_under_body}
+use Rattle.ilk_model.specs.Hazard.{are_adjacent_in_body, is_wrong_under_body}
 
-pub pair-has : (a b : ℕ) (body : List ℕ) → are_adjacent_in a b body ≡ true → has_section a body ≡ true
+pub pair-has : (a b : ℕ) (body : List ℕ) → are_adjacent_in_body a b body ≡ true → has_section a body ≡ true
 pair-has a b [] h = cc
 pair-has a b (c ∷ []) h = cc
 pair-has a b (c ∷ d ∷ rest) h =
-    elim (either ((c == a && d == b) || (c == b && d == a)) (are_adjacent_in a b (d ∷ rest)) h) [
+    elim (either ((c == a && d == b) || (c == b && d == a)) (are_adjacent_in_body a b (d ∷ rest)) h) [
       | inl here ↦ elim (either (c == a && d == b) (c == b && d == a) here) [
         | inl e ↦ or_left (c == a) (has_section a (d ∷ rest)) (and_parts (c == a) (d == b) e).0
         | inr e ↦ or_right (c == a) (has_section a (d ∷ rest)) (or_left (d == a) (has_section a rest) (and_parts (c == b) (d == a) e).1)
@@ -27,10 +27,10 @@ is_wrong_under_body-has x plus minus (Some Moving) body h = h
 is_wrong_under_body-has x plus minus (Some Plus) body h = pair-has x minus body h
 is_wrong_under_body-has x plus minus (Some Minus) body h = pair-has x plus body h
 
-pub rest-pair : (x z : ℕ) (body : List ℕ) → are_adjacent_in x z (remove body 0) ≡ true → are_adjacent_in x z body ≡ true
+pub rest-pair : (x z : ℕ) (body : List ℕ) → are_adjacent_in_body x z (remove body 0) ≡ true → are_adjacent_in_body x z body ≡ true
 rest-pair x z [] h = h
 rest-pair x z (a ∷ []) h = cc
-rest-pair x z (a ∷ b ∷ rest) h = or_right ((a == x && b == z) || (a == z && b == x)) (are_adjacent_in x z (b ∷ rest)) h
+rest-pair x z (a ∷ b ∷ rest) h = or_right ((a == x && b == z) || (a == z && b == x)) (are_adjacent_in_body x z (b ∷ rest)) h
 
 pub rest-is_wrong_under_body : (x plus minus : ℕ) (lie : Option Lie) (body : List ℕ) → is_wrong_under_body x plus minus lie (remove body 0) ≡ true → is_wrong_under_body x plus minus lie body ≡ true
 rest-is_wrong_under_body x plus minus None body h = h

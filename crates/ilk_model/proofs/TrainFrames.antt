@@ -5,14 +5,14 @@ use Rattle.std.proofs.lemmas.Bool.{and_parts}
 use Rattle.std.proofs.lemmas.Option.{cond_some, option_and_then_some, same_Some}
 use Rattle.ilk_base.proofs.Positions.{position-at}
 use Rattle.ilk_base.proofs.Truth.{fails}
-use Rattle.ilk_plant.specs.Plant.{PlantLists, board_of, border}
-use Rattle.ilk_plant.specs.State.{has_lock, is_occupied}
+use Rattle.ilk_plant.specs.Plant.{PlantLists, board_of, section_inward_if_border}
+use Rattle.ilk_plant.specs.State.{has_lock_state, is_occupied}
 use Rattle.ilk_plant.specs.declared.network.Dir.{Dir}
 use Rattle.ilk_plant.specs.declared.state.Hold.TheVariants.{Free as FreeLock}
 use Rattle.ilk_plant.specs.declared.state.State.{State}
 use Rattle.ilk_plant.specs.declared.state.Train.{Train}
 use Rattle.ilk_motion.specs.Ahead.{ahead}
-use Rattle.ilk_motion.specs.Body.{has_head, has_tail_before_head, occupies_only, new_train_on, with_new_head, without_tail}
+use Rattle.ilk_motion.specs.Body.{has_head_at, has_movable_tail_at, occupies_only, new_train_on, with_new_head, without_tail}
 use Rattle.ilk_motion.specs.Trains.{after_enter, after_head, after_leave, after_tail, may_pass, with_board_closed}
 use Rattle.ilk_model.proofs.SameLists.{SameLists, same-lists}
 
@@ -20,8 +20,8 @@ use Rattle.ilk_model.proofs.SameLists.{SameLists, same-lists}
 -- present trains don't change.
 pub record IsEntered (p : PlantLists) (s t : State) (x : ℕ) : Type 0 where
   pub inward : Dir
-  pub borders : border p x ≡ Some inward
-  pub free : has_lock s x FreeLock ≡ true
+  pub borders : section_inward_if_border p x ≡ Some inward
+  pub free : has_lock_state s x FreeLock ≡ true
   pub vacant : is_occupied s x ≡ false
   pub routes : t.routes ≡ s.routes
   pub points : t.points ≡ s.points
@@ -31,10 +31,10 @@ pub record IsEntered (p : PlantLists) (s t : State) (x : ℕ) : Type 0 where
 
 pub enter-frame : (p : PlantLists) (s t : State) (x : ℕ) → after_enter p s x ≡ Some t → IsEntered p s t x
 enter-frame p s t x e =
-    option_and_then_some _ (border p x) t e (λ inward borders e1.
+    option_and_then_some _ (section_inward_if_border p x) t e (λ inward borders e1.
     let done = cond_some _ _ t e1 in
     let same = same-lists _ t done.1 in
-    let asked = and_parts (has_lock s x FreeLock) (not (is_occupied s x)) done.0 in
+    let asked = and_parts (has_lock_state s x FreeLock) (not (is_occupied s x)) done.0 in
     record {
       inward = inward;
       borders = borders;
@@ -62,7 +62,7 @@ pub record IsHeaded (p : PlantLists) (s t : State) (x : ℕ) : Type 0 where
   pub train : Train
   pub y : ℕ
   pub at : slice_get s.trains i ≡ Some train
-  pub heads : has_head x train ≡ true
+  pub heads : has_head_at x train ≡ true
   pub leads : ahead p s x train.dir ≡ Some y
   pub passes : may_pass s (board_of p x train.dir) ≡ true
   pub routes : t.routes ≡ s.routes
@@ -73,7 +73,7 @@ pub record IsHeaded (p : PlantLists) (s t : State) (x : ℕ) : Type 0 where
 
 pub head-frame : (p : PlantLists) (s t : State) (x : ℕ) → after_head p s x ≡ Some t → IsHeaded p s t x
 head-frame p s t x e =
-    option_and_then_some _ (position (has_head x) s.trains) t e (λ i first e1.
+    option_and_then_some _ (position (has_head_at x) s.trains) t e (λ i first e1.
     option_and_then_some _ (slice_get s.trains i) t e1 (λ train at e2.
     option_and_then_some _ (ahead p s x train.dir) t e2 (λ y leads e3.
     let done = cond_some _ _ t e3 in
@@ -85,7 +85,7 @@ head-frame p s t x e =
       train = train;
       y = y;
       at = at;
-      heads = position-at (has_head x) s.trains i train first at;
+      heads = position-at (has_head_at x) s.trains i train first at;
       leads = leads;
       passes = done.0;
       routes = same.routes ∙ closed.routes;
@@ -101,7 +101,7 @@ pub record IsTailed (p : PlantLists) (s t : State) (x : ℕ) : Type 0 where
   pub i : ℕ
   pub train : Train
   pub at : slice_get s.trains i ≡ Some train
-  pub several : has_tail_before_head x train ≡ true
+  pub several : has_movable_tail_at x train ≡ true
   pub routes : t.routes ≡ s.routes
   pub points : t.points ≡ s.points
   pub boards : t.boards ≡ s.boards
@@ -111,14 +111,14 @@ pub record IsTailed (p : PlantLists) (s t : State) (x : ℕ) : Type 0 where
 pub tail-frame : (p : PlantLists) (s t : State) (x : ℕ) → after_tail p s x ≡ Some t → IsTailed p s t x
 tail-frame p s t x e =
     option_and_then_some _ (slice_get p.sections x) t e (λ section known e0.
-    option_and_then_some _ (position (has_tail_before_head x) s.trains) t e0 (λ i first e1.
+    option_and_then_some _ (position (has_movable_tail_at x) s.trains) t e0 (λ i first e1.
     option_and_then_some _ (slice_get s.trains i) t e1 (λ train at e2.
     let same = same-lists _ t (same_Some _ t e2) in
     record {
       i = i;
       train = train;
       at = at;
-      several = position-at (has_tail_before_head x) s.trains i train first at;
+      several = position-at (has_movable_tail_at x) s.trains i train first at;
       routes = same.routes;
       points = same.points;
       boards = same.boards;

@@ -6,7 +6,7 @@ use Rattle.ilk_base.specs.Each.{all_below}
 use Rattle.ilk_base.specs.Option.{is_some_and}
 use Rattle.ilk_plant.specs.Network.{has_section, last_of}
 use Rattle.ilk_plant.specs.Plant.{PlantLists}
-use Rattle.ilk_plant.specs.State.{has_lock}
+use Rattle.ilk_plant.specs.State.{has_lock_state}
 use Rattle.ilk_plant.specs.declared.network.Dir.{Dir}
 use Rattle.ilk_plant.specs.declared.state.Aspect.TheVariants.{Open, Closed}
 use Rattle.ilk_plant.specs.declared.state.Hold.{Hold}
@@ -17,16 +17,16 @@ use Rattle.ilk_plant.specs.declared.state.State.{State}
 use Rattle.ilk_plant.specs.declared.table.Listed.{Listed}
 use Rattle.ilk_plant.specs.declared.table.Route.{Route}
 use Rattle.ilk_routes.specs.Boards.{has_aspect}
-use Rattle.ilk_routes.specs.Claims.{sections_beside_path}
+use Rattle.ilk_routes.specs.Claims.{sections_outside_path}
 use Rattle.ilk_routes.specs.Lies.{is_detected_as_listed}
 use Rattle.ilk_routes.specs.Modes.{same_mode}
 use Rattle.ilk_model.specs.Commanded.{is_commanded_as_listed}
-use Rattle.ilk_model.specs.Holding.{all_path_indices_pass, all_routes_pass, holds_sections, is_unreleased_on_path, is_locked_or_occupied, is_plain_for_direction, is_vacant, route_holds, route_runs_in, any_path_index_passes, any_route_passes}
+use Rattle.ilk_model.specs.Holding.{all_path_indices_pass_test, all_routes_pass_test, is_holding_state, is_unreleased_on_path, is_locked_or_occupied, continues_without_board, is_vacant, route_holds, route_runs_in_direction, any_path_index_passes_test, any_route_passes_test}
 
 -- V1: An Occupied route has `rel` below `seen`, and `seen` is at most the path's length. Any other
 -- route has `seen` = `rel` = 0.
 abbrev pub keeps_v1 : PlantLists → State → Bool
-keeps_v1 p s = all_routes_pass p s (λ route now.
+keeps_v1 p s = all_routes_pass_test p s (λ route now.
     if same_mode now.mode Occupied
     then nat_lt now.rel now.seen && nat_le now.seen (length route.path)
     else now.seen == 0 && now.rel == 0)
@@ -43,38 +43,38 @@ path_section_lock now i = if nat_lt i now.seen then UsedLock else LockedLock
 -- Returns whether the sections of a route that holds sections have the locks that V3 demands.
 abbrev pub has_required_locks : State → Route → RouteState → Bool
 has_required_locks s route now =
-    all_path_indices_pass route (λ i x. not (nat_le now.rel i) || has_lock s x (path_section_lock now i))
-    && list_all (λ x. has_lock s x LockedLock) (sections_beside_path route)
+    all_path_indices_pass_test route (λ i x. not (nat_le now.rel i) || has_lock_state s x (path_section_lock now i))
+    && list_all (λ x. has_lock_state s x LockedLock) (sections_outside_path route)
 
 -- V3: A section that a route holds as path[i] has lock Used if i is below `seen`. Every other
 -- section that it holds has lock Locked.
 abbrev pub keeps_v3 : PlantLists → State → Bool
-keeps_v3 p s = all_routes_pass p s (λ route now. if holds_sections now then has_required_locks s route now else true)
+keeps_v3 p s = all_routes_pass_test p s (λ route now. if is_holding_state now then has_required_locks s route now else true)
 
 -- V4: Every path section of an Allocating route is vacant.
 abbrev pub keeps_v4 : PlantLists → State → Bool
-keeps_v4 p s = all_routes_pass p s (λ route now.
+keeps_v4 p s = all_routes_pass_test p s (λ route now.
     if same_mode now.mode Allocating then list_all (is_vacant s) route.path else true)
 
 -- V5: Each Open board is the source of a Locked route whose path is vacant.
 abbrev pub keeps_v5 : PlantLists → State → Bool
 keeps_v5 p s = all_below (length p.boards) (λ m.
     if has_aspect s m Open
-    then any_route_passes p s (λ route now. (route.source == m) && same_mode now.mode Locked && list_all (is_vacant s) route.path)
+    then any_route_passes_test p s (λ route now. (route.source == m) && same_mode now.mode Locked && list_all (is_vacant s) route.path)
     else true)
 
 -- Returns whether a listed point is commanded to its listed position. True in any case if the route
 -- isn't Allocating, or the point isn't on its path.
-abbrev pub is_commanded_for : PlantLists → State → Route → RouteState → Listed → Bool
-is_commanded_for p s route now listed =
+abbrev pub is_commanded_if_allocating : PlantLists → State → Route → RouteState → Listed → Bool
+is_commanded_if_allocating p s route now listed =
     if same_mode now.mode Allocating && has_section listed.point route.path
     then is_commanded_as_listed p s listed
     else true
 
 -- Returns whether a listed point is commanded to its listed position and detected in it. True in
 -- any case unless the route is Locked or Occupied and holds the point on its path.
-abbrev pub is_detected_for : PlantLists → State → Route → RouteState → Listed → Bool
-is_detected_for p s route now listed =
+abbrev pub is_set_if_locked_or_occupied : PlantLists → State → Route → RouteState → Listed → Bool
+is_set_if_locked_or_occupied p s route now listed =
     if is_locked_or_occupied now && is_unreleased_on_path route now listed.point
     then is_commanded_as_listed p s listed && is_detected_as_listed p s listed
     else true
@@ -83,16 +83,16 @@ is_detected_for p s route now listed =
 -- listed point that a Locked or Occupied route holds on its path is commanded to that position and
 -- detected in it.
 abbrev pub keeps_v6 : PlantLists → State → Bool
-keeps_v6 p s = all_routes_pass p s (λ route now.
-    list_all (λ listed. is_commanded_for p s route now listed && is_detected_for p s route now listed) route.points)
+keeps_v6 p s = all_routes_pass_test p s (λ route now.
+    list_all (λ listed. is_commanded_if_allocating p s route now listed && is_set_if_locked_or_occupied p s route now listed) route.points)
 
 -- Returns whether some route leads a train's head at x in direction d. Section x is path[i] of a
 -- route in that direction, which is Occupied, or Locked with its source Closed. Its `seen` is at
 -- most i + 1, and each later path section is vacant.
 abbrev pub head_is_led_by_route : PlantLists → State → Dir → ℕ → Bool
-head_is_led_by_route p s d x = any_route_passes p s (λ route now. any_path_index_passes route (λ i y.
+head_is_led_by_route p s d x = any_route_passes_test p s (λ route now. any_path_index_passes_test route (λ i y.
     (y == x)
-    && route_runs_in p d route
+    && route_runs_in_direction p d route
     && (same_mode now.mode Occupied || (same_mode now.mode Locked && has_aspect s route.source Closed))
     && nat_le now.seen (i + 1)
     && list_all (is_vacant s) (drop (i + 1) route.path)))
@@ -100,20 +100,20 @@ head_is_led_by_route p s d x = any_route_passes p s (λ route now. any_path_inde
 -- V7: Some route leads each train's head at a section that is plain for the train.
 abbrev pub keeps_v7 : PlantLists → State → Bool
 keeps_v7 p s = list_all (λ train. is_some_and (last_of train.body) (λ x.
-    if is_plain_for_direction p train.dir x then head_is_led_by_route p s train.dir x else true)) s.trains
+    if continues_without_board p train.dir x then head_is_led_by_route p s train.dir x else true)) s.trains
 
 -- Returns whether some route keeps x for trains in direction d: x is path[i], with i at least
 -- `rel`, of a Locked or Occupied route in that direction.
-abbrev pub section_is_kept_by_route : PlantLists → State → Dir → ℕ → Bool
-section_is_kept_by_route p s d x = any_route_passes p s (λ route now.
-    route_runs_in p d route && is_locked_or_occupied now && is_unreleased_on_path route now x)
+abbrev pub is_unreleased_on_some_route : PlantLists → State → Dir → ℕ → Bool
+is_unreleased_on_some_route p s d x = any_route_passes_test p s (λ route now.
+    route_runs_in_direction p d route && is_locked_or_occupied now && is_unreleased_on_path route now x)
 
 -- V8: Some route keeps each section of a train's body that is plain for the train.
 abbrev pub keeps_v8 : PlantLists → State → Bool
 keeps_v8 p s = list_all (λ train. list_all (λ x.
-    if is_plain_for_direction p train.dir x then section_is_kept_by_route p s train.dir x else true) train.body) s.trains
+    if continues_without_board p train.dir x then is_unreleased_on_some_route p s train.dir x else true) train.body) s.trains
 
 -- V9: Each protecting board of a Locked route is Closed.
 abbrev pub keeps_v9 : PlantLists → State → Bool
-keeps_v9 p s = all_routes_pass p s (λ route now.
+keeps_v9 p s = all_routes_pass_test p s (λ route now.
     if same_mode now.mode Locked then list_all (λ m. has_aspect s m Closed) route.protecting_boards else true)

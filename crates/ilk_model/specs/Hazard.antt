@@ -18,16 +18,16 @@ abbrev pub has_two_trains : State → ℕ → Bool
 has_two_trains s x = nat_lt 1 (count_by (λ train. has_section x train.body) s.trains)
 
 -- Returns whether x and y are adjacent in a body, in either order.
-abbrev pub are_adjacent_in : ℕ → ℕ → List ℕ → Bool
-are_adjacent_in x y body = list_any (λ pair. (pair.0 == x && pair.1 == y) || (pair.0 == y && pair.1 == x)) (zip body (drop 1 body))
+abbrev pub are_adjacent_in_body : ℕ → ℕ → List ℕ → Bool
+are_adjacent_in_body x y body = list_any (λ pair. (pair.0 == x && pair.1 == y) || (pair.0 == y && pair.1 == x)) (zip body (drop 1 body))
 
 -- Returns whether a body is wrong on point x with these legs. The body has x while the point moves,
 -- or the body runs over the leg other than that of the detected position.
 abbrev pub is_wrong_under_body : ℕ → ℕ → ℕ → Option Lie → List ℕ → Bool
 is_wrong_under_body x plus minus None body = false
 is_wrong_under_body x plus minus (Some Moving) body = has_section x body
-is_wrong_under_body x plus minus (Some Plus) body = are_adjacent_in x minus body
-is_wrong_under_body x plus minus (Some Minus) body = are_adjacent_in x plus body
+is_wrong_under_body x plus minus (Some Plus) body = are_adjacent_in_body x minus body
+is_wrong_under_body x plus minus (Some Minus) body = are_adjacent_in_body x plus body
 
 -- Returns whether x is a point that is moving or not set for a train on it.
 abbrev pub is_wrong_under_train : PlantLists → State → ℕ → Bool
@@ -40,12 +40,12 @@ is_wrong_under_train p s x = wrong_on (slice_get p.sections x)
 
 -- Returns whether section x has a hazard: two trains, or a point in the wrong position under a
 -- train.
-abbrev pub is_hazardous : PlantLists → State → ℕ → Bool
-is_hazardous p s x = has_two_trains s x || is_wrong_under_train p s x
+abbrev pub is_section_hazardous : PlantLists → State → ℕ → Bool
+is_section_hazardous p s x = has_two_trains s x || is_wrong_under_train p s x
 
 -- The hazard at the first section that has one. At the same section, `Two` comes before `Wrong`.
 abbrev pub hazard : PlantLists → State → Option HazardAt
-hazard p s = option_map hazard_at (find (is_hazardous p s) (range_with_len 0 (length p.sections)))
+hazard p s = option_map hazard_at (find (is_section_hazardous p s) (range_with_len 0 (length p.sections)))
   where
     hazard_at : ℕ → HazardAt
     hazard_at x = if has_two_trains s x then Two x else Wrong x

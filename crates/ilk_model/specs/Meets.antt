@@ -13,12 +13,12 @@ abbrev pub families : List (PlantLists → State → Bool)
 families = keeps_v1 ∷ keeps_v2 ∷ keeps_v3 ∷ keeps_v4 ∷ keeps_v5 ∷ keeps_v6 ∷ keeps_v7 ∷ keeps_v8 ∷ keeps_v9 ∷ []
 
 -- Returns whether s satisfies family Vj, for j from 1 to 9.
-abbrev pub keeps : PlantLists → State → ℕ → Bool
-keeps p s j = is_some_and (slice_get families (j - 1)) (λ keeps_it. keeps_it p s)
+abbrev pub keeps_family : PlantLists → State → ℕ → Bool
+keeps_family p s j = is_some_and (slice_get families (j - 1)) (λ keeps_it. keeps_it p s)
 
 -- The number of the first family that s violates, or `None` if it satisfies all nine.
-abbrev pub least_broken_family : PlantLists → State → Option ℕ
-least_broken_family p s = find (λ j. not (keeps p s j)) (range_with_len 1 (length families))
+abbrev pub first_broken_family : PlantLists → State → Option ℕ
+first_broken_family p s = find (λ j. not (keeps_family p s j)) (range_with_len 1 (length families))
 
 -- Returns whether s satisfies all nine families.
 abbrev pub keeps_all : PlantLists → State → Bool

@@ -15,8 +15,8 @@ abbrev pub is_shared : SharedSections → ℕ → Bool
 is_shared shared x = if nat_lt x 128 then bit_at shared.low x == 1 else bit_at shared.high (x - 128) == 1
 
 -- Returns whether the bit of x is set, or x is a point that is moving or not set for a train on it.
-abbrev pub is_hazardous_by_bits : PlantLists → State → SharedSections → ℕ → Bool
-is_hazardous_by_bits p s shared x = is_shared shared x || is_wrong_under_train p s x
+abbrev pub is_section_hazardous_by_bits : PlantLists → State → SharedSections → ℕ → Bool
+is_section_hazardous_by_bits p s shared x = is_shared shared x || is_wrong_under_train p s x
 
 -- Returns whether two or more routes hold x.
 abbrev pub is_held_by_two_routes : PlantLists → State → ℕ → Bool

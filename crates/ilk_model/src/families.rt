@@ -1,7 +1,7 @@
 //! The first of the nine families of the invariant that a state violates.
 ghost use Rattle.std.specs.Prelude.{◌≡◌};
 ghost use Rattle.ilk_plant.specs.Shape.{HasShape};
-ghost use Rattle.ilk_model.specs.Meets.{least_broken_family};
+ghost use Rattle.ilk_model.specs.Meets.{first_broken_family};
 
 use crate::held::keeps_v2;
 use crate::route_families::{keeps_v1, keeps_v3, keeps_v4, keeps_v5, keeps_v6, keeps_v9};
@@ -12,7 +12,7 @@ use ilk_plant::{Plant, State};
 /// `None` if no family is violated.
 pub fn broken_family(plant: &Plant, s: &State) -> Option<u8>
     requires { HasShape plant.now s.now }
-    ensures { result ≡ least_broken_family plant.now s.now }
+    ensures { result ≡ first_broken_family plant.now s.now }
 {
     if !keeps_v1(plant, s) {
         return Some(1);

@@ -1,8 +1,8 @@
 ghost use Rattle.std.specs.Prelude.{◌≡◌, find, length};
 ghost use Rattle.std.specs.List.{list_any, range_with_len};
 ghost use Rattle.ilk_plant.specs.Shape.{HasShape};
-ghost use Rattle.ilk_model.specs.Hazard.{are_adjacent_in, hazard, is_wrong_under_train, is_wrong_under_body};
-ghost use Rattle.ilk_model.specs.Shared.{is_hazardous_by_bits};
+ghost use Rattle.ilk_model.specs.Hazard.{are_adjacent_in_body, hazard, is_wrong_under_train, is_wrong_under_body};
+ghost use Rattle.ilk_model.specs.Shared.{is_section_hazardous_by_bits};
 
 use crate::shared::{SharedSections, is_shared, shared_sections};
 use ilk_plant::{Lie, Plant, Row, Section, State, Train, detected_position, has_section};
@@ -18,7 +18,7 @@ pub enum HazardAt {
 
 // Returns whether `x` and `y` are adjacent in the body, in either order.
 fn has_pair(body: &Row<u32>, x: u32, y: u32) -> bool
-    ensures { result ≡ are_adjacent_in x y body.now }
+    ensures { result ≡ are_adjacent_in_body x y body.now }
 {
     let sections = body.as_slice();
     sections
@@ -66,18 +66,18 @@ pub fn is_wrong_under_train(plant: &Plant, s: &State, x: u32) -> bool
     }
 }
 
-fn is_hazardous(plant: &Plant, s: &State, shared: SharedSections, x: u32) -> bool
-    ensures { result ≡ is_hazardous_by_bits plant.now s.now shared x }
+fn is_section_hazardous(plant: &Plant, s: &State, shared: SharedSections, x: u32) -> bool
+    ensures { result ≡ is_section_hazardous_by_bits plant.now s.now shared x }
 {
     is_shared(shared, x) || is_wrong_under_train(plant, s, x)
 }
 
 fn first_hazardous(plant: &Plant, s: &State, shared: SharedSections) -> Option<u32>
     ensures { result
-        ≡ find (is_hazardous_by_bits plant.now s.now shared)
+        ≡ find (is_section_hazardous_by_bits plant.now s.now shared)
         (range_with_len 0 (length plant.now.sections)) }
 {
-    (0..plant.sections()).find(|x| is_hazardous(plant, s, shared, *x))
+    (0..plant.sections()).find(|x| is_section_hazardous(plant, s, shared, *x))
 }
 
 /// Returns the hazard at the first section that has one; at the same section, `Two` comes before
@@ -86,7 +86,7 @@ pub fn hazard(plant: &Plant, s: &State) -> Option<HazardAt>
     requires { HasShape plant.now s.now }
     ensures { result ≡ hazard plant.now s.now }
 {
-    plant.is_sound();
+    plant.prove_is_plant();
     let shared = shared_sections(s);
     let x = first_hazardous(plant, s, shared)?;
     Some(if is_shared(shared, x) {

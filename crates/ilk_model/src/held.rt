@@ -9,7 +9,7 @@ ghost use Rattle.ilk_model.specs.Families.{keeps_v2};
 ghost use Rattle.ilk_model.specs.Holding.{holds_section, route_holds};
 ghost use Rattle.ilk_model.specs.Shared.{is_held_by_two_routes, is_shared};
 
-use crate::holding::holds_sections;
+use crate::holding::is_holding_state;
 use crate::shared::{SharedSections, is_shared, sections_of, with_section};
 use ilk_plant::{Listed, Plant, Route, RouteState, State};
 
@@ -39,7 +39,7 @@ fn held_sections(route: &Route, now: RouteState, from: u32) -> u128
     ensures { (x : ℕ) → x < 128 →
         bit_at result x ≡ (if holds_section (from + x) route.now now then 1 else 0) }
 {
-    if !holds_sections(now) {
+    if !is_holding_state(now) {
         return 0;
     }
     let overlap = sections_of(route.overlap.as_slice(), from);
@@ -93,6 +93,6 @@ pub(crate) fn keeps_v2(plant: &Plant, s: &State) -> bool
     requires { HasShape plant.now s.now }
     ensures { result ≡ keeps_v2 plant.now s.now }
 {
-    plant.is_sound();
+    plant.prove_is_plant();
     has_none_of(plant, held_twice(plant, s))
 }

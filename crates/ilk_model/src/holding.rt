@@ -2,7 +2,7 @@
 //! of the invariant.
 ghost use Rattle.std.specs.Prelude.{◌≡◌};
 ghost use Rattle.std.specs.List.{list_all};
-ghost use Rattle.ilk_model.specs.Holding.{holds_sections, is_unreleased_on_path, is_locked_or_occupied, is_plain_for_direction, is_vacant, route_runs_in};
+ghost use Rattle.ilk_model.specs.Holding.{is_holding_state, is_unreleased_on_path, is_locked_or_occupied, continues_without_board, is_vacant, route_runs_in_direction};
 
 use ilk_plant::{Dir, Mode, Plant, Route, RouteState, State, occupied};
 
@@ -21,8 +21,8 @@ pub(crate) fn is_locked_or_occupied(now: RouteState) -> bool
 }
 
 /// Returns whether a route in this state holds sections: it is Allocating, Locked or Occupied.
-pub(crate) fn holds_sections(now: RouteState) -> bool
-    ensures { result ≡ holds_sections now }
+pub(crate) fn is_holding_state(now: RouteState) -> bool
+    ensures { result ≡ is_holding_state now }
 {
     now.mode == Mode::Allocating || is_locked_or_occupied(now)
 }
@@ -41,7 +41,7 @@ pub(crate) fn is_kept_on_path(route: &Route, now: RouteState, x: u32) -> bool
 
 /// Returns whether the route, and so its source, has direction `d`.
 pub(crate) fn runs_in(plant: &Plant, d: Dir, route: &Route) -> bool
-    ensures { result ≡ route_runs_in plant.now d route.now }
+    ensures { result ≡ route_runs_in_direction plant.now d route.now }
 {
     route.source < plant.boards() && plant.board(route.source).dir == d
 }
@@ -49,11 +49,11 @@ pub(crate) fn runs_in(plant: &Plant, d: Dir, route: &Route) -> bool
 /// Returns whether section `x` is plain for a train in direction `d`: it has no board in that
 /// direction, but a neighbour.
 pub(crate) fn is_plain(plant: &Plant, d: Dir, x: u32) -> bool
-    ensures { result ≡ is_plain_for_direction plant.now d x }
+    ensures { result ≡ continues_without_board plant.now d x }
 {
     if x >= plant.sections() {
         return false;
     }
     let section = plant.section(x);
-    section.board_on(d).is_none() && section.neighbour_on(d, 0).is_some()
+    section.board_on(d).is_none() && section.nth_neighbour_on(d, 0).is_some()
 }

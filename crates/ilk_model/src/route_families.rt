@@ -3,20 +3,20 @@
 ghost use Rattle.std.specs.Prelude.{◌≡◌, ◌==◌, ◌&&◌, ◌||◌, true, if◌then◌else◌, length, map, nat_le, nat_lt, not};
 ghost use Rattle.std.specs.List.{list_all};
 ghost use Rattle.ilk_plant.specs.Shape.{HasShape};
-ghost use Rattle.ilk_plant.specs.State.{has_lock};
+ghost use Rattle.ilk_plant.specs.State.{has_lock_state};
 ghost use Rattle.ilk_plant.specs.declared.state.Aspect.TheVariants.{Open, Closed};
 ghost use Rattle.ilk_plant.specs.declared.state.Hold.TheVariants.{Locked as LockedLock};
 ghost use Rattle.ilk_plant.specs.declared.state.Mode.TheVariants.{Allocating, Locked, Occupied};
 ghost use Rattle.ilk_routes.specs.Boards.{has_aspect};
-ghost use Rattle.ilk_routes.specs.Claims.{sections_beside_path};
+ghost use Rattle.ilk_routes.specs.Claims.{sections_outside_path};
 ghost use Rattle.ilk_routes.specs.Modes.{same_mode};
 ghost use Rattle.ilk_model.specs.Commanded.{is_commanded_as_listed};
-ghost use Rattle.ilk_model.specs.Families.{has_required_locks, is_commanded_for, keeps_v1, keeps_v3, keeps_v4, keeps_v5, keeps_v6, keeps_v9, is_detected_for, path_section_lock};
-ghost use Rattle.ilk_model.specs.Holding.{all_path_indices_pass, holds_sections, is_vacant, any_route_passes};
+ghost use Rattle.ilk_model.specs.Families.{has_required_locks, is_commanded_if_allocating, keeps_v1, keeps_v3, keeps_v4, keeps_v5, keeps_v6, keeps_v9, is_set_if_locked_or_occupied, path_section_lock};
+ghost use Rattle.ilk_model.specs.Holding.{all_path_indices_pass_test, is_holding_state, is_vacant, any_route_passes_test};
 
-use crate::holding::{all_vacant, holds_sections, is_kept_on_path, is_locked_or_occupied};
+use crate::holding::{all_vacant, is_holding_state, is_kept_on_path, is_locked_or_occupied};
 use ilk_plant::{
-    Aspect, Hold, Listed, Mode, Plant, Route, RouteState, Row, State, has_lock, has_section,
+    Aspect, Hold, Listed, Mode, Plant, Route, RouteState, Row, State, has_lock_state, has_section,
     point_number_at,
 };
 use ilk_routes::{all_closed, has_aspect, is_detected_as_listed};
@@ -55,36 +55,37 @@ fn lock_on_path(now: RouteState, i: u64) -> Hold
 
 fn path_has_its_locks(s: &State, route: &Route, now: RouteState) -> bool
     ensures { result
-        ≡ all_path_indices_pass route.now
-        (λ i x. not (nat_le now.rel i) || has_lock s.now x (path_section_lock now i)) }
+        ≡ all_path_indices_pass_test route.now
+        (λ i x. not (nat_le now.rel i) || has_lock_state s.now x (path_section_lock now i)) }
 {
     route.path.as_slice().iter().enumerate().all(|(i, x)| i < now.rel as usize
-        || has_lock(s, *x, lock_on_path(now, i as u64)))
+        || has_lock_state(s, *x, lock_on_path(now, i as u64)))
 }
 
 fn all_locked(s: &State, sections: &Row<u32>) -> bool
-    ensures { result ≡ list_all (λ x. has_lock s.now x LockedLock) sections.now }
+    ensures { result ≡ list_all (λ x. has_lock_state s.now x LockedLock) sections.now }
 {
     sections
         .as_slice()
         .iter()
-        .all(|x| has_lock(s, *x, Hold::Locked))
+        .all(|x| has_lock_state(s, *x, Hold::Locked))
 }
 
 fn all_points_locked(s: &State, points: &Row<Listed>) -> bool
     ensures { result
-        ≡ list_all (λ x. has_lock s.now x LockedLock) (map (λ listed. listed.point) points.now) }
+        ≡ list_all (λ x. has_lock_state s.now x LockedLock)
+        (map (λ listed. listed.point) points.now) }
 {
     points
         .as_slice()
         .iter()
         .map(|listed| listed.point)
-        .all(|x| has_lock(s, x, Hold::Locked))
+        .all(|x| has_lock_state(s, x, Hold::Locked))
 }
 
 fn all_beside_locked(s: &State, route: &Route) -> bool
-    ensures { result ≡ list_all (λ x. has_lock s.now x LockedLock)
-        (sections_beside_path route.now) }
+    ensures { result ≡ list_all (λ x. has_lock_state s.now x LockedLock)
+        (sections_outside_path route.now) }
 {
     all_locked(s, &route.overlap) && all_points_locked(s, &route.protecting_points)
 }
@@ -96,10 +97,10 @@ fn has_its_locks(s: &State, route: &Route, now: RouteState) -> bool
 }
 
 fn held_have_their_locks(s: &State, route: &Route, now: RouteState) -> bool
-    ensures { result ≡ (if holds_sections now then has_required_locks s.now route.now
+    ensures { result ≡ (if is_holding_state now then has_required_locks s.now route.now
         now else true) }
 {
-    !holds_sections(now) || has_its_locks(s, route, now)
+    !is_holding_state(now) || has_its_locks(s, route, now)
 }
 
 // Returns whether the sections that each route holds have their locks.
@@ -141,7 +142,7 @@ fn lets_open(s: &State, m: u32, route: &Route, now: RouteState) -> bool
 fn may_be_open(plant: &Plant, s: &State, m: u32) -> bool
     requires { HasShape plant.now s.now }
     ensures { result
-        ≡ any_route_passes plant.now s.now
+        ≡ any_route_passes_test plant.now s.now
         (λ route now. (route.source == m) && same_mode now.mode Locked
         && list_all (is_vacant s.now) route.path) }
 {
@@ -151,7 +152,7 @@ fn may_be_open(plant: &Plant, s: &State, m: u32) -> bool
 fn is_rightly_open(plant: &Plant, s: &State, m: u32) -> bool
     requires { HasShape plant.now s.now }
     ensures { result ≡ (if has_aspect s.now m Open
-        then any_route_passes plant.now s.now
+        then any_route_passes_test plant.now s.now
         (λ route now. (route.source == m) && same_mode now.mode Locked
         && list_all (is_vacant s.now) route.path)
         else true) }
@@ -180,14 +181,14 @@ fn is_commanded_as_listed(plant: &Plant, s: &State, listed: &Listed) -> bool
     }
 }
 
-fn is_commanded_for(
+fn is_commanded_if_allocating(
     plant: &Plant,
     s: &State,
     route: &Route,
     now: RouteState,
     listed: &Listed,
 ) -> bool
-    ensures { result ≡ is_commanded_for plant.now s.now route.now now listed.now }
+    ensures { result ≡ is_commanded_if_allocating plant.now s.now route.now now listed.now }
 {
     if now.mode == Mode::Allocating && has_section(&route.path, listed.point) {
         is_commanded_as_listed(plant, s, listed)
@@ -197,7 +198,7 @@ fn is_commanded_for(
 }
 
 fn lies_for(plant: &Plant, s: &State, route: &Route, now: RouteState, listed: &Listed) -> bool
-    ensures { result ≡ is_detected_for plant.now s.now route.now now listed.now }
+    ensures { result ≡ is_set_if_locked_or_occupied plant.now s.now route.now now listed.now }
 {
     if is_locked_or_occupied(now) && is_kept_on_path(route, now, listed.point) {
         is_commanded_as_listed(plant, s, listed) && is_detected_as_listed(plant, s, listed)
@@ -209,11 +210,12 @@ fn lies_for(plant: &Plant, s: &State, route: &Route, now: RouteState, listed: &L
 fn points_fit_mode(plant: &Plant, s: &State, route: &Route, now: RouteState) -> bool
     ensures { result
         ≡ list_all
-        (λ listed. is_commanded_for plant.now s.now route.now now listed
-        && is_detected_for plant.now s.now route.now now listed) route.now.points }
+        (λ listed. is_commanded_if_allocating plant.now s.now route.now now listed
+        && is_set_if_locked_or_occupied plant.now s.now route.now now listed) route.now.points }
 {
     route.points.as_slice().iter().all(|listed| {
-        is_commanded_for(plant, s, route, now, listed) && lies_for(plant, s, route, now, listed)
+        is_commanded_if_allocating(plant, s, route, now, listed)
+            && lies_for(plant, s, route, now, listed)
     })
 }
 

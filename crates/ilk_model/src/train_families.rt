@@ -8,8 +8,8 @@ ghost use Rattle.ilk_plant.specs.declared.state.Aspect.TheVariants.{Closed};
 ghost use Rattle.ilk_plant.specs.declared.state.Mode.TheVariants.{Locked, Occupied};
 ghost use Rattle.ilk_routes.specs.Boards.{has_aspect};
 ghost use Rattle.ilk_routes.specs.Modes.{same_mode};
-ghost use Rattle.ilk_model.specs.Families.{section_is_kept_by_route, head_is_led_by_route, keeps_v7, keeps_v8};
-ghost use Rattle.ilk_model.specs.Holding.{is_unreleased_on_path, is_locked_or_occupied, is_plain_for_direction, is_vacant, route_runs_in, any_path_index_passes};
+ghost use Rattle.ilk_model.specs.Families.{is_unreleased_on_some_route, head_is_led_by_route, keeps_v7, keeps_v8};
+ghost use Rattle.ilk_model.specs.Holding.{is_unreleased_on_path, is_locked_or_occupied, continues_without_board, is_vacant, route_runs_in_direction, any_path_index_passes_test};
 
 use crate::holding::{all_vacant, is_kept_on_path, is_locked_or_occupied, is_plain, runs_in};
 use ilk_plant::{Aspect, Dir, Mode, Plant, Route, RouteState, State, Train};
@@ -26,8 +26,8 @@ fn may_lead(s: &State, route: &Route, now: RouteState) -> bool
 }
 
 fn leads(plant: &Plant, s: &State, d: Dir, x: u32, route: &Route, now: RouteState) -> bool
-    ensures { result ≡ any_path_index_passes route.now (λ i y. (y == x)
-        && route_runs_in plant.now d route.now
+    ensures { result ≡ any_path_index_passes_test route.now (λ i y. (y == x)
+        && route_runs_in_direction plant.now d route.now
         &&
         (same_mode now.mode Occupied
         || (same_mode now.mode Locked && has_aspect s.now route.now.source Closed))
@@ -67,7 +67,7 @@ fn head_is_led(plant: &Plant, s: &State, train: &Train) -> bool
     requires { HasShape plant.now s.now }
     ensures { result
         ≡ is_some_and (last_of train.now.body)
-        (λ x. if is_plain_for_direction plant.now train.now.dir x
+        (λ x. if continues_without_board plant.now train.now.dir x
         then head_is_led_by_route plant.now s.now train.now.dir x else true) }
 {
     match head_of(train) {
@@ -90,7 +90,7 @@ pub(crate) fn keeps_v7(plant: &Plant, s: &State) -> bool
 fn keeps_for(plant: &Plant, d: Dir, x: u32, route: &Route, now: RouteState) -> bool
     ensures { result
         ≡
-        (route_runs_in plant.now d route.now && is_locked_or_occupied now
+        (route_runs_in_direction plant.now d route.now && is_locked_or_occupied now
         && is_unreleased_on_path route.now now x) }
 {
     runs_in(plant, d, route) && is_locked_or_occupied(now) && is_kept_on_path(route, now, x)
@@ -99,14 +99,14 @@ fn keeps_for(plant: &Plant, d: Dir, x: u32, route: &Route, now: RouteState) -> b
 // Returns whether some route keeps section `x` for trains in direction `d`.
 fn is_kept_for(plant: &Plant, s: &State, d: Dir, x: u32) -> bool
     requires { HasShape plant.now s.now }
-    ensures { result ≡ section_is_kept_by_route plant.now s.now d x }
+    ensures { result ≡ is_unreleased_on_some_route plant.now s.now d x }
 {
     (0..plant.routes()).any(|r| keeps_for(plant, d, x, plant.route(r), *s.routes.at(r as u64)))
 }
 
 fn is_kept_if_plain(plant: &Plant, s: &State, d: Dir, x: u32) -> bool
     requires { HasShape plant.now s.now }
-    ensures { result ≡ (if is_plain_for_direction plant.now d x then section_is_kept_by_route
+    ensures { result ≡ (if continues_without_board plant.now d x then is_unreleased_on_some_route
         plant.now s.now d x else true) }
 {
     !is_plain(plant, d, x) || is_kept_for(plant, s, d, x)
@@ -116,8 +116,8 @@ fn body_is_kept(plant: &Plant, s: &State, train: &Train) -> bool
     requires { HasShape plant.now s.now }
     ensures { result
         ≡ list_all
-        (λ x. if is_plain_for_direction plant.now train.now.dir x
-        then section_is_kept_by_route plant.now s.now train.now.dir x else true) train.now.body }
+        (λ x. if continues_without_board plant.now train.now.dir x
+        then is_unreleased_on_some_route plant.now s.now train.now.dir x else true) train.now.body }
 {
     let d = train.dir;
     train

@@ -1,8 +1,8 @@
 //! The words of events in run texts. The same table is used to write and read them.
 use crate::Event;
-use ilk_base::Worded;
+use ilk_base::HasWord;
 
-impl Worded for Event {
+impl HasWord for Event {
     ghost use Rattle.ilk_model.specs.EventWords.{event_word};
 
     ghost word_of = { event_word };

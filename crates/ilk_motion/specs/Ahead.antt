@@ -13,10 +13,10 @@ use Rattle.ilk_plant.specs.declared.state.Lie.TheVariants.{Plus, Minus, Moving}
 use Rattle.ilk_plant.specs.declared.state.State.{State}
 
 -- The leg in whose position a point is, or `None` while it moves.
-abbrev pub leg_by_lie : ℕ → ℕ → Lie → Option ℕ
-leg_by_lie plus minus Plus = Some plus
-leg_by_lie plus minus Minus = Some minus
-leg_by_lie plus minus Moving = None
+abbrev pub detected_leg : ℕ → ℕ → Lie → Option ℕ
+detected_leg plus minus Plus = Some plus
+detected_leg plus minus Minus = Some minus
+detected_leg plus minus Moving = None
 
 -- The section to which a section leads in direction d, given its detected position if it is a
 -- point. A linear section leads to its neighbour. A point that faces d leads to the leg in whose
@@ -25,7 +25,7 @@ abbrev pub section_led_to : Section → Dir → Option Lie → Option ℕ
 section_led_to (Linear down up board_down board_up) Down lie = down
 section_led_to (Linear down up board_down board_up) Up lie = up
 section_led_to (Point stem plus minus faces) d lie =
-    if same_direction faces d then lie >>= leg_by_lie plus minus else Some stem
+    if same_direction faces d then lie >>= detected_leg plus minus else Some stem
 
 -- The section ahead of x in direction d, or `None` if x is not a section.
 abbrev pub ahead : PlantLists → State → ℕ → Dir → Option ℕ

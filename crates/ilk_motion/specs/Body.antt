@@ -22,12 +22,12 @@ is_only_section x (y ∷ []) = y == x
 is_only_section x (y ∷ z ∷ rest) = false
 
 -- Returns whether a train has its head at x.
-abbrev pub has_head : ℕ → Train → Bool
-has_head x train = is_last_section x train.body
+abbrev pub has_head_at : ℕ → Train → Bool
+has_head_at x train = is_last_section x train.body
 
 -- Returns whether a train of two or more sections has its tail at x.
-abbrev pub has_tail_before_head : ℕ → Train → Bool
-has_tail_before_head x train = is_first_of_several x train.body
+abbrev pub has_movable_tail_at : ℕ → Train → Bool
+has_movable_tail_at x train = is_first_of_several x train.body
 
 -- Returns whether x is the train's only section.
 abbrev pub occupies_only : ℕ → Train → Bool

@@ -36,14 +36,14 @@ first_moved_on = do
   after_head two_sections s 0
 
 -- Instead, a third train tries to enter at a.
-abbrev pub third_entered : Option State
-third_entered = do
+abbrev pub third_tries_to_enter : Option State
+third_tries_to_enter = do
   s ← both_entered
   after_enter two_sections s 0
 
 -- A train enters at a, its head and then its tail move to b, and it leaves.
-abbrev pub one_crossed : Option State
-one_crossed = do
+abbrev pub one_passed_through : Option State
+one_passed_through = do
   at_a ← after_enter two_sections (start two_sections) 0
   on_both ← after_head two_sections at_a 0
   at_b ← after_tail two_sections on_both 0

@@ -4,8 +4,8 @@ ghost use Rattle.ilk_motion.specs.Body.{without_tail};
 ghost use Rattle.ilk_motion.specs.Trains.{after_enter, after_head, after_leave, after_tail, with_board_closed, may_pass};
 
 use crate::ahead;
-use crate::trains::{find_train_only_on, find_train_with_head, find_train_with_tail};
-use ilk_plant::{Aspect, Plant, Row, State, Train, is_clear};
+use crate::trains::{find_train_only_on, find_train_with_head, find_train_with_movable_tail};
+use ilk_plant::{Aspect, Plant, Row, State, Train, is_unlocked_and_vacant};
 use std::alloc::{AllocError, Global};
 
 fn enter(alloc: Global, plant: &Plant, s: &mut State, x: u32) -> Result<bool, AllocError>
@@ -17,10 +17,10 @@ fn enter(alloc: Global, plant: &Plant, s: &mut State, x: u32) -> Result<bool, Al
     if x >= plant.sections() {
         return Ok(false);
     }
-    let Some(dir) = plant.border(x) else {
+    let Some(dir) = plant.section_inward_if_border(x) else {
         return Ok(false);
     };
-    if !is_clear(s, x) {
+    if !is_unlocked_and_vacant(s, x) {
         return Ok(false);
     }
     let mut body = Row::new(alloc);
@@ -84,7 +84,7 @@ fn move_tail(plant: &Plant, s: &mut State, x: u32) -> bool
     if x >= plant.sections() {
         return false;
     }
-    let Some(i) = find_train_with_tail(&s.trains, x) else {
+    let Some(i) = find_train_with_movable_tail(&s.trains, x) else {
         return false;
     };
     leave_first(s.trains.at_mut(i as u64));
@@ -144,7 +144,7 @@ pub fn step_tail(plant: &Plant, s: &mut State, x: u32) -> bool
     ensures next { s.new ≡ unwrap_or (after_tail plant.now s.old x) s.old }
     ensures shape { HasShape plant.now s.new }
 {
-    plant.is_sound();
+    plant.prove_is_plant();
     move_tail(plant, s, x)
 }
 

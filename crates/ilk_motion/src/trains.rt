@@ -1,5 +1,5 @@
 ghost use Rattle.std.specs.Prelude.{◌≡◌, position};
-ghost use Rattle.ilk_motion.specs.Body.{is_only_section, has_head, occupies_only, is_last_section, is_first_of_several, has_tail_before_head};
+ghost use Rattle.ilk_motion.specs.Body.{is_only_section, has_head_at, occupies_only, is_last_section, is_first_of_several, has_movable_tail_at};
 
 use ilk_plant::{Row, Train};
 
@@ -33,7 +33,7 @@ fn is_only(body: &Row<u32>, x: u32) -> bool
 
 /// Returns the index of the first train with its head at `x`, if any.
 pub fn find_train_with_head(trains: &Row<Train>, x: u32) -> Option<usize>
-    ensures { result ≡ position (has_head x) trains.now }
+    ensures { result ≡ position (has_head_at x) trains.now }
 {
     trains
         .as_slice()
@@ -42,8 +42,8 @@ pub fn find_train_with_head(trains: &Row<Train>, x: u32) -> Option<usize>
 }
 
 /// Returns the index of the first train of two or more sections with its tail at `x`, if any.
-pub fn find_train_with_tail(trains: &Row<Train>, x: u32) -> Option<usize>
-    ensures { result ≡ position (has_tail_before_head x) trains.now }
+pub fn find_train_with_movable_tail(trains: &Row<Train>, x: u32) -> Option<usize>
+    ensures { result ≡ position (has_movable_tail_at x) trains.now }
 {
     trains
         .as_slice()

@@ -4,9 +4,9 @@ use Rattle.std.specs.List.{Contains, filter, range_with_len}
 use Rattle.std.proofs.lemmas.List.Elements.{Contains-append_cases, Contains-append_right}
 use Rattle.ilk_base.proofs.FlatMaps.{Contains-flat_map, Contains-flat_map_of, Contains-none}
 use Rattle.ilk_base.proofs.Ranges.{below_or_past, range-at}
-use Rattle.ilk_plant.proofs.Leads.{walk_returns-walks}
-use Rattle.ilk_plant.specs.Broken.{broken_at, places_of}
-use Rattle.ilk_plant.specs.NetworkRules.{WalkReturns, breaks_network, count_in_network, network_rules, network_rules_broken, walk_returns}
+use Rattle.ilk_plant.proofs.Leads.{is_on_up_cycle-walks}
+use Rattle.ilk_plant.specs.Broken.{broken_below, place_kind_of}
+use Rattle.ilk_plant.specs.NetworkRules.{IsOnUpCycle, breaks_network, count_in_network, network_rules, network_rules_broken, is_on_up_cycle}
 use Rattle.ilk_plant.specs.declared.broken.Broken.{Broken}
 use Rattle.ilk_plant.specs.declared.broken.Rule.{Rule}
 use Rattle.ilk_plant.specs.declared.broken.Rule.TheVariants.{N7}
@@ -42,29 +42,29 @@ of-listed f test (x ∷ xs) (suc k) i at passes = by_test (test x) (of-listed f 
 
 module _ (net : NetDraft) (x : ℕ) where
   abbrev at_rule : Rule → List Broken
-  at_rule rule = broken_at rule (count_in_network net (places_of rule)) (breaks_network net rule)
+  at_rule rule = broken_below rule (count_in_network net (place_kind_of rule)) (breaks_network net rule)
 
   abbrev pub entry : Rule → ℕ → Broken
   entry rule i = record { rule = rule; first = i; second = None }
 
-  listed-walk_returns : Contains (network_rules_broken net) (entry N7 x) → walk_returns net x ≡ true
-  listed-walk_returns c =
+  listed-is_on_up_cycle : Contains (network_rules_broken net) (entry N7 x) → is_on_up_cycle net x ≡ true
+  listed-is_on_up_cycle c =
       let one = Contains-flat_map at_rule network_rules (entry N7 x) c in
       let rule : Rule = one.1 in
-      let place = listed-of (entry rule) (breaks_network net rule) (range_with_len 0 (count_in_network net (places_of rule))) (entry N7 x) one.3 in
+      let place = listed-of (entry rule) (breaks_network net rule) (range_with_len 0 (count_in_network net (place_kind_of rule))) (entry N7 x) one.3 in
       let rules : rule ≡ N7 = ap (λ e. e.rule) place.2 in
       let places : place.0 ≡ x = ap (λ e. e.first) place.2 in
       sym (λ i. breaks_network net (rules i) (places i)) ∙ place.1
 
-  walk_returns-listed : walk_returns net x ≡ true → Contains (network_rules_broken net) (entry N7 x)
-  walk_returns-listed h =
+  is_on_up_cycle-listed : is_on_up_cycle net x ≡ true → Contains (network_rules_broken net) (entry N7 x)
+  is_on_up_cycle-listed h =
       elim (below_or_past x (length net.sections)) [
-        | inl below ↦ Contains-flat_map_of at_rule network_rules 6 N7 (entry N7 x) refl (of-listed (entry N7) (walk_returns net) (range_with_len 0 (length net.sections)) x x (range-at (length net.sections) x below) h)
-        | inr past ↦ (let none : walk_returns net x ≡ false = no_lead net (length net.sections) x x past in absurd (cc))
+        | inl below ↦ Contains-flat_map_of at_rule network_rules 6 N7 (entry N7 x) refl (of-listed (entry N7) (is_on_up_cycle net) (range_with_len 0 (length net.sections)) x x (range-at (length net.sections) x below) h)
+        | inr past ↦ (let none : is_on_up_cycle net x ≡ false = no_lead net (length net.sections) x x past in absurd (cc))
       ]
 
-  pub listed-walks : (broken : List Broken) → broken ≡ network_rules_broken net → Contains broken (entry N7 x) ↔ WalkReturns net x
+  pub listed-walks : (broken : List Broken) → broken ≡ network_rules_broken net → Contains broken (entry N7 x) ↔ IsOnUpCycle net x
   listed-walks broken e =
-      let walks = walk_returns-walks net x in
+      let walks = is_on_up_cycle-walks net x in
       let P : List Broken → Type 0 = λ found. Contains found (entry N7 x) in
-      (λ c. walks.0 (listed-walk_returns (subst P e c)), λ r. subst P (sym e) (walk_returns-listed (walks.1 r)))
+      (λ c. walks.0 (listed-is_on_up_cycle (subst P e c)), λ r. subst P (sym e) (is_on_up_cycle-listed (walks.1 r)))

@@ -41,8 +41,8 @@ abbrev pub line_cut : NetDraft
 line_cut = record { sections = first None ∷ last ∷ [] }
 
 -- The cut line, with a third section that has the name of the second.
-abbrev pub line_cut_with_repeat : NetDraft
-line_cut_with_repeat = record { sections = first None ∷ last ∷ plain b None None ∷ [] }
+abbrev pub cut_line_with_duplicate : NetDraft
+cut_line_with_duplicate = record { sections = first None ∷ last ∷ plain b None None ∷ [] }
 
 -- Three sections in a ring.
 abbrev pub ring_of_three : NetDraft
@@ -61,8 +61,8 @@ abbrev pub fork : NetDraft
 fork = record { sections = plain a None (Some p) ∷ point ∷ plain b (Some p) None ∷ plain c (Some p) None ∷ [] }
 
 -- The fork, but the section on the minus leg names the point on its up side.
-abbrev pub fork_turned : NetDraft
-fork_turned = record { sections = plain a None (Some p) ∷ point ∷ plain b (Some p) None ∷ plain c None (Some p) ∷ [] }
+abbrev pub fork_with_turned_leg : NetDraft
+fork_with_turned_leg = record { sections = plain a None (Some p) ∷ point ∷ plain b (Some p) None ∷ plain c None (Some p) ∷ [] }
 
 -- The fork, but the section on the minus leg leads back to a.
 abbrev pub fork_with_ring : NetDraft

@@ -49,7 +49,7 @@ impl Flags {
     }
 
     /// Returns these flags with the flag of `y` set.
-    pub fn with_number(self, y: u32) -> Flags
+    pub fn with_flag(self, y: u32) -> Flags
         requires { y < 256 }
         ensures { (x : ℕ) → has_flag result x ≡ (has_flag self x || (y == x)) }
     {

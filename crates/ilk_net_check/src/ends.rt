@@ -1,8 +1,8 @@
 ghost use Rattle.std.specs.Prelude.{◌≡◌, ◌==◌, ◌++◌, not, IfOk, OnOk, map};
-ghost use Rattle.ilk_plant.specs.NetworkRules.{end_with, opposite_direction as opposite_of};
+ghost use Rattle.ilk_plant.specs.NetworkRules.{end_if_neighbour, opposite_direction as opposite_of};
 ghost use Rattle.ilk_base.specs.Option.{is_some_and};
 ghost use Rattle.ilk_plant.specs.Plant.{first_number_named};
-ghost use Rattle.ilk_net_check.specs.Numbers.{numbered_end, numbered_ends, ends_by_number};
+ghost use Rattle.ilk_net_check.specs.Numbers.{resolved_end, resolved_ends, ends_of_section};
 
 use ilk_plant::{Dir, KindDraft, Names, Row, SectionDraft, Text};
 use std::alloc::{AllocError, Global};
@@ -27,7 +27,7 @@ impl End {
     }
 
     /// Returns whether the name at this end is that of a section other than `x`.
-    pub fn names_another(&self, x: u32) -> bool
+    pub fn refers_to_another(&self, x: u32) -> bool
         ensures { result ≡ is_some_and self.now.section (λ y. not (y == x)) }
     {
         match self.section {
@@ -64,7 +64,7 @@ fn push_end(
 ) -> Result<(), AllocError>
     ensures { OnOk result
         (ends.new ≡ ends.old
-        ++ map (numbered_end (first_number_named names.now)) (end_with side name.now)) }
+        ++ map (resolved_end (first_number_named names.now)) (end_if_neighbour side name.now)) }
 {
     if let Some(name) = name {
         ends.push(end_of(names, side, name))?;
@@ -72,9 +72,9 @@ fn push_end(
     Ok(())
 }
 
-fn numbered_ends(alloc: Global, names: &Names, kind: &KindDraft) -> Result<Row<End>, AllocError>
+fn resolved_ends(alloc: Global, names: &Names, kind: &KindDraft) -> Result<Row<End>, AllocError>
     ensures { IfOk result
-        (λ made. made ≡ numbered_ends (first_number_named names.now) kind.now) }
+        (λ made. made ≡ resolved_ends (first_number_named names.now) kind.now) }
 {
     let mut ends = Row::new(alloc);
     match kind {
@@ -104,18 +104,18 @@ pub fn all_ends(
 ) -> Result<Row<Row<End>>, AllocError>
     ensures { IfOk result
         (λ made. made
-        ≡ map (λ section. numbered_ends (first_number_named names.now) section.kind) sections.now) }
+        ≡ map (λ section. resolved_ends (first_number_named names.now) section.kind) sections.now) }
 {
     let mut made = Row::new(alloc);
     for section in sections {
-        made.push(numbered_ends(alloc, names, &section.kind)?)?;
+        made.push(resolved_ends(alloc, names, &section.kind)?)?;
     }
     Ok(made)
 }
 
 /// Returns the ends of section `x`. Returns an empty slice if there is no section `x`.
-pub fn ends_by_number(all: &Row<Row<End>>, x: u32) -> &[End]
-    ensures { result.now ≡ ends_by_number all.now x }
+pub fn ends_of_section(all: &Row<Row<End>>, x: u32) -> &[End]
+    ensures { result.now ≡ ends_of_section all.now x }
 {
     match all.as_slice().get(x as usize) {
         Some(ends) => ends.as_slice(),

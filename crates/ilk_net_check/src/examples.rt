@@ -1,7 +1,7 @@
 ghost use Rattle.std.specs.Prelude.{◌≡◌, [], ◌∷◌};
 ghost use Rattle.ilk_plant.specs.NetworkRules.{network_rules_broken};
 ghost use Rattle.ilk_plant.specs.declared.broken.Rule.TheVariants.{N1, N3, N4, N5, N6, N7, N8};
-ghost use Rattle.ilk_net_check.specs.Examples.{at, fork, fork_turned, fork_with_ring, line_cut, line_cut_with_repeat, line_of_two, loop_of_one, ring_of_three};
+ghost use Rattle.ilk_net_check.specs.Examples.{at, fork, fork_with_turned_leg, fork_with_ring, line_cut, cut_line_with_duplicate, line_of_two, loop_of_one, ring_of_three};
 
 fn line_is_clean()
     ensures { network_rules_broken line_of_two ≡ [] }
@@ -14,7 +14,7 @@ fn cut_line_is_refused()
 
 // A name refers to the first section that has it.
 fn repeated_name_is_refused()
-    ensures { network_rules_broken line_cut_with_repeat
+    ensures { network_rules_broken cut_line_with_duplicate
         ≡ at N1 2 ∷ at N5 1 ∷ at N6 0 ∷ at N6 2 ∷ at N8 0 ∷ [] }
 {}
 
@@ -35,7 +35,8 @@ fn fork_is_clean()
 // The end names the neighbour, but isn't on the opposite side. A walk up then returns through the
 // minus leg.
 fn turned_leg_is_refused()
-    ensures { network_rules_broken fork_turned ≡ at N5 1 ∷ at N5 3 ∷ at N7 1 ∷ at N7 3 ∷ [] }
+    ensures { network_rules_broken fork_with_turned_leg
+        ≡ at N5 1 ∷ at N5 3 ∷ at N7 1 ∷ at N7 3 ∷ [] }
 {}
 
 // A walk up may take either leg.

@@ -1,5 +1,5 @@
 ghost use Rattle.std.specs.Prelude.{◌≡◌, bytes_eq, map, not};
-ghost use Rattle.ilk_plant.specs.NetworkRules.{ends_of_kind, has_board_to_nowhere, has_no_neighbour};
+ghost use Rattle.ilk_plant.specs.NetworkRules.{ends_of_draft, has_board_to_nowhere, is_linear_without_neighbours};
 ghost use Rattle.ilk_plant.specs.Once.{names_differ};
 
 use ilk_plant::{KindDraft, Text};
@@ -12,7 +12,7 @@ fn same_name(name: &Text, other: &Text) -> bool
 
 /// Returns whether two neighbours of a section have the same name.
 pub fn repeats_neighbour(kind: &KindDraft) -> bool
-    ensures { result ≡ not (names_differ (map (λ end. end.name) (ends_of_kind kind.now))) }
+    ensures { result ≡ not (names_differ (map (λ end. end.name) (ends_of_draft kind.now))) }
 {
     match kind {
         KindDraft::Linear {
@@ -31,8 +31,8 @@ pub fn repeats_neighbour(kind: &KindDraft) -> bool
 }
 
 /// Returns whether a section is linear and has no neighbour.
-pub fn has_no_neighbour(kind: &KindDraft) -> bool
-    ensures { result ≡ has_no_neighbour kind.now }
+pub fn is_linear_without_neighbours(kind: &KindDraft) -> bool
+    ensures { result ≡ is_linear_without_neighbours kind.now }
 {
     match kind {
         KindDraft::Linear { down, up, .. } => down.is_none() && up.is_none(),

@@ -1,5 +1,5 @@
 //! Checks the rules of the network (N) on its draft. `check_network` returns every violated rule
-//! with its location, in order. `check_named_network` does the same with existing names of the
+//! with its location, in order. `check_network_with_names` does the same with existing names of the
 //! network.
 //!
 //! The definitions use names, and walks of any length. The checks use numbers for names, and
@@ -16,5 +16,5 @@ mod reach;
 mod rules;
 mod walks;
 
-pub use rules::{check_named_network, check_network};
+pub use rules::{check_network, check_network_with_names};
 pub use walks::walk_test_is_exact;

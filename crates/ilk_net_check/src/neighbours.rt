@@ -1,16 +1,16 @@
 ghost use Rattle.std.specs.Prelude.{◌≡◌, ◌&&◌, count_by};
 ghost use Rattle.std.specs.List.{list_any};
 ghost use Rattle.ilk_plant.specs.Network.{same_direction};
-ghost use Rattle.ilk_net_check.specs.Numbers.{names, names_no_other, ends_by_number as ends_there, is_not_named_back_by, is_named_once};
+ghost use Rattle.ilk_net_check.specs.Numbers.{names, names_no_other, ends_of_section as ends_there, is_not_named_back_by, is_named_once_on_side};
 
-use crate::ends::{End, ends_by_number, opposite};
+use crate::ends::{End, ends_of_section, opposite};
 use ilk_plant::{Dir, Row};
 
 /// Returns whether some end of section `x` doesn't name a section other than `x`.
-pub fn has_wrong_end(ends: &[End], x: u32) -> bool
+pub fn has_invalid_neighbour(ends: &[End], x: u32) -> bool
     ensures { result ≡ list_any (names_no_other x) ends.now }
 {
-    ends.iter().any(|end| !end.names_another(x))
+    ends.iter().any(|end| !end.refers_to_another(x))
 }
 
 fn count_naming(ends: &[End], x: u32) -> usize
@@ -25,8 +25,8 @@ fn names_from(ends: &[End], x: u32, side: Dir) -> bool
     ends.iter().any(|end| end.names(x) && end.side == side)
 }
 
-fn is_named_once(ends: &[End], x: u32, side: Dir) -> bool
-    ensures { result ≡ is_named_once x side ends.now }
+fn is_named_once_on_side(ends: &[End], x: u32, side: Dir) -> bool
+    ensures { result ≡ is_named_once_on_side x side ends.now }
 {
     count_naming(ends, x) == 1 && names_from(ends, x, side)
 }
@@ -35,7 +35,7 @@ fn is_one_sided(all: &Row<Row<End>>, x: u32, end: &End) -> bool
     ensures { result ≡ is_not_named_back_by all.now x end.now }
 {
     match end.section {
-        Some(y) => y != x && !is_named_once(ends_by_number(all, y), x, opposite(end.side)),
+        Some(y) => y != x && !is_named_once_on_side(ends_of_section(all, y), x, opposite(end.side)),
         None => false,
     }
 }
@@ -45,7 +45,7 @@ fn is_one_sided(all: &Row<Row<End>>, x: u32, end: &End) -> bool
 pub fn is_not_named_back(all: &Row<Row<End>>, x: u32) -> bool
     ensures { result ≡ list_any (is_not_named_back_by all.now x) (ends_there all.now x) }
 {
-    ends_by_number(all, x)
+    ends_of_section(all, x)
         .iter()
         .any(|end| is_one_sided(all, x, end))
 }

@@ -1,16 +1,16 @@
 ghost use Rattle.std.specs.Prelude.{ℕ, ◌≡◌, ◌≤◌, ◌<◌, ◌&&◌, ◌||◌, IfOk, length};
 ghost use Rattle.std.specs.List.{list_any};
-ghost use Rattle.ilk_plant.specs.NetworkRules.{leads_by};
-ghost use Rattle.ilk_net_check.specs.Numbers.{IsTableOfTest, table_entry, has_flag, is_next, is_joined_by_way_of, is_up_end_to};
+ghost use Rattle.ilk_plant.specs.NetworkRules.{reaches_via_below};
+ghost use Rattle.ilk_net_check.specs.Numbers.{IsMatrixOfTest, matrix_entry, has_flag, is_up_neighbour, is_reachable_directly_or_via, is_up_end_to};
 ghost use Rattle.ilk_plant.specs.declared.limits.TheConstants.{MAX_SECTIONS};
 
 use crate::bits::Flags;
-use crate::ends::{End, ends_by_number};
+use crate::ends::{End, ends_of_section};
 use ilk_plant::{Dir, Row};
 use std::alloc::{AllocError, Global};
 
 fn row_at(table: &Row<Flags>, x: u32) -> Flags
-    ensures { (y : ℕ) → has_flag result y ≡ table_entry table.now x y }
+    ensures { (y : ℕ) → has_flag result y ≡ matrix_entry table.now x y }
 {
     match table.as_slice().get(x as usize) {
         Some(row) => *row,
@@ -19,8 +19,8 @@ fn row_at(table: &Row<Flags>, x: u32) -> Flags
 }
 
 /// Returns the entry of the table for `x` and `y`, `false` if it is outside the table.
-pub fn table_entry(table: &Row<Flags>, x: u32, y: u32) -> bool
-    ensures { result ≡ table_entry table.now x y }
+pub fn matrix_entry(table: &Row<Flags>, x: u32, y: u32) -> bool
+    ensures { result ≡ matrix_entry table.now x y }
 {
     row_at(table, x).has(y)
 }
@@ -32,7 +32,7 @@ fn with_end(flags: Flags, end: &End) -> Flags
     match end.section {
         Some(z) => {
             if end.side == Dir::Up && z < 256 {
-                flags.with_number(z)
+                flags.with_flag(z)
             } else {
                 flags
             }
@@ -52,11 +52,11 @@ fn next_of(ends: &[End]) -> Flags
 }
 
 fn steps_up(alloc: Global, ends: &Row<Row<End>>, count: u32) -> Result<Row<Flags>, AllocError>
-    ensures { IfOk result (λ made. IsTableOfTest made count (is_next ends.now)) }
+    ensures { IfOk result (λ made. IsMatrixOfTest made count (is_up_neighbour ends.now)) }
 {
     let mut made = Row::new(alloc);
     for x in 0..count {
-        made.push(next_of(ends_by_number(ends, x)))?;
+        made.push(next_of(ends_of_section(ends, x)))?;
     }
     Ok(made)
 }
@@ -65,8 +65,8 @@ fn steps_up(alloc: Global, ends: &Row<Row<End>>, count: u32) -> Result<Row<Flags
 // those reachable from `k`.
 fn row_by_way_of(leads: &Row<Flags>, onward: Flags, k: u32, x: u32) -> Flags
     ensures { (y : ℕ) →
-        has_flag result y ≡ (table_entry leads.now x y
-        || (table_entry leads.now x k && has_flag onward y)) }
+        has_flag result y ≡ (matrix_entry leads.now x y
+        || (matrix_entry leads.now x k && has_flag onward y)) }
 {
     let row = row_at(leads, x);
     if row.has(k) { row.union(onward) } else { row }
@@ -76,7 +76,7 @@ fn row_by_way_of(leads: &Row<Flags>, onward: Flags, k: u32, x: u32) -> Flags
 // updated in place.
 fn go_by_way_of(leads: &mut Row<Flags>, k: u32, count: u32)
     requires { length leads.old ≡ count }
-    ensures { IsTableOfTest leads.new count (is_joined_by_way_of leads.old k) }
+    ensures { IsMatrixOfTest leads.new count (is_reachable_directly_or_via leads.old k) }
 {
     let onward = row_at(leads, k);
     for x in 0..count {
@@ -87,13 +87,14 @@ fn go_by_way_of(leads: &mut Row<Flags>, k: u32, count: u32)
 
 /// Returns, for each pair of sections below `count`, whether a walk up of one or more steps leads
 /// from the first to the second. The walk passes only through sections below `count`.
-pub fn reachable_by_walks_up(
+pub fn up_reachability_matrix(
     alloc: Global,
     ends: &Row<Row<End>>,
     count: u32,
 ) -> Result<Row<Flags>, AllocError>
     requires { count ≤ MAX_SECTIONS }
-    ensures { IfOk result (λ made. IsTableOfTest made count (leads_by (is_next ends.now) count)) }
+    ensures { IfOk result
+        (λ made. IsMatrixOfTest made count (reaches_via_below (is_up_neighbour ends.now) count)) }
 {
     let mut leads = steps_up(alloc, ends, count)?;
     for k in 0..count {

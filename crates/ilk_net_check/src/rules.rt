@@ -1,18 +1,18 @@
 ghost use Rattle.std.specs.Prelude.{◌≡◌, ◌≤◌, ◌++◌, ◌↔◌, IfOk, None, OnOk, ℕ, length, option_map, slice_get};
 ghost use Rattle.std.specs.List.{Contains};
 ghost use Rattle.std.specs.Option.{option_copied};
-ghost use Rattle.ilk_plant.specs.Broken.{broken_at, places_of};
+ghost use Rattle.ilk_plant.specs.Broken.{broken_below, place_kind_of};
 ghost use Rattle.ilk_plant.specs.NetNames.{HasNamesOf};
-ghost use Rattle.ilk_plant.specs.NetworkRules.{WalkReturns, breaks_network, count_in_network, has_board_at_end, has_wrong_neighbour, is_not_named_back as is_not_named_back_of, network_rules_broken, repeats_neighbour as repeats_neighbour_of, walk_returns, is_isolated};
+ghost use Rattle.ilk_plant.specs.NetworkRules.{IsOnUpCycle, breaks_network, count_in_network, has_board_without_neighbour, has_wrong_neighbour, is_not_named_back as is_not_named_back_of, network_rules_broken, repeats_neighbour as repeats_neighbour_of, is_on_up_cycle, is_isolated};
 ghost use Rattle.ilk_net_check.specs.Numbers.{AgreesWithDraft};
 ghost use Rattle.ilk_plant.specs.declared.broken.Rule.TheVariants.{N7};
 ghost use Rattle.ilk_plant.specs.declared.limits.TheConstants.{MAX_SECTIONS};
 
 use crate::bits::Flags;
-use crate::ends::{End, all_ends, ends_by_number};
-use crate::kinds::{has_board_to_nowhere, has_no_neighbour, repeats_neighbour};
-use crate::neighbours::{has_wrong_end, is_not_named_back};
-use crate::reach::{reachable_by_walks_up, table_entry};
+use crate::ends::{End, all_ends, ends_of_section};
+use crate::kinds::{has_board_to_nowhere, is_linear_without_neighbours, repeats_neighbour};
+use crate::neighbours::{has_invalid_neighbour, is_not_named_back};
+use crate::reach::{matrix_entry, up_reachability_matrix};
 use ilk_plant::{Broken, KindDraft, NetDraft, NetNames, PlaceKind, Row, Rule, push_broken_if};
 use std::alloc::{AllocError, Global};
 
@@ -45,7 +45,7 @@ impl<'a> Network<'a> {
         ensures numbered { IfOk result AgreesWithDraft }
     {
         let ends = all_ends(alloc, &names.section_names, net.sections.as_slice())?;
-        let leads = reachable_by_walks_up(alloc, &ends, net.sections.len() as u32)?;
+        let leads = up_reachability_matrix(alloc, &ends, net.sections.len() as u32)?;
         Ok(Network {
             net,
             names,
@@ -79,13 +79,13 @@ impl Network<'_> {
         ensures { result ≡ is_isolated self.now.net.now x }
     {
         match self.kind(x) {
-            Some(kind) => has_no_neighbour(kind),
+            Some(kind) => is_linear_without_neighbours(kind),
             None => false,
         }
     }
 
-    fn has_board_at_end(&self, x: u32) -> bool
-        ensures { result ≡ has_board_at_end self.now.net.now x }
+    fn has_board_without_neighbour(&self, x: u32) -> bool
+        ensures { result ≡ has_board_without_neighbour self.now.net.now x }
     {
         match self.kind(x) {
             Some(kind) => has_board_to_nowhere(kind),
@@ -98,7 +98,7 @@ impl Network<'_> {
         requires { AgreesWithDraft self.now }
         ensures { result ≡ has_wrong_neighbour self.now.net.now x }
     {
-        has_wrong_end(ends_by_number(&self.ends, x), x)
+        has_invalid_neighbour(ends_of_section(&self.ends, x), x)
     }
 
     fn is_not_named_back(&self, x: u32) -> bool
@@ -111,9 +111,9 @@ impl Network<'_> {
     // Returns whether a walk up returns to section `x`.
     fn returns(&self, x: u32) -> bool
         requires { AgreesWithDraft self.now }
-        ensures { result ≡ walk_returns self.now.net.now x }
+        ensures { result ≡ is_on_up_cycle self.now.net.now x }
     {
-        table_entry(&self.leads, x, x)
+        matrix_entry(&self.leads, x, x)
     }
 
     fn count(&self, places: PlaceKind) -> u32
@@ -133,14 +133,14 @@ impl Network<'_> {
         ensures { result ≡ breaks_network self.now.net.now rule x }
     {
         match rule {
-            Rule::N1 => self.names.section_names.is_duplicate(x),
-            Rule::N2 => self.names.board_names.is_duplicate(x),
+            Rule::N1 => self.names.section_names.repeats_earlier_name(x),
+            Rule::N2 => self.names.board_names.repeats_earlier_name(x),
             Rule::N3 => self.has_wrong_neighbour(x),
             Rule::N4 => self.repeats_neighbour(x),
             Rule::N5 => self.is_not_named_back(x),
             Rule::N6 => self.stands_alone(x),
             Rule::N7 => self.returns(x),
-            Rule::N8 => self.has_board_at_end(x),
+            Rule::N8 => self.has_board_without_neighbour(x),
             _ => false,
         }
     }
@@ -151,7 +151,7 @@ fn push_broken(broken: &mut Row<Broken>, network: &Network, rule: Rule) -> Resul
     requires few { length network.now.net.now.sections ≤ MAX_SECTIONS }
     requires numbered { AgreesWithDraft network.now }
     ensures { OnOk result (broken.new ≡ broken.old
-        ++ broken_at rule (count_in_network network.now.net.now (places_of rule))
+        ++ broken_below rule (count_in_network network.now.net.now (place_kind_of rule))
         (breaks_network network.now.net.now rule)) }
 {
     for x in 0..network.count(rule.places()) {
@@ -173,14 +173,14 @@ pub fn check_network(alloc: Global, net: &NetDraft) -> Result<Row<Broken>, Alloc
     ensures rules { IfOk result (λ broken. broken ≡ network_rules_broken net.now) }
     // N7 is listed at section x if and only if a walk up of one or more steps returns to x.
     ensures walks { IfOk result (λ broken. (x : ℕ) →
-        Contains broken (record { rule = N7; first = x; second = None }) ↔ WalkReturns net.now x) }
+        Contains broken (record { rule = N7; first = x; second = None }) ↔ IsOnUpCycle net.now x) }
 {
     let names = NetNames::from_network(alloc, net)?;
-    check_named_network(alloc, net, &names)
+    check_network_with_names(alloc, net, &names)
 }
 
 /// Returns the same as `check_network`, from existing names of the network.
-pub fn check_named_network(
+pub fn check_network_with_names(
     alloc: Global,
     net: &NetDraft,
     names: &NetNames,
@@ -189,7 +189,7 @@ pub fn check_named_network(
     requires named { HasNamesOf names.now net.now }
     ensures rules { IfOk result (λ broken. broken ≡ network_rules_broken net.now) }
     ensures walks { IfOk result (λ broken. (x : ℕ) →
-        Contains broken (record { rule = N7; first = x; second = None }) ↔ WalkReturns net.now x) }
+        Contains broken (record { rule = N7; first = x; second = None }) ↔ IsOnUpCycle net.now x) }
 {
     let network = Network::of(alloc, net, names)?;
     let mut broken = Row::new(alloc);

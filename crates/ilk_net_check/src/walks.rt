@@ -1,10 +1,10 @@
 ghost use Rattle.std.specs.Prelude.{IsTrue, ◌↔◌};
-ghost use Rattle.ilk_plant.specs.NetworkRules.{WalkReturns, walk_returns};
+ghost use Rattle.ilk_plant.specs.NetworkRules.{IsOnUpCycle, is_on_up_cycle};
 
 use ilk_plant::NetDraft;
 
-/// By the test `walk_returns`, section `x` violates rule N7 if and only if a walk up of one or more
-/// steps, of any length, returns to it. Proof only; no run-time effect.
+/// By the test `is_on_up_cycle`, section `x` violates rule N7 if and only if a walk up of one or
+/// more steps, of any length, returns to it. Proof only; no run-time effect.
 pub fn walk_test_is_exact(net: &NetDraft, x: u32)
-    ensures { IsTrue (walk_returns net.now x) ↔ WalkReturns net.now x }
+    ensures { IsTrue (is_on_up_cycle net.now x) ↔ IsOnUpCycle net.now x }
 {}

@@ -3,9 +3,9 @@ use Rattle.std.specs.Prelude.{ℕ, Bool, Option, Some, codes}
 use Rattle.serde_json.specs.Data.{Data, Items}
 use Rattle.serde_json.specs.Events.{items_len}
 use Rattle.ilk_plant.specs.Limits.{counts_are_allowed}
-use Rattle.ilk_base.specs.Option.{◌>>=◌, only_if}
-use Rattle.ilk_net_read.specs.Member.{has_members, number_member, array_member}
-use Rattle.ilk_net_read.specs.Version.{version_numbered}
+use Rattle.ilk_base.specs.Option.{◌>>=◌, then_some}
+use Rattle.ilk_net_read.specs.Member.{has_member_count, number_member, array_member}
+use Rattle.ilk_net_read.specs.Version.{version_from_number}
 use Rattle.ilk_net_read.specs.declared.version.Version.{Version}
 
 -- The members of a document as written.
@@ -15,7 +15,7 @@ pub record DocumentMembers : Type 0 where
   pub routes : Items
 
 -- A document of a known version.
-pub record DocumentParts : Type 0 where
+pub record VersionedDocument : Type 0 where
   pub version : Version
   pub sections : Items
   pub routes : Items
@@ -27,14 +27,14 @@ as_document d = do
   version ← number_member (codes "version") d
   sections ← array_member (codes "sections") d
   routes ← array_member (codes "routes") d
-  only_if (has_members 3 d) (record { version = version; sections = sections; routes = routes })
+  then_some (has_member_count 3 d) (record { version = version; sections = sections; routes = routes })
 
 -- The written document, if its version is known.
-abbrev pub if_known_version : DocumentMembers → Option DocumentParts
+abbrev pub if_known_version : DocumentMembers → Option VersionedDocument
 if_known_version written = do
-  version ← version_numbered written.version
+  version ← version_from_number written.version
   Some (record { version = version; sections = written.sections; routes = written.routes })
 
 -- Returns whether the counts of sections and routes are allowed.
-abbrev pub has_allowed_counts : DocumentParts → Bool
+abbrev pub has_allowed_counts : VersionedDocument → Bool
 has_allowed_counts document = counts_are_allowed (items_len document.sections) (items_len document.routes)

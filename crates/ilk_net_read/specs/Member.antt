@@ -8,8 +8,8 @@ use Rattle.ilk_base.specs.Option.{◌>>=◌}
 
 -- Returns whether a value is an object of this many members. If as many members are found, there
 -- are no others.
-abbrev pub has_members : ℕ → Data → Bool
-has_members count d = unwrap_or (option_map (λ members. members_len members == count) (as_object d)) false
+abbrev pub has_member_count : ℕ → Data → Bool
+has_member_count count d = unwrap_or (option_map (λ members. members_len members == count) (as_object d)) false
 
 -- The member of this name, if it is a non-negative whole number.
 abbrev pub number_member : Name → Data → Option ℕ
@@ -29,17 +29,17 @@ as_optional_text (array ds) = None
 as_optional_text (object ms) = None
 
 -- The member of this name, if it is a text or null.
-abbrev pub optional_text_member : Name → Data → Option (Option Name)
-optional_text_member name d = get name d >>= as_optional_text
+abbrev pub text_or_null_member : Name → Data → Option (Option Name)
+text_or_null_member name d = get name d >>= as_optional_text
 
 -- The member of this name, if it is an array.
 abbrev pub array_member : Name → Data → Option Items
 array_member name d = get name d >>= as_array
 
 -- The entries of an array.
-abbrev pub entries_of : Items → List Data
-entries_of no_items = []
-entries_of (item d ds) = d ∷ entries_of ds
+abbrev pub array_entries : Items → List Data
+array_entries no_items = []
+array_entries (item d ds) = d ∷ array_entries ds
 
 -- The entries of an array, if each is of a kind.
 abbrev pub all_entries_as : {A : Type 0} → (Data → Option A) → Items → Option (List A)

@@ -4,5 +4,5 @@ use Rattle.ilk_net_read.specs.declared.version.Version.{Version}
 use Rattle.ilk_net_read.specs.declared.version.Version.TheVariants.{First, Second}
 
 -- The version with this number: 1 or 2.
-abbrev pub version_numbered : ℕ → Option Version
-version_numbered n = if n == 1 then Some First else (if n == 2 then Some Second else None)
+abbrev pub version_from_number : ℕ → Option Version
+version_from_number n = if n == 1 then Some First else (if n == 2 then Some Second else None)

@@ -4,12 +4,12 @@ ghost use Rattle.std.specs.Prelude.{◌≡◌, ◌&&◌, option_map, true, IfOk}
 ghost use Rattle.serde_json.specs.View.{view};
 ghost use Rattle.ilk_plant.specs.Limits as limits;
 ghost use Rattle.ilk_net_read.specs.Document as parts;
-ghost use Rattle.ilk_net_read.specs.Fault.{IsReadResultBy};
+ghost use Rattle.ilk_net_read.specs.Fault.{ViewMatchesUnlessOutOfMemory};
 ghost use Rattle.ilk_net_read.specs.Network as network;
-ghost use Rattle.ilk_net_read.specs.Seen.{as_parts, seen_members, HasAllowedCounts};
+ghost use Rattle.ilk_net_read.specs.Seen.{document_view, document_members_view, HasAllowedCounts};
 
-use crate::fault::form_error;
-use crate::member::{array_member, has_members, number_member};
+use crate::fault::error_for_rule;
+use crate::member::{array_member, has_member_count, number_member};
 use crate::name::is_between;
 use crate::{Form, FormError, Place, Version};
 use ilk_plant::{MAX_ROUTES, MAX_SECTIONS};
@@ -32,12 +32,12 @@ pub struct Document<'v> {
 }
 
 fn written(value: &Value) -> Option<Members<'_>>
-    ensures { option_map seen_members result ≡ parts.as_document (view value.now) }
+    ensures { option_map document_members_view result ≡ parts.as_document (view value.now) }
 {
     let version = number_member(value, "version")?;
     let sections = array_member(value, "sections")?;
     let routes = array_member(value, "routes")?;
-    if !has_members(value, 3) {
+    if !has_member_count(value, 3) {
         return None;
     }
     Some(Members {
@@ -48,7 +48,8 @@ fn written(value: &Value) -> Option<Members<'_>>
 }
 
 fn in_version<'v>(members: &Members<'v>) -> Option<Document<'v>>
-    ensures { option_map as_parts result ≡ parts.if_known_version (seen_members members.now) }
+    ensures { option_map document_view result
+        ≡ parts.if_known_version (document_members_view members.now) }
 {
     let version = Version::from_number(members.version)?;
     Some(Document {
@@ -65,8 +66,8 @@ fn counts_are_allowed(sections: usize, routes: usize) -> bool
 }
 
 fn has_allowed_counts(document: &Document<'_>) -> bool
-    ensures exact { result ≡ parts.has_allowed_counts (as_parts document.now) }
-    ensures limits { result ≡ true → HasAllowedCounts (as_parts document.now) }
+    ensures exact { result ≡ parts.has_allowed_counts (document_view document.now) }
+    ensures limits { result ≡ true → HasAllowedCounts (document_view document.now) }
 {
     counts_are_allowed(document.sections.len(), document.routes.len())
 }
@@ -75,17 +76,18 @@ fn has_allowed_counts(document: &Document<'_>) -> bool
 /// version is neither 1 nor 2. Then F6 is violated if there is no section, or more sections or
 /// routes than allowed.
 pub fn read_document(value: &Value) -> Result<Document<'_>, FormError>
-    ensures exact { IsReadResultBy as_parts result (network.read_document (view value.now)) }
-    ensures limits { IfOk result (λ document. HasAllowedCounts (as_parts document)) }
+    ensures exact { ViewMatchesUnlessOutOfMemory document_view result
+        (network.read_document (view value.now)) }
+    ensures limits { IfOk result (λ document. HasAllowedCounts (document_view document)) }
 {
     let Some(members) = written(value) else {
-        return Err(form_error(Form::F3, Place::Document));
+        return Err(error_for_rule(Form::F3, Place::Document));
     };
     let Some(document) = in_version(&members) else {
-        return Err(form_error(Form::F4, Place::Document));
+        return Err(error_for_rule(Form::F4, Place::Document));
     };
     if !has_allowed_counts(&document) {
-        return Err(form_error(Form::F6, Place::Document));
+        return Err(error_for_rule(Form::F6, Place::Document));
     }
     Ok(document)
 }

@@ -1,9 +1,9 @@
 //! The rules of a configuration's form, and the location of a violation.
 
 ghost use Rattle.std.specs.Prelude.{◌≡◌};
-ghost use Rattle.ilk_net_read.specs.declared.fault.KindError.TheVariants.{OutOfMemory as NoMemory};
+ghost use Rattle.ilk_net_read.specs.declared.fault.ValueReadError.TheVariants.{OutOfMemory as NoMemory};
 ghost use Rattle.ilk_net_read.specs.declared.fault.FormError.TheVariants.{Fault, OutOfMemory};
-ghost use Rattle.ilk_net_read.specs.Fault.{at_place, form_fault as broken_at};
+ghost use Rattle.ilk_net_read.specs.Fault.{into_form_error, fault_for_rule as broken_below};
 
 use std::alloc::AllocError;
 use thiserror::Error;
@@ -62,37 +62,37 @@ impl From<AllocError> for FormError {
 }
 
 /// Returns the error for `rule`, violated at `place`.
-pub fn form_error(rule: Form, place: Place) -> FormError
-    ensures { result ≡ Fault (broken_at rule place) }
+pub fn error_for_rule(rule: Form, place: Place) -> FormError
+    ensures { result ≡ Fault (broken_below rule place) }
 {
     FormError::Fault(FormFault { rule, place })
 }
 
 /// The reason why a value isn't read as expected: it is of another kind, or memory ran out.
 #[derive(Debug, Drop, Error)]
-pub enum KindError {
+pub enum ValueReadError {
     #[error("a member is missing, unknown or of the wrong kind")]
     WrongKind,
     #[error("out of memory")]
     OutOfMemory,
 }
 
-impl KindError {
+impl ValueReadError {
     /// Returns the error of a reader at this location: rule F3, or out of memory.
-    pub fn at_place(self, place: Place) -> FormError
-        ensures { result ≡ at_place self place }
+    pub fn into_form_error(self, place: Place) -> FormError
+        ensures { result ≡ into_form_error self place }
     {
         match self {
-            KindError::WrongKind => form_error(Form::F3, place),
-            KindError::OutOfMemory => FormError::OutOfMemory,
+            ValueReadError::WrongKind => error_for_rule(Form::F3, place),
+            ValueReadError::OutOfMemory => FormError::OutOfMemory,
         }
     }
 }
 
-impl From<AllocError> for KindError {
+impl From<AllocError> for ValueReadError {
     ghost from_gives = { λ _ e. e ≡ NoMemory };
 
-    fn from(_refused: AllocError) -> KindError {
-        KindError::OutOfMemory
+    fn from(_refused: AllocError) -> ValueReadError {
+        ValueReadError::OutOfMemory
     }
 }

@@ -17,9 +17,9 @@ mod text;
 mod version;
 
 pub use document::{Document, read_document};
-pub use fault::{Form, FormError, FormFault, KindError, Place, form_error};
+pub use fault::{Form, FormError, FormFault, Place, ValueReadError, error_for_rule};
 pub use member::{
-    array_member, has_members, number_member, optional_text_member, string_member, text_member,
+    array_member, has_member_count, number_member, string_member, text_member, text_or_null_member,
     texts_member,
 };
 pub use name::{is_between, is_name, is_name_if_given};

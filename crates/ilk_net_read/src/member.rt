@@ -3,17 +3,17 @@
 ghost use Rattle.std.specs.Prelude.{◌≡◌, option_map, Option};
 ghost use Rattle.serde_json.specs.Find.{as_str};
 ghost use Rattle.serde_json.specs.View.{view, items_view};
-ghost use Rattle.ilk_net_read.specs.Fault.{IsKindRead};
+ghost use Rattle.ilk_net_read.specs.Fault.{IsReadIfKindMatches};
 ghost use Rattle.ilk_net_read.specs.Member as member;
 
-use crate::KindError;
+use crate::ValueReadError;
 use ilk_plant::{Row, Text};
 use serde_json::Value;
 use std::alloc::Global;
 
 /// Returns whether the value is an object of `count` members.
-pub fn has_members(value: &Value, count: usize) -> bool
-    ensures { result ≡ member.has_members count (view value.now) }
+pub fn has_member_count(value: &Value, count: usize) -> bool
+    ensures { result ≡ member.has_member_count count (view value.now) }
 {
     match value.as_object() {
         Some(members) => members.len() == count,
@@ -45,51 +45,51 @@ pub fn string_member<'v>(value: &'v Value, name: &str) -> Option<&'v str>
 }
 
 /// Returns a copy of the member `name`, which must be a text.
-pub fn text_member(alloc: Global, value: &Value, name: &str) -> Result<Text, KindError>
-    ensures { IsKindRead result (member.text_member name.now (view value.now)) }
+pub fn text_member(alloc: Global, value: &Value, name: &str) -> Result<Text, ValueReadError>
+    ensures { IsReadIfKindMatches result (member.text_member name.now (view value.now)) }
 {
     match string_member(value, name) {
         Some(text) => Ok(Text::of(String::from_str(alloc, text)?)),
-        None => Err(KindError::WrongKind),
+        None => Err(ValueReadError::WrongKind),
     }
 }
 
 /// Returns a copy of a text, or `None` for null; the value must be one of the two.
-fn optional_text(alloc: Global, value: &Value) -> Result<Option<Text>, KindError>
-    ensures { IsKindRead result (member.as_optional_text (view value.now)) }
+fn optional_text(alloc: Global, value: &Value) -> Result<Option<Text>, ValueReadError>
+    ensures { IsReadIfKindMatches result (member.as_optional_text (view value.now)) }
 {
     match value {
         Value::Null => Ok(None),
         Value::String(text) => Ok(Some(Text::of(String::from_str(alloc, text.as_str())?))),
-        _ => Err(KindError::WrongKind),
+        _ => Err(ValueReadError::WrongKind),
     }
 }
 
 /// Returns a copy of the member `name`, which must be a text or null.
-pub fn optional_text_member(
+pub fn text_or_null_member(
     alloc: Global,
     value: &Value,
     name: &str,
-) -> Result<Option<Text>, KindError>
-    ensures { IsKindRead result (member.optional_text_member name.now (view value.now)) }
+) -> Result<Option<Text>, ValueReadError>
+    ensures { IsReadIfKindMatches result (member.text_or_null_member name.now (view value.now)) }
 {
     match value.get(name) {
         Some(found) => optional_text(alloc, found),
-        None => Err(KindError::WrongKind),
+        None => Err(ValueReadError::WrongKind),
     }
 }
 
-fn text(alloc: Global, value: &Value) -> Result<Text, KindError>
-    ensures { IsKindRead result (as_str (view value.now)) }
+fn text(alloc: Global, value: &Value) -> Result<Text, ValueReadError>
+    ensures { IsReadIfKindMatches result (as_str (view value.now)) }
 {
     match value.as_str() {
         Some(text) => Ok(Text::of(String::from_str(alloc, text)?)),
-        None => Err(KindError::WrongKind),
+        None => Err(ValueReadError::WrongKind),
     }
 }
 
-fn texts(alloc: Global, values: &[Value]) -> Result<Row<Text>, KindError>
-    ensures { IsKindRead result (member.all_entries_as as_str (items_view values.now)) }
+fn texts(alloc: Global, values: &[Value]) -> Result<Row<Text>, ValueReadError>
+    ensures { IsReadIfKindMatches result (member.all_entries_as as_str (items_view values.now)) }
 {
     let mut texts = Row::with_capacity(alloc, values.len() as u64)?;
     for value in values {
@@ -100,11 +100,11 @@ fn texts(alloc: Global, values: &[Value]) -> Result<Row<Text>, KindError>
 }
 
 /// Returns a copy of the member `name`, which must be an array of texts.
-pub fn texts_member(alloc: Global, value: &Value, name: &str) -> Result<Row<Text>, KindError>
-    ensures { IsKindRead result (member.texts_member name.now (view value.now)) }
+pub fn texts_member(alloc: Global, value: &Value, name: &str) -> Result<Row<Text>, ValueReadError>
+    ensures { IsReadIfKindMatches result (member.texts_member name.now (view value.now)) }
 {
     match array_member(value, name) {
         Some(values) => texts(alloc, values),
-        None => Err(KindError::WrongKind),
+        None => Err(ValueReadError::WrongKind),
     }
 }

@@ -3,30 +3,30 @@
 ghost use Rattle.std.specs.Prelude.{◌≡◌, ◌≤◌, length, true, IfOk};
 ghost use Rattle.std.specs.List.{list_all};
 ghost use Rattle.serde_json.specs.View.{view, items_view};
-ghost use Rattle.ilk_plant.specs.Limits.{NetworkHasLimits, section_has_names};
-ghost use Rattle.ilk_net_read.specs.Fault.{IsReadResult};
+ghost use Rattle.ilk_plant.specs.Limits.{NetworkWithinLimits, section_names_valid};
+ghost use Rattle.ilk_net_read.specs.Fault.{MatchesUnlessOutOfMemory};
 ghost use Rattle.ilk_base.specs.Result.{try_map_numbered};
-ghost use Rattle.ilk_net_read.specs.Member.{entries_of};
-ghost use Rattle.ilk_net_read.specs.Network.{network_from_document, network_of, section_of};
-ghost use Rattle.ilk_net_read.specs.Seen.{HasAllowedCounts, as_parts};
+ghost use Rattle.ilk_net_read.specs.Member.{array_entries};
+ghost use Rattle.ilk_net_read.specs.Network.{network_from_document, network_from_data, read_section};
+ghost use Rattle.ilk_net_read.specs.Seen.{HasAllowedCounts, document_view};
 
 use crate::FormError;
 use crate::document::{Document, read_document};
-use crate::section::section_of;
+use crate::section::read_section;
 use ilk_plant::{MAX_SECTIONS, NetDraft, Row, SectionDraft};
 use serde_json::Value;
 use std::alloc::Global;
 
 fn sections(alloc: Global, values: &[Value]) -> Result<Row<SectionDraft>, FormError>
     requires { length values.now ≤ MAX_SECTIONS }
-    ensures exact { IsReadResult result
-        (try_map_numbered section_of 0 (entries_of (items_view values.now))) }
+    ensures exact { MatchesUnlessOutOfMemory result
+        (try_map_numbered read_section 0 (array_entries (items_view values.now))) }
     ensures count { IfOk result (λ sections. length sections ≡ length values.now) }
-    ensures named { IfOk result (λ sections. list_all section_has_names sections ≡ true) }
+    ensures named { IfOk result (λ sections. list_all section_names_valid sections ≡ true) }
 {
     let mut sections = Row::new(alloc);
     for (i, value) in values.iter().enumerate() {
-        let section = section_of(alloc, i as u32, value)?;
+        let section = read_section(alloc, i as u32, value)?;
         sections.push(section)?;
     }
     Ok(sections)
@@ -35,10 +35,11 @@ fn sections(alloc: Global, values: &[Value]) -> Result<Row<SectionDraft>, FormEr
 /// Returns the network of a document, or the first violated rule of its sections in order (F3, then
 /// F5, of each).
 pub fn network_from_document(alloc: Global, document: &Document<'_>) -> Result<NetDraft, FormError>
-    requires { HasAllowedCounts (as_parts document.now) }
-    ensures exact { IsReadResult result (network_from_document (as_parts document.now)) }
+    requires { HasAllowedCounts (document_view document.now) }
+    ensures exact { MatchesUnlessOutOfMemory result
+        (network_from_document (document_view document.now)) }
     // At least one section, no more than allowed, and all texts are names.
-    ensures limits { IfOk result NetworkHasLimits }
+    ensures limits { IfOk result NetworkWithinLimits }
 {
     let sections = sections(alloc, document.sections)?;
     Ok(NetDraft { sections })
@@ -47,9 +48,9 @@ pub fn network_from_document(alloc: Global, document: &Document<'_>) -> Result<N
 /// Returns the network of a configuration, or the first violated rule. It checks the document (F3,
 /// F4, F6), then its sections in order (F3, then F5, of each).
 pub fn read_network(alloc: Global, value: &Value) -> Result<NetDraft, FormError>
-    ensures exact { IsReadResult result (network_of (view value.now)) }
+    ensures exact { MatchesUnlessOutOfMemory result (network_from_data (view value.now)) }
     // At least one section, no more than allowed, and all texts are names.
-    ensures limits { IfOk result NetworkHasLimits }
+    ensures limits { IfOk result NetworkWithinLimits }
 {
     let document = read_document(value)?;
     network_from_document(alloc, &document)

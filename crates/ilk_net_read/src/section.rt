@@ -2,29 +2,29 @@
 
 ghost use Rattle.std.specs.Prelude.{◌≡◌, true, IfOk};
 ghost use Rattle.serde_json.specs.View.{view};
-ghost use Rattle.ilk_plant.specs.Limits.{kind_has_names, section_has_names};
-ghost use Rattle.ilk_net_read.specs.Fault.{IsReadResult, IsKindRead};
+ghost use Rattle.ilk_plant.specs.Limits.{neighbour_and_board_names_valid, section_names_valid};
+ghost use Rattle.ilk_net_read.specs.Fault.{MatchesUnlessOutOfMemory, IsReadIfKindMatches};
 ghost use Rattle.ilk_net_read.specs.Network as network;
 ghost use Rattle.ilk_net_read.specs.Section as section;
 
-use crate::fault::form_error;
-use crate::member::{has_members, optional_text_member, string_member, text_member};
+use crate::fault::error_for_rule;
+use crate::member::{has_member_count, string_member, text_member, text_or_null_member};
 use crate::name::{is_name, is_name_if_given};
-use crate::{Form, FormError, KindError, Place};
+use crate::{Form, FormError, Place, ValueReadError};
 use ilk_plant::{Dir, KindDraft, SectionDraft};
 use serde_json::Value;
 use std::alloc::Global;
 
-fn linear(alloc: Global, value: &Value) -> Result<SectionDraft, KindError>
-    ensures { IsKindRead result (section.as_linear (view value.now)) }
+fn linear(alloc: Global, value: &Value) -> Result<SectionDraft, ValueReadError>
+    ensures { IsReadIfKindMatches result (section.as_linear (view value.now)) }
 {
     let name = text_member(alloc, value, "name")?;
-    let down = optional_text_member(alloc, value, "down")?;
-    let up = optional_text_member(alloc, value, "up")?;
-    let board_down = optional_text_member(alloc, value, "board_down")?;
-    let board_up = optional_text_member(alloc, value, "board_up")?;
-    if !has_members(value, 6) {
-        return Err(KindError::WrongKind);
+    let down = text_or_null_member(alloc, value, "down")?;
+    let up = text_or_null_member(alloc, value, "up")?;
+    let board_down = text_or_null_member(alloc, value, "board_down")?;
+    let board_up = text_or_null_member(alloc, value, "board_up")?;
+    if !has_member_count(value, 6) {
+        return Err(ValueReadError::WrongKind);
     }
     let kind = KindDraft::Linear {
         down,
@@ -36,23 +36,23 @@ fn linear(alloc: Global, value: &Value) -> Result<SectionDraft, KindError>
 }
 
 fn faces(value: &Value) -> Option<Dir>
-    ensures { result ≡ section.faces_of (view value.now) }
+    ensures { result ≡ section.facing_direction (view value.now) }
 {
     Dir::from_word(string_member(value, "faces")?.as_bytes())
 }
 
-fn point(alloc: Global, value: &Value) -> Result<SectionDraft, KindError>
-    ensures { IsKindRead result (section.as_point (view value.now)) }
+fn point(alloc: Global, value: &Value) -> Result<SectionDraft, ValueReadError>
+    ensures { IsReadIfKindMatches result (section.as_point (view value.now)) }
 {
     let name = text_member(alloc, value, "name")?;
     let stem = text_member(alloc, value, "stem")?;
     let plus = text_member(alloc, value, "plus")?;
     let minus = text_member(alloc, value, "minus")?;
     let Some(faces) = faces(value) else {
-        return Err(KindError::WrongKind);
+        return Err(ValueReadError::WrongKind);
     };
-    if !has_members(value, 6) {
-        return Err(KindError::WrongKind);
+    if !has_member_count(value, 6) {
+        return Err(ValueReadError::WrongKind);
     }
     let kind = KindDraft::Point {
         stem,
@@ -63,18 +63,18 @@ fn point(alloc: Global, value: &Value) -> Result<SectionDraft, KindError>
     Ok(SectionDraft { name, kind })
 }
 
-fn section(alloc: Global, value: &Value) -> Result<SectionDraft, KindError>
-    ensures { IsKindRead result (section.as_section (view value.now)) }
+fn section(alloc: Global, value: &Value) -> Result<SectionDraft, ValueReadError>
+    ensures { IsReadIfKindMatches result (section.as_section (view value.now)) }
 {
     match string_member(value, "kind") {
         Some("linear") => linear(alloc, value),
         Some("point") => point(alloc, value),
-        _ => Err(KindError::WrongKind),
+        _ => Err(ValueReadError::WrongKind),
     }
 }
 
 fn has_names(kind: &KindDraft) -> bool
-    ensures { result ≡ kind_has_names kind.now }
+    ensures { result ≡ neighbour_and_board_names_valid kind.now }
 {
     match kind {
         KindDraft::Linear {
@@ -98,21 +98,21 @@ fn has_names(kind: &KindDraft) -> bool
 }
 
 /// Returns section `number`, from its value.
-pub(crate) fn section_of(
+pub(crate) fn read_section(
     alloc: Global,
     number: u32,
     value: &Value,
 ) -> Result<SectionDraft, FormError>
-    ensures exact { IsReadResult result (network.section_of number (view value.now)) }
-    ensures named { IfOk result (λ draft. section_has_names draft ≡ true) }
+    ensures exact { MatchesUnlessOutOfMemory result (network.read_section number (view value.now)) }
+    ensures named { IfOk result (λ draft. section_names_valid draft ≡ true) }
 {
     let place = Place::Section(number);
     let draft = match section(alloc, value) {
         Ok(draft) => draft,
-        Err(error) => return Err(error.at_place(place)),
+        Err(error) => return Err(error.into_form_error(place)),
     };
     if !is_name(&draft.name) || !has_names(&draft.kind) {
-        return Err(form_error(Form::F5, place));
+        return Err(error_for_rule(Form::F5, place));
     }
     Ok(draft)
 }

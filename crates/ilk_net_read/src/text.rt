@@ -1,8 +1,8 @@
 ghost use Rattle.serde_json.specs.View.{view};
-ghost use Rattle.ilk_net_read.specs.Fault.{IsReadResultBy};
+ghost use Rattle.ilk_net_read.specs.Fault.{ViewMatchesUnlessOutOfMemory};
 ghost use Rattle.ilk_net_read.specs.Network.{value_of};
 
-use crate::fault::form_error;
+use crate::fault::error_for_rule;
 use crate::{Form, FormError, Place};
 use serde_json::{Category, Value};
 use std::alloc::Global;
@@ -10,13 +10,13 @@ use std::alloc::Global;
 /// Returns the JSON value of the bytes. Rule F2 is violated if they aren't the UTF-8 text of one,
 /// nest deeper than 127 levels, or have a number too large for a float.
 pub fn read_value(alloc: Global, bytes: &[u8]) -> Result<Value, FormError>
-    ensures { IsReadResultBy view result (value_of bytes.now) }
+    ensures { ViewMatchesUnlessOutOfMemory view result (value_of bytes.now) }
 {
     match Value::from_slice(alloc, bytes) {
         Ok(value) => Ok(value),
         Err(error) => match error.classify() {
             Category::Memory => Err(FormError::OutOfMemory),
-            _ => Err(form_error(Form::F2, Place::Document)),
+            _ => Err(error_for_rule(Form::F2, Place::Document)),
         },
     }
 }

@@ -1,7 +1,7 @@
 //! The versions of a configuration's form.
 
 ghost use Rattle.std.specs.Prelude.{◌≡◌};
-ghost use Rattle.ilk_net_read.specs.Version.{version_numbered};
+ghost use Rattle.ilk_net_read.specs.Version.{version_from_number};
 
 /// A version of a configuration's form.
 #[derive(Clone, Copy, PartialEq, Eq, Debug)]
@@ -15,7 +15,7 @@ pub enum Version {
 impl Version {
     /// Returns the version with this number. Returns `None` if there is none.
     pub fn from_number(number: u64) -> Option<Version>
-        ensures { result ≡ version_numbered number }
+        ensures { result ≡ version_from_number number }
     {
         match number {
             1 => Some(Version::First),

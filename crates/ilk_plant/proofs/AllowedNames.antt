@@ -4,7 +4,7 @@ use Rattle.std.specs.List.{list_all}
 use Rattle.std.proofs.lemmas.List.{map-append}
 use Rattle.std.proofs.lemmas.List.Folds.{list_all-append, list_all-map}
 use Rattle.ilk_plant.specs.Draft.{boards_from, boards_on, names_of_boards, names_of_routes, names_of_sections, board_if_named}
-use Rattle.ilk_plant.specs.Limits.{kind_has_names, route_has_names, section_has_names}
+use Rattle.ilk_plant.specs.Limits.{neighbour_and_board_names_valid, route_names_valid, section_names_valid}
 use Rattle.ilk_plant.specs.Name.{IsName, Name, is_name, is_name_if_given}
 use Rattle.ilk_plant.specs.declared.draft.KindDraft.{KindDraft}
 use Rattle.ilk_plant.specs.declared.draft.KindDraft.TheVariants.{Linear as LinearDraft, Point as PointDraft}
@@ -19,15 +19,15 @@ use Rattle.std.proofs.lemmas.Bool.{and_parts}
 each-name : (names : List Name) → list_all is_name names ≡ true → All IsName names
 each-name names h = All-tested is_name IsName (λ name e. e) names h
 
-pub section_names-allowed : (sections : List SectionDraft) → list_all section_has_names sections ≡ true → All IsName (names_of_sections sections)
+pub section_names-allowed : (sections : List SectionDraft) → list_all section_names_valid sections ≡ true → All IsName (names_of_sections sections)
 section_names-allowed sections h =
     each-name (names_of_sections sections)
     (list_all-map is_name (λ section. section.name) sections
-    ∙ list_all-weaken section_has_names (λ section. is_name section.name)
-    (λ section e. (and_parts (is_name section.name) (kind_has_names section.kind) e).0) sections
+    ∙ list_all-weaken section_names_valid (λ section. is_name section.name)
+    (λ section e. (and_parts (is_name section.name) (neighbour_and_board_names_valid section.kind) e).0) sections
     h)
 
-route-name : (route : RouteDraft) → route_has_names route ≡ true → is_name route.name ≡ true
+route-name : (route : RouteDraft) → route_names_valid route ≡ true → is_name route.name ≡ true
 route-name route h =
     let eight = and_parts _ _ h in
     let seven = and_parts _ _ eight.0 in
@@ -38,15 +38,15 @@ route-name route h =
     let two = and_parts _ _ three.0 in
     (and_parts (is_name route.name) (is_name route.source) two.0).0
 
-pub route_names-allowed : (routes : List RouteDraft) → list_all route_has_names routes ≡ true → All IsName (names_of_routes routes)
+pub route_names-allowed : (routes : List RouteDraft) → list_all route_names_valid routes ≡ true → All IsName (names_of_routes routes)
 route_names-allowed routes h =
-    each-name (names_of_routes routes) (list_all-map is_name (λ route. route.name) routes ∙ list_all-weaken route_has_names (λ route. is_name route.name) route-name routes h)
+    each-name (names_of_routes routes) (list_all-map is_name (λ route. route.name) routes ∙ list_all-weaken route_names_valid (λ route. is_name route.name) route-name routes h)
 
 one-board : (x : ℕ) (d : Dir) (name : Option Name) → is_name_if_given name ≡ true → list_all is_name (names_in (board_if_named x d name)) ≡ true
 one-board x d None h = refl
 one-board x d (Some name) h = rw h refl
 
-boards-here : (x : ℕ) (kind : KindDraft) → kind_has_names kind ≡ true → list_all is_name (names_in (boards_on x kind)) ≡ true
+boards-here : (x : ℕ) (kind : KindDraft) → neighbour_and_board_names_valid kind ≡ true → list_all is_name (names_in (boards_on x kind)) ≡ true
 boards-here x (LinearDraft down up board_down board_up) h =
     let last = and_parts _ (is_name_if_given board_up) h in
     let before = and_parts _ (is_name_if_given board_down) last.0 in
@@ -55,13 +55,13 @@ boards-here x (LinearDraft down up board_down board_up) h =
     ∙ rw (one-board x Down board_down before.1) (one-board x Up board_up last.1)
 boards-here x (PointDraft stem plus minus faces) h = refl
 
-boards-tested : (x : ℕ) (sections : List SectionDraft) → list_all section_has_names sections ≡ true → list_all is_name (names_in (boards_from x sections)) ≡ true
+boards-tested : (x : ℕ) (sections : List SectionDraft) → list_all section_names_valid sections ≡ true → list_all is_name (names_in (boards_from x sections)) ≡ true
 boards-tested x [] h = refl
 boards-tested x (section ∷ rest) h =
-    let parts = and_parts (section_has_names section) (list_all section_has_names rest) h in
+    let parts = and_parts (section_names_valid section) (list_all section_names_valid rest) h in
     ap (list_all is_name) (map-append (λ named. named.name) (boards_on x section.kind) (boards_from (x + 1) rest))
     ∙ list_all-append is_name (names_in (boards_on x section.kind)) (names_in (boards_from (x + 1) rest))
-    ∙ rw (boards-here x section.kind (and_parts (is_name section.name) (kind_has_names section.kind) parts.0).1) (boards-tested (x + 1) rest parts.1)
+    ∙ rw (boards-here x section.kind (and_parts (is_name section.name) (neighbour_and_board_names_valid section.kind) parts.0).1) (boards-tested (x + 1) rest parts.1)
 
-pub board_names-allowed : (sections : List SectionDraft) → list_all section_has_names sections ≡ true → All IsName (names_of_boards sections)
+pub board_names-allowed : (sections : List SectionDraft) → list_all section_names_valid sections ≡ true → All IsName (names_of_boards sections)
 board_names-allowed sections h = each-name (names_of_boards sections) (boards-tested 0 sections h)

@@ -5,11 +5,11 @@ use Rattle.std.proofs.lemmas.Option.{same_Some, slice_get-map, slice_get_within,
 use Rattle.ilk_plant.proofs.NamesDiffer.{number_of-own}
 use Rattle.ilk_plant.proofs.Rules.{KeepsNetworkRules}
 use Rattle.ilk_plant.proofs.KnownNames.{board_on-known, boards_known}
-use Rattle.ilk_plant.specs.Draft.{NamedBoard, boards_from, boards_on, names_of_boards, names_of_sections, number_of, plant_from_drafts, numbered_section, board_if_named}
+use Rattle.ilk_plant.specs.Draft.{NamedBoard, boards_from, boards_on, names_of_boards, names_of_sections, number_or_len, plant_from_drafts, numbered_section, board_if_named}
 use Rattle.ilk_plant.specs.Name.{Name}
 use Rattle.ilk_plant.specs.declared.broken.Rule.TheVariants.{N8}
 use Rattle.ilk_plant.specs.Network.{neighbours_on, board_on}
-use Rattle.ilk_plant.specs.NetworkRules.{has_board_at_end, has_neighbour_if_board}
+use Rattle.ilk_plant.specs.NetworkRules.{has_board_without_neighbour, has_neighbour_if_board}
 use Rattle.ilk_plant.specs.Plant.{board_of, next_to}
 use Rattle.ilk_base.proofs.Once.{EachOnce}
 use Rattle.ilk_plant.specs.declared.network.Dir.{Dir}
@@ -121,7 +121,7 @@ listed-drafts first (section ∷ rest) k named e =
           (suc there.0, there.1, there.2, there.3 ∙ omega arith, there.4)
     ]
 
-board_on-drafted : (names boards : List Name) (kind : KindDraft) (d : Dir) → board_on (numbered_section names boards kind) d ≡ option_map (number_of boards) (board_drafted kind d)
+board_on-drafted : (names boards : List Name) (kind : KindDraft) (d : Dir) → board_on (numbered_section names boards kind) d ≡ option_map (number_or_len boards) (board_drafted kind d)
 board_on-drafted names boards (LinearDraft down up board_down board_up) Down = refl
 board_on-drafted names boards (LinearDraft down up board_down board_up) Up = refl
 board_on-drafted names boards (PointDraft stem plus minus faces) d = refl
@@ -129,12 +129,12 @@ board_on-drafted names boards (PointDraft stem plus minus faces) d = refl
 board-drafted : (net : NetDraft) (table : TableDraft) (x m : ℕ) (d : Dir) →
     board_of (plant_from_drafts net table) x d ≡ Some m →
     (section : SectionDraft) × (name : Name) × (slice_get net.sections x ≡ Some section) ×
-    (board_drafted section.kind d ≡ Some name) × (number_of (names_of_boards net.sections) name ≡ m)
+    (board_drafted section.kind d ≡ Some name) × (number_or_len (names_of_boards net.sections) name ≡ m)
 board-drafted net table x m d e =
     option_and_then_some (λ k. board_on k d) (slice_get (plant_from_drafts net table).sections x) m e (λ k at on.
     plant_from_drafts-at net.sections (names_of_sections net.sections) (names_of_boards net.sections) x k at (λ section there same.
     let on_numbered : board_on (numbered_section (names_of_sections net.sections) (names_of_boards net.sections) section.kind) d ≡ Some m = rw same at on in
-    let named = mapped-Some (number_of (names_of_boards net.sections)) (board_drafted section.kind d) m (sym (board_on-drafted (names_of_sections net.sections) (names_of_boards net.sections) section.kind d) ∙ on_numbered) in
+    let named = mapped-Some (number_or_len (names_of_boards net.sections)) (board_drafted section.kind d) m (sym (board_on-drafted (names_of_sections net.sections) (names_of_boards net.sections) section.kind d) ∙ on_numbered) in
     (section, named.0, there, named.1, named.2)))
 
 board-listed : (net : NetDraft) (table : TableDraft) → EachOnce (names_of_boards net.sections) → (x m : ℕ) (d : Dir) → board_of (plant_from_drafts net table) x d ≡ Some m
@@ -158,7 +158,7 @@ listed-board net table once x m d e =
     let direction : listed.0.board.dir ≡ d = ap (λ b. b.dir) listed.2 in
     let given : board_drafted drafted.1.kind d ≡ Some listed.0.name = rw direction at drafted.4 in
     let named : slice_get (names_of_boards net.sections) m ≡ Some listed.0.name = slice_get-map (λ n. n.name) (boards_from 0 net.sections) m ∙ ap (option_map (λ n. n.name)) listed.1 in
-    let number : number_of (names_of_boards net.sections) listed.0.name ≡ m = number_of-own (names_of_boards net.sections) listed.0.name m once named in
+    let number : number_or_len (names_of_boards net.sections) listed.0.name ≡ m = number_of-own (names_of_boards net.sections) listed.0.name m once named in
     let numbered_there : slice_get (plant_from_drafts net table).sections x
     ≡ Some
     (numbered_section (names_of_sections net.sections) (names_of_boards net.sections) drafted.1.kind) =
@@ -174,7 +174,7 @@ listed-board net table once x m d e =
     (numbered_section (names_of_sections net.sections) (names_of_boards net.sections) drafted.1.kind)
     d ≡ Some m =
     board_on-drafted (names_of_sections net.sections) (names_of_boards net.sections) drafted.1.kind d
-    ∙ ap (option_map (number_of (names_of_boards net.sections))) given ∙ ap Some number in
+    ∙ ap (option_map (number_or_len (names_of_boards net.sections))) given ∙ ap Some number in
     rw numbered_there on
 
 pub boards-agree : (net : NetDraft) (table : TableDraft) → EachOnce (names_of_boards net.sections) →
@@ -199,7 +199,7 @@ boards-lead net table rules x m d e =
     (names_of_boards net.sections) section.kind)) drafted.2 in
     rw there (by_kind drafted.0 drafted.0.kind d drafted.1 drafted.2 refl kept drafted.3)
   where
-    end-given : (names : List Name) (o board : Option Name) (name : Name) → board ≡ Some name → has_neighbour_if_board o board ≡ true → 0 < length (option_to_list (option_map (number_of names) o))
+    end-given : (names : List Name) (o board : Option Name) (name : Name) → board ≡ Some name → has_neighbour_if_board o board ≡ true → 0 < length (option_to_list (option_map (number_or_len names) o))
     end-given names None board name e h = let bad : is_none (Some name) ≡ true = rw e at h in cc
     end-given names (Some given) board name e h = omega arith
 
@@ -208,7 +208,7 @@ boards-lead net table rules x m d e =
     not-not false h = cc
 
     by_kind : (section : SectionDraft) (kind : KindDraft) (d : Dir) (name : Name) →
-        slice_get net.sections x ≡ Some section → section.kind ≡ kind → has_board_at_end net x ≡ false →
+        slice_get net.sections x ≡ Some section → section.kind ≡ kind → has_board_without_neighbour net x ≡ false →
         board_drafted kind d ≡ Some name →
         0
         < length

@@ -6,7 +6,7 @@ use Rattle.std.proofs.lemmas.List.Quantifiers.{position-Some}
 use Rattle.std.proofs.lemmas.Option.{slice_get-get_or, slice_get_within}
 use Rattle.std.proofs.lemmas.Slice.Eq.{bytes_eq-Decides}
 use Rattle.ilk_plant.proofs.KnownNames.{number_of-known}
-use Rattle.ilk_plant.specs.Draft.{is_duplicate, number_of}
+use Rattle.ilk_plant.specs.Draft.{repeats_earlier_name, number_or_len}
 use Rattle.ilk_plant.specs.Name.{Name}
 use Rattle.ilk_plant.specs.Plant.{first_number_named}
 use Rattle.ilk_base.proofs.Once.{EachOnce}
@@ -19,14 +19,14 @@ first_number_named-at names name z e =
     let same : name ≡ get_or names z name = (bytes_eq-Decides name (get_or names z name)).0 found.1 in
     (found.0, slice_get-get_or names z name found.0 ∙ ap Some (sym same))
 
-pub number_of-first : (names : List Name) (name : Name) (z : ℕ) → first_number_named names name ≡ Some z → number_of names name ≡ z
+pub number_of-first : (names : List Name) (name : Name) (z : ℕ) → first_number_named names name ≡ Some z → number_or_len names name ≡ z
 number_of-first names name z e = ap (λ o. unwrap_or o (length names)) e
 
 pub known-at : (names : List Name) (name : Name) (z : ℕ) → slice_get names z ≡ Some name → list_any (bytes_eq name) names ≡ true
 known-at names name z at =
     list_any-from (bytes_eq name) names z name at ((bytes_eq-Decides name name).1 refl)
 
-pub first_number_named-below : (names : List Name) (name : Name) (z : ℕ) → number_of names name ≡ z → z < length names → first_number_named names name ≡ Some z
+pub first_number_named-below : (names : List Name) (name : Name) (z : ℕ) → number_or_len names name ≡ z → z < length names → first_number_named names name ≡ Some z
 first_number_named-below names name z e below = by_first (first_number_named names name) refl
   where
     by_first : (o : Option ℕ) → first_number_named names name ≡ o → first_number_named names name ≡ Some z
@@ -34,9 +34,9 @@ first_number_named-below names name z e below = by_first (first_number_named nam
         let past : length names ≡ z = sym (ap (λ o. unwrap_or o (length names)) first) ∙ e in absurd (omega arith)
     by_first (Some y) first = first ∙ ap Some (sym (number_of-first names name y first) ∙ e)
 
-pub number_of-at : (names : List Name) (name : Name) → list_any (bytes_eq name) names ≡ true → slice_get names (number_of names name) ≡ Some name
+pub number_of-at : (names : List Name) (name : Name) → list_any (bytes_eq name) names ≡ true → slice_get names (number_or_len names name) ≡ Some name
 number_of-at names name known =
-    (first_number_named-at names name (number_of names name) (first_number_named-below names name (number_of names name) refl (number_of-known names name known))).1
+    (first_number_named-at names name (number_or_len names name) (first_number_named-below names name (number_or_len names name) refl (number_of-known names name known))).1
 
 -- Names without an earlier equal have no duplicates.
 names-once : (names : List Name) → ((j : ℕ) (name : Name) → slice_get names j ≡ Some name → list_any (bytes_eq name) (take j names) ≡ false) → EachOnce names
@@ -54,13 +54,13 @@ names-once names kept i j name at also =
     by_order false true first second = absurd (earlier j i (grind (arith, nat_tests)) also at)
     by_order false false first second = grind (arith, nat_tests)
 
-pub named-once : (names : List Name) → ((i : ℕ) → i < length names → is_duplicate names i ≡ false) → EachOnce names
+pub named-once : (names : List Name) → ((i : ℕ) → i < length names → repeats_earlier_name names i ≡ false) → EachOnce names
 named-once names kept =
     names-once names (λ j name at. let none : list_any (bytes_eq name) (take j names) ≡ false = rw at at (kept j (slice_get_within names j name at)) in none)
 
-pub number_of-own : (names : List Name) (name : Name) (x : ℕ) → EachOnce names → slice_get names x ≡ Some name → number_of names name ≡ x
+pub number_of-own : (names : List Name) (name : Name) (x : ℕ) → EachOnce names → slice_get names x ≡ Some name → number_or_len names name ≡ x
 number_of-own names name x once at =
-    once (number_of names name) x name (number_of-at names name (known-at names name x at)) at
+    once (number_or_len names name) x name (number_of-at names name (known-at names name x at)) at
 
 pub first_number_named-own : (names : List Name) (name : Name) (x : ℕ) → EachOnce names → slice_get names x ≡ Some name → first_number_named names name ≡ Some x
 first_number_named-own names name x once at =

@@ -4,7 +4,7 @@ use Rattle.std.specs.List.{range_with_len}
 use Rattle.std.proofs.lemmas.List.FromFn.{length-map-range_with_len, map-range_with_len_more}
 use Rattle.std.proofs.lemmas.List.Sums.{count_by_more_no, count_by_more_yes, sum_by-cons}
 use Rattle.std.proofs.lemmas.Option.{cond_some, option_and_then_some, same_Some, slice_get-get_or, slice_get-map}
-use Rattle.ilk_base.specs.Option.{◌>>=◌, only_if}
+use Rattle.ilk_base.specs.Option.{◌>>=◌, then_some}
 use Rattle.ilk_plant.specs.Network.{is_point}
 use Rattle.ilk_plant.specs.Plant.{PlantLists, point_count, point_number}
 use Rattle.ilk_plant.specs.Kept.{point_numbers}
@@ -17,10 +17,10 @@ module _ (p : PlantLists) (x : ℕ) (d : Section) (within : x < length p.section
     (numbers new : List (Option ℕ)) (points : ℕ)
     (so_far : numbers ≡ map (point_number p) (range_with_len 0 x))
     (count : points ≡ count_by is_point (take x p.sections)) where
-  here : (b : Bool) → is_point (get_or p.sections x d) ≡ b → point_number p x ≡ only_if b (count_by is_point (take x p.sections))
+  here : (b : Bool) → is_point (get_or p.sections x d) ≡ b → point_number p x ≡ then_some b (count_by is_point (take x p.sections))
   here b e =
-      ap (λ (o : Option Section). o >>= (λ section. only_if (is_point section) (count_by is_point (take x p.sections)))) (slice_get-get_or p.sections x d within)
-      ∙ ap (λ c. only_if c (count_by is_point (take x p.sections))) e
+      ap (λ (o : Option Section). o >>= (λ section. then_some (is_point section) (count_by is_point (take x p.sections)))) (slice_get-get_or p.sections x d within)
+      ∙ ap (λ c. then_some c (count_by is_point (take x p.sections))) e
 
   with : (number : Option ℕ) → number ≡ point_number p x → new ≡ numbers ++ number ∷ [] → new ≡ map (point_number p) (range_with_len 0 (x + 1))
   with number same now =
@@ -50,7 +50,7 @@ point_number-below p x = IfSome-from (point_number p x) (λ n. n < point_count p
   where
     below : (n : ℕ) → point_number p x ≡ Some n → n < point_count p
     below n e =
-        option_and_then_some (λ section. only_if (is_point section) (count_by is_point (take x p.sections))) (slice_get p.sections x) n e (λ section at e1.
+        option_and_then_some (λ section. then_some (is_point section) (count_by is_point (take x p.sections))) (slice_get p.sections x) n e (λ section at e1.
         let numbered = cond_some (is_point section) (count_by is_point (take x p.sections)) n e1 in
         let less = count_by-take-lt is_point p.sections x section at numbered.0 in
         omega (arith, less, numbered.1))

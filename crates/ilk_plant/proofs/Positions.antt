@@ -6,7 +6,7 @@ use Rattle.std.proofs.lemmas.List.{take_more}
 use Rattle.std.proofs.lemmas.Option.{get_or_from_slice_get}
 use Rattle.ilk_plant.specs.Name.{Name}
 use Rattle.ilk_plant.specs.Plant.{first_number_named}
-use Rattle.ilk_plant.specs.Draft.{is_duplicate}
+use Rattle.ilk_plant.specs.Draft.{repeats_earlier_name}
 use Rattle.ilk_base.specs.Option.{is_some_and}
 use Rattle.ilk_base.proofs.Positions.{position-below, position-push}
 
@@ -74,7 +74,7 @@ module _ (names : List Name) (i : ℕ) (name : Name) (lt : i < length names) (at
       let P : ℕ → Type 0 = λ m. cond (bytes_eq name q) (Some m) (position (bytes_eq q) (take i names)) ≡ position (bytes_eq q) (take i names ++ name ∷ []) in subst P taken known in
       rw one_more (now q ∙ ap (cond (bytes_eq name q) (Some i)) (before q) ∙ known_at)
 
-pub named_before : (names : List Name) (i : ℕ) (name : Name) (first : Option ℕ) → slice_get names i ≡ Some name → first ≡ first_number_named names name → is_some_and first (λ k. nat_lt k i) ≡ is_duplicate names i
+pub named_before : (names : List Name) (i : ℕ) (name : Name) (first : Option ℕ) → slice_get names i ≡ Some name → first ≡ first_number_named names name → is_some_and first (λ k. nat_lt k i) ≡ repeats_earlier_name names i
 named_before names i name first at is =
-    let P : Option Name → Type 0 = λ o. is_some_and o (λ n. list_any (bytes_eq n) (take i names)) ≡ is_duplicate names i in
+    let P : Option Name → Type 0 = λ o. is_some_and o (λ n. list_any (bytes_eq n) (take i names)) ≡ repeats_earlier_name names i in
     ap (λ o. is_some_and o (λ k. nat_lt k i)) is ∙ position-below (bytes_eq name) names i ∙ subst P at refl

@@ -7,13 +7,13 @@ use Rattle.std.proofs.lemmas.List.Folds.{list_all-append, list_all-map}
 use Rattle.std.proofs.lemmas.Option.{slice_get_within}
 use Rattle.ilk_base.proofs.Ranges.{below}
 use Rattle.ilk_plant.proofs.Rules.{KeepsTableRules}
-use Rattle.ilk_plant.specs.Draft.{names_of_boards, names_of_routes, names_of_sections, number_of, plant_from_drafts, numbered_point, numbered_route}
-use Rattle.ilk_plant.specs.Limits.{route_has_limits}
+use Rattle.ilk_plant.specs.Draft.{names_of_boards, names_of_routes, names_of_sections, number_or_len, plant_from_drafts, numbered_point, numbered_route}
+use Rattle.ilk_plant.specs.Limits.{route_within_limits}
 use Rattle.ilk_plant.specs.declared.broken.Rule.TheVariants.{R2, R3, R4, R5, R6, R7, R8}
-use Rattle.ilk_plant.specs.declared.limits.TheConstants.{MAX_CONFLICTS, MAX_OVERLAP, MAX_PATH, MAX_POINTS, MAX_PROTECTING_BOARDS, MAX_PROTECTING_POINTS}
+use Rattle.ilk_plant.specs.declared.limits.TheConstants.{MAX_ROUTE_CONFLICTS, MAX_OVERLAP, MAX_PATH, MAX_ROUTE_POINTS, MAX_PROTECTING_BOARDS, MAX_PROTECTING_POINTS}
 use Rattle.ilk_plant.specs.Network.{has_section, is_point}
 use Rattle.ilk_base.specs.Option.{is_some_and}
-use Rattle.ilk_plant.specs.Plant.{IsRouteOf, PlantLists, point_number, is_point_section}
+use Rattle.ilk_plant.specs.Plant.{IsValidRouteOf, PlantLists, point_number, is_point_section}
 use Rattle.ilk_plant.specs.TableRules.{has_conflicts_once, has_destination_or_none, has_points_once, has_protecting_boards_once, has_protecting_points_once, has_sections_once, has_source, is_board, is_other_route, is_section, points_of, protecting_points_of, route_fails, sections_of}
 use Rattle.ilk_plant.specs.Once.{numbers_differ}
 use Rattle.ilk_plant.specs.declared.draft.NetDraft.{NetDraft}
@@ -67,35 +67,35 @@ apart true true h = cc
 apart false false h = cc
 apart false true h = cc
 
-limits-kept : (route : RouteDraft) → route_has_limits route ≡ true →
+limits-kept : (route : RouteDraft) → route_within_limits route ≡ true →
     (1 ≤ length route.path) × (length route.path ≤ MAX_PATH) × (length route.overlap ≤ MAX_OVERLAP) ×
-    (length route.points ≤ MAX_POINTS) × (length route.conflicts ≤ MAX_CONFLICTS) ×
+    (length route.points ≤ MAX_ROUTE_POINTS) × (length route.conflicts ≤ MAX_ROUTE_CONFLICTS) ×
     (length route.protecting_points ≤ MAX_PROTECTING_POINTS) ×
     (length route.protecting_boards ≤ MAX_PROTECTING_BOARDS)
 limits-kept route h =
     let five = and_parts _ (nat_le (length route.protecting_boards) MAX_PROTECTING_BOARDS) h in
     let four = and_parts _ (nat_le (length route.protecting_points) MAX_PROTECTING_POINTS) five.0 in
-    let three = and_parts _ (nat_le (length route.conflicts) MAX_CONFLICTS) four.0 in
-    let two = and_parts _ (nat_le (length route.points) MAX_POINTS) three.0 in
+    let three = and_parts _ (nat_le (length route.conflicts) MAX_ROUTE_CONFLICTS) four.0 in
+    let two = and_parts _ (nat_le (length route.points) MAX_ROUTE_POINTS) three.0 in
     let one = and_parts _ (nat_le (length route.overlap) MAX_OVERLAP) two.0 in
     let path = and_parts (nat_le 1 (length route.path)) (nat_le (length route.path) MAX_PATH) one.0 in
     (leb-true _ _ path.0, leb-true _ _ path.1, leb-true _ _ one.1, leb-true _ _ two.1, leb-true _ _ three.1, leb-true _ _ four.1, leb-true _ _ five.1)
 
 route-limits : (net : NetDraft) (table : TableDraft) (r : ℕ) (route : Route) →
-    list_all route_has_limits table.routes ≡ true → slice_get (plant_from_drafts net table).routes r ≡ Some route →
+    list_all route_within_limits table.routes ≡ true → slice_get (plant_from_drafts net table).routes r ≡ Some route →
     (1 ≤ length route.path) × (length route.path ≤ MAX_PATH) × (length route.overlap ≤ MAX_OVERLAP) ×
-    (length route.points ≤ MAX_POINTS) × (length route.conflicts ≤ MAX_CONFLICTS) ×
+    (length route.points ≤ MAX_ROUTE_POINTS) × (length route.conflicts ≤ MAX_ROUTE_CONFLICTS) ×
     (length route.protecting_points ≤ MAX_PROTECTING_POINTS) ×
     (length route.protecting_boards ≤ MAX_PROTECTING_BOARDS)
 route-limits net table r route each e =
     let found : (draft : RouteDraft) × (slice_get table.routes r ≡ Some draft) × (numbered_route (names_of_sections net.sections) (names_of_boards net.sections) (names_of_routes table.routes) draft ≡ route) = route-at net table r route e in
-    let limits = limits-kept found.0 (list_all-slice_get route_has_limits table.routes r found.0 each found.1) in
-    let path : length route.path ≡ length found.0.path = ap (λ a. length a.path) (sym found.2) ∙ length-map found.0.path (number_of (names_of_sections net.sections)) in
-    let overlap : length route.overlap ≡ length found.0.overlap = ap (λ a. length a.overlap) (sym found.2) ∙ length-map found.0.overlap (number_of (names_of_sections net.sections)) in
+    let limits = limits-kept found.0 (list_all-slice_get route_within_limits table.routes r found.0 each found.1) in
+    let path : length route.path ≡ length found.0.path = ap (λ a. length a.path) (sym found.2) ∙ length-map found.0.path (number_or_len (names_of_sections net.sections)) in
+    let overlap : length route.overlap ≡ length found.0.overlap = ap (λ a. length a.overlap) (sym found.2) ∙ length-map found.0.overlap (number_or_len (names_of_sections net.sections)) in
     let points : length route.points ≡ length found.0.points = ap (λ a. length a.points) (sym found.2) ∙ length-map found.0.points (numbered_point (names_of_sections net.sections)) in
-    let conflicts : length route.conflicts ≡ length found.0.conflicts = ap (λ a. length a.conflicts) (sym found.2) ∙ length-map found.0.conflicts (number_of (names_of_routes table.routes)) in
+    let conflicts : length route.conflicts ≡ length found.0.conflicts = ap (λ a. length a.conflicts) (sym found.2) ∙ length-map found.0.conflicts (number_or_len (names_of_routes table.routes)) in
     let protecting_points : length route.protecting_points ≡ length found.0.protecting_points = ap (λ a. length a.protecting_points) (sym found.2) ∙ length-map found.0.protecting_points (numbered_point (names_of_sections net.sections)) in
-    let protecting_boards : length route.protecting_boards ≡ length found.0.protecting_boards = ap (λ a. length a.protecting_boards) (sym found.2) ∙ length-map found.0.protecting_boards (number_of (names_of_boards net.sections)) in (
+    let protecting_boards : length route.protecting_boards ≡ length found.0.protecting_boards = ap (λ a. length a.protecting_boards) (sym found.2) ∙ length-map found.0.protecting_boards (number_or_len (names_of_boards net.sections)) in (
       omega (arith, path, limits.0),
       omega (arith, path, limits.1),
       omega (arith, overlap, limits.2),
@@ -106,8 +106,8 @@ route-limits net table r route each e =
     )
 
 pub route-known : (net : NetDraft) (table : TableDraft) → KeepsTableRules (plant_from_drafts net table) →
-    list_all route_has_limits table.routes ≡ true → (r : ℕ) (route : Route) →
-    slice_get (plant_from_drafts net table).routes r ≡ Some route → IsRouteOf (plant_from_drafts net table) route
+    list_all route_within_limits table.routes ≡ true → (r : ℕ) (route : Route) →
+    slice_get (plant_from_drafts net table).routes r ≡ Some route → IsValidRouteOf (plant_from_drafts net table) route
 route-known net table rules each r route e =
     let p : PlantLists = plant_from_drafts net table in
     let within : r < length p.routes = slice_get_within p.routes r route e in

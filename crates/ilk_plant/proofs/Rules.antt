@@ -1,10 +1,10 @@
 -- If the list of violated rules is empty, each rule holds at each of its locations.
 use Rattle.std.proofs.Common.{◌≡◌, ℕ, ◌<◌, Bool, false, None, Some, List, [], slice_get}
 use Rattle.std.specs.List.{filter, range_with_len}
-use Rattle.ilk_plant.specs.Broken.{broken_at, broken_rules_at, places_of}
+use Rattle.ilk_plant.specs.Broken.{broken_below, broken_for_rules, place_kind_of}
 use Rattle.ilk_plant.specs.NetworkRules.{breaks_network, count_in_network, network_rules, network_rules_broken}
 use Rattle.ilk_plant.specs.Plant.{PlantLists}
-use Rattle.ilk_plant.specs.TableRules.{breaks_table, count_in_plant, numbered_rules_broken, table_rules}
+use Rattle.ilk_plant.specs.TableRules.{breaks_table, count_in_plant, plant_table_rules_broken, table_rules}
 use Rattle.ilk_plant.specs.declared.broken.PlaceKind.{PlaceKind}
 use Rattle.ilk_plant.specs.declared.broken.Rule.{Rule}
 use Rattle.ilk_plant.specs.declared.draft.NetDraft.{NetDraft}
@@ -13,18 +13,18 @@ use Rattle.ilk_base.proofs.Lists.{map-none}
 use Rattle.ilk_base.proofs.Ranges.{range-at}
 use Rattle.ilk_base.proofs.Tested.{filter-none}
 
-pub rule-kept : (rule : Rule) (n : ℕ) (test : ℕ → Bool) → broken_at rule n test ≡ [] → (i : ℕ) → i < n → test i ≡ false
+pub rule-kept : (rule : Rule) (n : ℕ) (test : ℕ → Bool) → broken_below rule n test ≡ [] → (i : ℕ) → i < n → test i ≡ false
 rule-kept rule n test e i h =
     filter-none test (range_with_len 0 n) i i (map-none (λ j. record { rule = rule; first = j; second = None }) (filter test (range_with_len 0 n)) e) (range-at n i h)
 
 -- Rule `k` of these is violated at none of its locations.
 abbrev pub Keeps : List Rule → (PlaceKind → ℕ) → (Rule → ℕ → Bool) → Type 0
 Keeps rules count breaks =
-    (k : ℕ) (rule : Rule) → slice_get rules k ≡ Some rule → (i : ℕ) → i < count (places_of rule) → breaks rule i ≡ false
+    (k : ℕ) (rule : Rule) → slice_get rules k ≡ Some rule → (i : ℕ) → i < count (place_kind_of rule) → breaks rule i ≡ false
 
-rules-kept : (rules : List Rule) (count : PlaceKind → ℕ) (breaks : Rule → ℕ → Bool) → broken_rules_at rules count breaks ≡ [] → Keeps rules count breaks
+rules-kept : (rules : List Rule) (count : PlaceKind → ℕ) (breaks : Rule → ℕ → Bool) → broken_for_rules rules count breaks ≡ [] → Keeps rules count breaks
 rules-kept rules count breaks e k rule at =
-    rule-kept rule (count (places_of rule)) (breaks rule) (flat_map-none (λ r. broken_at r (count (places_of r)) (breaks r)) rules k rule e at)
+    rule-kept rule (count (place_kind_of rule)) (breaks rule) (flat_map-none (λ r. broken_below r (count (place_kind_of r)) (breaks r)) rules k rule e at)
 
 abbrev pub KeepsNetworkRules : NetDraft → Type 0
 KeepsNetworkRules net = Keeps network_rules (count_in_network net) (breaks_network net)
@@ -35,5 +35,5 @@ network_rules-kept net e = rules-kept network_rules (count_in_network net) (brea
 abbrev pub KeepsTableRules : PlantLists → Type 0
 KeepsTableRules p = Keeps table_rules (count_in_plant p) (breaks_table p)
 
-pub table_rules-kept : (p : PlantLists) → numbered_rules_broken p ≡ [] → KeepsTableRules p
+pub table_rules-kept : (p : PlantLists) → plant_table_rules_broken p ≡ [] → KeepsTableRules p
 table_rules-kept p e = rules-kept table_rules (count_in_plant p) (breaks_table p) e

@@ -4,7 +4,7 @@ use Rattle.std.specs.List.{last_or, list_all}
 use Rattle.std.proofs.lemmas.Bool.Decides.{nat_tests}
 use Rattle.std.proofs.lemmas.List.{length-replicate}
 use Rattle.ilk_plant.specs.Plant.{PlantLists, point_count}
-use Rattle.ilk_plant.specs.Shape.{has_valid_body, counts_fit_path, HasShape}
+use Rattle.ilk_plant.specs.Shape.{train_body_is_valid, seen_and_released_fit_path, HasShape}
 use Rattle.ilk_plant.specs.Lengths.{HasLengths}
 use Rattle.ilk_plant.specs.Start.{free_route, plus_point, start}
 use Rattle.ilk_plant.specs.declared.state.Aspect.TheVariants.{Closed}
@@ -16,48 +16,48 @@ use Rattle.ilk_plant.specs.declared.state.Train.{Train}
 use Rattle.ilk_base.proofs.Lists.{copied, last-some}
 use Rattle.std.proofs.lemmas.Bool.{and_parts}
 
-pub body-last : (p : PlantLists) (train : Train) → has_valid_body p train ≡ true → (x : ℕ) × (last_or None train.body ≡ Some x)
+pub body-last : (p : PlantLists) (train : Train) → train_body_is_valid p train ≡ true → (x : ℕ) × (last_or None train.body ≡ Some x)
 body-last p train h = of_body train.body h
   where
-    of_body : (body : List ℕ) → has_valid_body p (record train { body = body }) ≡ true → (x : ℕ) × (last_or None body ≡ Some x)
+    of_body : (body : List ℕ) → train_body_is_valid p (record train { body = body }) ≡ true → (x : ℕ) × (last_or None body ≡ Some x)
     of_body [] h = cc
     of_body (x ∷ rest) h = last-some x rest
 
-pub counts_fit_path-counts : (route : Route) (now : RouteState) → counts_fit_path route now ≡ true → (now.seen ≤ length route.path) × (now.rel ≤ length route.path)
-counts_fit_path-counts route now h =
+pub seen_and_released_fit_path-counts : (route : Route) (now : RouteState) → seen_and_released_fit_path route now ≡ true → (now.seen ≤ length route.path) × (now.rel ≤ length route.path)
+seen_and_released_fit_path-counts route now h =
     let parts = and_parts _ _ h in
     let seen : nat_le now.seen (length route.path) ≡ true = parts.0 in
     let rel : nat_le now.rel (length route.path) ≡ true = parts.1 in
     (grind (arith, nat_tests), grind (arith, nat_tests))
 
-pub counts_fit_path-from_counts : (route : Route) (now : RouteState) → now.seen ≤ length route.path → now.rel ≤ length route.path → counts_fit_path route now ≡ true
-counts_fit_path-from_counts route now few_seen few_rel =
+pub seen_and_released_fit_path-from_counts : (route : Route) (now : RouteState) → now.seen ≤ length route.path → now.rel ≤ length route.path → seen_and_released_fit_path route now ≡ true
+seen_and_released_fit_path-from_counts route now few_seen few_rel =
     let seen : nat_le now.seen (length route.path) ≡ true = grind (arith, nat_tests) in
     let rel : nat_le now.rel (length route.path) ≡ true = grind (arith, nat_tests) in
     rw (seen, rel) refl
 
 counts-true : (routes : List Route) (states : List RouteState) →
-    list_all (λ pair. counts_fit_path pair.0 pair.1) (zip routes states) ≡ true →
+    list_all (λ pair. seen_and_released_fit_path pair.0 pair.1) (zip routes states) ≡ true →
     (r : ℕ) (route : Route) (now : RouteState) → slice_get routes r ≡ Some route →
-    slice_get states r ≡ Some now → counts_fit_path route now ≡ true
+    slice_get states r ≡ Some now → seen_and_released_fit_path route now ≡ true
 counts-true [] states h r route now e f = cc
 counts-true (x ∷ routes) [] h r route now e f = cc
 counts-true (x ∷ routes) (y ∷ states) h zero route now e f =
     let same : x ≡ route = cc in
     let state : y ≡ now = cc in
-    rw (same, state) at (and_parts (counts_fit_path x y) (list_all (λ pair. counts_fit_path pair.0 pair.1) (zip routes states)) h).0
+    rw (same, state) at (and_parts (seen_and_released_fit_path x y) (list_all (λ pair. seen_and_released_fit_path pair.0 pair.1) (zip routes states)) h).0
 counts-true (x ∷ routes) (y ∷ states) h (suc r) route now e f = counts-true routes states (and_parts _ _ h).1 r route now e f
 
 counts-test : (routes : List Route) (states : List RouteState) →
     ((r : ℕ) (route : Route) (now : RouteState) → slice_get routes r ≡ Some route →
-    slice_get states r ≡ Some now → counts_fit_path route now ≡ true) →
-    list_all (λ pair. counts_fit_path pair.0 pair.1) (zip routes states) ≡ true
+    slice_get states r ≡ Some now → seen_and_released_fit_path route now ≡ true) →
+    list_all (λ pair. seen_and_released_fit_path pair.0 pair.1) (zip routes states) ≡ true
 counts-test [] states h = refl
 counts-test (x ∷ routes) [] h = refl
 counts-test (x ∷ routes) (y ∷ states) h =
     rw (h 0 x y refl refl) (counts-test routes states (λ r route now e f. h (suc r) route now e f))
 
-pub shape-true : (p : PlantLists) (s : State) → HasLengths p s → list_all (λ pair. counts_fit_path pair.0 pair.1) (zip p.routes s.routes) ≡ true → list_all (has_valid_body p) s.trains ≡ true → HasShape p s
+pub shape-true : (p : PlantLists) (s : State) → HasLengths p s → list_all (λ pair. seen_and_released_fit_path pair.0 pair.1) (zip p.routes s.routes) ≡ true → list_all (train_body_is_valid p) s.trains ≡ true → HasShape p s
 shape-true p s lengths counts bodies = record {
   routes = lengths.routes;
   points = lengths.points;
@@ -67,7 +67,7 @@ shape-true p s lengths counts bodies = record {
   bodies = bodies;
 }
 
-pub shape-tests : (p : PlantLists) (s : State) → HasShape p s → HasLengths p s × (list_all (λ pair. counts_fit_path pair.0 pair.1) (zip p.routes s.routes) ≡ true) × (list_all (has_valid_body p) s.trains ≡ true)
+pub shape-tests : (p : PlantLists) (s : State) → HasShape p s → HasLengths p s × (list_all (λ pair. seen_and_released_fit_path pair.0 pair.1) (zip p.routes s.routes) ≡ true) × (list_all (train_body_is_valid p) s.trains ≡ true)
 shape-tests p s shape = (record { routes = shape.routes; points = shape.points; boards = shape.boards; locks = shape.locks }, counts-test p.routes s.routes shape.counts, shape.bodies)
 
 pub start-shape : (p : PlantLists) → HasShape p (start p)
@@ -78,6 +78,6 @@ start-shape p = record {
   locks = length-replicate (length p.sections) Free;
   counts = λ r route now here at.
       (let free : free_route ≡ now = copied (length p.routes) r free_route now at in
-      let P : RouteState → Type 0 = λ q. counts_fit_path route q ≡ true in subst P free (counts_fit_path-from_counts route free_route (omega arith) (omega arith)));
+      let P : RouteState → Type 0 = λ q. seen_and_released_fit_path route q ≡ true in subst P free (seen_and_released_fit_path-from_counts route free_route (omega arith) (omega arith)));
   bodies = refl;
 }

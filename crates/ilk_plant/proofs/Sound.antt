@@ -9,19 +9,19 @@ use Rattle.ilk_plant.proofs.NamesDiffer.{named-once}
 use Rattle.ilk_plant.proofs.Once.{names_differ-from_places}
 use Rattle.ilk_plant.proofs.RoutesOf.{conflicts-other, route-known}
 use Rattle.ilk_plant.proofs.Rules.{network_rules-kept, table_rules-kept}
-use Rattle.ilk_plant.proofs.Walks.{never-walk_returns}
+use Rattle.ilk_plant.proofs.Walks.{never-is_on_up_cycle}
 use Rattle.ilk_plant.specs.Draft.{boards_from, names_of_boards, names_of_routes, names_of_sections, plant_from_drafts, numbered_route, numbered_section}
 use Rattle.ilk_plant.specs.Plant.{IsPlant, PlantLists}
 use Rattle.ilk_base.proofs.Once.{EachOnce}
 use Rattle.ilk_plant.specs.declared.broken.Rule.TheVariants.{N1, N2, R1}
 use Rattle.ilk_plant.specs.declared.network.Dir.TheVariants.{Up, Down}
-use Rattle.ilk_plant.specs.Sound.{AreSound, IsFromDrafts}
-use Rattle.ilk_plant.specs.Kept.{IsSound}
-use Rattle.ilk_plant.specs.TableRules.{numbered_rules_broken}
+use Rattle.ilk_plant.specs.Sound.{AreSoundDrafts, IsFromSoundDrafts}
+use Rattle.ilk_plant.specs.Kept.{IsPlantFromSoundDrafts}
+use Rattle.ilk_plant.specs.TableRules.{plant_table_rules_broken}
 use Rattle.ilk_plant.specs.declared.draft.NetDraft.{NetDraft}
 use Rattle.ilk_plant.specs.declared.draft.TableDraft.{TableDraft}
 
-pub sound-IsPlant : (net : NetDraft) (table : TableDraft) → AreSound net table → IsPlant (plant_from_drafts net table)
+pub sound-IsPlant : (net : NetDraft) (table : TableDraft) → AreSoundDrafts net table → IsPlant (plant_from_drafts net table)
 sound-IsPlant net table sound =
     let network = network_rules-kept net sound.network in
     let routes = table_rules-kept (plant_from_drafts net table) sound.routes in
@@ -57,16 +57,16 @@ sound-IsPlant net table sound =
       routes_known = route-known net table routes sound.limits.of_table.each;
     }
 
-pub plant_from_drafts-IsSound : (net : NetDraft) (table : TableDraft) → AreSound net table → IsSound (plant_from_drafts net table)
+pub plant_from_drafts-IsSound : (net : NetDraft) (table : TableDraft) → AreSoundDrafts net table → IsPlantFromSoundDrafts (plant_from_drafts net table)
 plant_from_drafts-IsSound net table sound = record {
   plant = sound-IsPlant net table sound;
-  walks = never-walk_returns net table (network_rules-kept net sound.network);
+  walks = never-is_on_up_cycle net table (network_rules-kept net sound.network);
   drafts = record { net = net; table = table; sound = sound; same = refl };
 }
 
-pub sound-of_drafts : (p : PlantLists) → IsFromDrafts p → IsSound p
-sound-of_drafts p drafts = subst IsSound (sym drafts.same) (plant_from_drafts-IsSound drafts.net drafts.table drafts.sound)
+pub sound-of_drafts : (p : PlantLists) → IsFromSoundDrafts p → IsPlantFromSoundDrafts p
+sound-of_drafts p drafts = subst IsPlantFromSoundDrafts (sym drafts.same) (plant_from_drafts-IsSound drafts.net drafts.table drafts.sound)
 
-pub table-kept : (p : PlantLists) → IsFromDrafts p → numbered_rules_broken p ≡ []
+pub table-kept : (p : PlantLists) → IsFromSoundDrafts p → plant_table_rules_broken p ≡ []
 table-kept p drafts =
-    let P : PlantLists → Type 0 = λ q. numbered_rules_broken q ≡ [] in subst P (sym drafts.same) drafts.sound.routes
+    let P : PlantLists → Type 0 = λ q. plant_table_rules_broken q ≡ [] in subst P (sym drafts.same) drafts.sound.routes

@@ -10,55 +10,55 @@ use Rattle.ilk_plant.specs.declared.broken.Rule.{Rule}
 use Rattle.ilk_plant.specs.declared.broken.Rule.TheVariants.{N1, N2, N3, N4, N5, N6, N7, N8, R1, R2, R3, R4, R5, R6, R7, R8, C1, C2, C3, C4, C5, C6, C7, C8}
 
 -- The name of a rule, and the kind of location at which it is checked.
-abbrev pub name_and_places : Rule → Name × PlaceKind
-name_and_places N1 = (codes "N1", Sections)
-name_and_places N2 = (codes "N2", Boards)
-name_and_places N3 = (codes "N3", Sections)
-name_and_places N4 = (codes "N4", Sections)
-name_and_places N5 = (codes "N5", Sections)
-name_and_places N6 = (codes "N6", Sections)
-name_and_places N7 = (codes "N7", Sections)
-name_and_places N8 = (codes "N8", Sections)
-name_and_places R1 = (codes "R1", Routes)
-name_and_places R2 = (codes "R2", Routes)
-name_and_places R3 = (codes "R3", Routes)
-name_and_places R4 = (codes "R4", Routes)
-name_and_places R5 = (codes "R5", Routes)
-name_and_places R6 = (codes "R6", Routes)
-name_and_places R7 = (codes "R7", Routes)
-name_and_places R8 = (codes "R8", Routes)
-name_and_places C1 = (codes "C1", Routes)
-name_and_places C2 = (codes "C2", Routes)
-name_and_places C3 = (codes "C3", Routes)
-name_and_places C4 = (codes "C4", Routes)
-name_and_places C5 = (codes "C5", RoutePairs)
-name_and_places C6 = (codes "C6", RoutePairs)
-name_and_places C7 = (codes "C7", Sections)
-name_and_places C8 = (codes "C8", RoutePairs)
+abbrev pub name_and_place_kind : Rule → Name × PlaceKind
+name_and_place_kind N1 = (codes "N1", Sections)
+name_and_place_kind N2 = (codes "N2", Boards)
+name_and_place_kind N3 = (codes "N3", Sections)
+name_and_place_kind N4 = (codes "N4", Sections)
+name_and_place_kind N5 = (codes "N5", Sections)
+name_and_place_kind N6 = (codes "N6", Sections)
+name_and_place_kind N7 = (codes "N7", Sections)
+name_and_place_kind N8 = (codes "N8", Sections)
+name_and_place_kind R1 = (codes "R1", Routes)
+name_and_place_kind R2 = (codes "R2", Routes)
+name_and_place_kind R3 = (codes "R3", Routes)
+name_and_place_kind R4 = (codes "R4", Routes)
+name_and_place_kind R5 = (codes "R5", Routes)
+name_and_place_kind R6 = (codes "R6", Routes)
+name_and_place_kind R7 = (codes "R7", Routes)
+name_and_place_kind R8 = (codes "R8", Routes)
+name_and_place_kind C1 = (codes "C1", Routes)
+name_and_place_kind C2 = (codes "C2", Routes)
+name_and_place_kind C3 = (codes "C3", Routes)
+name_and_place_kind C4 = (codes "C4", Routes)
+name_and_place_kind C5 = (codes "C5", RoutePairs)
+name_and_place_kind C6 = (codes "C6", RoutePairs)
+name_and_place_kind C7 = (codes "C7", Sections)
+name_and_place_kind C8 = (codes "C8", RoutePairs)
 
 abbrev pub rule_word : Rule → Name
-rule_word rule = (name_and_places rule).0
+rule_word rule = (name_and_place_kind rule).0
 
-abbrev pub places_of : Rule → PlaceKind
-places_of rule = (name_and_places rule).1
+abbrev pub place_kind_of : Rule → PlaceKind
+place_kind_of rule = (name_and_place_kind rule).1
 
 -- The word for locations; both of a pair of routes are routes.
-abbrev pub places_word : PlaceKind → Name
-places_word Sections = codes "sections"
-places_word Boards = codes "boards"
-places_word Routes = codes "routes"
-places_word RoutePairs = codes "routes"
+abbrev pub place_kind_word : PlaceKind → Name
+place_kind_word Sections = codes "sections"
+place_kind_word Boards = codes "boards"
+place_kind_word Routes = codes "routes"
+place_kind_word RoutePairs = codes "routes"
 
 -- The rule, at each number below `n` at which it is violated.
-abbrev pub broken_at : Rule → ℕ → (ℕ → Bool) → List Broken
-broken_at rule n is_broken =
+abbrev pub broken_below : Rule → ℕ → (ℕ → Bool) → List Broken
+broken_below rule n is_broken =
     map (λ i. record { rule = rule; first = i; second = None }) (filter is_broken (range_with_len 0 n))
 
 -- Each of these rules, at each of its locations at which it is violated; `count` has the number of
 -- locations of each kind.
-abbrev pub broken_rules_at : List Rule → (PlaceKind → ℕ) → (Rule → ℕ → Bool) → List Broken
-broken_rules_at rules count breaks =
-    flat_map (λ rule. broken_at rule (count (places_of rule)) (breaks rule)) rules
+abbrev pub broken_for_rules : List Rule → (PlaceKind → ℕ) → (Rule → ℕ → Bool) → List Broken
+broken_for_rules rules count breaks =
+    flat_map (λ rule. broken_below rule (count (place_kind_of rule)) (breaks rule)) rules
 
 -- The rule, at each pair of numbers below `n` at which it is violated, ordered by the first number
 -- and then the second.

@@ -49,34 +49,34 @@ names_of_routes routes = map (λ route. route.name) routes
 
 -- The number of a name: the first number with this name, or the count of the names if the name is
 -- unknown.
-abbrev pub number_of : List Name → Name → ℕ
-number_of names name = unwrap_or (first_number_named names name) (length names)
+abbrev pub number_or_len : List Name → Name → ℕ
+number_or_len names name = unwrap_or (first_number_named names name) (length names)
 
 -- Returns whether an earlier name equals name `i`.
-abbrev pub is_duplicate : List Name → ℕ → Bool
-is_duplicate names i = is_some_and (slice_get names i) (λ name. list_any (bytes_eq name) (take i names))
+abbrev pub repeats_earlier_name : List Name → ℕ → Bool
+repeats_earlier_name names i = is_some_and (slice_get names i) (λ name. list_any (bytes_eq name) (take i names))
 
 -- A section with numbers in place of names.
 abbrev pub numbered_section : List Name → List Name → KindDraft → Section
 numbered_section sections boards (LinearDraft down up board_down board_up) =
-    Linear (option_map (number_of sections) down) (option_map (number_of sections) up) (option_map (number_of boards) board_down) (option_map (number_of boards) board_up)
+    Linear (option_map (number_or_len sections) down) (option_map (number_or_len sections) up) (option_map (number_or_len boards) board_down) (option_map (number_or_len boards) board_up)
 numbered_section sections boards (PointDraft stem plus minus faces) =
-    Point (number_of sections stem) (number_of sections plus) (number_of sections minus) faces
+    Point (number_or_len sections stem) (number_or_len sections plus) (number_or_len sections minus) faces
 
 abbrev pub numbered_point : List Name → ListedDraft → Listed
-numbered_point sections listed = record { point = number_of sections listed.point; at = listed.at }
+numbered_point sections listed = record { point = number_or_len sections listed.point; at = listed.at }
 
 -- A route with numbers in place of names.
 abbrev pub numbered_route : List Name → List Name → List Name → RouteDraft → Route
 numbered_route sections boards routes route = record {
-  source = number_of boards route.source;
-  destination = option_map (number_of boards) route.destination;
-  path = map (number_of sections) route.path;
-  overlap = map (number_of sections) route.overlap;
+  source = number_or_len boards route.source;
+  destination = option_map (number_or_len boards) route.destination;
+  path = map (number_or_len sections) route.path;
+  overlap = map (number_or_len sections) route.overlap;
   points = map (numbered_point sections) route.points;
-  conflicts = map (number_of routes) route.conflicts;
+  conflicts = map (number_or_len routes) route.conflicts;
   protecting_points = map (numbered_point sections) route.protecting_points;
-  protecting_boards = map (number_of boards) route.protecting_boards;
+  protecting_boards = map (number_or_len boards) route.protecting_boards;
 }
 
 -- The plant of a network and a table: their sections, boards and routes in order, with numbers in

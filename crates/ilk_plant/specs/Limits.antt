@@ -2,7 +2,7 @@
 use Rattle.std.specs.Prelude.{ℕ, ◌≤◌, ◌&&◌, Bool, IsTrue, length, nat_le}
 use Rattle.std.specs.List.{list_all}
 use Rattle.ilk_plant.specs.Name.{is_name, is_name_if_given, is_between}
-use Rattle.ilk_plant.specs.declared.limits.TheConstants.{MAX_CONFLICTS, MAX_OVERLAP, MAX_PATH, MAX_POINTS, MAX_PROTECTING_BOARDS, MAX_PROTECTING_POINTS, MAX_ROUTES, MAX_SECTIONS}
+use Rattle.ilk_plant.specs.declared.limits.TheConstants.{MAX_ROUTE_CONFLICTS, MAX_OVERLAP, MAX_PATH, MAX_ROUTE_POINTS, MAX_PROTECTING_BOARDS, MAX_PROTECTING_POINTS, MAX_ROUTES, MAX_SECTIONS}
 use Rattle.ilk_plant.specs.declared.draft.KindDraft.{KindDraft}
 use Rattle.ilk_plant.specs.declared.draft.KindDraft.TheVariants.{Linear, Point}
 use Rattle.ilk_plant.specs.declared.draft.NetDraft.{NetDraft}
@@ -11,18 +11,18 @@ use Rattle.ilk_plant.specs.declared.draft.SectionDraft.{SectionDraft}
 use Rattle.ilk_plant.specs.declared.draft.TableDraft.{TableDraft}
 
 -- Returns whether the texts of neighbours and boards are names.
-abbrev pub kind_has_names : KindDraft → Bool
-kind_has_names (Linear down up board_down board_up) =
+abbrev pub neighbour_and_board_names_valid : KindDraft → Bool
+neighbour_and_board_names_valid (Linear down up board_down board_up) =
     is_name_if_given down && is_name_if_given up && is_name_if_given board_down && is_name_if_given board_up
-kind_has_names (Point stem plus minus faces) = is_name stem && is_name plus && is_name minus
+neighbour_and_board_names_valid (Point stem plus minus faces) = is_name stem && is_name plus && is_name minus
 
 -- Returns whether each text of a section is a name.
-abbrev pub section_has_names : SectionDraft → Bool
-section_has_names section = is_name section.name && kind_has_names section.kind
+abbrev pub section_names_valid : SectionDraft → Bool
+section_names_valid section = is_name section.name && neighbour_and_board_names_valid section.kind
 
 -- Returns whether each text of a route is a name.
-abbrev pub route_has_names : RouteDraft → Bool
-route_has_names route =
+abbrev pub route_names_valid : RouteDraft → Bool
+route_names_valid route =
     is_name route.name
     && is_name route.source
     && is_name_if_given route.destination
@@ -35,12 +35,12 @@ route_has_names route =
 
 -- Returns whether a route's path has at least one section, and its path and lists are within their
 -- limits.
-abbrev pub route_has_limits : RouteDraft → Bool
-route_has_limits route =
+abbrev pub route_within_limits : RouteDraft → Bool
+route_within_limits route =
     is_between 1 MAX_PATH (length route.path)
     && nat_le (length route.overlap) MAX_OVERLAP
-    && nat_le (length route.points) MAX_POINTS
-    && nat_le (length route.conflicts) MAX_CONFLICTS
+    && nat_le (length route.points) MAX_ROUTE_POINTS
+    && nat_le (length route.conflicts) MAX_ROUTE_CONFLICTS
     && nat_le (length route.protecting_points) MAX_PROTECTING_POINTS
     && nat_le (length route.protecting_boards) MAX_PROTECTING_BOARDS
 
@@ -50,19 +50,19 @@ counts_are_allowed sections routes = is_between 1 MAX_SECTIONS sections && nat_l
 
 -- Holds if a network has at least one section and no more than allowed, and each of their texts is
 -- a name.
-pub record NetworkHasLimits (net : NetDraft) : Type 0 where
+pub record NetworkWithinLimits (net : NetDraft) : Type 0 where
   pub some : 1 ≤ length net.sections
   pub few : length net.sections ≤ MAX_SECTIONS
-  pub named : IsTrue (list_all section_has_names net.sections)
+  pub named : IsTrue (list_all section_names_valid net.sections)
 
 -- Holds if a table has no more routes than allowed, each within its own limits, and each of their
 -- texts is a name.
-pub record TableHasLimits (table : TableDraft) : Type 0 where
+pub record TableWithinLimits (table : TableDraft) : Type 0 where
   pub few : length table.routes ≤ MAX_ROUTES
-  pub each : IsTrue (list_all route_has_limits table.routes)
-  pub named : IsTrue (list_all route_has_names table.routes)
+  pub each : IsTrue (list_all route_within_limits table.routes)
+  pub named : IsTrue (list_all route_names_valid table.routes)
 
 -- Holds if a network and its table are within the limits.
-pub record HasLimits (net : NetDraft) (table : TableDraft) : Type 0 where
-  pub of_network : NetworkHasLimits net
-  pub of_table : TableHasLimits table
+pub record WithinLimits (net : NetDraft) (table : TableDraft) : Type 0 where
+  pub of_network : NetworkWithinLimits net
+  pub of_table : TableWithinLimits table

@@ -31,12 +31,12 @@ is_point (Linear down up board_down board_up) = false
 is_point (Point stem plus minus faces) = true
 
 -- The inward direction of a border, which is a linear section with exactly one neighbour missing.
-abbrev pub inward : Section → Option Dir
-inward (Linear None (Some y) board_down board_up) = Some Up
-inward (Linear (Some y) None board_down board_up) = Some Down
-inward (Linear None None board_down board_up) = None
-inward (Linear (Some y) (Some z) board_down board_up) = None
-inward (Point stem plus minus faces) = None
+abbrev pub inward_if_border : Section → Option Dir
+inward_if_border (Linear None (Some y) board_down board_up) = Some Up
+inward_if_border (Linear (Some y) None board_down board_up) = Some Down
+inward_if_border (Linear None None board_down board_up) = None
+inward_if_border (Linear (Some y) (Some z) board_down board_up) = None
+inward_if_border (Point stem plus minus faces) = None
 
 -- Returns whether a list of sections contains section `x`.
 abbrev pub has_section : ℕ → List ℕ → Bool

@@ -1,10 +1,10 @@
 -- The plant: its numbered sections, boards and routes, with their names.
 use Rattle.std.specs.Prelude.{ℕ, ◌<◌, ◌≤◌, ◌≡◌, ◌≢◌, ◌↔◌, Bool, false, Option, Some, None, IsSome, List, [], ◌++◌, length, map, take, slice_get, count_by, position, bytes_eq, IsTrue, All}
-use Rattle.ilk_base.specs.Option.{◌>>=◌, is_some_and, only_if}
+use Rattle.ilk_base.specs.Option.{◌>>=◌, is_some_and, then_some}
 use Rattle.ilk_plant.specs.Name.{IsName}
 use Rattle.ilk_plant.specs.Once.{names_differ, numbers_differ}
-use Rattle.ilk_plant.specs.Network.{neighbours_on, board_on, has_section, inward, is_point}
-use Rattle.ilk_plant.specs.declared.limits.TheConstants.{MAX_BOARDS, MAX_CONFLICTS, MAX_OVERLAP, MAX_PATH, MAX_POINTS, MAX_PROTECTING_BOARDS, MAX_PROTECTING_POINTS, MAX_ROUTES, MAX_SECTIONS}
+use Rattle.ilk_plant.specs.Network.{neighbours_on, board_on, has_section, inward_if_border, is_point}
+use Rattle.ilk_plant.specs.declared.limits.TheConstants.{MAX_BOARDS, MAX_ROUTE_CONFLICTS, MAX_OVERLAP, MAX_PATH, MAX_ROUTE_POINTS, MAX_PROTECTING_BOARDS, MAX_PROTECTING_POINTS, MAX_ROUTES, MAX_SECTIONS}
 use Rattle.ilk_plant.specs.declared.network.Dir.{Dir}
 use Rattle.ilk_plant.specs.declared.network.Dir.TheVariants.{Up, Down}
 use Rattle.ilk_plant.specs.declared.network.Section.{Section}
@@ -42,16 +42,16 @@ is_point_section p x = is_some_and (slice_get p.sections x) is_point
 abbrev pub point_number : PlantLists → ℕ → Option ℕ
 point_number p x = do
   section ← slice_get p.sections x
-  only_if (is_point section) (count_by is_point (take x p.sections))
+  then_some (is_point section) (count_by is_point (take x p.sections))
 
 abbrev pub point_count : PlantLists → ℕ
 point_count p = count_by is_point p.sections
 
 -- The inward direction of section `x`, if it is a border.
-abbrev pub border : PlantLists → ℕ → Option Dir
-border p x = do
+abbrev pub section_inward_if_border : PlantLists → ℕ → Option Dir
+section_inward_if_border p x = do
   section ← slice_get p.sections x
-  inward section
+  inward_if_border section
 
 -- The first number with the name.
 abbrev pub first_number_named : List (List ℕ) → List ℕ → Option ℕ
@@ -59,7 +59,7 @@ first_number_named names name = position (bytes_eq name) names
 
 -- Holds if the route refers to sections, boards and routes of the plant, within the limits, and to
 -- each once.
-pub record IsRouteOf (p : PlantLists) (route : Route) : Type 0 where
+pub record IsValidRouteOf (p : PlantLists) (route : Route) : Type 0 where
   pub source : route.source < length p.boards
   pub destination : (m : ℕ) → route.destination ≡ Some m → m < length p.boards
   pub path : All (λ x. x < length p.sections) route.path
@@ -81,8 +81,8 @@ pub record IsRouteOf (p : PlantLists) (route : Route) : Type 0 where
   pub path_begins : 0 < length route.path
   pub path_ends : length route.path ≤ MAX_PATH
   pub short_overlap : length route.overlap ≤ MAX_OVERLAP
-  pub few_points : length route.points ≤ MAX_POINTS
-  pub few_conflicts : length route.conflicts ≤ MAX_CONFLICTS
+  pub few_points : length route.points ≤ MAX_ROUTE_POINTS
+  pub few_conflicts : length route.conflicts ≤ MAX_ROUTE_CONFLICTS
   pub few_protecting_points : length route.protecting_points ≤ MAX_PROTECTING_POINTS
   pub few_protecting_boards : length route.protecting_boards ≤ MAX_PROTECTING_BOARDS
 
@@ -115,5 +115,5 @@ pub record IsPlant (p : PlantLists) : Type 0 where
   pub boards_listed : (x m : ℕ) (d : Dir) → (board_of p x d ≡ Some m) ↔ (slice_get p.boards m ≡ Some (record { section = x; dir = d }))
   pub boards_lead_on : (x m : ℕ) (d : Dir) → board_of p x d ≡ Some m → 0 < length (next_to p x d)
   -- Routes refer to existing items, and conflict only with other routes.
-  pub routes_known : (r : ℕ) (route : Route) → slice_get p.routes r ≡ Some route → IsRouteOf p route
+  pub routes_known : (r : ℕ) (route : Route) → slice_get p.routes r ≡ Some route → IsValidRouteOf p route
   pub conflicts_other : (r : ℕ) (route : Route) → slice_get p.routes r ≡ Some route → All (λ q. q ≢ r) route.conflicts

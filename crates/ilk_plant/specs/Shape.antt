@@ -10,22 +10,22 @@ use Rattle.ilk_plant.specs.declared.state.Train.{Train}
 use Rattle.ilk_plant.specs.declared.table.Route.{Route}
 
 -- Returns whether the counts of seen and of released path sections are at most the path's length.
-abbrev pub counts_fit_path : Route → RouteState → Bool
-counts_fit_path route now = nat_le now.seen (length route.path) && nat_le now.rel (length route.path)
+abbrev pub seen_and_released_fit_path : Route → RouteState → Bool
+seen_and_released_fit_path route now = nat_le now.seen (length route.path) && nat_le now.rel (length route.path)
 
 -- Returns whether each section of the rest is next to the one before, in direction `d`.
-abbrev pub is_connected : PlantLists → Dir → ℕ → List ℕ → Bool
-is_connected p d x [] = true
-is_connected p d x (y ∷ rest) = has_section y (next_to p x d) && is_connected p d y rest
+abbrev pub is_connected_chain : PlantLists → Dir → ℕ → List ℕ → Bool
+is_connected_chain p d x [] = true
+is_connected_chain p d x (y ∷ rest) = has_section y (next_to p x d) && is_connected_chain p d y rest
 
 -- Returns whether a train has a body: it is not empty, begins at a section of the plant, and
 -- continues in the train's direction.
-abbrev pub has_valid_body : PlantLists → Train → Bool
-has_valid_body p train = is_body_of train.body
+abbrev pub train_body_is_valid : PlantLists → Train → Bool
+train_body_is_valid p train = is_body_of train.body
   where
     is_body_of : List ℕ → Bool
     is_body_of [] = false
-    is_body_of (x ∷ rest) = nat_lt x (length p.sections) && is_connected p train.dir x rest
+    is_body_of (x ∷ rest) = nat_lt x (length p.sections) && is_connected_chain p train.dir x rest
 
 -- Holds if the state's lists have the plant's lengths, its counts fit the paths, and each train has
 -- a body.
@@ -34,5 +34,5 @@ pub record HasShape (p : PlantLists) (s : State) : Type 0 where
   pub points : length s.points ≡ point_count p
   pub boards : length s.boards ≡ length p.boards
   pub locks : length s.locks ≡ length p.sections
-  pub counts : (r : ℕ) (route : Route) (now : RouteState) → slice_get p.routes r ≡ Some route → slice_get s.routes r ≡ Some now → IsTrue (counts_fit_path route now)
-  pub bodies : IsTrue (list_all (has_valid_body p) s.trains)
+  pub counts : (r : ℕ) (route : Route) (now : RouteState) → slice_get p.routes r ≡ Some route → slice_get s.routes r ≡ Some now → IsTrue (seen_and_released_fit_path route now)
+  pub bodies : IsTrue (list_all (train_body_is_valid p) s.trains)

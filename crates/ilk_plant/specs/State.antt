@@ -20,12 +20,12 @@ same_hold Used Used = true
 same_hold a b = false
 
 -- Returns whether section `x` has this lock.
-abbrev pub has_lock : State → ℕ → Hold → Bool
-has_lock s x hold = is_some_and (slice_get s.locks x) (λ lock. same_hold lock hold)
+abbrev pub has_lock_state : State → ℕ → Hold → Bool
+has_lock_state s x hold = is_some_and (slice_get s.locks x) (λ lock. same_hold lock hold)
 
 -- Returns whether section `x` has lock Free and is vacant.
-abbrev pub is_clear : State → ℕ → Bool
-is_clear s x = has_lock s x Free && not (is_occupied s x)
+abbrev pub is_unlocked_and_vacant : State → ℕ → Bool
+is_unlocked_and_vacant s x = has_lock_state s x Free && not (is_occupied s x)
 
 -- The detected position of the point on section `x`, or `None` if `x` is not a point.
 abbrev pub detected_position : PlantLists → State → ℕ → Option Lie

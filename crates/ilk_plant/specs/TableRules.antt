@@ -3,9 +3,9 @@
 -- which is not the number of an item.
 use Rattle.std.specs.Prelude.{ℕ, Bool, true, false, not, Option, Some, None, List, [], ◌∷◌, ◌++◌, ◌&&◌, ◌==◌, nat_lt, length, map, slice_get}
 use Rattle.std.specs.List.{list_all}
-use Rattle.ilk_plant.specs.Broken.{broken_rules_at}
+use Rattle.ilk_plant.specs.Broken.{broken_for_rules}
 use Rattle.ilk_base.specs.Option.{is_some_and}
-use Rattle.ilk_plant.specs.Draft.{is_duplicate, plant_from_drafts}
+use Rattle.ilk_plant.specs.Draft.{repeats_earlier_name, plant_from_drafts}
 use Rattle.ilk_plant.specs.Network.{has_section}
 use Rattle.ilk_plant.specs.Once.{numbers_differ}
 use Rattle.ilk_plant.specs.Plant.{PlantLists, is_point_section}
@@ -89,7 +89,7 @@ table_rules = R1 ∷ R2 ∷ R3 ∷ R4 ∷ R5 ∷ R6 ∷ R7 ∷ R8 ∷ []
 
 -- Returns whether a rule of the table is violated at its location `i`.
 abbrev pub breaks_table : PlantLists → Rule → ℕ → Bool
-breaks_table p R1 = is_duplicate p.route_names
+breaks_table p R1 = repeats_earlier_name p.route_names
 breaks_table p R2 = route_fails p (has_source p)
 breaks_table p R3 = route_fails p (has_sections_once p)
 breaks_table p R4 = route_fails p (has_points_once p)
@@ -100,9 +100,9 @@ breaks_table p R8 = route_fails p (has_protecting_boards_once p)
 breaks_table p _ = λ i. false
 
 -- The violated rules of the table, in order.
-abbrev pub numbered_rules_broken : PlantLists → List Broken
-numbered_rules_broken p = broken_rules_at table_rules (count_in_plant p) (breaks_table p)
+abbrev pub plant_table_rules_broken : PlantLists → List Broken
+plant_table_rules_broken p = broken_for_rules table_rules (count_in_plant p) (breaks_table p)
 
 -- The violated rules of a network's table, in order.
 abbrev pub table_rules_broken : NetDraft → TableDraft → List Broken
-table_rules_broken net table = numbered_rules_broken (plant_from_drafts net table)
+table_rules_broken net table = plant_table_rules_broken (plant_from_drafts net table)

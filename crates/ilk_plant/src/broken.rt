@@ -1,8 +1,8 @@
 ghost use Rattle.std.specs.Prelude.{◌≡◌, ◌∷◌, [], ◌++◌, if◌then◌else◌, OnErr, OnOk};
-ghost use Rattle.ilk_plant.specs.Broken.{name_and_places, places_of};
+ghost use Rattle.ilk_plant.specs.Broken.{name_and_place_kind, place_kind_of};
 
 use crate::Row;
-use ilk_base::Worded;
+use ilk_base::HasWord;
 use std::alloc::AllocError;
 
 /// A rule of the network (N), of the interlocking table (R) or of its columns (C).
@@ -44,9 +44,9 @@ pub enum PlaceKind {
 }
 
 impl Rule {
-    fn name_and_places(self) -> (&'static str, PlaceKind)
-        ensures name { result.0.now ≡ (name_and_places self).0 }
-        ensures places { result.1 ≡ (name_and_places self).1 }
+    fn name_and_place_kind(self) -> (&'static str, PlaceKind)
+        ensures name { result.0.now ≡ (name_and_place_kind self).0 }
+        ensures places { result.1 ≡ (name_and_place_kind self).1 }
     {
         match self {
             Rule::N1 => ("N1", PlaceKind::Sections),
@@ -78,26 +78,26 @@ impl Rule {
 
     /// Returns the kind of location at which the rule is checked.
     pub fn places(self) -> PlaceKind
-        ensures { result ≡ places_of self }
+        ensures { result ≡ place_kind_of self }
     {
-        self.name_and_places().1
+        self.name_and_place_kind().1
     }
 }
 
-impl Worded for Rule {
+impl HasWord for Rule {
     ghost use Rattle.ilk_plant.specs.Broken.{rule_word};
 
     ghost word_of = { rule_word };
 
     fn word(self) -> &'static str {
-        self.name_and_places().0
+        self.name_and_place_kind().0
     }
 }
 
-impl Worded for PlaceKind {
-    ghost use Rattle.ilk_plant.specs.Broken.{places_word};
+impl HasWord for PlaceKind {
+    ghost use Rattle.ilk_plant.specs.Broken.{place_kind_word};
 
-    ghost word_of = { places_word };
+    ghost word_of = { place_kind_word };
 
     fn word(self) -> &'static str {
         match self {

@@ -6,7 +6,7 @@
 //! interlocking systems featuring sequential release", Science of Computer Programming 133 (2017).
 //!
 //! A configuration is read into drafts, which use names (`draft`). `NetNames` has the names of a
-//! network by number. `NumberedDrafts` has the drafts with numbers in place of names. Both are
+//! network by number. `NumberedNetAndTable` has the drafts with numbers in place of names. Both are
 //! built once and passed on. `Plant::from_numbered` creates the plant of numbered drafts that
 //! violate no rule, so a plant keeps the rules as facts. `Plant::make` does all three steps.
 //!
@@ -37,16 +37,16 @@ mod words;
 
 pub use broken::{Broken, PlaceKind, Rule, push_broken_if};
 pub use draft::{KindDraft, ListedDraft, NetDraft, RouteDraft, SectionDraft, TableDraft};
-pub use ilk_base::{Row, Text, Worded};
+pub use ilk_base::{HasWord, Row, Text};
 pub use limits::{
-    MAX_BOARDS, MAX_CONFLICTS, MAX_NAME, MAX_OVERLAP, MAX_PATH, MAX_POINTS, MAX_PROTECTING_BOARDS,
-    MAX_PROTECTING_POINTS, MAX_ROUTES, MAX_SECTIONS,
+    MAX_BOARDS, MAX_NAME, MAX_OVERLAP, MAX_PATH, MAX_PROTECTING_BOARDS, MAX_PROTECTING_POINTS,
+    MAX_ROUTE_CONFLICTS, MAX_ROUTE_POINTS, MAX_ROUTES, MAX_SECTIONS,
 };
-pub use locks::{has_lock, is_clear};
+pub use locks::{has_lock_state, is_unlocked_and_vacant};
 pub use names::Names;
 pub use net_names::NetNames;
 pub use network::{Board, Dir, Position, Section};
-pub use numbered_drafts::NumberedDrafts;
+pub use numbered_drafts::NumberedNetAndTable;
 pub use occupancy::{has_section, occupied};
 pub use plant::Plant;
 pub use points::{detected_position, is_leg, point_number_at};

@@ -16,10 +16,10 @@ pub const MAX_PATH: u64 = 32;
 pub const MAX_OVERLAP: u64 = 8;
 
 /// The maximum number of points that a route lists.
-pub const MAX_POINTS: u64 = 40;
+pub const MAX_ROUTE_POINTS: u64 = 40;
 
 /// The maximum number of conflicts that a route lists.
-pub const MAX_CONFLICTS: u64 = 256;
+pub const MAX_ROUTE_CONFLICTS: u64 = 256;
 
 /// The maximum number of protecting points of a route.
 pub const MAX_PROTECTING_POINTS: u64 = 8;

@@ -1,11 +1,11 @@
 ghost use Rattle.std.specs.Prelude.{◌≡◌};
-ghost use Rattle.ilk_plant.specs.State.{has_lock, is_clear};
+ghost use Rattle.ilk_plant.specs.State.{has_lock_state, is_unlocked_and_vacant};
 
 use crate::{Hold, State, occupied};
 
 /// Returns whether section `x` has lock `hold`. Returns `false` if `x` is not a section.
-pub fn has_lock(s: &State, x: u32, hold: Hold) -> bool
-    ensures { result ≡ has_lock s.now x hold }
+pub fn has_lock_state(s: &State, x: u32, hold: Hold) -> bool
+    ensures { result ≡ has_lock_state s.now x hold }
 {
     match s.locks.as_slice().get(x as usize) {
         Some(lock) => *lock == hold,
@@ -14,8 +14,8 @@ pub fn has_lock(s: &State, x: u32, hold: Hold) -> bool
 }
 
 /// Returns whether section `x` has lock Free and is vacant.
-pub fn is_clear(s: &State, x: u32) -> bool
-    ensures { result ≡ is_clear s.now x }
+pub fn is_unlocked_and_vacant(s: &State, x: u32) -> bool
+    ensures { result ≡ is_unlocked_and_vacant s.now x }
 {
-    has_lock(s, x, Hold::Free) && !occupied(s, x)
+    has_lock_state(s, x, Hold::Free) && !occupied(s, x)
 }

@@ -1,5 +1,5 @@
 ghost use Rattle.std.specs.Prelude.{◌≡◌, ◌<◌, ◌≤◌, IfOk, IfSome, Some, length, option_map, slice_get};
-ghost use Rattle.ilk_plant.specs.Draft.{is_duplicate, number_of};
+ghost use Rattle.ilk_plant.specs.Draft.{repeats_earlier_name, number_or_len};
 ghost use Rattle.ilk_plant.specs.Plant.{first_number_named};
 ghost use Rattle.ilk_plant.specs.Names.{IsIndexOf};
 ghost use Rattle.ilk_plant.specs.declared.limits.TheConstants.{MAX_BOARDS};
@@ -87,8 +87,8 @@ impl Names {
     }
 
     /// Returns the first number with this name, or the count of names if there is none.
-    pub fn number_of(&self, name: &Text) -> u32
-        ensures { result ≡ number_of self.now name.now }
+    pub fn number_or_len(&self, name: &Text) -> u32
+        ensures { result ≡ number_or_len self.now name.now }
     {
         match self.number(name.as_str()) {
             Some(n) => n,
@@ -98,17 +98,17 @@ impl Names {
 
     /// Returns the number of the name if there is a name.
     pub fn number_if_named(&self, name: &Option<Text>) -> Option<u32>
-        ensures { result ≡ option_map (number_of self.now) name.now }
+        ensures { result ≡ option_map (number_or_len self.now) name.now }
     {
         match name {
-            Some(name) => Some(self.number_of(name)),
+            Some(name) => Some(self.number_or_len(name)),
             None => None,
         }
     }
 
     /// Returns whether an earlier name equals name `i`; `false` if there is no name `i`.
-    pub fn is_duplicate(&self, i: u32) -> bool
-        ensures { result ≡ is_duplicate self.now i }
+    pub fn repeats_earlier_name(&self, i: u32) -> bool
+        ensures { result ≡ repeats_earlier_name self.now i }
     {
         if i >= self.len() {
             return false;

@@ -1,5 +1,5 @@
 ghost use Rattle.std.specs.Prelude.{◌≡◌, slice_get};
-ghost use Rattle.ilk_plant.specs.Network.{neighbours_on, board_on, inward, is_point};
+ghost use Rattle.ilk_plant.specs.Network.{neighbours_on, board_on, inward_if_border, is_point};
 
 /// A running direction, the same for the whole network.
 #[derive(Clone, Copy, PartialEq, Eq, Debug)]
@@ -46,7 +46,7 @@ pub struct Board {
 impl Section {
     /// Returns entry `i`, from 0, of the sections on side `d`. If the section is a point that faces
     /// `d`, these are plus, then minus. Returns `None` if there is no such entry.
-    pub fn neighbour_on(&self, d: Dir, i: u32) -> Option<u32>
+    pub fn nth_neighbour_on(&self, d: Dir, i: u32) -> Option<u32>
         ensures { result ≡ slice_get (neighbours_on self.now d) i }
     {
         match (self, i) {
@@ -88,8 +88,8 @@ impl Section {
 
     /// Returns the inward direction of a border, a linear section with exactly one neighbour
     /// missing: the direction of its neighbour. Returns `None` if the section is not a border.
-    pub fn inward(&self) -> Option<Dir>
-        ensures { result ≡ inward self.now }
+    pub fn inward_if_border(&self) -> Option<Dir>
+        ensures { result ≡ inward_if_border self.now }
     {
         match self {
             Section::Linear {

@@ -1,5 +1,5 @@
 ghost use Rattle.std.specs.Prelude.{◌≡◌, ◌≤◌, ◌<◌, IfOk, Some, length, map, slice_get};
-ghost use Rattle.ilk_plant.specs.Draft.{is_duplicate, names_of_routes, plant_from_drafts, numbered_route, numbered_section};
+ghost use Rattle.ilk_plant.specs.Draft.{repeats_earlier_name, names_of_routes, plant_from_drafts, numbered_route, numbered_section};
 ghost use Rattle.ilk_plant.specs.TableRules.{count_in_plant, is_board, is_other_route, is_section};
 ghost use Rattle.ilk_plant.specs.Plant.{is_point_section};
 ghost use Rattle.ilk_plant.specs.Kept.{point_numbers};
@@ -15,7 +15,7 @@ use std::marker::Model;
 /// A network and an interlocking table with numbers in place of names, as in a plant. No rule is
 /// known to hold. An unknown name has the count as its number.
 #[derive(Drop)]
-pub struct NumberedDrafts {
+pub struct NumberedNetAndTable {
     pub(crate) sections: Row<Section>,
     pub(crate) boards: Row<Board>,
     pub(crate) routes: Row<Route>,
@@ -24,7 +24,7 @@ pub struct NumberedDrafts {
     pub(crate) route_names: Names,
 }
 
-impl Model for NumberedDrafts {
+impl Model for NumberedNetAndTable {
     ghost use Rattle.std.specs.Prelude.{◌≡◌, ◌≤◌, length};
     ghost use Rattle.ilk_plant.specs.Plant.{PlantLists};
     ghost use Rattle.ilk_plant.specs.declared.limits.TheConstants.{MAX_BOARDS, MAX_ROUTES, MAX_SECTIONS};
@@ -90,29 +90,29 @@ fn numbered_lists(
     })
 }
 
-impl NumberedDrafts {
+impl NumberedNetAndTable {
     /// Creates the numbered network and table. Fails only if memory runs out.
     pub fn from_drafts(
         alloc: Global,
         net: &NetDraft,
         table: &TableDraft,
-    ) -> Result<NumberedDrafts, AllocError>
+    ) -> Result<NumberedNetAndTable, AllocError>
         requires few_sections { length net.now.sections ≤ MAX_SECTIONS }
         requires few_routes { length table.now.routes ≤ MAX_ROUTES }
         ensures { IfOk result (λ made. made ≡ plant_from_drafts net.now table.now) }
     {
         let names = NetNames::from_network(alloc, net)?;
-        NumberedDrafts::from_net_names(alloc, names, net, table)
+        NumberedNetAndTable::from_drafts_with_names(alloc, names, net, table)
     }
 
     /// Creates the numbered network and table from existing names of the network. Fails only if
     /// memory runs out.
-    pub fn from_net_names(
+    pub fn from_drafts_with_names(
         alloc: Global,
         names: NetNames,
         net: &NetDraft,
         table: &TableDraft,
-    ) -> Result<NumberedDrafts, AllocError>
+    ) -> Result<NumberedNetAndTable, AllocError>
         requires few_sections { length net.now.sections ≤ MAX_SECTIONS }
         requires few_routes { length table.now.routes ≤ MAX_ROUTES }
         requires named { HasNamesOf names net.now }
@@ -128,7 +128,7 @@ impl NumberedDrafts {
             board_names,
             boards,
         } = names;
-        Ok(NumberedDrafts {
+        Ok(NumberedNetAndTable {
             sections,
             boards,
             routes,
@@ -184,11 +184,11 @@ impl NumberedDrafts {
 
     /// Returns whether an earlier route has the name of route `i`; `false` if there is no route
     /// `i`.
-    pub fn is_duplicate(&self, i: u32) -> bool
-        ensures { result ≡ is_duplicate self.now.route_names i }
+    pub fn repeats_earlier_name(&self, i: u32) -> bool
+        ensures { result ≡ repeats_earlier_name self.now.route_names i }
     {
         let _ = &self.routes;
-        self.route_names.is_duplicate(i)
+        self.route_names.repeats_earlier_name(i)
     }
 
     /// Returns whether `m` is the number of a board.

@@ -1,5 +1,5 @@
 ghost use Rattle.std.specs.Prelude.{◌≡◌, ◌≤◌, ◌<◌, ◌++◌, IfOk, OnOk, length, map};
-ghost use Rattle.ilk_plant.specs.Draft.{boards_from, boards_on, names_of_boards, names_of_routes, names_of_sections, number_of, numbered_point, numbered_route, numbered_section, board_if_named};
+ghost use Rattle.ilk_plant.specs.Draft.{boards_from, boards_on, names_of_boards, names_of_routes, names_of_sections, number_or_len, numbered_point, numbered_route, numbered_section, board_if_named};
 ghost use Rattle.ilk_plant.specs.declared.limits.TheConstants.{MAX_BOARDS, MAX_SECTIONS, MAX_ROUTES};
 
 use crate::names::Names;
@@ -104,11 +104,11 @@ pub fn named_boards(alloc: Global, sections: &Row<SectionDraft>) -> Result<Named
 }
 
 fn numbers_of(alloc: Global, names: &Names, wanted: &Row<Text>) -> Result<Row<u32>, AllocError>
-    ensures { IfOk result (λ numbers. numbers ≡ map (number_of names.now) wanted.now) }
+    ensures { IfOk result (λ numbers. numbers ≡ map (number_or_len names.now) wanted.now) }
 {
     let mut numbers = Row::new(alloc);
     for name in wanted.as_slice() {
-        numbers.push(names.number_of(name))?;
+        numbers.push(names.number_or_len(name))?;
     }
     Ok(numbers)
 }
@@ -134,9 +134,9 @@ fn numbered_section(sections: &Names, boards: &Names, kind: &KindDraft) -> Secti
             minus,
             faces,
         } => Section::Point {
-            stem: sections.number_of(stem),
-            plus: sections.number_of(plus),
-            minus: sections.number_of(minus),
+            stem: sections.number_or_len(stem),
+            plus: sections.number_or_len(plus),
+            minus: sections.number_or_len(minus),
             faces: *faces,
         },
     }
@@ -171,7 +171,7 @@ fn numbered_points(
     let mut made = Row::new(alloc);
     for listed in points.as_slice() {
         made.push(Listed {
-            point: section_names.number_of(&listed.point),
+            point: section_names.number_or_len(&listed.point),
             at: listed.at,
         })?;
     }
@@ -190,7 +190,7 @@ fn numbered_route(
         ≡ numbered_route section_names.now board_names.now route_names.now route.now) }
 {
     Ok(Route {
-        source: board_names.number_of(&route.source),
+        source: board_names.number_or_len(&route.source),
         destination: board_names.number_if_named(&route.destination),
         path: numbers_of(alloc, section_names, &route.path)?,
         overlap: numbers_of(alloc, section_names, &route.overlap)?,

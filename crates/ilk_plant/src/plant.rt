@@ -1,8 +1,8 @@
 ghost use Rattle.std.specs.Prelude.{◌≡◌, ◌<◌, length, slice_get, Some, IfOk, IfSome};
-ghost use Rattle.ilk_plant.specs.Sound.{IsFromDrafts, NoWalkReturns};
-ghost use Rattle.ilk_plant.specs.Plant.{IsPlant, IsRouteOf, board_of, border, first_number_named, next_to, point_count, point_number};
+ghost use Rattle.ilk_plant.specs.Sound.{IsFromSoundDrafts, IsAcyclic};
+ghost use Rattle.ilk_plant.specs.Plant.{IsPlant, IsValidRouteOf, board_of, section_inward_if_border, first_number_named, next_to, point_count, point_number};
 
-use crate::{Board, Dir, NumberedDrafts, Route, Row, Section};
+use crate::{Board, Dir, NumberedNetAndTable, Route, Row, Section};
 use std::alloc::{AllocError, Global};
 use std::marker::Model;
 
@@ -15,27 +15,27 @@ use std::marker::Model;
 /// interlocking table.
 #[derive(Drop)]
 pub struct Plant {
-    numbered: NumberedDrafts,
+    numbered: NumberedNetAndTable,
     // For each section its number among the points, if it is one.
     point_numbers: Row<Option<u32>>,
 }
 
 impl Model for Plant {
     ghost use Rattle.ilk_plant.specs.Plant.{PlantLists};
-    ghost use Rattle.ilk_plant.specs.Kept.{IsIndexed};
+    ghost use Rattle.ilk_plant.specs.Kept.{HasPointIndex};
 
     ghost Value = { PlantLists };
 
     ghost view = { λ p. p.numbered };
 
-    ghost invariant = { λ p. IsIndexed p.numbered p.point_numbers };
+    ghost invariant = { λ p. HasPointIndex p.numbered p.point_numbers };
 }
 
 impl Plant {
     /// Creates the plant of a numbered network and table, from drafts within the limits that
     /// violate no rule of the network or table. Fails only if memory runs out.
-    pub fn from_numbered(alloc: Global, numbered: NumberedDrafts) -> Result<Plant, AllocError>
-        requires { IsFromDrafts numbered }
+    pub fn from_numbered(alloc: Global, numbered: NumberedNetAndTable) -> Result<Plant, AllocError>
+        requires { IsFromSoundDrafts numbered }
         ensures { IfOk result (λ plant. plant ≡ numbered) }
     {
         let point_numbers = numbered.point_numbers(alloc)?;
@@ -46,7 +46,7 @@ impl Plant {
     }
 
     /// The numbers of every plant satisfy `IsPlant`. Proof only; no run-time effect.
-    pub fn is_sound(&self)
+    pub fn prove_is_plant(&self)
         ensures { IsPlant self.now }
     {
         let _ = &self.numbered;
@@ -54,9 +54,9 @@ impl Plant {
 
     /// Every plant comes from drafts within the limits that violate no rule, and no walk in one
     /// direction visits a section twice. Proof only; no run-time effect.
-    pub fn is_from_drafts(&self)
-        ensures drafts { IsFromDrafts self.now }
-        ensures walks { NoWalkReturns self.now }
+    pub fn prove_from_drafts(&self)
+        ensures drafts { IsFromSoundDrafts self.now }
+        ensures walks { IsAcyclic self.now }
     {
         let _ = &self.numbered;
     }
@@ -121,7 +121,7 @@ impl Plant {
     pub fn route(&self, r: u32) -> &Route
         requires { r < length self.now.routes }
         ensures route { slice_get self.now.routes r ≡ Some result.now }
-        ensures known { IsRouteOf self.now result.now }
+        ensures known { IsValidRouteOf self.now result.now }
     {
         self.numbered.route(r)
     }
@@ -143,7 +143,7 @@ impl Plant {
         ensures known { IfSome result (λ y. y < length self.now.sections) }
     {
         let _ = &self.numbered;
-        self.section(x).neighbour_on(d, i)
+        self.section(x).nth_neighbour_on(d, i)
     }
 
     /// Returns the number of the point on section `x`. Returns `None` if it is not a point.
@@ -157,11 +157,11 @@ impl Plant {
 
     /// Returns the inward direction of section `x`, in which trains enter. Returns `None` if it is
     /// not a border.
-    pub fn border(&self, x: u32) -> Option<Dir>
+    pub fn section_inward_if_border(&self, x: u32) -> Option<Dir>
         requires { x < length self.now.sections }
-        ensures { result ≡ border self.now x }
+        ensures { result ≡ section_inward_if_border self.now x }
     {
-        self.section(x).inward()
+        self.section(x).inward_if_border()
     }
 
     /// Returns the number of the section with this name, if there is one.

@@ -2,14 +2,14 @@ ghost use Rattle.std.specs.Prelude.{◌≡◌, ◌↔◌, IsTrue, zip};
 ghost use Rattle.std.specs.List.{list_all};
 ghost use Rattle.ilk_plant.specs.Network.{has_section};
 ghost use Rattle.ilk_plant.specs.Plant.{next_to};
-ghost use Rattle.ilk_plant.specs.Shape.{has_valid_body, is_connected, counts_fit_path, HasShape};
+ghost use Rattle.ilk_plant.specs.Shape.{train_body_is_valid, is_connected_chain, seen_and_released_fit_path, HasShape};
 ghost use Rattle.ilk_plant.specs.Lengths.{HasLengths};
 
 use crate::{Dir, Plant, Route, RouteState, State, Train};
 
 // Returns whether the counts of seen and of released path sections are at most the path's length.
 fn fits_path(route: &Route, now: &RouteState) -> bool
-    ensures { result ≡ counts_fit_path route.now now.now }
+    ensures { result ≡ seen_and_released_fit_path route.now now.now }
 {
     let path = route.path.len();
     now.seen as u64 <= path && now.rel as u64 <= path
@@ -28,8 +28,8 @@ impl Plant {
 
     /// Returns whether `rest` continues from `first`: each section is next to the one before in
     /// direction `d`. A number that is not a section has no neighbour.
-    pub fn is_connected(&self, d: Dir, first: u32, rest: &[u32]) -> bool
-        ensures { result ≡ is_connected self.now d first rest.now }
+    pub fn is_connected_chain(&self, d: Dir, first: u32, rest: &[u32]) -> bool
+        ensures { result ≡ is_connected_chain self.now d first rest.now }
     {
         let mut x = first;
         for y in rest {
@@ -43,19 +43,20 @@ impl Plant {
 
     /// Returns whether a train has a body: it is not empty, begins at a section of the plant, and
     /// continues in the train's direction.
-    pub fn has_valid_body(&self, train: &Train) -> bool
-        ensures { result ≡ has_valid_body self.now train.now }
+    pub fn train_body_is_valid(&self, train: &Train) -> bool
+        ensures { result ≡ train_body_is_valid self.now train.now }
     {
         match train.body.as_slice() {
             [] => false,
             [first, rest @ ..] => *first < self.sections()
-                && self.is_connected(train.dir, *first, rest),
+                && self.is_connected_chain(train.dir, *first, rest),
         }
     }
 
     fn counts_fit(&self, s: &State) -> bool
         ensures { result
-            ≡ list_all (λ pair. counts_fit_path pair.0 pair.1) (zip self.now.routes s.now.routes) }
+            ≡ list_all (λ pair. seen_and_released_fit_path pair.0 pair.1)
+            (zip self.now.routes s.now.routes) }
     {
         self.routes_as_slice()
             .iter()
@@ -64,12 +65,12 @@ impl Plant {
     }
 
     fn has_bodies(&self, s: &State) -> bool
-        ensures { result ≡ list_all (has_valid_body self.now) s.now.trains }
+        ensures { result ≡ list_all (train_body_is_valid self.now) s.now.trains }
     {
         s.trains
             .as_slice()
             .iter()
-            .all(|train| self.has_valid_body(train))
+            .all(|train| self.train_body_is_valid(train))
     }
 
     fn has_lengths(&self, s: &State) -> bool

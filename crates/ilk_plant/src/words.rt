@@ -5,9 +5,9 @@ ghost use Rattle.std.specs.Prelude.{◌≡◌};
 ghost use Rattle.ilk_plant.specs.Words as words;
 
 use crate::{Aspect, Dir, Hold, Lie, Mode, Position};
-use ilk_base::{Worded, value_of_word};
+use ilk_base::{HasWord, value_of_word};
 
-impl Worded for Dir {
+impl HasWord for Dir {
     ghost use Rattle.ilk_plant.specs.Words.{direction_word};
 
     ghost word_of = { direction_word };
@@ -29,7 +29,7 @@ impl Dir {
     }
 }
 
-impl Worded for Position {
+impl HasWord for Position {
     ghost use Rattle.ilk_plant.specs.Words.{position_word};
 
     ghost word_of = { position_word };
@@ -51,7 +51,7 @@ impl Position {
     }
 }
 
-impl Worded for Lie {
+impl HasWord for Lie {
     ghost use Rattle.ilk_plant.specs.Words.{lie_word};
 
     ghost word_of = { lie_word };
@@ -74,7 +74,7 @@ impl Lie {
     }
 }
 
-impl Worded for Aspect {
+impl HasWord for Aspect {
     ghost use Rattle.ilk_plant.specs.Words.{aspect_word};
 
     ghost word_of = { aspect_word };
@@ -96,7 +96,7 @@ impl Aspect {
     }
 }
 
-impl Worded for Hold {
+impl HasWord for Hold {
     ghost use Rattle.ilk_plant.specs.Words.{hold_word};
 
     ghost word_of = { hold_word };
@@ -119,7 +119,7 @@ impl Hold {
     }
 }
 
-impl Worded for Mode {
+impl HasWord for Mode {
     ghost use Rattle.ilk_plant.specs.Words.{mode_word};
 
     ghost word_of = { mode_word };

@@ -2,9 +2,9 @@
 -- finite system and goal.
 use Rattle.ilk_lines.specs.Lines.{Bytes}
 use Rattle.ilk_plant.specs.Plant.{PlantLists}
-use Rattle.ilk_behave.specs.Behaviour.{system_of}
-use Rattle.ilk_queries.specs.Goal.{goal_of}
-use Rattle.ilk_cert_audit.specs.Answers.{EndsAs, FedAs}
+use Rattle.ilk_behave.specs.Behaviour.{system_of_plant}
+use Rattle.ilk_queries.specs.Goal.{goal_of_plant}
+use Rattle.ilk_cert_audit.specs.Answers.{IsFinalAnswer, IsAnswerAfterBytes}
 use Rattle.ilk_cert_audit.specs.Fed.{HasTakenBytes as SystemHasFed}
 use Rattle.ilk_cert_audit.specs.declared.answers.Ended.{Ended}
 use Rattle.ilk_cert_audit.specs.declared.answers.Fed.{Fed}
@@ -12,13 +12,13 @@ use Rattle.ilk_plant_audit.specs.declared.audit.CertAudit.{CertAudit}
 
 -- Holds if the audit has read these bytes, in one or more pieces, for the plant it borrows.
 abbrev pub HasAuditedBytes : CertAudit → Bytes → Type 0
-HasAuditedBytes audit bytes = SystemHasFed (system_of audit.plant.now) (goal_of audit.plant.now) audit.audit bytes
+HasAuditedBytes audit bytes = SystemHasFed (system_of_plant audit.plant.now) (goal_of_plant audit.plant.now) audit.audit bytes
 
 -- Holds if this is the answer to a piece, after which the text so far is `bytes`.
 abbrev pub AnswersFeed : PlantLists → Bytes → Fed → Type 0
-AnswersFeed p bytes fed = FedAs (system_of p) (goal_of p) bytes fed
+AnswersFeed p bytes fed = IsAnswerAfterBytes (system_of_plant p) (goal_of_plant p) bytes fed
 
 -- Holds if `ended` is the answer at the end of the text: the number that it certifies, or its first
 -- bad line.
 abbrev pub AnswersEnd : PlantLists → Bytes → Ended → Type 0
-AnswersEnd p bytes ended = EndsAs (system_of p) (goal_of p) bytes ended
+AnswersEnd p bytes ended = IsFinalAnswer (system_of_plant p) (goal_of_plant p) bytes ended

@@ -1,5 +1,5 @@
 use ilk_behave::behaviour;
-use ilk_cert_audit::{CertificateAudit, Ended, Fed};
+use ilk_cert_audit::{Ended, Fed, SystemCertAudit};
 use ilk_plant::Plant;
 use ilk_queries::goal;
 use std::alloc::{AllocError, Global};
@@ -8,7 +8,7 @@ use std::alloc::{AllocError, Global};
 #[derive(Drop)]
 pub struct CertAudit<'a> {
     plant: &'a Plant,
-    audit: CertificateAudit,
+    audit: SystemCertAudit,
 }
 
 impl<'a> CertAudit<'a> {
@@ -24,7 +24,7 @@ impl<'a> CertAudit<'a> {
         let goal = goal(alloc, plant)?;
         Ok(CertAudit {
             plant,
-            audit: CertificateAudit::new(alloc, system, goal),
+            audit: SystemCertAudit::new(alloc, system, goal),
         })
     }
 

@@ -3,7 +3,7 @@ ghost use Rattle.std.specs.Prelude.{◌<◌};
 use crate::plants::plant_of;
 use crate::texts::line;
 use ilk_engine::{
-    CertAudit, CertificateText, Ended, Fed, Found, certificate, certificate_in_pieces, decide,
+    CertAudit, CertificateText, Ended, Fed, Found, certificate, decide, lazy_certificate_text,
 };
 use ilk_plant::Plant;
 use std::alloc::{AllocError, Global};
@@ -18,7 +18,7 @@ fn written(alloc: Global, plant: &Plant) -> Result<Vec<u8>, AllocError> {
 // Returns the certificate in pieces.
 fn certified(alloc: Global, plant: &Plant) -> Result<CertificateText, AllocError> {
     let Found { verdict, asked } = decide(alloc, plant, 1, 100)?;
-    certificate_in_pieces(alloc, &verdict, asked)
+    lazy_certificate_text(alloc, &verdict, asked)
 }
 
 // Returns whether the text taken in pieces is `whole`.

@@ -1,5 +1,5 @@
 use crate::plants::plant_of;
-use crate::texts::{bare_line, line, short_route};
+use crate::texts::{line, line_without_boards, route_without_end_board};
 use ilk_engine::{Verdict, decide};
 use ilk_plant::Plant;
 use std::alloc::Global;
@@ -64,13 +64,25 @@ fn is_answered(
 fn verdicts(rt: HostRuntime) -> Result<(), Fail> {
     let safe = "safe from 1 events on";
     is_answered(rt.alloc(), line(), 4, safe, "")?;
-    is_answered(rt.alloc(), bare_line(), 2, "V7 broken by 1 events", "")?;
     is_answered(
         rt.alloc(),
-        bare_line(),
+        line_without_boards(),
+        2,
+        "V7 broken by 1 events",
+        "",
+    )?;
+    is_answered(
+        rt.alloc(),
+        line_without_boards(),
         4,
         "Two(0) by 3 events",
         "Two(1) by 3 events",
     )?;
-    is_answered(rt.alloc(), short_route(), 4, "left by 4 events", "")
+    is_answered(
+        rt.alloc(),
+        route_without_end_board(),
+        4,
+        "left by 4 events",
+        "",
+    )
 }

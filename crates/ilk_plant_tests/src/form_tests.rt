@@ -1,10 +1,10 @@
 use crate::changes::Change::{self, Locks, Open, Point, Route, Train};
 use crate::changes::start_with_changes;
 use crate::forms::{
-    PlantForms, compare_denied, compare_forms, decode_state, forms_of, is_hazardous,
+    PlantForms, compare_forms, compare_violated_families, decode_state, forms_of, is_hazardous,
 };
 use crate::plants::{image_of, plant_of};
-use crate::texts::{bare_line, station};
+use crate::texts::{line_without_boards, station};
 use ilk_ir::{Values, holds};
 use ilk_plant::Dir::{self, Down, Up};
 use ilk_plant::Hold::{Locked, Used};
@@ -45,7 +45,7 @@ fn compare_broken(
 ) -> Result<(), Fail> {
     compare_forms(alloc, plant, forms, s)?;
     let values = image_of(alloc, plant, s)?;
-    compare_denied(alloc, forms, &values, families)
+    compare_violated_families(alloc, forms, &values, families)
 }
 
 const LOCKED: Change = Locks(Locked, &[1, 2]);
@@ -207,7 +207,7 @@ fn forms_hold(forms: &PlantForms, values: &Values) -> [bool; 3] {
 // Checks which forms hold over values of the bare line: `hold` gives the hazard, well-formed and
 // initial-state forms, and `families` the families whose forms fail.
 fn row(alloc: Global, numbers: &[u8], hold: [bool; 3], families: &[u8]) -> Result<(), Fail> {
-    let plant = plant_of(alloc, bare_line())?;
+    let plant = plant_of(alloc, line_without_boards())?;
     row_on(alloc, &plant, numbers, hold, families)
 }
 
@@ -221,7 +221,7 @@ fn row_on(
     let forms = forms_of(alloc, plant)?;
     let values = values_of(alloc, numbers)?;
     if forms_hold(&forms, &values) == hold {
-        compare_denied(alloc, &forms, &values, families)
+        compare_violated_families(alloc, &forms, &values, families)
     } else {
         Err(Fail::new("other forms hold"))
     }
@@ -245,7 +245,7 @@ fn compare_train(trains: &[TrainState], dir: Dir, body: &[u32]) -> Result<(), Fa
 
 // Reads values of the bare line, and compares the only train of the state.
 fn train_read(alloc: Global, numbers: &[u8], dir: Dir, body: &[u32]) -> Result<(), Fail> {
-    let plant = plant_of(alloc, bare_line())?;
+    let plant = plant_of(alloc, line_without_boards())?;
     train_read_on(alloc, &plant, numbers, dir, body)
 }
 

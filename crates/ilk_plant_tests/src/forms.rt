@@ -141,7 +141,7 @@ pub fn compare_forms(
 }
 
 /// Fails unless `families` are exactly the families whose form doesn't hold of `values`.
-pub fn compare_denied(
+pub fn compare_violated_families(
     alloc: Global,
     forms: &PlantForms,
     values: &Values,

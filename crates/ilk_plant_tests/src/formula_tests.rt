@@ -1,13 +1,13 @@
 ghost use Rattle.std.specs.Prelude.{◌≡◌, ℕ, IfOk, IfSome, IsTrue, length};
-ghost use Rattle.ilk_behave.specs.Behaviour.{system_of};
+ghost use Rattle.ilk_behave.specs.Behaviour.{system_of_plant};
 ghost use Rattle.ilk_cnf.specs.Truth.{satisfies};
-ghost use Rattle.ilk_queries.specs.Goal.{goal_of};
+ghost use Rattle.ilk_queries.specs.Goal.{goal_of_plant};
 ghost use Rattle.ilk_solver.specs.View.{is_unset};
-ghost use Rattle.ilk_unroll.specs.Goal.{wanted_valid};
+ghost use Rattle.ilk_unroll.specs.Goal.{step_count_is_allowed};
 ghost use Rattle.ilk_unroll.specs.Query.{query_formula};
 
 use crate::plants::plant_of;
-use crate::texts::{bare_line, line};
+use crate::texts::{line, line_without_boards};
 use ilk_behave::{behaviour, event_of};
 use ilk_cnf::{Assignment, Cnf, Lit};
 use ilk_engine::formula;
@@ -50,10 +50,12 @@ fn model(alloc: Global, cnf: &Cnf) -> Result<Option<Assignment>, Fail>
 }
 
 fn trace_of(alloc: Global, plant: &Plant, q: Wanted, a: &Assignment) -> Result<Trace, Fail>
-    requires wanted { IsTrue (wanted_valid q) }
-    requires sized { length a.now ≡ (query_formula (system_of plant.now) (goal_of plant.now) q).vars }
+    requires wanted { IsTrue (step_count_is_allowed q) }
+    requires sized { length a.now
+        ≡ (query_formula (system_of_plant plant.now) (goal_of_plant plant.now) q).vars }
     requires satisfied { IsTrue
-        (satisfies a.now (query_formula (system_of plant.now) (goal_of plant.now) q).clauses) }
+        (satisfies a.now (query_formula (system_of_plant plant.now)
+        (goal_of_plant plant.now) q).clauses) }
 {
     let system = behaviour(alloc, plant)?;
     let goal = goal(alloc, plant)?;
@@ -62,7 +64,7 @@ fn trace_of(alloc: Global, plant: &Plant, q: Wanted, a: &Assignment) -> Result<T
 
 // Returns the run of a query that a search finds, or `None` if there is none.
 fn found(alloc: Global, plant: &Plant, q: Wanted) -> Result<Option<Trace>, Fail>
-    requires { IsTrue (wanted_valid q) }
+    requires { IsTrue (step_count_is_allowed q) }
 {
     let cnf = formula(alloc, plant, q)?;
     match model(alloc, &cnf)? {
@@ -91,7 +93,7 @@ fn no_hazard_at_the_start(rt: HostRuntime) -> Result<(), Fail> {
 #[test]
 fn a_hazard_of_three_events(rt: HostRuntime) -> Result<(), Fail> {
     let alloc = rt.alloc();
-    let plant = plant_of(alloc, bare_line())?;
+    let plant = plant_of(alloc, line_without_boards())?;
     let Some(trace) = found(alloc, &plant, Wanted::Hazard(3))? else {
         return Err(Fail::new("no run"));
     };

@@ -1,6 +1,6 @@
 use crate::plants::{image_of, plant_of, state_after};
 use crate::rules::compare_rules;
-use crate::texts::bare_line;
+use crate::texts::line_without_boards;
 use ilk_behave::behaviour;
 use ilk_ir::Values;
 use ilk_layout::ranges;
@@ -27,7 +27,7 @@ fn image_after(alloc: Global, plant: &Plant, events: &[Event]) -> Result<Values,
 #[test]
 fn images_of_the_bare_line(rt: HostRuntime) -> Result<(), Fail> {
     let alloc = rt.alloc();
-    let plant = plant_of(alloc, bare_line())?;
+    let plant = plant_of(alloc, line_without_boards())?;
     assert_eq!(rt;
         ranges(alloc, &plant)?.as_slice(),
         [3, 3, 10, 10].as_slice()
@@ -45,7 +45,7 @@ fn images_of_the_bare_line(rt: HostRuntime) -> Result<(), Fail> {
 #[test]
 fn rules_of_the_bare_line(rt: HostRuntime) -> Result<(), Fail> {
     let alloc = rt.alloc();
-    let plant = plant_of(alloc, bare_line())?;
+    let plant = plant_of(alloc, line_without_boards())?;
     let s = state_after_all(alloc, &plant, &[Event::Enter(0), Event::Enter(1)])?;
     let fired = compare_rules(alloc, &plant, &behaviour(alloc, &plant)?, &s)?;
     let heads = [Event::Head(0), Event::Head(1)];
@@ -58,7 +58,7 @@ fn rules_of_the_bare_line(rt: HostRuntime) -> Result<(), Fail> {
 #[test]
 fn the_least_broken_family(rt: HostRuntime) -> Result<(), Fail> {
     let alloc = rt.alloc();
-    let plant = plant_of(alloc, bare_line())?;
+    let plant = plant_of(alloc, line_without_boards())?;
     let s = state_after_all(alloc, &plant, &[Event::Enter(0)])?;
     assert!(rt; plant.has_shape(&s) && broken_family(&plant, &s) == Some(7));
     Ok(())

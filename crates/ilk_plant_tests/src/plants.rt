@@ -1,5 +1,5 @@
 ghost use Rattle.std.specs.Prelude.{◌≡◌, IfOk, [], IsTrue};
-ghost use Rattle.ilk_plant.specs.Limits.{HasLimits};
+ghost use Rattle.ilk_plant.specs.Limits.{WithinLimits};
 ghost use Rattle.ilk_strict.specs.IsStrict.{IsStrict};
 
 use ilk_ir::Values;
@@ -9,7 +9,7 @@ use ilk_net_check::check_network;
 use ilk_plant::{Broken, NetDraft, Plant, Row, State, TableDraft};
 use ilk_strict::clean_is_strict;
 use ilk_table_check::{check_columns, check_table};
-use ilk_table_read::read_drafts;
+use ilk_table_read::read_net_and_table_drafts;
 use std::alloc::Global;
 use std::test::Fail;
 
@@ -23,7 +23,7 @@ fn is_clean(broken: &Row<Broken>) -> bool
 }
 
 fn plant_of_drafts(alloc: Global, net: &NetDraft, table: &TableDraft) -> Result<Plant, Fail>
-    requires { HasLimits net.now table.now }
+    requires { WithinLimits net.now table.now }
 {
     let network = check_network(alloc, net)?;
     let routes = check_table(alloc, net, table)?;
@@ -36,7 +36,7 @@ fn plant_of_drafts(alloc: Global, net: &NetDraft, table: &TableDraft) -> Result<
 
 /// Returns the plant of a configuration.
 pub fn plant_of(alloc: Global, text: &str) -> Result<Plant, Fail> {
-    match read_drafts(alloc, text.as_bytes()) {
+    match read_net_and_table_drafts(alloc, text.as_bytes()) {
         Ok((net, table)) => plant_of_drafts(alloc, &net, &table),
         Err(_) => Err(Fail::new("the form is broken")),
     }

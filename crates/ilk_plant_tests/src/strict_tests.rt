@@ -3,7 +3,7 @@ ghost use Rattle.ilk_strict.specs.IsStrict.{IsStrict};
 use crate::examples::{platforms, protected_station, terminus};
 use crate::plants::strict_plant_of;
 use crate::stations::stations;
-use crate::strict_walks::{Counts, walk};
+use crate::strict_walks::{EventCounts, walk_repeatedly};
 use crate::texts::line;
 use ilk_model::Event;
 use ilk_plant::Plant;
@@ -11,9 +11,9 @@ use ilk_strict::{advance, begin};
 use std::alloc::Global;
 use std::test::Fail;
 
-fn walk_over(alloc: Global, text: &str, times: u32, tries: u32) -> Result<Counts, Fail> {
+fn walk_over(alloc: Global, text: &str, times: u32, tries: u32) -> Result<EventCounts, Fail> {
     let plant = strict_plant_of(alloc, text)?;
-    walk(alloc, &plant, times, tries)
+    walk_repeatedly(alloc, &plant, times, tries)
 }
 
 // The same, with a lower bound on the events counted.
@@ -22,7 +22,7 @@ fn keeps_invariant(
     text: &str,
     times: u32,
     tries: u32,
-    least: Counts,
+    least: EventCounts,
 ) -> Result<(), Fail> {
     let counts = walk_over(alloc, text, times, tries)?;
     if counts.has(least) {
@@ -32,8 +32,8 @@ fn keeps_invariant(
     }
 }
 
-fn least(events: u32, heads: u32, releases: u32) -> Counts {
-    Counts {
+fn least(events: u32, heads: u32, releases: u32) -> EventCounts {
+    EventCounts {
         events,
         heads,
         releases,
@@ -101,7 +101,7 @@ fn stations_keep_invariant(
     count: u32,
     times: u32,
     tries: u32,
-    least: Counts,
+    least: EventCounts,
 ) -> Result<(), Fail> {
     let text = stations(alloc, count)?;
     keeps_invariant(alloc, text.as_str(), times, tries, least)

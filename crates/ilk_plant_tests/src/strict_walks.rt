@@ -14,7 +14,7 @@ use std::test::Fail;
 
 /// The number of events that were enabled, and of two kinds that come late in a train's journey.
 #[derive(Clone, Copy, Drop)]
-pub struct Counts {
+pub struct EventCounts {
     pub events: u32,
     /// Those by which a train's head came to a section.
     pub heads: u32,
@@ -22,9 +22,9 @@ pub struct Counts {
     pub releases: u32,
 }
 
-impl Counts {
+impl EventCounts {
     /// Returns whether no count is less than in `least`.
-    pub fn has(&self, least: Counts) -> bool {
+    pub fn has(&self, least: EventCounts) -> bool {
         self.events >= least.events && self.heads >= least.heads && self.releases >= least.releases
     }
 
@@ -56,7 +56,7 @@ fn try_event(
     plant: &Plant,
     s: &mut State,
     event: Event,
-    counts: &mut Counts,
+    counts: &mut EventCounts,
 ) -> Result<(), Fail>
     requires strict { IsStrict plant.now }
     requires meets { Meets plant.now s.old }
@@ -96,7 +96,7 @@ fn walk_from_start(
     plant: &Plant,
     first: u64,
     tries: u32,
-    counts: &mut Counts,
+    counts: &mut EventCounts,
 ) -> Result<u64, Fail>
     requires { IsStrict plant.now }
 {
@@ -111,10 +111,15 @@ fn walk_from_start(
 
 /// Makes `times` walks of `tries` events each, every one from the initial state: after a while
 /// trains block each other, and nothing moves.
-pub fn walk(alloc: Global, plant: &Plant, times: u32, tries: u32) -> Result<Counts, Fail>
+pub fn walk_repeatedly(
+    alloc: Global,
+    plant: &Plant,
+    times: u32,
+    tries: u32,
+) -> Result<EventCounts, Fail>
     requires { IsStrict plant.now }
 {
-    let mut counts = Counts {
+    let mut counts = EventCounts {
         events: 0,
         heads: 0,
         releases: 0,

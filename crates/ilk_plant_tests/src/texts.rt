@@ -2,7 +2,7 @@
 //! text makes a function's proof long.
 
 /// Two sections without boards and routes.
-pub fn bare_line() -> &'static str {
+pub fn line_without_boards() -> &'static str {
     r#"{"version":1,
  "sections":[
   {"name":"a","kind":"linear","down":null,"up":"b","board_down":null,"board_up":null},
@@ -22,7 +22,7 @@ pub fn line() -> &'static str {
 }
 
 /// Three sections whose only route ends in the middle, without a board.
-pub fn short_route() -> &'static str {
+pub fn route_without_end_board() -> &'static str {
     r#"{"version":1,
  "sections":[
   {"name":"a","kind":"linear","down":null,"up":"b","board_down":null,"board_up":"m1"},

@@ -1,7 +1,7 @@
 use crate::changes::Change::{self, Open, Point, Train};
 use crate::changes::start_with_changes;
 use crate::plants::plant_of;
-use crate::texts::{bare_line, line, short_route, station};
+use crate::texts::{line, line_without_boards, route_without_end_board, station};
 use crate::walks::Comparison;
 use ilk_plant::Dir::{Down, Up};
 use ilk_plant::Lie::Plus as AtPlus;
@@ -30,9 +30,9 @@ fn all_states_on(alloc: Global, plant: &Plant, is_unsafe: bool) -> Result<(), Fa
 
 #[test]
 fn all_states_of_lines(rt: HostRuntime) -> Result<(), Fail> {
-    all_states(rt.alloc(), bare_line(), true)?;
+    all_states(rt.alloc(), line_without_boards(), true)?;
     all_states(rt.alloc(), line(), false)?;
-    all_states(rt.alloc(), short_route(), true)
+    all_states(rt.alloc(), route_without_end_board(), true)
 }
 
 // Compares some states, from the initial state with these changes.

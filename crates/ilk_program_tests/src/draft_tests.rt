@@ -1,6 +1,6 @@
 //! The drafts of a configuration, or its first fault of form.
 use ilk_net_read::{Form, FormError, FormFault, Place, read_value};
-use ilk_table_read::{read_drafts, read_table};
+use ilk_table_read::{read_net_and_table_drafts, read_table};
 use std::test::*;
 
 const BARE: &str = r#"{"version":1,
@@ -28,7 +28,7 @@ const ROUTED: &str = r#"{"version":1,
 
 #[test]
 fn drafts(rt: HostRuntime) -> Result<(), Fail> {
-    let (net, table) = read_drafts(rt.alloc(), ROUTED.as_bytes())
+    let (net, table) = read_net_and_table_drafts(rt.alloc(), ROUTED.as_bytes())
         .ok()
         .ok_or("the form is right")?;
     assert_eq!(rt; net.sections.len(), 2);
@@ -62,7 +62,7 @@ fn fault(rule: Form, place: Place) -> Option<FormFault> {
 }
 
 fn fault_of(rt: &HostRuntime, text: &[u8]) -> Option<FormFault> {
-    match read_drafts(rt.alloc(), text) {
+    match read_net_and_table_drafts(rt.alloc(), text) {
         Err(FormError::Fault(fault)) => Some(fault),
         _ => None,
     }

@@ -1,6 +1,6 @@
 //! The program over sources and sinks that fail: an answer comes if memory suffices, and each fault
 //! has its status.
-use crate::runs::{Asked, Object, PieceSizes, RunOutcome, run_with_fault};
+use crate::runs::{Asked, Object, RunOutcome, SinkPieceSizes, run_with_fault};
 use ilk_top::Status;
 use std::alloc::{AllocError, Global};
 use std::test::Fail;
@@ -58,7 +58,7 @@ fn failing_calls(
     alloc: Global,
     asked: Asked,
     whole: &RunOutcome,
-    more: PieceSizes,
+    more: SinkPieceSizes,
     failing: Object,
 ) -> Result<Option<u64>, AllocError> {
     for number in 1..ENOUGH {
@@ -84,13 +84,13 @@ struct Wanted<'a> {
 
 // Returns whether the answer is the expected one, and each failing call leaves what it has to.
 fn each_call_fails(alloc: Global, asked: Asked, wanted: Wanted) -> Result<bool, AllocError> {
-    let at_once = PieceSizes {
+    let at_once = SinkPieceSizes {
         out: usize::MAX,
         cert: usize::MAX,
     };
     let whole = run_with_fault(alloc, asked, at_once, Object::Conf, 0)?;
     let (out, cert) = (whole.out.bytes().len(), whole.cert.bytes().len());
-    let more = PieceSizes {
+    let more = SinkPieceSizes {
         out: out / CALLS,
         cert: cert / CALLS,
     };
@@ -133,7 +133,7 @@ fn audit_fails(alloc: Global, line: &str) -> Result<bool, AllocError> {
         conf: LINE_WITH_BOARDS,
         extra: &[],
     };
-    let at_once = PieceSizes {
+    let at_once = SinkPieceSizes {
         out: usize::MAX,
         cert: usize::MAX,
     };

@@ -1,7 +1,7 @@
 //! Runs of the program in which one call of a source or a sink fails.
 ghost use Rattle.std.specs.Prelude.{◌≡◌, ◌<◌, ◌≤◌, Some, IfOk, OnErr, OnOk, length, take};
 ghost use Rattle.ilk_io.specs.Faults.{CountedOneFault};
-ghost use Rattle.ilk_io.specs.Sink.{Adds};
+ghost use Rattle.ilk_io.specs.Sink.{Appends};
 
 use crate::parts::words;
 use ilk_io::{Failed, MemSink, MemSource, Sink};
@@ -73,7 +73,7 @@ fn call_of(object: Object, failing: Object, number: u64) -> u64 {
 
 /// The number of bytes, beyond the first, that each sink takes in a call.
 #[derive(Clone, Copy)]
-pub struct PieceSizes {
+pub struct SinkPieceSizes {
     pub out: usize,
     pub cert: usize,
 }
@@ -82,7 +82,7 @@ pub struct PieceSizes {
 pub fn run_with_fault(
     alloc: Global,
     asked: Asked,
-    more: PieceSizes,
+    more: SinkPieceSizes,
     failing: Object,
     number: u64,
 ) -> Result<RunOutcome, AllocError> {

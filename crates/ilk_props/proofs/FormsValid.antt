@@ -8,7 +8,7 @@ use Rattle.ilk_base.proofs.ListTests.{list_all-flat_map, made-at}
 use Rattle.ilk_base.proofs.Ranges.{range_within}
 use Rattle.ilk_base.proofs.Tested.{all-pass}
 use Rattle.ilk_ir.specs.System.{in_ranges}
-use Rattle.ilk_ir.specs.Tree.{Tree, any_of, is, no, tree_valid, trees, yes}
+use Rattle.ilk_ir.specs.Tree.{Tree, any_of, is, no, tree_valid, trees_from_list, yes}
 use Rattle.ilk_ir.proofs.Trees.{all_of-valid, any_of-valid}
 use Rattle.ilk_plant.specs.Network.{same_direction}
 use Rattle.ilk_plant.specs.NetworkRules.{opposite_direction}
@@ -23,9 +23,9 @@ use Rattle.ilk_plant.proofs.InLists.{section-from}
 use Rattle.ilk_layout.specs.Image.{image_of}
 use Rattle.ilk_layout.specs.Variables.{ranges_of_plant}
 use Rattle.ilk_layout.specs.declared.values.Occupancy.TheVariants.{Taken, Crash}
-use Rattle.ilk_layout.specs.Conditions.{is_detected}
-use Rattle.ilk_layout.proofs.Valid.{is_detected-valid, occupancy_is-valid, train_at-valid, value-valid}
-use Rattle.ilk_props.specs.HazardForm.{crash_at, hazard_tree}
+use Rattle.ilk_layout.specs.Conditions.{section_point_is_detected}
+use Rattle.ilk_layout.proofs.Valid.{section_point_is_detected-valid, occupancy_is-valid, train_at-valid, value-valid}
+use Rattle.ilk_props.specs.HazardForm.{hazard_in_section, hazard_tree}
 use Rattle.ilk_props.specs.StartForm.{start_tree}
 use Rattle.ilk_props.specs.WellformedForm.{continues_beyond, joined_by_train, leads_to_neighbour, section_demands, section_leads, train_is_whole, wellformed_tree}
 use Rattle.ilk_props.proofs.StartHolds.{start-in_ranges}
@@ -47,8 +47,8 @@ each-valid p f valid =
 
 pub hazard-valid : (p : PlantLists) → tree_valid (ranges_of_plant p) (hazard_tree p) ≡ true
 hazard-valid p =
-    any_of-valid (ranges_of_plant p) (map (crash_at p) (range_with_len 0 (length p.sections)))
-    ∙ each-valid p (crash_at p) (λ x within. occupancy_is-valid p x Crash within)
+    any_of-valid (ranges_of_plant p) (map (hazard_in_section p) (range_with_len 0 (length p.sections)))
+    ∙ each-valid p (hazard_in_section p) (λ x within. occupancy_is-valid p x Crash within)
 
 pub start-valid : (p : PlantLists) → tree_valid (ranges_of_plant p) (start_tree p) ≡ true
 start-valid p =
@@ -80,7 +80,7 @@ module _ (p : PlantLists) (plant : IsPlant p) where
       by_section None = refl
       by_section (Some (Linear down up b c)) = refl
       by_section (Some (Point stem plus minus faces)) =
-          by_side (is_detected p x (if plus == y then Plus else Minus)) (same_direction faces side) (is_detected-valid p x (if plus == y then Plus else Minus))
+          by_side (section_point_is_detected p x (if plus == y then Plus else Minus)) (same_direction faces side) (section_point_is_detected-valid p x (if plus == y then Plus else Minus))
 
   joined-valid : (x : ℕ) (d side : Dir) (y : ℕ) → y < length p.sections → tree_valid (ranges_of_plant p) (joined_by_train p x d side y) ≡ true
   joined-valid x d side y within =
@@ -88,7 +88,7 @@ module _ (p : PlantLists) (plant : IsPlant p) where
       (and_from _ _ (leads_to_neighbour-valid y (opposite_direction side) x)
       (and_from _ _ (continues_beyond-valid y d (opposite_direction side) within) refl))
 
-  next-valid : (x : ℕ) (d side : Dir) → tree_valid (ranges_of_plant p) (any_of (trees (map (joined_by_train p x d side) (next_to p x side)))) ≡ true
+  next-valid : (x : ℕ) (d side : Dir) → tree_valid (ranges_of_plant p) (any_of (trees_from_list (map (joined_by_train p x d side) (next_to p x side)))) ≡ true
   next-valid x d side =
       any_of-valid (ranges_of_plant p) (map (joined_by_train p x d side) (next_to p x side))
       ∙ list_all-map (tree_valid (ranges_of_plant p)) (joined_by_train p x d side) (next_to p x side)
@@ -100,7 +100,7 @@ module _ (p : PlantLists) (plant : IsPlant p) where
   demands-valid : (x : ℕ) → x < length p.sections → list_all (tree_valid (ranges_of_plant p)) (section_demands p x) ≡ true
   demands-valid x within =
       and_from _ _ (occupancy_is-valid p x Crash within)
-      (and_from _ _ (and_from _ _ (train_at-valid p x within) (and_from _ _ (is_detected-valid p x Moving) refl))
+      (and_from _ _ (and_from _ _ (train_at-valid p x within) (and_from _ _ (section_point_is_detected-valid p x Moving) refl))
       (and_from _ _ (whole-valid x Up Up within)
       (and_from _ _ (whole-valid x Up Down within)
       (and_from _ _ (whole-valid x Down Up within)

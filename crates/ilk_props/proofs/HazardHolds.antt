@@ -13,16 +13,16 @@ use Rattle.ilk_plant.specs.declared.network.Dir.{Dir}
 use Rattle.ilk_plant.specs.declared.network.Dir.TheVariants.{Up, Down}
 use Rattle.ilk_plant.specs.declared.state.State.{State}
 use Rattle.ilk_plant.specs.declared.state.Train.{Train}
-use Rattle.ilk_model.specs.Hazard.{hazard, is_hazardous}
+use Rattle.ilk_model.specs.Hazard.{hazard, is_section_hazardous}
 use Rattle.ilk_motion.specs.Body.{is_last_section}
 use Rattle.ilk_layout.specs.Image.{image_of}
-use Rattle.ilk_layout.specs.Occupancy.{is_first, occupancy_of, taken_by_any}
+use Rattle.ilk_layout.specs.Occupancy.{is_first, occupancy_of, occupancy_by_train_if_any}
 use Rattle.ilk_layout.specs.Values.{occupancy_value}
 use Rattle.ilk_layout.specs.declared.values.Occupancy.TheVariants.{Taken, Crash}
 use Rattle.ilk_layout.proofs.ConditionValues.{occupancy-holds}
-use Rattle.ilk_props.specs.HazardForm.{crash_at, hazard_tree}
+use Rattle.ilk_props.specs.HazardForm.{hazard_in_section, hazard_tree}
 
-no_crash : (x : ℕ) (o : Option Train) → (occupancy_value (taken_by_any x o) == 9) ≡ false
+no_crash : (x : ℕ) (o : Option Train) → (occupancy_value (occupancy_by_train_if_any x o) == 9) ≡ false
 no_crash x None = refl
 no_crash x (Some t) = by_value t.dir (is_first x t.body) (is_last_section x t.body)
   where
@@ -36,9 +36,9 @@ no_crash x (Some t) = by_value t.dir (is_first x t.body) (is_last_section x t.bo
     by_value Down true false = refl
     by_value Down true true = refl
 
-crash-test : (p : PlantLists) (s : State) (x : ℕ) → (occupancy_value (occupancy_of p s x) == 9) ≡ is_hazardous p s x
+crash-test : (p : PlantLists) (s : State) (x : ℕ) → (occupancy_value (occupancy_of p s x) == 9) ≡ is_section_hazardous p s x
 crash-test p s x =
-    elim (cases_Bool (is_hazardous p s x)) [
+    elim (cases_Bool (is_section_hazardous p s x)) [
       | inl hazardous ↦ rw hazardous refl
       | inr calm ↦ rw calm (no_crash x (find _ s.trains))
     ]
@@ -57,13 +57,13 @@ mapped-some f (Some x) = refl
 
 pub hazard-holds : (p : PlantLists) (s : State) → HasShape p s → tree_holds (image_of p s) (hazard_tree p) ≡ is_some (hazard p s)
 hazard-holds p s shape =
-    any_of-holds (image_of p s) (map (crash_at p) (range_with_len 0 (length p.sections)))
-    ∙ list_any-map (tree_holds (image_of p s)) (crash_at p) (range_with_len 0 (length p.sections))
-    ∙ list_any-alike (λ x. tree_holds (image_of p s) (crash_at p x)) (is_hazardous p s) (range_with_len 0 (length p.sections)) each
-    ∙ found-any (is_hazardous p s) (range_with_len 0 (length p.sections))
-    ∙ mapped-some _ (find (is_hazardous p s) (range_with_len 0 (length p.sections)))
+    any_of-holds (image_of p s) (map (hazard_in_section p) (range_with_len 0 (length p.sections)))
+    ∙ list_any-map (tree_holds (image_of p s)) (hazard_in_section p) (range_with_len 0 (length p.sections))
+    ∙ list_any-alike (λ x. tree_holds (image_of p s) (hazard_in_section p x)) (is_section_hazardous p s) (range_with_len 0 (length p.sections)) each
+    ∙ found-any (is_section_hazardous p s) (range_with_len 0 (length p.sections))
+    ∙ mapped-some _ (find (is_section_hazardous p s) (range_with_len 0 (length p.sections)))
   where
-    each : (i x : ℕ) → slice_get (range_with_len 0 (length p.sections)) i ≡ Some x → tree_holds (image_of p s) (crash_at p x) ≡ is_hazardous p s x
+    each : (i x : ℕ) → slice_get (range_with_len 0 (length p.sections)) i ≡ Some x → tree_holds (image_of p s) (hazard_in_section p x) ≡ is_section_hazardous p s x
     each i x at =
         let place = range_within (length p.sections) i x at in
         occupancy-holds p s shape x Crash place.1 ∙ crash-test p s x

@@ -10,30 +10,30 @@ use Rattle.ilk_base.proofs.ListTests.{list_all-alike, list_all-flat_map}
 use Rattle.ilk_base.proofs.Ranges.{range_within}
 use Rattle.ilk_base.proofs.Lists.{replicate-at}
 use Rattle.ilk_ir.specs.System.{in_ranges}
-use Rattle.ilk_ir.specs.Tree.{any_of, tree_holds, trees}
+use Rattle.ilk_ir.specs.Tree.{any_of, tree_holds, trees_from_list}
 use Rattle.ilk_ir.proofs.Trees.{all_of-holds}
 use Rattle.ilk_plant.specs.NetworkRules.{opposite_direction}
 use Rattle.ilk_plant.specs.Plant.{IsPlant, PlantLists, next_to, point_count}
-use Rattle.ilk_plant.specs.Sound.{NoWalkReturns}
+use Rattle.ilk_plant.specs.Sound.{IsAcyclic}
 use Rattle.ilk_plant.specs.declared.network.Dir.{Dir}
 use Rattle.ilk_plant.specs.declared.network.Dir.TheVariants.{Up, Down}
 use Rattle.ilk_plant.specs.declared.state.Lie.{Lie}
 use Rattle.ilk_plant.specs.declared.state.Lie.TheVariants.{Moving}
-use Rattle.ilk_routes.specs.Lies.{is_moving}
-use Rattle.ilk_layout.specs.Laws.{AreImage}
+use Rattle.ilk_routes.specs.Lies.{is_detected_moving}
+use Rattle.ilk_layout.specs.Laws.{AreImageOfSafeState}
 use Rattle.ilk_layout.specs.Values.{occupancy_from_value, occupancy_value}
 use Rattle.ilk_layout.specs.Variables.{occupancy_var, ranges_of_plant}
-use Rattle.ilk_layout.specs.Wellformed.{is_wellformed, joined_section, lie_from_values, occupancy_from_values, section_fits}
+use Rattle.ilk_layout.specs.Wellformed.{is_wellformed, mutual_section_ahead, detected_in_values, occupancy_in_values, occupancy_is_consistent}
 use Rattle.ilk_layout.specs.declared.values.Occupancy.{Occupancy}
 use Rattle.ilk_layout.specs.declared.values.Occupancy.TheVariants.{Vacant, Taken, Crash}
 use Rattle.ilk_layout.proofs.Parts.{get-fifth}
 use Rattle.ilk_layout.proofs.Ranged.{wellformed-images}
-use Rattle.ilk_layout.specs.Conditions.{is_detected}
+use Rattle.ilk_layout.specs.Conditions.{section_point_is_detected}
 use Rattle.ilk_layout.proofs.Valid.{length-points_ranges, length-route_ranges}
 use Rattle.ilk_layout.proofs.ConditionValues.{moving-test}
-use Rattle.ilk_props.specs.HazardForm.{crash_at}
-use Rattle.ilk_props.specs.WellformedForm.{is_still, joined_by_train, section_demands, train_is_whole, wellformed_tree}
-use Rattle.ilk_props.proofs.Leaves.{goes_on, goes_on-holds, is_detected-holds, occupancy_is-holds, same_lie, same_occupancy}
+use Rattle.ilk_props.specs.HazardForm.{hazard_in_section}
+use Rattle.ilk_props.specs.WellformedForm.{no_moving_under_train, joined_by_train, section_demands, train_is_whole, wellformed_tree}
+use Rattle.ilk_props.proofs.Leaves.{goes_on, goes_on-holds, section_point_is_detected-holds, occupancy_is-holds, same_lie, same_occupancy}
 use Rattle.ilk_props.proofs.Joined.{next-holds}
 
 in_ranges-at : (values ranges : List ℕ) (v range : ℕ) → in_ranges values ranges ≡ true → slice_get ranges v ≡ Some range → (value : ℕ) × (slice_get values v ≡ Some value) × (value < range)
@@ -65,7 +65,7 @@ occupancy-range p x within =
     get-fifth _ _ _ _ (replicate (length p.sections) 10) _ _ _ _ (length-route_ranges p.routes) (length-points_ranges (point_count p)) (length-replicate (length p.boards) 2) (length-replicate (length p.sections) 3) x
     ∙ replicate-at (length p.sections) x 10 within
 
-pub occupancy-known : (p : PlantLists) (values : List ℕ) (x : ℕ) → in_ranges values (ranges_of_plant p) ≡ true → x < length p.sections → (o : Occupancy) × (occupancy_from_values p values x ≡ Some o)
+pub occupancy-known : (p : PlantLists) (values : List ℕ) (x : ℕ) → in_ranges values (ranges_of_plant p) ≡ true → x < length p.sections → (o : Occupancy) × (occupancy_in_values p values x ≡ Some o)
 occupancy-known p values x h within =
     let value = in_ranges-at values (ranges_of_plant p) (occupancy_var p x) 10 h (occupancy-range p x within) in
     let o = known-occupancy value.0 value.2 in
@@ -122,41 +122,41 @@ asked-fitting (Taken Down true true) moves next = tidy_turned moves true true
 
 module _ (p : PlantLists) (plant : IsPlant p) (values : List ℕ) where
   abbrev moves : ℕ → Bool
-  moves x = is_some_and (lie_from_values p values x) is_moving
+  moves x = is_some_and (detected_in_values p values x) is_detected_moving
 
   abbrev next : ℕ → Dir → Dir → Bool
   next x d side =
-      is_some_and (joined_section p (lie_from_values p values) x side) (λ y. is_some_and (occupancy_from_values p values y) (goes_on d (opposite_direction side)))
+      is_some_and (mutual_section_ahead p (detected_in_values p values) x side) (λ y. is_some_and (occupancy_in_values p values y) (goes_on d (opposite_direction side)))
 
-  moves-holds : (x : ℕ) → tree_holds values (is_detected p x Moving) ≡ moves x
-  moves-holds x = is_detected-holds p values x Moving ∙ alike (lie_from_values p values x)
+  moves-holds : (x : ℕ) → tree_holds values (section_point_is_detected p x Moving) ≡ moves x
+  moves-holds x = section_point_is_detected-holds p values x Moving ∙ alike (detected_in_values p values x)
     where
-      alike : (o : Option Lie) → is_some_and o (same_lie Moving) ≡ is_some_and o is_moving
+      alike : (o : Option Lie) → is_some_and o (same_lie Moving) ≡ is_some_and o is_detected_moving
       alike None = refl
       alike (Some l) = moving-test l
 
-  still-holds : (x : ℕ) (o : Occupancy) → occupancy_from_values p values x ≡ Some o → tree_holds values (is_still p x) ≡ (not (not (occupancy_value o == 0)) || (not (moves x) || false))
+  still-holds : (x : ℕ) (o : Occupancy) → occupancy_in_values p values x ≡ Some o → tree_holds values (no_moving_under_train p x) ≡ (not (not (occupancy_value o == 0)) || (not (moves x) || false))
   still-holds x o at =
-      ap (λ (b : Bool). not (not b) || (not (tree_holds values (is_detected p x Moving)) || false)) (occupancy_is-holds p values x Vacant ∙ ap (λ o. is_some_and o (same_occupancy Vacant)) at)
+      ap (λ (b : Bool). not (not b) || (not (tree_holds values (section_point_is_detected p x Moving)) || false)) (occupancy_is-holds p values x Vacant ∙ ap (λ o. is_some_and o (same_occupancy Vacant)) at)
       ∙ ap (λ (b : Bool). not (not (occupancy_value o == 0)) || (not b || false)) (moves-holds x)
 
-  whole-holds : (x : ℕ) (d side : Dir) (o : Occupancy) → occupancy_from_values p values x ≡ Some o → tree_holds values (train_is_whole p x d side) ≡ (not (goes_on d side o) || (next x d side || false))
+  whole-holds : (x : ℕ) (d side : Dir) (o : Occupancy) → occupancy_in_values p values x ≡ Some o → tree_holds values (train_is_whole p x d side) ≡ (not (goes_on d side o) || (next x d side || false))
   whole-holds x d side o at =
-      ap (λ (b : Bool). not b || (tree_holds values (any_of (trees (map (joined_by_train p x d side) (next_to p x side)))) || false)) (goes_on-holds p values x d side ∙ ap (λ o. is_some_and o (goes_on d side)) at)
+      ap (λ (b : Bool). not b || (tree_holds values (any_of (trees_from_list (map (joined_by_train p x d side) (next_to p x side)))) || false)) (goes_on-holds p values x d side ∙ ap (λ o. is_some_and o (goes_on d side)) at)
       ∙ ap (λ (b : Bool). not (goes_on d side o) || (b || false)) (next-holds p plant values x d side)
 
-  crash-holds : (x : ℕ) (o : Occupancy) → occupancy_from_values p values x ≡ Some o → tree_holds values (crash_at p x) ≡ (occupancy_value o == 9)
+  crash-holds : (x : ℕ) (o : Occupancy) → occupancy_in_values p values x ≡ Some o → tree_holds values (hazard_in_section p x) ≡ (occupancy_value o == 9)
   crash-holds x o at = occupancy_is-holds p values x Crash ∙ ap (λ o. is_some_and o (same_occupancy Crash)) at
 
-  demands-hold : (x : ℕ) (o : Occupancy) → occupancy_from_values p values x ≡ Some o → list_all (tree_holds values) (section_demands p x)
-      ≡ section_fits p (lie_from_values p values) (occupancy_from_values p values) x (occupancy_from_values p values x)
+  demands-hold : (x : ℕ) (o : Occupancy) → occupancy_in_values p values x ≡ Some o → list_all (tree_holds values) (section_demands p x)
+      ≡ occupancy_is_consistent p (detected_in_values p values) (occupancy_in_values p values) x (occupancy_in_values p values x)
   demands-hold x o at =
-      ap (λ (b : Bool). not b && (tree_holds values (is_still p x) && rest)) (crash-holds x o at)
+      ap (λ (b : Bool). not b && (tree_holds values (no_moving_under_train p x) && rest)) (crash-holds x o at)
       ∙ ap (λ (b : Bool). not (occupancy_value o == 9) && (b && rest)) (still-holds x o at)
       ∙ ap (λ (b : Bool). not (occupancy_value o == 9) && ((not (not (occupancy_value o == 0)) || (not (moves x) || false)) && b)) rest-holds
       ∙ asked-fitting o (moves x) (next x)
       ∙ fits o
-      ∙ sym (ap (section_fits p (lie_from_values p values) (occupancy_from_values p values) x) at)
+      ∙ sym (ap (occupancy_is_consistent p (detected_in_values p values) (occupancy_in_values p values) x) at)
     where
       whole : Dir → Dir → Bool
       whole d side = tree_holds values (train_is_whole p x d side)
@@ -174,7 +174,7 @@ module _ (p : PlantLists) (plant : IsPlant p) (values : List ℕ) where
           ∙ ap (λ (b : Bool). goes Up Up && (goes Up Down && (b && (whole Down Down && true)))) (whole-holds x Down Up o at)
           ∙ ap (λ (b : Bool). goes Up Up && (goes Up Down && (goes Down Up && (b && true)))) (whole-holds x Down Down o at)
 
-      fits : (o : Occupancy) → fitting o (moves x) (next x) ≡ section_fits p (lie_from_values p values) (occupancy_from_values p values) x (Some o)
+      fits : (o : Occupancy) → fitting o (moves x) (next x) ≡ occupancy_is_consistent p (detected_in_values p values) (occupancy_in_values p values) x (Some o)
       fits Vacant = refl
       fits Crash = refl
       fits (Taken Up tail head) = refl
@@ -184,13 +184,13 @@ module _ (p : PlantLists) (plant : IsPlant p) (values : List ℕ) where
   wellformed-holds h =
       all_of-holds values (flat_map (section_demands p) (range_with_len 0 (length p.sections)))
       ∙ list_all-flat_map (tree_holds values) (section_demands p) (range_with_len 0 (length p.sections))
-      ∙ list_all-alike (λ x. list_all (tree_holds values) (section_demands p x)) (λ x. section_fits p (lie_from_values p values) (occupancy_from_values p values) x (occupancy_from_values p values x)) (range_with_len 0 (length p.sections))
+      ∙ list_all-alike (λ x. list_all (tree_holds values) (section_demands p x)) (λ x. occupancy_is_consistent p (detected_in_values p values) (occupancy_in_values p values) x (occupancy_in_values p values x)) (range_with_len 0 (length p.sections))
       (λ i x at. (
       let place = range_within (length p.sections) i x at in
       let o = occupancy-known p values x h place.1 in
       demands-hold x o.0 o.1))
 
-pub holds-at_images : (p : PlantLists) → IsPlant p → NoWalkReturns p → (values : List ℕ) → IsTrue (in_ranges values (ranges_of_plant p)) → IsTrue (tree_holds values (wellformed_tree p)) ↔ AreImage p values
+pub holds-at_images : (p : PlantLists) → IsPlant p → IsAcyclic p → (values : List ℕ) → IsTrue (in_ranges values (ranges_of_plant p)) → IsTrue (tree_holds values (wellformed_tree p)) ↔ AreImageOfSafeState p values
 holds-at_images p plant never values h =
     let same = wellformed-holds p plant values h in
     let images = wellformed-images p plant never values h in

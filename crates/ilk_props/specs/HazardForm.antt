@@ -1,15 +1,15 @@
 -- The form of hazards: some section's occupancy is `Crash`.
 use Rattle.std.specs.Prelude.{ℕ, length, map}
 use Rattle.std.specs.List.{range_with_len}
-use Rattle.ilk_ir.specs.Tree.{Tree, any_of, trees}
+use Rattle.ilk_ir.specs.Tree.{Tree, any_of, trees_from_list}
 use Rattle.ilk_plant.specs.Plant.{PlantLists}
 use Rattle.ilk_layout.specs.declared.values.Occupancy.TheVariants.{Crash}
 use Rattle.ilk_layout.specs.Conditions.{occupancy_is}
 
 -- Section `x` has a hazard.
-abbrev pub crash_at : PlantLists → ℕ → Tree
-crash_at p x = occupancy_is p x Crash
+abbrev pub hazard_in_section : PlantLists → ℕ → Tree
+hazard_in_section p x = occupancy_is p x Crash
 
 -- Some section has a hazard.
 abbrev pub hazard_tree : PlantLists → Tree
-hazard_tree p = any_of (trees (map (crash_at p) (range_with_len 0 (length p.sections))))
+hazard_tree p = any_of (trees_from_list (map (hazard_in_section p) (range_with_len 0 (length p.sections))))

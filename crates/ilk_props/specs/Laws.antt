@@ -8,7 +8,7 @@ use Rattle.ilk_plant.specs.Start.{start}
 use Rattle.ilk_plant.specs.declared.state.State.{State}
 use Rattle.ilk_model.specs.Hazard.{hazard}
 use Rattle.ilk_layout.specs.Image.{image_of}
-use Rattle.ilk_layout.specs.Laws.{AreImage}
+use Rattle.ilk_layout.specs.Laws.{AreImageOfSafeState}
 use Rattle.ilk_layout.specs.Variables.{ranges_of_plant}
 use Rattle.ilk_layout.specs.Wellformed.{is_wellformed}
 use Rattle.ilk_props.specs.HazardForm.{hazard_tree}
@@ -16,26 +16,26 @@ use Rattle.ilk_props.specs.StartForm.{start_tree}
 use Rattle.ilk_props.specs.WellformedForm.{wellformed_tree}
 
 -- Holds if the form uses only the plant's variables, and values within their ranges.
-abbrev pub IsOverPlant : PlantLists → Tree → Type 0
-IsOverPlant p tree = IsTrue (tree_valid (ranges_of_plant p) tree)
+abbrev pub IsValidOverPlant : PlantLists → Tree → Type 0
+IsValidOverPlant p tree = IsTrue (tree_valid (ranges_of_plant p) tree)
 
 -- For the image of a well-formed state, the form of hazards holds if and only if the state has a
 -- hazard.
-abbrev pub HoldsAtHazards : PlantLists → Type 0
-HoldsAtHazards p = (s : State) → HasShape p s → tree_holds (image_of p s) (hazard_tree p) ≡ is_some (hazard p s)
+abbrev pub HazardTreeIsCorrect : PlantLists → Type 0
+HazardTreeIsCorrect p = (s : State) → HasShape p s → tree_holds (image_of p s) (hazard_tree p) ≡ is_some (hazard p s)
 
 -- For values in range, the form of well-formed values holds if and only if they are well-formed.
-abbrev pub HoldsWhereWellformed : PlantLists → Type 0
-HoldsWhereWellformed p =
+abbrev pub WellformedTreeIsCorrect : PlantLists → Type 0
+WellformedTreeIsCorrect p =
     (values : List ℕ) → IsTrue (in_ranges values (ranges_of_plant p)) → tree_holds values (wellformed_tree p) ≡ is_wellformed p values
 
 -- For values in range, the form of well-formed values holds if and only if they are the image of a
 -- well-formed state without hazard.
-abbrev pub HoldsAtImages : PlantLists → Type 0
-HoldsAtImages p =
-    (values : List ℕ) → IsTrue (in_ranges values (ranges_of_plant p)) → IsTrue (tree_holds values (wellformed_tree p)) ↔ AreImage p values
+abbrev pub WellformedTreeMeansImage : PlantLists → Type 0
+WellformedTreeMeansImage p =
+    (values : List ℕ) → IsTrue (in_ranges values (ranges_of_plant p)) → IsTrue (tree_holds values (wellformed_tree p)) ↔ AreImageOfSafeState p values
 
 -- For values in range, the form of the start holds if and only if they are the image of the start.
-abbrev pub HoldsAtStart : PlantLists → Type 0
-HoldsAtStart p =
+abbrev pub StartTreeIsCorrect : PlantLists → Type 0
+StartTreeIsCorrect p =
     (values : List ℕ) → IsTrue (in_ranges values (ranges_of_plant p)) → IsTrue (tree_holds values (start_tree p)) ↔ (values ≡ image_of p (start p))

@@ -2,7 +2,7 @@
 -- condition on each section and its neighbours.
 use Rattle.std.specs.Prelude.{ℕ, true, false, List, [], ◌∷◌, ◌++◌, ◌==◌, length, map, option_map, slice_get, unwrap_or, if◌then◌else◌}
 use Rattle.std.specs.List.{flat_map, range_with_len}
-use Rattle.ilk_ir.specs.Tree.{Tree, yes, no, all_of, any_of, negation, trees}
+use Rattle.ilk_ir.specs.Tree.{Tree, yes, no, all_of, any_of, negation, trees_from_list}
 use Rattle.ilk_plant.specs.Network.{same_direction}
 use Rattle.ilk_plant.specs.NetworkRules.{opposite_direction}
 use Rattle.ilk_plant.specs.Plant.{PlantLists, next_to}
@@ -12,18 +12,18 @@ use Rattle.ilk_plant.specs.declared.network.Section.{Section}
 use Rattle.ilk_plant.specs.declared.network.Section.TheVariants.{Linear, Point}
 use Rattle.ilk_plant.specs.declared.state.Lie.TheVariants.{Plus, Minus, Moving}
 use Rattle.ilk_layout.specs.declared.values.Occupancy.TheVariants.{Taken}
-use Rattle.ilk_layout.specs.Conditions.{is_detected, occupancy_is, train_at}
-use Rattle.ilk_props.specs.HazardForm.{crash_at}
+use Rattle.ilk_layout.specs.Conditions.{section_point_is_detected, occupancy_is, train_at}
+use Rattle.ilk_props.specs.HazardForm.{hazard_in_section}
 
 -- If the first holds, so does the second.
 abbrev pub implies : Tree → Tree → Tree
-implies condition consequence = any_of (trees (negation condition ∷ consequence ∷ []))
+implies condition consequence = any_of (trees_from_list (negation condition ∷ consequence ∷ []))
 
 -- A train in direction `d` is in section `x` and continues beyond it on this side. If `side` is
 -- `d`, its head is not at `x`; otherwise its tail is not.
 abbrev pub continues_beyond : PlantLists → ℕ → Dir → Dir → Tree
 continues_beyond p x d side =
-    any_of (trees (
+    any_of (trees_from_list (
     occupancy_is p x (Taken d false false)
     ∷ occupancy_is p x (if same_direction side d then Taken d true false else Taken d false true)
     ∷ []))
@@ -33,7 +33,7 @@ continues_beyond p x d side =
 abbrev pub section_leads : PlantLists → ℕ → Dir → ℕ → Section → Tree
 section_leads p x side y (Linear down up board_down board_up) = yes
 section_leads p x side y (Point stem plus minus faces) =
-    if same_direction faces side then is_detected p x (if plus == y then Plus else Minus) else yes
+    if same_direction faces side then section_point_is_detected p x (if plus == y then Plus else Minus) else yes
 
 -- Section number `x` leads to `y`; never holds if `x` does not exist.
 abbrev pub leads_to_neighbour : PlantLists → ℕ → Dir → ℕ → Tree
@@ -43,7 +43,7 @@ leads_to_neighbour p x side y = unwrap_or (option_map (section_leads p x side y)
 -- that continues to `x`.
 abbrev pub joined_by_train : PlantLists → ℕ → Dir → Dir → ℕ → Tree
 joined_by_train p x d side y =
-    all_of (trees (
+    all_of (trees_from_list (
     leads_to_neighbour p x side y
     ∷ leads_to_neighbour p y (opposite_direction side) x
     ∷ continues_beyond p y d (opposite_direction side)
@@ -52,15 +52,15 @@ joined_by_train p x d side y =
 -- If a train in direction `d` continues beyond `x` on this side, a neighbour of `x` there has it
 -- too.
 abbrev pub train_is_whole : PlantLists → ℕ → Dir → Dir → Tree
-train_is_whole p x d side = implies (continues_beyond p x d side) (any_of (trees (map (joined_by_train p x d side) (next_to p x side))))
+train_is_whole p x d side = implies (continues_beyond p x d side) (any_of (trees_from_list (map (joined_by_train p x d side) (next_to p x side))))
 
 -- The point on section `x` is not moving under a train.
-abbrev pub is_still : PlantLists → ℕ → Tree
-is_still p x = implies (train_at p x) (negation (is_detected p x Moving))
+abbrev pub no_moving_under_train : PlantLists → ℕ → Tree
+no_moving_under_train p x = implies (train_at p x) (negation (section_point_is_detected p x Moving))
 
 -- Section `x` has no hazard, and no point moves there under a train.
 abbrev pub own_demands : PlantLists → ℕ → List Tree
-own_demands p x = negation (crash_at p x) ∷ is_still p x ∷ []
+own_demands p x = negation (hazard_in_section p x) ∷ no_moving_under_train p x ∷ []
 
 -- A train in direction `d` at section `x` continues, up and down, to sections that have it too.
 abbrev pub train_demands : PlantLists → ℕ → Dir → List Tree
@@ -72,4 +72,4 @@ section_demands p x = own_demands p x ++ (train_demands p x Up ++ train_demands 
 
 -- The conditions on all sections.
 abbrev pub wellformed_tree : PlantLists → Tree
-wellformed_tree p = all_of (trees (flat_map (section_demands p) (range_with_len 0 (length p.sections))))
+wellformed_tree p = all_of (trees_from_list (flat_map (section_demands p) (range_with_len 0 (length p.sections))))

@@ -1,7 +1,7 @@
 ghost use Rattle.std.specs.Prelude.{◌≡◌, ◌<◌, length, IfOk};
 ghost use Rattle.ilk_ir.specs.Form.{tree_of};
 ghost use Rattle.ilk_props.specs.HazardForm as forms;
-ghost use Rattle.ilk_props.specs.Laws.{HoldsAtHazards, IsOverPlant};
+ghost use Rattle.ilk_props.specs.Laws.{HazardTreeIsCorrect, IsValidOverPlant};
 
 use ilk_ir::Form;
 use ilk_layout::{Occupancy, occupancy_is};
@@ -9,9 +9,9 @@ use ilk_plant::Plant;
 use std::alloc::{AllocError, Global};
 
 /// Returns the condition that section `x` has a hazard.
-pub(crate) fn crash_at(plant: &Plant, x: u32) -> Form
+pub(crate) fn hazard_in_section(plant: &Plant, x: u32) -> Form
     requires { x < length plant.now.sections }
-    ensures { tree_of result ≡ forms.crash_at plant.now x }
+    ensures { tree_of result ≡ forms.hazard_in_section plant.now x }
 {
     occupancy_is(plant, x, Occupancy::Crash)
 }
@@ -21,7 +21,7 @@ fn some_crash(alloc: Global, plant: &Plant) -> Result<Form, AllocError>
 {
     let mut sections = Vec::new(alloc);
     for x in 0..plant.sections() {
-        sections.push(crash_at(plant, x))?;
+        sections.push(hazard_in_section(plant, x))?;
     }
     Ok(Form::Or(sections))
 }
@@ -31,10 +31,10 @@ pub fn hazard_form(alloc: Global, plant: &Plant) -> Result<Form, AllocError>
     ensures form { IfOk result (λ form. tree_of form ≡ forms.hazard_tree plant.now) }
 
     // The form is valid over the plant's variables and their ranges.
-    ensures valid { IsOverPlant plant.now (forms.hazard_tree plant.now) }
+    ensures valid { IsValidOverPlant plant.now (forms.hazard_tree plant.now) }
 
     // For the image of a well-formed state, it holds if and only if the state has a hazard.
-    ensures holds { HoldsAtHazards plant.now }
+    ensures holds { HazardTreeIsCorrect plant.now }
 {
     some_crash(alloc, plant)
 }

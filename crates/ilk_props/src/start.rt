@@ -1,8 +1,8 @@
 ghost use Rattle.std.specs.Prelude.{◌≡◌, ◌<◌, ◌^◌, length, map, IfOk};
 ghost use Rattle.std.specs.List.{enumerate_from};
 ghost use Rattle.ilk_ir.specs.Form.{tree_of};
-ghost use Rattle.ilk_ir.specs.Tree.{all_of, is, trees};
-ghost use Rattle.ilk_props.specs.Laws.{HoldsAtStart, IsOverPlant};
+ghost use Rattle.ilk_ir.specs.Tree.{all_of, is, trees_from_list};
+ghost use Rattle.ilk_props.specs.Laws.{StartTreeIsCorrect, IsValidOverPlant};
 ghost use Rattle.ilk_props.specs.StartForm as forms;
 
 use ilk_ir::{Form, Values};
@@ -35,7 +35,8 @@ fn all_are(alloc: Global, values: &Values) -> Result<Form, AllocError>
     requires { length values.now < 2 ^ 32 }
     ensures { IfOk result
         (λ form. tree_of form
-        ≡ all_of (trees (map (λ place. is place.0 place.1) (enumerate_from 0 values.now)))) }
+        ≡ all_of (trees_from_list
+        (map (λ place. is place.0 place.1) (enumerate_from 0 values.now)))) }
 {
     Ok(Form::And(each_is(alloc, values)?))
 }
@@ -44,7 +45,7 @@ fn all_are(alloc: Global, values: &Values) -> Result<Form, AllocError>
 fn all_are_as_at_start(alloc: Global, plant: &Plant) -> Result<Form, AllocError>
     ensures { IfOk result (λ form. tree_of form ≡ forms.start_tree plant.now) }
 {
-    plant.is_sound();
+    plant.prove_is_plant();
     let start = start_state(alloc, plant)?;
     let values = image(alloc, plant, &start)?;
     all_are(alloc, &values)
@@ -56,10 +57,10 @@ pub fn start_form(alloc: Global, plant: &Plant) -> Result<Form, AllocError>
     ensures form { IfOk result (λ form. tree_of form ≡ forms.start_tree plant.now) }
 
     // The form is valid over the plant's variables and their ranges.
-    ensures valid { IsOverPlant plant.now (forms.start_tree plant.now) }
+    ensures valid { IsValidOverPlant plant.now (forms.start_tree plant.now) }
 
     // For values in range, it holds if and only if they are the image of the start.
-    ensures holds { HoldsAtStart plant.now }
+    ensures holds { StartTreeIsCorrect plant.now }
 {
     all_are_as_at_start(alloc, plant)
 }

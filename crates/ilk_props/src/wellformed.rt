@@ -1,14 +1,14 @@
 ghost use Rattle.std.specs.Prelude.{◌≡◌, ◌<◌, ◌++◌, length, map, option_to_list, slice_get, IfOk, OnOk};
 ghost use Rattle.ilk_ir.specs.Form.{tree_of};
-ghost use Rattle.ilk_ir.specs.Tree.{any_of, trees};
+ghost use Rattle.ilk_ir.specs.Tree.{any_of, trees_from_list};
 ghost use Rattle.ilk_plant.specs.NetworkRules.{opposite_direction};
 ghost use Rattle.ilk_plant.specs.Plant.{next_to};
-ghost use Rattle.ilk_props.specs.Laws.{HoldsAtImages, HoldsWhereWellformed, IsOverPlant};
+ghost use Rattle.ilk_props.specs.Laws.{WellformedTreeMeansImage, WellformedTreeIsCorrect, IsValidOverPlant};
 ghost use Rattle.ilk_props.specs.WellformedForm as forms;
 
-use crate::hazard::crash_at;
+use crate::hazard::hazard_in_section;
 use ilk_ir::Form;
-use ilk_layout::{Occupancy, is_detected, negated, occupancy_is, train_at};
+use ilk_layout::{Occupancy, negated, occupancy_is, section_point_is_detected, train_at};
 use ilk_plant::{Dir, Lie, Plant, Section};
 use std::alloc::{AllocError, Global};
 
@@ -63,7 +63,7 @@ fn leads_by_lie(plant: &Plant, x: u32, side: Dir, y: u32) -> Form
         Section::Linear { .. } => Form::Yes,
         Section::Point { plus, faces, .. } => {
             if faces == side {
-                is_detected(plant, x, if plus == y { Lie::Plus } else { Lie::Minus })
+                section_point_is_detected(plant, x, if plus == y { Lie::Plus } else { Lie::Minus })
             } else {
                 Form::Yes
             }
@@ -130,7 +130,7 @@ fn next_has_train(
     ensures { IfOk result
         (λ made. tree_of made
         ≡ any_of
-        (trees
+        (trees_from_list
         (map (forms.joined_by_train plant.now x d side) (next_to plant.now x side)))) }
 {
     let mut some = Vec::new(alloc);
@@ -158,12 +158,12 @@ fn train_is_whole(
 }
 
 // Returns the condition that the point on section `x` is not moving under a train.
-fn is_still(alloc: Global, plant: &Plant, x: u32) -> Result<Form, AllocError>
+fn no_moving_under_train(alloc: Global, plant: &Plant, x: u32) -> Result<Form, AllocError>
     requires { x < length plant.now.sections }
-    ensures { IfOk result (λ made. tree_of made ≡ forms.is_still plant.now x) }
+    ensures { IfOk result (λ made. tree_of made ≡ forms.no_moving_under_train plant.now x) }
 {
     let train = train_at(alloc, plant, x)?;
-    let still = negated(alloc, is_detected(plant, x, Lie::Moving))?;
+    let still = negated(alloc, section_point_is_detected(plant, x, Lie::Moving))?;
     implies(alloc, train, still)
 }
 
@@ -178,8 +178,8 @@ fn push_own_demands(
         (map tree_of demands.new.items
         ≡ map tree_of demands.old.items ++ forms.own_demands plant.now x) }
 {
-    demands.push(negated(alloc, crash_at(plant, x))?)?;
-    demands.push(is_still(alloc, plant, x)?)?;
+    demands.push(negated(alloc, hazard_in_section(plant, x))?)?;
+    demands.push(no_moving_under_train(alloc, plant, x)?)?;
     Ok(())
 }
 
@@ -233,16 +233,16 @@ pub fn wellformed_form(alloc: Global, plant: &Plant) -> Result<Form, AllocError>
     ensures form { IfOk result (λ form. tree_of form ≡ forms.wellformed_tree plant.now) }
 
     // The form is valid over the plant's variables and their ranges.
-    ensures valid { IsOverPlant plant.now (forms.wellformed_tree plant.now) }
+    ensures valid { IsValidOverPlant plant.now (forms.wellformed_tree plant.now) }
 
     // For values in range, it holds if and only if they are well-formed.
-    ensures wellformed { HoldsWhereWellformed plant.now }
+    ensures wellformed { WellformedTreeIsCorrect plant.now }
 
     // For values in range, it holds if and only if they are the image of a well-formed state
     // without hazard.
-    ensures images { HoldsAtImages plant.now }
+    ensures images { WellformedTreeMeansImage plant.now }
 {
-    plant.is_sound();
-    plant.is_from_drafts();
+    plant.prove_is_plant();
+    plant.prove_from_drafts();
     all_demands(alloc, plant)
 }

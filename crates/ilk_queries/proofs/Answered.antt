@@ -9,8 +9,8 @@ use Rattle.ilk_base.specs.Option.{is_some_and}
 use Rattle.ilk_base.proofs.Options.{bind_some, mapped-Some, some-and}
 use Rattle.ilk_base.proofs.Lists.{item_at, take-next}
 use Rattle.ilk_base.proofs.Tested.{list_all-weaken}
-use Rattle.ilk_ir.specs.System.{SystemTree, after_rule_number}
-use Rattle.ilk_ir.specs.Tree.{all_of, negation, tree_holds, trees}
+use Rattle.ilk_ir.specs.System.{PlainSystem, after_rule_number}
+use Rattle.ilk_ir.specs.Tree.{all_of, negation, tree_holds, trees_from_list}
 use Rattle.ilk_plant.specs.Plant.{PlantLists}
 use Rattle.ilk_plant.specs.Shape.{HasShape}
 use Rattle.ilk_plant.specs.Start.{start}
@@ -19,32 +19,32 @@ use Rattle.ilk_model.specs.Hazard.{hazard}
 use Rattle.ilk_model.specs.Run.{run}
 use Rattle.ilk_model.specs.declared.event.Event.{Event}
 use Rattle.ilk_layout.specs.Image.{image_of}
-use Rattle.ilk_layout.specs.Laws.{AreImage}
-use Rattle.ilk_behave.specs.Behaviour.{system_of}
-use Rattle.ilk_unroll.specs.Goal.{CopyDemand, GoalTree, demands_of, must_fail_in, must_hold_below, must_hold_in, step_count}
-use Rattle.ilk_unroll.specs.Run.{is_wanted_run, is_met_by, run_from}
+use Rattle.ilk_layout.specs.Laws.{AreImageOfSafeState}
+use Rattle.ilk_behave.specs.Behaviour.{system_of_plant}
+use Rattle.ilk_unroll.specs.Goal.{CopyDemand, PlainGoal, demands_of, must_fail_in, must_hold_below, must_hold_in, step_count}
+use Rattle.ilk_unroll.specs.Run.{is_wanted_run, is_met_by, run_firing_rules}
 use Rattle.ilk_unroll.specs.declared.queries.Wanted.{Wanted}
 use Rattle.ilk_unroll.specs.declared.queries.Wanted.TheVariants.{Hazard, Breach, Step}
 use Rattle.ilk_unroll.proofs.QueryLaw.{Wants, wanted-from, wants}
 use Rattle.ilk_queries.specs.Asked.{IsRunFor, leaves_invariant_at, meets_invariant}
-use Rattle.ilk_queries.specs.Lifting.{AllHaveShape, IsGoalOf, RulesStepLikeEvents, events_by_rules, form_holds, is_hazard_free}
+use Rattle.ilk_queries.specs.Lifting.{AllHaveShape, IsGoalOfPlant, RulesStepLikeEvents, events_by_rules, form_holds, is_hazard_free}
 use Rattle.ilk_queries.specs.Walk.{states_from}
 use Rattle.ilk_queries.proofs.Demands.{all-more, below-met, holds-met}
 use Rattle.ilk_queries.proofs.Queries.{breach-met, hazard-met, shaped-at, step-met}
 use Rattle.ilk_queries.proofs.Walks.{none-is, run-states, states-begin, states-many, states-run, states-shaped, to-events, to-rules}
 use Rattle.ilk_model.specs.Meets.{keeps_all}
 
-run-many : (system : SystemTree) (values : List ℕ) (rules : List ℕ) (lists : List (List ℕ)) → run_from system values rules ≡ Some lists → length lists ≡ suc (length rules)
+run-many : (system : PlainSystem) (values : List ℕ) (rules : List ℕ) (lists : List (List ℕ)) → run_firing_rules system values rules ≡ Some lists → length lists ≡ suc (length rules)
 run-many system values [] lists e = ap length (sym (same_Some (values ∷ []) lists e))
 run-many system values (rule ∷ rules) lists e =
-    let outer = mapped-Some (λ run. values ∷ run) (option_and_then (λ next. run_from system next rules) (after_rule_number system rule values)) lists e in
-    let inner = bind_some (after_rule_number system rule values) (λ next. run_from system next rules) outer.0 outer.1 in
+    let outer = mapped-Some (λ run. values ∷ run) (option_and_then (λ next. run_firing_rules system next rules) (after_rule_number system rule values)) lists e in
+    let inner = bind_some (after_rule_number system rule values) (λ next. run_firing_rules system next rules) outer.0 outer.1 in
     ap length (sym outer.2) ∙ ap suc (run-many system inner.0 rules outer.0 inner.2)
 
 safe-more : (p : PlantLists) (states : List State) (n : ℕ) (t : State) → slice_get states n ≡ Some t → list_all (is_hazard_free p) (take (n + 1) states) ≡ (list_all (is_hazard_free p) (take n states) && is_hazard_free p t)
 safe-more p states n t at = ap (list_all (is_hazard_free p)) (take-next states n t at) ∙ all-more (is_hazard_free p) (take n states) t
 
-module _ (p : PlantLists) (steps : RulesStepLikeEvents p) (g : GoalTree) (goal : IsGoalOf p g) where
+module _ (p : PlantLists) (steps : RulesStepLikeEvents p) (g : PlainGoal) (goal : IsGoalOfPlant p g) where
   -- Facts about the states of some events.
   record Walked (s : State) (events : List Event) (states : List State) (n : ℕ) : Type 0 where
     shaped : AllHaveShape p states
@@ -66,12 +66,12 @@ module _ (p : PlantLists) (steps : RulesStepLikeEvents p) (g : GoalTree) (goal :
       states_from p s events ≡ Some states → length events ≡ step_count q →
       list_all (is_hazard_free p) (take (step_count q) states) ≡ true →
       list_all (is_met_by (map (image_of p) states)) (demands_of g q) ≡ true →
-      (rules : List ℕ) × (is_wanted_run (system_of p) g q (image_of p s) rules ≡ true)
+      (rules : List ℕ) × (is_wanted_run (system_of_plant p) g q (image_of p s) rules ≡ true)
   made q s events states shape is count safe met =
       let fires = to-rules p steps g goal s events states shape is (ap (λ n. list_all (is_hazard_free p) (take n states)) count ∙ safe) in
-      (fires.0, wanted-from (system_of p) g q (image_of p s) fires.0 (record { run = map (image_of p) states; is = fires.2; in_range = goal.in_range s shape; many = fires.1 ∙ count; met = met }))
+      (fires.0, wanted-from (system_of_plant p) g q (image_of p s) fires.0 (record { run = map (image_of p) states; is = fires.2; in_range = goal.in_range s shape; many = fires.1 ∙ count; met = met }))
 
-  pub to-wanted : (q : Wanted) (s : State) (events : List Event) → HasShape p s → IsRunFor p q s events → (rules : List ℕ) × (is_wanted_run (system_of p) g q (image_of p s) rules ≡ true)
+  pub to-wanted : (q : Wanted) (s : State) (events : List Event) → HasShape p s → IsRunFor p q s events → (rules : List ℕ) × (is_wanted_run (system_of_plant p) g q (image_of p s) rules ≡ true)
   to-wanted (Hazard n) s events shape asked =
       let found = some-and (run p s events) (λ t. is_some (hazard p t)) asked.2 in
       let t = found.0 in
@@ -130,7 +130,7 @@ module _ (p : PlantLists) (steps : RulesStepLikeEvents p) (g : GoalTree) (goal :
     many : length states ≡ suc (step_count q)
     met : list_all (is_met_by (map (image_of p) states)) (demands_of g q) ≡ true
 
-  led : (q : Wanted) (s : State) (rules : List ℕ) → HasShape p s → (w : Wants (system_of p) g q (image_of p s) rules) → list_all (form_holds g.wellformed) (take (step_count q) w.run) ≡ true → Led q s rules
+  led : (q : Wanted) (s : State) (rules : List ℕ) → HasShape p s → (w : Wants (system_of_plant p) g q (image_of p s) rules) → list_all (form_holds g.wellformed) (take (step_count q) w.run) ≡ true → Led q s rules
   led q s rules shape w well =
       let goes = to-events p steps g goal s rules w.run shape w.is (ap (λ n. list_all (form_holds g.wellformed) (take n w.run)) w.many ∙ well) in
       let count : length goes.0 ≡ step_count q = goes.3 ∙ w.many in
@@ -147,10 +147,10 @@ module _ (p : PlantLists) (steps : RulesStepLikeEvents p) (g : GoalTree) (goal :
         met = ap (λ (u : List (List ℕ)). list_all (is_met_by u) (demands_of g q)) goes.5 ∙ w.met;
       }
 
-  pub to-asked : (q : Wanted) (s : State) (rules : List ℕ) → HasShape p s → IsBeginning q s → is_wanted_run (system_of p) g q (image_of p s) rules ≡ true → (events : List Event) × (events_by_rules p rules ≡ Some events) × IsRunFor p q s events
+  pub to-asked : (q : Wanted) (s : State) (rules : List ℕ) → HasShape p s → IsBeginning q s → is_wanted_run (system_of_plant p) g q (image_of p s) rules ≡ true → (events : List Event) × (events_by_rules p rules ≡ Some events) × IsRunFor p q s events
   to-asked (Hazard n) s rules shape begins wanted =
-      let w = wants (system_of p) g (Hazard n) (image_of p s) rules wanted in
-      let size = run-many (system_of p) (image_of p s) rules w.run w.is in
+      let w = wants (system_of_plant p) g (Hazard n) (image_of p s) rules wanted in
+      let size = run-many (system_of_plant p) (image_of p s) rules w.run w.is in
       let count = w.many in
       let rest = (and_parts (is_met_by w.run (must_hold_in 0 g.start)) (list_all (is_met_by w.run) (must_hold_below g.wellformed n ++ must_hold_in n g.hazard ∷ [])) w.met).1 in
       let l = led (Hazard n) s rules shape w (wellformed-first n w.run (must_hold_in n g.hazard ∷ []) (omega arith) rest) in
@@ -161,10 +161,10 @@ module _ (p : PlantLists) (steps : RulesStepLikeEvents p) (g : GoalTree) (goal :
       let ends : run p s l.events ≡ Some end.0 = states-run p s l.events l.states l.is (ap (λ k. list_all (is_hazard_free p) (take k l.states)) l.count ∙ inner.0) ∙ ap (slice_get l.states) l.count ∙ end.1 in
       (l.events, l.by_rules, (begins, l.count, ap (λ o. is_some_and o (λ t. is_some (hazard p t))) ends ∙ inner.1))
   to-asked (Breach n) s rules shape begins wanted =
-      let w = wants (system_of p) g (Breach n) (image_of p s) rules wanted in
-      let size = run-many (system_of p) (image_of p s) rules w.run w.is in
+      let w = wants (system_of_plant p) g (Breach n) (image_of p s) rules wanted in
+      let size = run-many (system_of_plant p) (image_of p s) rules w.run w.is in
       let count = w.many in
-      let broken : CopyDemand = must_fail_in n (all_of (trees g.families)) in
+      let broken : CopyDemand = must_fail_in n (all_of (trees_from_list g.families)) in
       let rest = (and_parts (is_met_by w.run (must_hold_in 0 g.start)) (list_all (is_met_by w.run) (must_hold_below g.wellformed (n + 1) ++ broken ∷ [])) w.met).1 in
       let well = wellformed-first (n + 1) w.run (broken ∷ []) (omega arith) rest in
       let found = item_at w.run n (omega arith) in
@@ -183,10 +183,10 @@ module _ (p : PlantLists) (steps : RulesStepLikeEvents p) (g : GoalTree) (goal :
       let ends : run p s l.events ≡ Some end.0 = states-run p s l.events l.states l.is (ap (λ k. list_all (is_hazard_free p) (take k l.states)) l.count ∙ safe.0) ∙ ap (slice_get l.states) l.count ∙ end.1 in
       (l.events, l.by_rules, (begins, l.count, ap (λ o. is_some_and o (λ t. is_none (hazard p t) && not (keeps_all p t))) ends ∙ and_from _ _ safe.1 kept))
   to-asked (Step n) s rules shape begins wanted =
-      let w = wants (system_of p) g (Step n) (image_of p s) rules wanted in
-      let size = run-many (system_of p) (image_of p s) rules w.run w.is in
+      let w = wants (system_of_plant p) g (Step n) (image_of p s) rules wanted in
+      let size = run-many (system_of_plant p) (image_of p s) rules w.run w.is in
       let count = w.many in
-      let left : CopyDemand = must_fail_in n (all_of (trees (negation g.hazard ∷ g.families))) in
+      let left : CopyDemand = must_fail_in n (all_of (trees_from_list (negation g.hazard ∷ g.families))) in
       let families : List CopyDemand = flat_map (λ form. must_hold_below form n) g.families in
       let before = (and_parts (list_all (is_met_by w.run) (must_hold_below g.wellformed n ++ families)) (list_all (is_met_by w.run) (left ∷ []))
       (sym (list_all-append (is_met_by w.run) (must_hold_below g.wellformed n ++ families) (left ∷ [])) ∙ w.met)).0 in
@@ -196,10 +196,10 @@ module _ (p : PlantLists) (steps : RulesStepLikeEvents p) (g : GoalTree) (goal :
       let leaves : leaves_invariant_at p n l.states ≡ true = sym (step-met p steps g goal n l.states end.0 l.shaped end.1 (omega arith)) ∙ l.met in
       (l.events, l.by_rules, (shape, l.count, ap (λ o. is_some_and o (leaves_invariant_at p (length l.events))) l.is ∙ ap (λ k. leaves_invariant_at p k l.states) l.count ∙ leaves))
 
-  run-begins : (first rules : List ℕ) (lists : List (List ℕ)) → run_from (system_of p) first rules ≡ Some lists → (more : List (List ℕ)) × (lists ≡ first ∷ more)
+  run-begins : (first rules : List ℕ) (lists : List (List ℕ)) → run_firing_rules (system_of_plant p) first rules ≡ Some lists → (more : List (List ℕ)) × (lists ≡ first ∷ more)
   run-begins first [] lists e = ([], sym (same_Some (first ∷ []) lists e))
   run-begins first (rule ∷ rules) lists e =
-      let outer = mapped-Some (λ run. first ∷ run) (option_and_then (λ next. run_from (system_of p) next rules) (after_rule_number (system_of p) rule first)) lists e in
+      let outer = mapped-Some (λ run. first ∷ run) (option_and_then (λ next. run_firing_rules (system_of_plant p) next rules) (after_rule_number (system_of_plant p) rule first)) lists e in
       (outer.0, sym outer.2)
 
   -- The first values of a run that a query asks for.
@@ -207,11 +207,11 @@ module _ (p : PlantLists) (steps : RulesStepLikeEvents p) (g : GoalTree) (goal :
   Begins (Hazard n) first = first ≡ image_of p (start p)
   Begins (Breach n) first = first ≡ image_of p (start p)
   Begins (Step zero) first = Unit {0}
-  Begins (Step (suc n)) first = AreImage p first
+  Begins (Step (suc n)) first = AreImageOfSafeState p first
 
-  start-first : (q : Wanted) (first rules : List ℕ) (more : List CopyDemand) → demands_of g q ≡ must_hold_in 0 g.start ∷ more → is_wanted_run (system_of p) g q first rules ≡ true → first ≡ image_of p (start p)
+  start-first : (q : Wanted) (first rules : List ℕ) (more : List CopyDemand) → demands_of g q ≡ must_hold_in 0 g.start ∷ more → is_wanted_run (system_of_plant p) g q first rules ≡ true → first ≡ image_of p (start p)
   start-first q first rules more same wanted =
-      let w = wants (system_of p) g q first rules wanted in
+      let w = wants (system_of_plant p) g q first rules wanted in
       let begin = run-begins first rules w.run w.is in
       let at0 : slice_get w.run 0 ≡ Some first = ap (λ (u : List (List ℕ)). slice_get u 0) begin.1 in
       let all : list_all (is_met_by w.run) (must_hold_in 0 g.start ∷ more) ≡ true = ap (list_all (is_met_by w.run)) (sym same) ∙ w.met in
@@ -219,15 +219,15 @@ module _ (p : PlantLists) (steps : RulesStepLikeEvents p) (g : GoalTree) (goal :
       (goal.begins first w.in_range).0 (sym (holds-met w.run 0 first g.start at0) ∙ here)
 
   -- These are the image of the start, or of a well-formed state without hazard.
-  pub first-values : (q : Wanted) (first rules : List ℕ) → is_wanted_run (system_of p) g q first rules ≡ true → Begins q first
+  pub first-values : (q : Wanted) (first rules : List ℕ) → is_wanted_run (system_of_plant p) g q first rules ≡ true → Begins q first
   first-values (Hazard n) first rules wanted = start-first (Hazard n) first rules (must_hold_below g.wellformed n ++ must_hold_in n g.hazard ∷ []) refl wanted
-  first-values (Breach n) first rules wanted = start-first (Breach n) first rules (must_hold_below g.wellformed (n + 1) ++ must_fail_in n (all_of (trees g.families)) ∷ []) refl wanted
+  first-values (Breach n) first rules wanted = start-first (Breach n) first rules (must_hold_below g.wellformed (n + 1) ++ must_fail_in n (all_of (trees_from_list g.families)) ∷ []) refl wanted
   first-values (Step zero) first rules wanted = tt
   first-values (Step (suc n)) first rules wanted =
-      let w = wants (system_of p) g (Step (suc n)) first rules wanted in
-      let size = run-many (system_of p) first rules w.run w.is in
+      let w = wants (system_of_plant p) g (Step (suc n)) first rules wanted in
+      let size = run-many (system_of_plant p) first rules w.run w.is in
       let count = w.many in
-      let left : CopyDemand = must_fail_in (suc n) (all_of (trees (negation g.hazard ∷ g.families))) in
+      let left : CopyDemand = must_fail_in (suc n) (all_of (trees_from_list (negation g.hazard ∷ g.families))) in
       let families : List CopyDemand = flat_map (λ form. must_hold_below form (suc n)) g.families in
       let before =
       (and_parts (list_all (is_met_by w.run) (must_hold_below g.wellformed (suc n) ++ families))

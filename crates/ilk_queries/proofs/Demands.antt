@@ -6,8 +6,8 @@ use Rattle.std.proofs.lemmas.List.Folds.{list_all-append, list_all-map}
 use Rattle.ilk_base.specs.Option.{is_some_and}
 use Rattle.ilk_base.proofs.Ranges.{range-more}
 use Rattle.ilk_base.proofs.Lists.{item_at, take-next}
-use Rattle.ilk_ir.specs.Tree.{Tree, all_of, tree_holds, trees}
-use Rattle.ilk_ir.proofs.Trees.{each_holds-trees}
+use Rattle.ilk_ir.specs.Tree.{Tree, all_of, tree_holds, trees_from_list}
+use Rattle.ilk_ir.proofs.Trees.{each_holds-trees_from_list}
 use Rattle.ilk_unroll.specs.Goal.{must_fail_in, must_hold_below, must_hold_in}
 use Rattle.ilk_unroll.specs.Run.{is_met_by}
 use Rattle.ilk_queries.specs.Lifting.{form_holds}
@@ -70,5 +70,5 @@ swapped lists (form ∷ forms) = ap (λ b. list_all (form_holds form) lists && b
         four (form_holds form values) (list_all (form_holds form) lists) (list_all (tree_holds values) forms) (list_all (λ v. list_all (tree_holds v) forms) lists)
         ∙ ap (λ b. (form_holds form values && list_all (tree_holds values) forms) && b) (joined lists)
 
-pub all-hold : (values : List ℕ) (forms : List Tree) → form_holds (all_of (trees forms)) values ≡ list_all (tree_holds values) forms
-all-hold values forms = each_holds-trees values forms
+pub all-hold : (values : List ℕ) (forms : List Tree) → form_holds (all_of (trees_from_list forms)) values ≡ list_all (tree_holds values) forms
+all-hold values forms = each_holds-trees_from_list values forms

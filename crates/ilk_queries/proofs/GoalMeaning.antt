@@ -10,21 +10,21 @@ use Rattle.ilk_layout.specs.Image.{image_of}
 use Rattle.ilk_layout.specs.Laws.{ImagesAreInRange, IsWellFormedAndSafe}
 use Rattle.ilk_layout.specs.Variables.{ranges_of_plant}
 use Rattle.ilk_invs.specs.FamilyTrees.{family_tree, family_trees}
-use Rattle.ilk_invs.specs.Laws.{HoldsAsKept}
+use Rattle.ilk_invs.specs.Laws.{TreeMeansFamily}
 use Rattle.ilk_props.specs.HazardForm.{hazard_tree}
-use Rattle.ilk_props.specs.Laws.{HoldsAtHazards, HoldsAtImages, HoldsAtStart, IsOverPlant}
+use Rattle.ilk_props.specs.Laws.{HazardTreeIsCorrect, WellformedTreeMeansImage, StartTreeIsCorrect, IsValidOverPlant}
 use Rattle.ilk_props.specs.StartForm.{start_tree}
 use Rattle.ilk_props.specs.WellformedForm.{wellformed_tree}
 use Rattle.ilk_unroll.specs.Goal.{goal_valid}
-use Rattle.ilk_queries.specs.Goal.{goal_of}
-use Rattle.ilk_queries.specs.Lifting.{IsGoalOf}
+use Rattle.ilk_queries.specs.Goal.{goal_of_plant}
+use Rattle.ilk_queries.specs.Lifting.{IsGoalOfPlant}
 use Rattle.ilk_model.specs.Meets.{keeps_all}
 
-all-kept : (p : PlantLists) → ((j : ℕ) → HoldsAsKept p j (family_tree p j)) → (s : State) → IsWellFormedAndSafe p s → list_all (tree_holds (image_of p s)) (family_trees p) ≡ keeps_all p s
+all-kept : (p : PlantLists) → ((j : ℕ) → TreeMeansFamily p j (family_tree p j)) → (s : State) → IsWellFormedAndSafe p s → list_all (tree_holds (image_of p s)) (family_trees p) ≡ keeps_all p s
 all-kept p kept s calm =
     rw (kept 1 s calm, kept 2 s calm, kept 3 s calm, kept 4 s calm, kept 5 s calm, kept 6 s calm, kept 7 s calm, kept 8 s calm, kept 9 s calm) refl
 
-pub goal_is : (p : PlantLists) → ImagesAreInRange p → HoldsAtStart p → HoldsAtImages p → HoldsAtHazards p → ((j : ℕ) → HoldsAsKept p j (family_tree p j)) → IsGoalOf p (goal_of p)
+pub goal_is : (p : PlantLists) → ImagesAreInRange p → StartTreeIsCorrect p → WellformedTreeMeansImage p → HazardTreeIsCorrect p → ((j : ℕ) → TreeMeansFamily p j (family_tree p j)) → IsGoalOfPlant p (goal_of_plant p)
 goal_is p in_range begins wellformed hazards kept =
     record {
       begins = begins;
@@ -37,7 +37,7 @@ goal_is p in_range begins wellformed hazards kept =
 all-valid : (p : PlantLists) → ((j : ℕ) → tree_valid (ranges_of_plant p) (family_tree p j) ≡ true) → list_all (tree_valid (ranges_of_plant p)) (family_trees p) ≡ true
 all-valid p valid = rw (valid 1, valid 2, valid 3, valid 4, valid 5, valid 6, valid 7, valid 8, valid 9) refl
 
-pub goal_fits : (p : PlantLists) → IsOverPlant p (start_tree p) → IsOverPlant p (hazard_tree p) →
-    IsOverPlant p (wellformed_tree p) → ((j : ℕ) → tree_valid (ranges_of_plant p) (family_tree p j) ≡ true) →
-    IsTrue (goal_valid (ranges_of_plant p) (goal_of p))
+pub goal_fits : (p : PlantLists) → IsValidOverPlant p (start_tree p) → IsValidOverPlant p (hazard_tree p) →
+    IsValidOverPlant p (wellformed_tree p) → ((j : ℕ) → tree_valid (ranges_of_plant p) (family_tree p j) ≡ true) →
+    IsTrue (goal_valid (ranges_of_plant p) (goal_of_plant p))
 goal_fits p start hazard wellformed families = and_from _ _ (and_from _ _ (and_from _ _ start hazard) wellformed) (all-valid p families)

@@ -9,16 +9,16 @@ use Rattle.ilk_plant.proofs.Shapes.{start-shape}
 use Rattle.ilk_plant.specs.declared.state.State.{State}
 use Rattle.ilk_model.specs.declared.event.Event.{Event}
 use Rattle.ilk_layout.specs.Image.{image_of}
-use Rattle.ilk_behave.specs.Behaviour.{system_of}
-use Rattle.ilk_unroll.specs.Goal.{GoalTree, wanted_valid}
+use Rattle.ilk_behave.specs.Behaviour.{system_of_plant}
+use Rattle.ilk_unroll.specs.Goal.{PlainGoal, step_count_is_allowed}
 use Rattle.ilk_unroll.specs.Run.{is_wanted_run}
 use Rattle.ilk_unroll.specs.declared.queries.Wanted.{Wanted}
 use Rattle.ilk_unroll.specs.declared.queries.Wanted.TheVariants.{Hazard, Breach, Step}
 use Rattle.ilk_queries.specs.Asked.{HasQueriedRun, IsRunFor}
-use Rattle.ilk_queries.specs.Lifting.{IsGoalOf, RulesStepLikeEvents, events_by_rules}
+use Rattle.ilk_queries.specs.Lifting.{IsGoalOfPlant, RulesStepLikeEvents, events_by_rules}
 use Rattle.ilk_queries.proofs.Answered.{IsBeginning, first-values, to-asked}
 
-module _ (p : PlantLists) (steps : RulesStepLikeEvents p) (g : GoalTree) (goal : IsGoalOf p g) where
+module _ (p : PlantLists) (steps : RulesStepLikeEvents p) (g : PlainGoal) (goal : IsGoalOfPlant p g) where
   -- The state and the events of a run of rules.
   pub record IsLifted (q : Wanted) (first rules : List ℕ) : Type 0 where
     pub state : State
@@ -28,13 +28,13 @@ module _ (p : PlantLists) (steps : RulesStepLikeEvents p) (g : GoalTree) (goal :
     pub by_rules : events_by_rules p rules ≡ Some events
     pub run : IsRunFor p q state events
 
-  from-state : (q : Wanted) (first rules : List ℕ) (s : State) → HasShape p s → image_of p s ≡ first → IsBeginning p steps g goal q s → is_wanted_run (system_of p) g q first rules ≡ true → IsLifted q first rules
+  from-state : (q : Wanted) (first rules : List ℕ) (s : State) → HasShape p s → image_of p s ≡ first → IsBeginning p steps g goal q s → is_wanted_run (system_of_plant p) g q first rules ≡ true → IsLifted q first rules
   from-state q first rules s shape image begins wanted =
-      let here : is_wanted_run (system_of p) g q (image_of p s) rules ≡ true = ap (λ values. is_wanted_run (system_of p) g q values rules) image ∙ wanted in
+      let here : is_wanted_run (system_of_plant p) g q (image_of p s) rules ≡ true = ap (λ values. is_wanted_run (system_of_plant p) g q values rules) image ∙ wanted in
       let asked = to-asked p steps g goal q s rules shape begins here in
       record { state = s; shape = shape; image = image; events = asked.0; by_rules = asked.1; run = asked.2 }
 
-  pub lifted : (q : Wanted) (first rules : List ℕ) → wanted_valid q ≡ true → is_wanted_run (system_of p) g q first rules ≡ true → IsLifted q first rules
+  pub lifted : (q : Wanted) (first rules : List ℕ) → step_count_is_allowed q ≡ true → is_wanted_run (system_of_plant p) g q first rules ≡ true → IsLifted q first rules
   lifted (Hazard n) first rules valid wanted =
       from-state (Hazard n) first rules (start p) (start-shape p) (sym (first-values p steps g goal (Hazard n) first rules wanted)) refl wanted
   lifted (Breach n) first rules valid wanted =
@@ -44,6 +44,6 @@ module _ (p : PlantLists) (steps : RulesStepLikeEvents p) (g : GoalTree) (goal :
       let image = first-values p steps g goal (Step (suc n)) first rules wanted in
       from-state (Step (suc n)) first rules image.state image.calm.shape image.image image.calm.shape wanted
 
-  pub has-events : (q : Wanted) (first rules : List ℕ) → wanted_valid q ≡ true → is_wanted_run (system_of p) g q first rules ≡ true → HasQueriedRun p q
+  pub has-events : (q : Wanted) (first rules : List ℕ) → step_count_is_allowed q ≡ true → is_wanted_run (system_of_plant p) g q first rules ≡ true → HasQueriedRun p q
   has-events q first rules valid wanted =
       let l = lifted q first rules valid wanted in record { first = l.state; shape = l.shape; events = l.events; run = l.run }

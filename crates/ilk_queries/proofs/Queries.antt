@@ -6,18 +6,18 @@ use Rattle.std.proofs.lemmas.List.Folds.{list_all-append}
 use Rattle.std.proofs.lemmas.List.{length-map, take-map}
 use Rattle.std.proofs.lemmas.Option.{same_Some, slice_get-map}
 use Rattle.std.proofs.Math.Bool.{and-true}
-use Rattle.ilk_ir.specs.Tree.{all_of, negation, tree_holds, trees}
+use Rattle.ilk_ir.specs.Tree.{all_of, negation, tree_holds, trees_from_list}
 use Rattle.ilk_plant.specs.Plant.{PlantLists}
 use Rattle.ilk_plant.specs.Shape.{HasShape}
 use Rattle.ilk_plant.specs.declared.state.State.{State}
 use Rattle.ilk_model.specs.Hazard.{hazard}
 use Rattle.ilk_model.specs.declared.hazards.HazardAt.{HazardAt}
 use Rattle.ilk_layout.specs.Image.{image_of}
-use Rattle.ilk_unroll.specs.Goal.{CopyDemand, GoalTree, demands_of, must_fail_in, must_hold_below, must_hold_in}
+use Rattle.ilk_unroll.specs.Goal.{CopyDemand, PlainGoal, demands_of, must_fail_in, must_hold_below, must_hold_in}
 use Rattle.ilk_unroll.specs.Run.{is_met_by}
 use Rattle.ilk_unroll.specs.declared.queries.Wanted.TheVariants.{Hazard, Breach, Step}
 use Rattle.ilk_queries.specs.Asked.{leaves_invariant_at, meets_invariant}
-use Rattle.ilk_queries.specs.Lifting.{AllHaveShape, IsGoalOf, RulesStepLikeEvents, form_holds, is_hazard_free}
+use Rattle.ilk_queries.specs.Lifting.{AllHaveShape, IsGoalOfPlant, RulesStepLikeEvents, form_holds, is_hazard_free}
 use Rattle.ilk_queries.proofs.Demands.{all-below-met, all-hold, below-met, fails-met, holds-met, swapped}
 use Rattle.ilk_queries.proofs.Walks.{wellformed-before}
 use Rattle.ilk_model.specs.Meets.{keeps_all}
@@ -27,7 +27,7 @@ shaped-at p [] n t shaped at = cc
 shaped-at p (s ∷ states) zero t shaped at = subst (HasShape p) (same_Some s t at) shaped.0
 shaped-at p (s ∷ states) (suc n) t shaped at = shaped-at p states n t shaped.1 at
 
-module _ (p : PlantLists) (steps : RulesStepLikeEvents p) (g : GoalTree) (goal : IsGoalOf p g) where
+module _ (p : PlantLists) (steps : RulesStepLikeEvents p) (g : PlainGoal) (goal : IsGoalOfPlant p g) where
   pub hazard-met : (n : ℕ) (states : List State) (s t : State) → AllHaveShape p states →
       slice_get states 0 ≡ Some s → slice_get states n ≡ Some t → n ≤ length states →
       list_all (is_met_by (map (image_of p) states)) (demands_of g (Hazard n))
@@ -77,7 +77,7 @@ module _ (p : PlantLists) (steps : RulesStepLikeEvents p) (g : GoalTree) (goal :
           by_hazard (Some h) some = refl
 
   -- The last demand of a step query fails if and only if the invariant is violated.
-  invariant-form : (t : State) → HasShape p t → form_holds (all_of (trees (negation g.hazard ∷ g.families))) (image_of p t) ≡ meets_invariant p t
+  invariant-form : (t : State) → HasShape p t → form_holds (all_of (trees_from_list (negation g.hazard ∷ g.families))) (image_of p t) ≡ meets_invariant p t
   invariant-form t shape =
       all-hold (image_of p t) (negation g.hazard ∷ g.families)
       ∙ ap (λ b. not b && list_all (tree_holds (image_of p t)) g.families) (goal.hazards t shape) ∙ by_hazard (hazard p t) refl
@@ -96,13 +96,13 @@ module _ (p : PlantLists) (steps : RulesStepLikeEvents p) (g : GoalTree) (goal :
       && not (list_all (tree_holds (image_of p t)) g.families)))
   breach-met n states s t shaped first last within =
       let lists : List (List ℕ) = map (image_of p) states in
-      let broken : CopyDemand = must_fail_in n (all_of (trees g.families)) in
+      let broken : CopyDemand = must_fail_in n (all_of (trees_from_list g.families)) in
       let at0 : slice_get lists 0 ≡ Some (image_of p s) = slice_get-map (image_of p) states 0 ∙ rw first refl in
       let atn : slice_get lists n ≡ Some (image_of p t) = slice_get-map (image_of p) states n ∙ rw last refl in
       let long : n + 1 ≤ length lists = subst (λ k. n + 1 ≤ k) (sym (length-map states (image_of p))) within in
       let start = holds-met lists 0 (image_of p s) g.start at0 in
       let below = below-met lists g.wellformed (n + 1) long ∙ wellformed-before p steps g goal (n + 1) states shaped in
-      let end = fails-met lists n (image_of p t) (all_of (trees g.families)) atn ∙ ap not (all-hold (image_of p t) g.families) in
+      let end = fails-met lists n (image_of p t) (all_of (trees_from_list g.families)) atn ∙ ap not (all-hold (image_of p t) g.families) in
       ap (λ b. b && list_all (is_met_by lists) (must_hold_below g.wellformed (n + 1) ++ broken ∷ [])) start
       ∙ ap (λ b. form_holds g.start (image_of p s) && b) (list_all-append (is_met_by lists) (must_hold_below g.wellformed (n + 1)) (broken ∷ [])
       ∙ ap (λ b. b && (is_met_by lists broken && true)) below
@@ -111,14 +111,14 @@ module _ (p : PlantLists) (steps : RulesStepLikeEvents p) (g : GoalTree) (goal :
   pub step-met : (n : ℕ) (states : List State) (t : State) → AllHaveShape p states → slice_get states n ≡ Some t → n ≤ length states → list_all (is_met_by (map (image_of p) states)) (demands_of g (Step n)) ≡ leaves_invariant_at p n states
   step-met n states t shaped last within =
       let lists : List (List ℕ) = map (image_of p) states in
-      let left : CopyDemand = must_fail_in n (all_of (trees (negation g.hazard ∷ g.families))) in
+      let left : CopyDemand = must_fail_in n (all_of (trees_from_list (negation g.hazard ∷ g.families))) in
       let families : List CopyDemand = flat_map (λ form. must_hold_below form n) g.families in
       let atn : slice_get lists n ≡ Some (image_of p t) = slice_get-map (image_of p) states n ∙ rw last refl in
       let long : n ≤ length lists = subst (λ k. n ≤ k) (sym (length-map states (image_of p))) within in
       let below = below-met lists g.wellformed n long ∙ wellformed-before p steps g goal n states shaped in
       let kept : list_all (is_met_by lists) families ≡ list_all (λ values. list_all (tree_holds values) g.families) (map (image_of p) (take n states)) =
       all-below-met lists g.families n long ∙ swapped (take n lists) g.families ∙ ap (list_all (λ values. list_all (tree_holds values) g.families)) (take-map (image_of p) n states) in
-      let end = fails-met lists n (image_of p t) (all_of (trees (negation g.hazard ∷ g.families))) atn ∙ ap not (invariant-form t (shaped-at p states n t shaped last)) in
+      let end = fails-met lists n (image_of p t) (all_of (trees_from_list (negation g.hazard ∷ g.families))) atn ∙ ap not (invariant-form t (shaped-at p states n t shaped last)) in
       let right : leaves_invariant_at p n states ≡ (list_all (meets_invariant p) (take n states) && not (meets_invariant p t)) = rw last refl in
       list_all-append (is_met_by lists) (must_hold_below g.wellformed n ++ families) (left ∷ [])
       ∙ ap (λ b. b && (is_met_by lists left && true))

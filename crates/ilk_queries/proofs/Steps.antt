@@ -11,19 +11,19 @@ use Rattle.ilk_model.specs.declared.event.Event.{Event}
 use Rattle.ilk_model.proofs.Shape.{next-shape}
 use Rattle.ilk_layout.specs.Image.{image_of}
 use Rattle.ilk_layout.specs.Laws.{IsWellFormedAndSafe}
-use Rattle.ilk_behave.specs.Behaviour.{event_of_rule, events_of, events_of_rules, system_of}
-use Rattle.ilk_behave.specs.Steps.{RuleGives, StepsLikeEvents}
+use Rattle.ilk_behave.specs.Behaviour.{event_of_rule, events_of, events_of_rules, system_of_plant}
+use Rattle.ilk_behave.specs.Steps.{RuleGives, SystemMatchesEvents}
 use Rattle.ilk_behave.proofs.Located.{as_many}
 use Rattle.ilk_queries.specs.Lifting.{RulesStepLikeEvents}
 
-rule-event : (p : PlantLists) (i : ℕ) (values next : List ℕ) → after_rule_number (system_of p) i values ≡ Some next → (event : Event) × (event_of_rule p i ≡ Some event)
+rule-event : (p : PlantLists) (i : ℕ) (values next : List ℕ) → after_rule_number (system_of_plant p) i values ≡ Some next → (event : Event) × (event_of_rule p i ≡ Some event)
 rule-event p i values next e =
-    let rule = bind_some (slice_get (system_of p).rules i) (λ r. after_rule r values) next e in
-    let within : i < length (system_of p).rules = slice_get_within (system_of p).rules i rule.0 rule.1 in
-    let many : length (events_of_rules p (events_of p)) ≡ length (system_of p).rules = as_many p (events_of p) in
+    let rule = bind_some (slice_get (system_of_plant p).rules i) (λ r. after_rule r values) next e in
+    let within : i < length (system_of_plant p).rules = slice_get_within (system_of_plant p).rules i rule.0 rule.1 in
+    let many : length (events_of_rules p (events_of p)) ≡ length (system_of_plant p).rules = as_many p (events_of p) in
     item_at (events_of_rules p (events_of p)) i (omega (arith, many))
 
-pub rules-step : (p : PlantLists) → IsPlant p → StepsLikeEvents p → RulesStepLikeEvents p
+pub rules-step : (p : PlantLists) → IsPlant p → SystemMatchesEvents p → RulesStepLikeEvents p
 rules-step p plant steps =
     record {
       enabled = λ s t event shape none e.

@@ -4,7 +4,7 @@ use Rattle.std.specs.Prelude.{is_some, is_none, option_and_then, option_map}
 use Rattle.std.specs.List.{list_all}
 use Rattle.std.proofs.lemmas.Bool.{and_from, and_parts, cases_Bool, false≢true}
 use Rattle.std.proofs.lemmas.Option.{same_Some}
-use Rattle.ilk_base.specs.Option.{◌>>=◌, only_if}
+use Rattle.ilk_base.specs.Option.{◌>>=◌, then_some}
 use Rattle.ilk_base.proofs.Options.{bind_some, mapped-Some}
 use Rattle.ilk_ir.specs.System.{after_rule_number}
 use Rattle.ilk_ir.specs.Tree.{tree_holds}
@@ -13,14 +13,14 @@ use Rattle.ilk_plant.specs.Shape.{HasShape}
 use Rattle.ilk_plant.specs.declared.state.State.{State}
 use Rattle.ilk_model.specs.Event.{next}
 use Rattle.ilk_model.specs.Hazard.{hazard}
-use Rattle.ilk_model.specs.Run.{run, next_if_no_hazard}
+use Rattle.ilk_model.specs.Run.{run, next_from_hazard_free}
 use Rattle.ilk_model.specs.declared.event.Event.{Event}
 use Rattle.ilk_model.specs.declared.hazards.HazardAt.{HazardAt}
 use Rattle.ilk_layout.specs.Image.{image_of}
-use Rattle.ilk_behave.specs.Behaviour.{system_of}
-use Rattle.ilk_unroll.specs.Goal.{GoalTree}
-use Rattle.ilk_unroll.specs.Run.{run_from}
-use Rattle.ilk_queries.specs.Lifting.{AllHaveShape, IsGoalOf, RulesStepLikeEvents, events_by_rules, form_holds, is_hazard_free}
+use Rattle.ilk_behave.specs.Behaviour.{system_of_plant}
+use Rattle.ilk_unroll.specs.Goal.{PlainGoal}
+use Rattle.ilk_unroll.specs.Run.{run_firing_rules}
+use Rattle.ilk_queries.specs.Lifting.{AllHaveShape, IsGoalOfPlant, RulesStepLikeEvents, events_by_rules, form_holds, is_hazard_free}
 use Rattle.ilk_queries.specs.Walk.{states_from}
 
 pub none-is : {A : Type 0} (o : Option A) → is_none o ≡ true → o ≡ None
@@ -47,7 +47,7 @@ pub run-states : (p : PlantLists) (s t : State) (events : List Event) → run p 
     (slice_get states (length events) ≡ Some t)
 run-states p s t [] e = (s ∷ [], refl, refl, e)
 run-states p s t (event ∷ events) e =
-    let first = bound (next_if_no_hazard p s event) e in
+    let first = bound (next_from_hazard_free p s event) e in
     let safe = stepped first.0 first.1 in
     let rest = run-states p first.0 t events first.2 in
     (s ∷ rest.0, ap (λ o. option_map (λ more. s ∷ more) (option_and_then (λ u. states_from p u events) o)) safe.1 ∙ ap (option_map (λ more. s ∷ more)) rest.1, and_from _ _ safe.0 rest.2, rest.3)
@@ -56,10 +56,10 @@ run-states p s t (event ∷ events) e =
     bound None e = absurd cc
     bound (Some u) e = (u, refl, e)
 
-    stepped : (u : State) → next_if_no_hazard p s event ≡ Some u → (is_hazard_free p s ≡ true) × (next p s event ≡ Some u)
+    stepped : (u : State) → next_from_hazard_free p s event ≡ Some u → (is_hazard_free p s ≡ true) × (next p s event ≡ Some u)
     stepped u e = by_safe (is_none (hazard p s)) refl e
       where
-        by_safe : (b : Bool) → is_none (hazard p s) ≡ b → (only_if b s >>= (λ safe. next p safe event)) ≡ Some u → (is_hazard_free p s ≡ true) × (next p s event ≡ Some u)
+        by_safe : (b : Bool) → is_none (hazard p s) ≡ b → (then_some b s >>= (λ safe. next p safe event)) ≡ Some u → (is_hazard_free p s ≡ true) × (next p s event ≡ Some u)
         by_safe true h e = (h, e)
         by_safe false h e = absurd cc
 
@@ -72,11 +72,11 @@ states-run p s (event ∷ events) states e safe =
     let here : is_none (hazard p s) ≡ true = (and_parts (is_hazard_free p s) (list_all (is_hazard_free p) (take (length events) outer.0)) all).0 in
     let later = (and_parts (is_hazard_free p s) (list_all (is_hazard_free p) (take (length events) outer.0)) all).1 in
     let rest = states-run p inner.0 events outer.0 inner.2 later in
-    let free : run p s (event ∷ events) ≡ (next p s event >>= (λ t. run p t events)) = ap (λ b. (only_if b s >>= (λ safe. next p safe event)) >>= (λ t. run p t events)) here in
+    let free : run p s (event ∷ events) ≡ (next p s event >>= (λ t. run p t events)) = ap (λ b. (then_some b s >>= (λ safe. next p safe event)) >>= (λ t. run p t events)) here in
     let whole : run p s (event ∷ events) ≡ slice_get (s ∷ outer.0) (suc (length events)) = free ∙ ap (λ o. o >>= (λ t. run p t events)) inner.1 ∙ rest in
     whole ∙ ap (λ (u : List State). slice_get u (suc (length events))) outer.2
 
-module _ (p : PlantLists) (steps : RulesStepLikeEvents p) (g : GoalTree) (goal : IsGoalOf p g) where
+module _ (p : PlantLists) (steps : RulesStepLikeEvents p) (g : PlainGoal) (goal : IsGoalOfPlant p g) where
   pub wellformed-state : (s : State) → HasShape p s → form_holds g.wellformed (image_of p s) ≡ is_hazard_free p s
   wellformed-state s shape = by_hazard (hazard p s) refl
     where
@@ -112,7 +112,7 @@ module _ (p : PlantLists) (steps : RulesStepLikeEvents p) (g : GoalTree) (goal :
   pub to-rules : (s : State) (events : List Event) (states : List State) → HasShape p s →
       states_from p s events ≡ Some states → list_all (is_hazard_free p) (take (length events) states) ≡ true →
       (rules : List ℕ) × (length rules ≡ length events) ×
-      (run_from (system_of p) (image_of p s) rules ≡ Some (map (image_of p) states))
+      (run_firing_rules (system_of_plant p) (image_of p s) rules ≡ Some (map (image_of p) states))
   to-rules s [] states shape e safe = ([], refl, ap (λ (u : List State). Some (map (image_of p) u)) (same_Some (s ∷ []) states e))
   to-rules s (event ∷ events) states shape e safe =
       let outer = mapped-Some (λ more. s ∷ more) (option_and_then (λ t. states_from p t events) (next p s event)) states e in
@@ -122,27 +122,27 @@ module _ (p : PlantLists) (steps : RulesStepLikeEvents p) (g : GoalTree) (goal :
       let later = (and_parts (is_hazard_free p s) (list_all (is_hazard_free p) (take (length events) outer.0)) all).1 in
       let fires = steps.enabled s inner.0 event shape here inner.1 in
       let rest = to-rules inner.0 events outer.0 (steps.keeps_shape s inner.0 event shape inner.1) inner.2 later in
-      let these : run_from (system_of p) (image_of p s) (fires.0 ∷ rest.0) ≡ Some (image_of p s ∷ map (image_of p) outer.0) =
-      ap (λ o. option_map (λ run. image_of p s ∷ run) (option_and_then (λ next. run_from (system_of p) next rest.0) o)) fires.2 ∙ ap (option_map (λ run. image_of p s ∷ run)) rest.2 in
+      let these : run_firing_rules (system_of_plant p) (image_of p s) (fires.0 ∷ rest.0) ≡ Some (image_of p s ∷ map (image_of p) outer.0) =
+      ap (λ o. option_map (λ run. image_of p s ∷ run) (option_and_then (λ next. run_firing_rules (system_of_plant p) next rest.0) o)) fires.2 ∙ ap (option_map (λ run. image_of p s ∷ run)) rest.2 in
       (fires.0 ∷ rest.0, ap suc rest.1, these ∙ ap (λ (u : List State). Some (map (image_of p) u)) outer.2)
 
   -- Rules through well-formed values correspond to events through states with these images.
   pub to-events : (s : State) (rules : List ℕ) (lists : List (List ℕ)) → HasShape p s →
-      run_from (system_of p) (image_of p s) rules ≡ Some lists →
+      run_firing_rules (system_of_plant p) (image_of p s) rules ≡ Some lists →
       list_all (form_holds g.wellformed) (take (length rules) lists) ≡ true →
       (events : List Event) × (states : List State) × (events_by_rules p rules ≡ Some events) ×
       (length events ≡ length rules) × (states_from p s events ≡ Some states) ×
       (map (image_of p) states ≡ lists)
   to-events s [] lists shape e well = ([], s ∷ [], refl, refl, refl, same_Some (image_of p s ∷ []) lists e)
   to-events s (i ∷ rules) lists shape e well =
-      let outer = mapped-Some (λ run. image_of p s ∷ run) (option_and_then (λ next. run_from (system_of p) next rules) (after_rule_number (system_of p) i (image_of p s))) lists e in
-      let inner = bind_some (after_rule_number (system_of p) i (image_of p s)) (λ next. run_from (system_of p) next rules) outer.0 outer.1 in
+      let outer = mapped-Some (λ run. image_of p s ∷ run) (option_and_then (λ next. run_firing_rules (system_of_plant p) next rules) (after_rule_number (system_of_plant p) i (image_of p s))) lists e in
+      let inner = bind_some (after_rule_number (system_of_plant p) i (image_of p s)) (λ next. run_firing_rules (system_of_plant p) next rules) outer.0 outer.1 in
       let all : list_all (form_holds g.wellformed) (image_of p s ∷ take (length rules) outer.0) ≡ true = ap (λ (u : List (List ℕ)). list_all (form_holds g.wellformed) (take (suc (length rules)) u)) outer.2 ∙ well in
       let here : hazard p s ≡ None = none-is (hazard p s) (sym (wellformed-state s shape) ∙ (and_parts (form_holds g.wellformed (image_of p s)) (list_all (form_holds g.wellformed) (take (length rules) outer.0)) all).0) in
       let later = (and_parts (form_holds g.wellformed (image_of p s)) (list_all (form_holds g.wellformed) (take (length rules) outer.0)) all).1 in
       let goes = steps.fired s i inner.0 shape here inner.1 in
       let t = goes.1 in
-      let onward : run_from (system_of p) (image_of p t) rules ≡ Some outer.0 = subst (λ (v : List ℕ). run_from (system_of p) v rules ≡ Some outer.0) goes.4 inner.2 in
+      let onward : run_firing_rules (system_of_plant p) (image_of p t) rules ≡ Some outer.0 = subst (λ (v : List ℕ). run_firing_rules (system_of_plant p) v rules ≡ Some outer.0) goes.4 inner.2 in
       let rest = to-events t rules outer.0 (steps.keeps_shape s t goes.0 shape goes.3) onward later in (
         goes.0 ∷ rest.0,
         s ∷ rest.1,

@@ -5,9 +5,9 @@ use Rattle.ilk_invs.specs.FamilyTrees.{family_trees}
 use Rattle.ilk_props.specs.HazardForm.{hazard_tree}
 use Rattle.ilk_props.specs.StartForm.{start_tree}
 use Rattle.ilk_props.specs.WellformedForm.{wellformed_tree}
-use Rattle.ilk_unroll.specs.Goal.{GoalTree}
+use Rattle.ilk_unroll.specs.Goal.{PlainGoal}
 
 -- The goal of a plant: the forms of its start, its hazards, its well-formed states and its
 -- families.
-abbrev pub goal_of : PlantLists → GoalTree
-goal_of p = record { start = start_tree p; hazard = hazard_tree p; wellformed = wellformed_tree p; families = family_trees p }
+abbrev pub goal_of_plant : PlantLists → PlainGoal
+goal_of_plant p = record { start = start_tree p; hazard = hazard_tree p; wellformed = wellformed_tree p; families = family_trees p }

@@ -12,26 +12,26 @@ use Rattle.ilk_model.specs.Event.{next}
 use Rattle.ilk_model.specs.Hazard.{hazard}
 use Rattle.ilk_model.specs.declared.event.Event.{Event}
 use Rattle.ilk_layout.specs.Image.{image_of}
-use Rattle.ilk_layout.specs.Laws.{AreImage}
+use Rattle.ilk_layout.specs.Laws.{AreImageOfSafeState}
 use Rattle.ilk_layout.specs.Variables.{ranges_of_plant}
-use Rattle.ilk_behave.specs.Behaviour.{event_of_rule, system_of}
-use Rattle.ilk_unroll.specs.Goal.{GoalTree}
+use Rattle.ilk_behave.specs.Behaviour.{event_of_rule, system_of_plant}
+use Rattle.ilk_unroll.specs.Goal.{PlainGoal}
 use Rattle.ilk_model.specs.Meets.{keeps_all}
 
 -- Holds if rules step as events do, from every well-formed state without hazard, and events keep
 -- states well-formed.
 pub record RulesStepLikeEvents (p : PlantLists) : Type 0 where
-  pub enabled : (s t : State) (event : Event) → HasShape p s → hazard p s ≡ None → next p s event ≡ Some t → (i : ℕ) × (event_of_rule p i ≡ Some event) × (after_rule_number (system_of p) i (image_of p s) ≡ Some (image_of p t))
+  pub enabled : (s t : State) (event : Event) → HasShape p s → hazard p s ≡ None → next p s event ≡ Some t → (i : ℕ) × (event_of_rule p i ≡ Some event) × (after_rule_number (system_of_plant p) i (image_of p s) ≡ Some (image_of p t))
   pub fired : (s : State) (i : ℕ) (values : List ℕ) → HasShape p s → hazard p s ≡ None →
-      after_rule_number (system_of p) i (image_of p s) ≡ Some values →
+      after_rule_number (system_of_plant p) i (image_of p s) ≡ Some values →
       (event : Event) × (t : State) × (event_of_rule p i ≡ Some event) × (next p s event ≡ Some t) ×
       (values ≡ image_of p t)
   pub keeps_shape : (s t : State) (event : Event) → HasShape p s → next p s event ≡ Some t → HasShape p t
 
 -- Holds if the forms of the goal mean what their names say.
-pub record IsGoalOf (p : PlantLists) (g : GoalTree) : Type 0 where
+pub record IsGoalOfPlant (p : PlantLists) (g : PlainGoal) : Type 0 where
   pub begins : (values : List ℕ) → in_ranges values (ranges_of_plant p) ≡ true → (tree_holds values g.start ≡ true) ↔ (values ≡ image_of p (start p))
-  pub wellformed : (values : List ℕ) → in_ranges values (ranges_of_plant p) ≡ true → (tree_holds values g.wellformed ≡ true) ↔ AreImage p values
+  pub wellformed : (values : List ℕ) → in_ranges values (ranges_of_plant p) ≡ true → (tree_holds values g.wellformed ≡ true) ↔ AreImageOfSafeState p values
   pub hazards : (s : State) → HasShape p s → tree_holds (image_of p s) g.hazard ≡ is_some (hazard p s)
   pub kept : (s : State) → HasShape p s → hazard p s ≡ None → list_all (tree_holds (image_of p s)) g.families ≡ keeps_all p s
   pub in_range : (s : State) → HasShape p s → in_ranges (image_of p s) (ranges_of_plant p) ≡ true

@@ -1,13 +1,13 @@
 ghost use Rattle.std.specs.Prelude.{◌≡◌, ◌↔◌, IfOk, IsTrue, OnOk};
-ghost use Rattle.ilk_behave.specs.Behaviour.{system_of};
-ghost use Rattle.ilk_behave.specs.Steps.{StepsLikeEvents};
-ghost use Rattle.ilk_ir.specs.System.{system_tree, system_valid};
+ghost use Rattle.ilk_behave.specs.Behaviour.{system_of_plant};
+ghost use Rattle.ilk_behave.specs.Steps.{SystemMatchesEvents};
+ghost use Rattle.ilk_ir.specs.System.{plain_system, system_valid};
 ghost use Rattle.ilk_layout.specs.Variables.{ranges_of_plant};
-ghost use Rattle.ilk_unroll.specs.Goal.{goal_tree, goal_valid, wanted_valid};
+ghost use Rattle.ilk_unroll.specs.Goal.{plain_goal, goal_valid, step_count_is_allowed};
 ghost use Rattle.ilk_unroll.specs.Query.{query_formula};
 ghost use Rattle.ilk_queries.specs.Asked.{HasQueriedRun};
-ghost use Rattle.ilk_queries.specs.Goal.{goal_of};
-ghost use Rattle.ilk_queries.specs.Lifting.{IsGoalOf};
+ghost use Rattle.ilk_queries.specs.Goal.{goal_of_plant};
+ghost use Rattle.ilk_queries.specs.Lifting.{IsGoalOfPlant};
 ghost use Rattle.ilk_unroll.specs.Satisfied.{IsSatisfiable};
 
 use crate::goals::goal;
@@ -27,20 +27,21 @@ fn formula_of(
     goal: &Goal,
     q: Wanted,
 ) -> Result<Cnf, AllocError>
-    requires system { system_tree system.now ≡ system_of plant.now }
-    requires goal { goal_tree goal.now ≡ goal_of plant.now }
-    requires system_valid { IsTrue (system_valid (system_of plant.now)) }
-    requires steps { StepsLikeEvents plant.now }
-    requires goal_valid { IsTrue (goal_valid (ranges_of_plant plant.now) (goal_of plant.now)) }
-    requires means { IsGoalOf plant.now (goal_of plant.now) }
-    requires wanted { IsTrue (wanted_valid q) }
+    requires system { plain_system system.now ≡ system_of_plant plant.now }
+    requires goal { plain_goal goal.now ≡ goal_of_plant plant.now }
+    requires system_valid { IsTrue (system_valid (system_of_plant plant.now)) }
+    requires steps { SystemMatchesEvents plant.now }
+    requires goal_valid { IsTrue
+        (goal_valid (ranges_of_plant plant.now) (goal_of_plant plant.now)) }
+    requires means { IsGoalOfPlant plant.now (goal_of_plant plant.now) }
+    requires wanted { IsTrue (step_count_is_allowed q) }
     ensures formula { IfOk result
-        (λ cnf. cnf ≡ query_formula (system_of plant.now) (goal_of plant.now) q) }
+        (λ cnf. cnf ≡ query_formula (system_of_plant plant.now) (goal_of_plant plant.now) q) }
     ensures satisfiable { OnOk result
-        (IsSatisfiable (query_formula (system_of plant.now) (goal_of plant.now) q) ↔
+        (IsSatisfiable (query_formula (system_of_plant plant.now) (goal_of_plant plant.now) q) ↔
         HasQueriedRun plant.now q) }
 {
-    plant.is_sound();
+    plant.prove_is_plant();
     query(alloc, system, goal, q)
 }
 
@@ -48,11 +49,11 @@ fn formula_of(
 /// run that the query asks for. A query has at most 16 steps, and a step query at least one. Fails
 /// only if memory runs out.
 pub fn formula(alloc: Global, plant: &Plant, q: Wanted) -> Result<Cnf, AllocError>
-    requires { IsTrue (wanted_valid q) }
+    requires { IsTrue (step_count_is_allowed q) }
     ensures formula { IfOk result
-        (λ cnf. cnf ≡ query_formula (system_of plant.now) (goal_of plant.now) q) }
+        (λ cnf. cnf ≡ query_formula (system_of_plant plant.now) (goal_of_plant plant.now) q) }
     ensures satisfiable { OnOk result
-        (IsSatisfiable (query_formula (system_of plant.now) (goal_of plant.now) q) ↔
+        (IsSatisfiable (query_formula (system_of_plant plant.now) (goal_of_plant plant.now) q) ↔
         HasQueriedRun plant.now q) }
 {
     let system = behaviour(alloc, plant)?;

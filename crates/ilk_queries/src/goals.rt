@@ -1,10 +1,10 @@
 ghost use Rattle.std.specs.Prelude.{◌≡◌, IfOk, IsTrue, OnOk};
 ghost use Rattle.ilk_layout.specs.Variables.{ranges_of_plant};
-ghost use Rattle.ilk_unroll.specs.Goal.{goal_tree, goal_valid};
-ghost use Rattle.ilk_queries.specs.Goal.{goal_of};
-ghost use Rattle.ilk_queries.specs.Lifting.{IsGoalOf};
+ghost use Rattle.ilk_unroll.specs.Goal.{plain_goal, goal_valid};
+ghost use Rattle.ilk_queries.specs.Goal.{goal_of_plant};
+ghost use Rattle.ilk_queries.specs.Lifting.{IsGoalOfPlant};
 
-use ilk_invs::{families_hold, families_valid, family_forms};
+use ilk_invs::{family_forms, family_forms_are_correct, family_forms_are_valid};
 use ilk_layout::images_are_in_range;
 use ilk_plant::Plant;
 use ilk_props::{hazard_form, start_form, wellformed_form};
@@ -15,14 +15,14 @@ use std::alloc::{AllocError, Global};
 /// Returns the goal of a plant, as forms over its image: the start, hazards, well-formed values and
 /// the nine families. Fails only if memory runs out.
 pub fn goal(alloc: Global, plant: &Plant) -> Result<Goal, AllocError>
-    ensures goal { IfOk result (λ made. goal_tree made ≡ goal_of plant.now) }
+    ensures goal { IfOk result (λ made. plain_goal made ≡ goal_of_plant plant.now) }
     ensures valid { OnOk result
-        (IsTrue (goal_valid (ranges_of_plant plant.now) (goal_of plant.now))) }
-    ensures means { OnOk result (IsGoalOf plant.now (goal_of plant.now)) }
+        (IsTrue (goal_valid (ranges_of_plant plant.now) (goal_of_plant plant.now))) }
+    ensures means { OnOk result (IsGoalOfPlant plant.now (goal_of_plant plant.now)) }
 {
     images_are_in_range(plant);
-    families_hold(plant);
-    families_valid(plant);
+    family_forms_are_correct(plant);
+    family_forms_are_valid(plant);
     Ok(Goal {
         start: start_form(alloc, plant)?,
         hazard: hazard_form(alloc, plant)?,

@@ -5,10 +5,10 @@ use Rattle.std.proofs.lemmas.List.Elements.{filter-append}
 use Rattle.std.proofs.lemmas.Option.{slice_get_past}
 use Rattle.ilk_base.proofs.Ranges.{filter_one, range-more}
 use Rattle.ilk_base.specs.Option.{◌>>=◌}
-use Rattle.ilk_lines.specs.Answers.{MatchesPartResult}
+use Rattle.ilk_lines.specs.Answers.{MatchesPrefixResult}
 use Rattle.ilk_lines.specs.Lines.{Bytes}
 use Rattle.ilk_lines.specs.LinesLeft.{LinesLeft}
-use Rattle.ilk_lines.specs.Reading.{values_from_lines}
+use Rattle.ilk_lines.specs.Reading.{item_values_from_lines}
 use Rattle.ilk_lines.specs.declared.fault.LineFault.{LineFault}
 
 pub numbered_more : (numbers new : List ℕ) (n : ℕ) → numbers ≡ range_with_len 0 n → new ≡ numbers ++ n ∷ [] → new ≡ range_with_len 0 (n + 1)
@@ -30,6 +30,6 @@ unnamed {A = A} names x told past = sym (ap (λ (o : Option Bytes). o >>= told) 
 pub same_items :
     {A : Type 0} (value : ℕ → Bytes → Option A) (items others : List ℕ) (n : ℕ) (lines : List Bytes)
     (left : LinesLeft) (answer : Result (List A) LineFault) → items ≡ others →
-    MatchesPartResult (values_from_lines value items n lines) left answer →
-    MatchesPartResult (values_from_lines value others n lines) left answer
-same_items value items others n lines left answer same told = subst (λ (xs : List ℕ). MatchesPartResult (values_from_lines value xs n lines) left answer) same told
+    MatchesPrefixResult (item_values_from_lines value items n lines) left answer →
+    MatchesPrefixResult (item_values_from_lines value others n lines) left answer
+same_items value items others n lines left answer same told = subst (λ (xs : List ℕ). MatchesPrefixResult (item_values_from_lines value xs n lines) left answer) same told

@@ -13,9 +13,9 @@ use Rattle.ilk_plant.specs.Start.{start}
 use Rattle.ilk_plant.specs.Shape.{HasShape}
 use Rattle.ilk_plant.specs.declared.network.Section.{Section}
 use Rattle.ilk_model.specs.declared.event.Event.{Event}
-use Rattle.ilk_lines.specs.Lines.{Bytes, after_lines, lines_of}
-use Rattle.ilk_lines.specs.Reading.{lines_after, expect_end, values_from_lines, leading_values, numbers_of}
-use Rattle.ilk_lines.specs.Words.{split_first_word}
+use Rattle.ilk_lines.specs.Lines.{Bytes, unterminated_tail, lines_of}
+use Rattle.ilk_lines.specs.Reading.{strip_first_line, expect_end, item_values_from_lines, leading_values, indices_of_items}
+use Rattle.ilk_lines.specs.Words.{split_at_first_space}
 use Rattle.ilk_base.proofs.Results.{bind_ok, ok_is}
 use Rattle.ilk_base.proofs.Options.{bind_some, or_cases}
 use Rattle.ilk_lines.proofs.Leading.{leading_all}
@@ -23,9 +23,9 @@ use Rattle.ilk_replay.specs.EventLine.{event_from_line, point_named}
 use Rattle.ilk_replay.specs.EventSubjects.{event_with}
 use Rattle.ilk_replay.specs.RunText.{run_text}
 use Rattle.ilk_replay.specs.StateLine.{board_from_line, lock_from_line, point_from_line, route_from_line, train_from_line}
-use Rattle.ilk_replay.specs.StateTold.{Beginning, point_sections, state_from_lines}
+use Rattle.ilk_replay.specs.StateTold.{BeginningAndEventLines, sections_with_points, state_from_lines}
 use Rattle.ilk_replay.specs.Told.{beginning_from_lines, events_from_lines, run_from_text, run_from_lines, run_from_start}
-use Rattle.ilk_replay.specs.Writable.{HasNoBadLine, HasSubject, HasSubjectOf, IsRunOfPlant, IsRunText, IsTextOfRun}
+use Rattle.ilk_replay.specs.Writable.{HasNoBadLine, IsSubjectOfPlant, IsEventSubjectOfPlant, IsRunOfPlant, IsRunText, IsTextOfRun}
 use Rattle.ilk_replay.specs.declared.event_line.Subject.{Subject}
 use Rattle.ilk_replay.specs.declared.event_line.Subject.TheVariants.{Route, Point, Section as AtSection}
 use Rattle.ilk_replay.specs.declared.told.Tale.{Tale}
@@ -41,24 +41,24 @@ use Rattle.ilk_replay.proofs.WrittenRun.{answered, made, text_written}
 named-within : (names : List Bytes) (name : Bytes) (i : ℕ) → first_number_named names name ≡ Some i → i < length names
 named-within names name i e = (position-Some (bytes_eq name) names i [] e).0
 
-event_with-has : (p : PlantLists) (word : Bytes) (about : Subject) (event : Event) → HasSubject p about → event_with word about ≡ Some event → HasSubjectOf p event
-event_with-has p word about event has e = subst (HasSubject p) (sym (event_with-about word about event e)) has
+event_with-has : (p : PlantLists) (word : Bytes) (about : Subject) (event : Event) → IsSubjectOfPlant p about → event_with word about ≡ Some event → IsEventSubjectOfPlant p event
+event_with-has p word about event has e = subst (IsSubjectOfPlant p) (sym (event_with-about word about event e)) has
 
-of_route-about : (p : PlantLists) → IsPlant p → (word name : Bytes) (event : Event) → of_route p word name ≡ Some event → HasSubjectOf p event
+of_route-about : (p : PlantLists) → IsPlant p → (word name : Bytes) (event : Event) → of_route p word name ≡ Some event → IsEventSubjectOfPlant p event
 of_route-about p plant word name event e =
     let named = plant.routes_named in
     let b = bind_some (first_number_named p.route_names name) (λ r. event_with word (Route r)) event e in
     let below = named-within p.route_names name b.0 b.1 in
     event_with-has p word (Route b.0) event (omega arith) b.2
 
-of_section-about : (p : PlantLists) → IsPlant p → (word name : Bytes) (event : Event) → of_section p word name ≡ Some event → HasSubjectOf p event
+of_section-about : (p : PlantLists) → IsPlant p → (word name : Bytes) (event : Event) → of_section p word name ≡ Some event → IsEventSubjectOfPlant p event
 of_section-about p plant word name event e =
     let named = plant.sections_named in
     let b = bind_some (first_number_named p.section_names name) (λ x. event_with word (AtSection x)) event e in
     let below = named-within p.section_names name b.0 b.1 in
     event_with-has p word (AtSection b.0) event (omega arith) b.2
 
-of_point-about : (p : PlantLists) (word name : Bytes) (event : Event) → of_point p word name ≡ Some event → HasSubjectOf p event
+of_point-about : (p : PlantLists) (word name : Bytes) (event : Event) → of_point p word name ≡ Some event → IsEventSubjectOfPlant p event
 of_point-about p word name event e =
     let b = bind_some (point_named p name) (λ x. event_with word (Point x)) event e in
     let c = bind_some (first_number_named p.section_names name) _ b.0 b.1 in
@@ -67,35 +67,35 @@ of_point-about p word name event e =
     let at : is_point_section p c.0 ≡ true = ap (λ (o : Option Section). is_some_and o is_point) d.1 ∙ point.0 in
     event_with-has p word (Point b.0) event (ap (is_point_section p) (sym point.1) ∙ at) b.2
 
-pub event_from_line-about : (p : PlantLists) → IsPlant p → (line : Bytes) (event : Event) → event_from_line p line ≡ Some event → HasSubjectOf p event
+pub event_from_line-about : (p : PlantLists) → IsPlant p → (line : Bytes) (event : Event) → event_from_line p line ≡ Some event → IsEventSubjectOfPlant p event
 event_from_line-about p plant line event e =
-    let a = bind_some (split_first_word line) _ event e in
+    let a = bind_some (split_at_first_space line) _ event e in
     let word : Bytes = a.0.0 in
     let name : Bytes = a.0.1 in
-    or_cases (HasSubjectOf p event) (of_route p word name) (option_or (of_point p word name) (of_section p word name)) event a.2 (of_route-about p plant word name event)
-    (λ other. or_cases (HasSubjectOf p event) (of_point p word name) (of_section p word name) event other (of_point-about p word name event) (of_section-about p plant word name event))
+    or_cases (IsEventSubjectOfPlant p event) (of_route p word name) (option_or (of_point p word name) (of_section p word name)) event a.2 (of_route-about p plant word name event)
+    (λ other. or_cases (IsEventSubjectOfPlant p event) (of_point p word name) (of_section p word name) event other (of_point-about p word name event) (of_section-about p plant word name event))
 
-events_from_lines-about : (p : PlantLists) → IsPlant p → (n : ℕ) (lines : List Bytes) (bytes : Bytes) (events : List Event) → events_from_lines p n lines bytes ≡ Ok events → All (HasSubjectOf p) events
+events_from_lines-about : (p : PlantLists) → IsPlant p → (n : ℕ) (lines : List Bytes) (bytes : Bytes) (events : List Event) → events_from_lines p n lines bytes ≡ Ok events → All (IsEventSubjectOfPlant p) events
 events_from_lines-about p plant n lines bytes events e =
     let found : List Event = leading_values (event_from_line p) lines in
-    let v = bind_ok (lines_after (codes "end") (n + length found) (drop (length found) lines)) _ events e in
+    let v = bind_ok (strip_first_line (codes "end") (n + length found) (drop (length found) lines)) _ events e in
     let end = bind_ok (expect_end (n + length found + 1) v.0 bytes) _ events v.2 in
-    subst (All (HasSubjectOf p)) (ok_is end.2) (leading_all (event_from_line p) (HasSubjectOf p) (event_from_line-about p plant) lines)
+    subst (All (IsEventSubjectOfPlant p)) (ok_is end.2) (leading_all (event_from_line p) (IsEventSubjectOfPlant p) (event_from_line-about p plant) lines)
 
-abbrev BeginsWell : PlantLists → Beginning → Type 0
+abbrev BeginsWell : PlantLists → BeginningAndEventLines → Type 0
 BeginsWell p b = HasShape p b.first × (b.from_start ≡ true → b.first ≡ start p)
 
 from_neither : {P : Type 0} → false ≡ true → P
 from_neither e = cc
 
-state_from_lines-begins : (p : PlantLists) (lines : List Bytes) (b : Beginning) → state_from_lines p lines ≡ Ok b → BeginsWell p b
+state_from_lines-begins : (p : PlantLists) (lines : List Bytes) (b : BeginningAndEventLines) → state_from_lines p lines ≡ Ok b → BeginsWell p b
 state_from_lines-begins p lines b e =
-    let r = bind_ok (values_from_lines (route_from_line p) (numbers_of p.routes) 3 lines) _ b e in
-    let q = bind_ok (values_from_lines (point_from_line p) (point_sections p) r.0.number r.0.lines) _ b r.2 in
-    let m = bind_ok (values_from_lines (board_from_line p) (numbers_of p.boards) q.0.number q.0.lines) _ b q.2 in
-    let k = bind_ok (values_from_lines (lock_from_line p) (numbers_of p.sections) m.0.number m.0.lines) _ b m.2 in
+    let r = bind_ok (item_values_from_lines (route_from_line p) (indices_of_items p.routes) 3 lines) _ b e in
+    let q = bind_ok (item_values_from_lines (point_from_line p) (sections_with_points p) r.0.number r.0.lines) _ b r.2 in
+    let m = bind_ok (item_values_from_lines (board_from_line p) (indices_of_items p.boards) q.0.number q.0.lines) _ b q.2 in
+    let k = bind_ok (item_values_from_lines (lock_from_line p) (indices_of_items p.sections) m.0.number m.0.lines) _ b m.2 in
     let trains = leading_values (train_from_line p) k.0.lines in
-    let v = bind_ok (lines_after (codes "events") (k.0.number + length trains) (drop (length trains) k.0.lines)) _ b k.2 in
+    let v = bind_ok (strip_first_line (codes "events") (k.0.number + length trains) (drop (length trains) k.0.lines)) _ b k.2 in
     let same : made r.0.values q.0.values m.0.values k.0.values trains (k.0.number + length trains + 1) v.0 ≡ b = ok_is v.2 in
     let shape : HasShape p (record { routes = r.0.values; points = q.0.values; boards = m.0.values; locks = k.0.values; trains = trains }) =
     shaped p r.0.values q.0.values m.0.values k.0.values trains 3 r.0.number r.0.number q.0.number q.0.number
@@ -103,24 +103,24 @@ state_from_lines-begins p lines b e =
     k.0.lines k.0.lines r.1 q.1 m.1 k.1 refl in
     subst (BeginsWell p) same (shape, λ other. from_neither other)
 
-beginning_from_lines-begins : (p : PlantLists) (lines : List Bytes) (b : Beginning) → beginning_from_lines p lines ≡ Ok b → BeginsWell p b
+beginning_from_lines-begins : (p : PlantLists) (lines : List Bytes) (b : BeginningAndEventLines) → beginning_from_lines p lines ≡ Ok b → BeginsWell p b
 beginning_from_lines-begins p [] b e = cc
 beginning_from_lines-begins p (line ∷ more) b e = by_start (bytes_eq line (codes "start")) e
   where
-    by_state : (c : Bool) → cond {A = Result Beginning ℕ} c (state_from_lines p more) (Err 2) ≡ Ok b → BeginsWell p b
+    by_state : (c : Bool) → cond {A = Result BeginningAndEventLines ℕ} c (state_from_lines p more) (Err 2) ≡ Ok b → BeginsWell p b
     by_state true that = state_from_lines-begins p more b that
     by_state false that = cc
 
-    starts : Beginning
+    starts : BeginningAndEventLines
     starts = record { first = start p; from_start = true; number = 3; lines = more }
 
-    by_start : (c : Bool) → cond {A = Result Beginning ℕ} c (Ok starts) (cond {A = Result Beginning ℕ} (bytes_eq line (codes "state")) (state_from_lines p more) (Err 2)) ≡ Ok b → BeginsWell p b
+    by_start : (c : Bool) → cond {A = Result BeginningAndEventLines ℕ} c (Ok starts) (cond {A = Result BeginningAndEventLines ℕ} (bytes_eq line (codes "state")) (state_from_lines p more) (Err 2)) ≡ Ok b → BeginsWell p b
     by_start true that = subst (BeginsWell p) (ok_is that) (start-shape p, λ from. refl)
     by_start false that = by_state (bytes_eq line (codes "state")) that
 
 pub run_from_lines-of_plant : (p : PlantLists) → IsPlant p → (lines : List Bytes) (bytes : Bytes) (t : Told) → run_from_lines p lines bytes ≡ Ok t → IsRunOfPlant p t
 run_from_lines-of_plant p plant lines bytes t e =
-    let a = bind_ok (lines_after (codes "run 1") 1 lines) _ t e in
+    let a = bind_ok (strip_first_line (codes "run 1") 1 lines) _ t e in
     let b = bind_ok (beginning_from_lines p a.0) _ t a.2 in
     let c = bind_ok (events_from_lines p b.0.number b.0.lines bytes) _ t b.2 in
     let same : ◌≡◌ {A = Told} (record { first = b.0.first; from_start = b.0.from_start; events = c.0 }) t = ok_is c.2 in
@@ -133,11 +133,11 @@ run_from_lines-of_plant p plant lines bytes t e =
     subst (IsRunOfPlant p) same here
 
 run_from_text-of_plant : (p : PlantLists) → IsPlant p → (text : Bytes) (t : Told) → run_from_text p text ≡ IsTold t → IsRunOfPlant p t
-run_from_text-of_plant p plant text t e = by_answer (run_from_lines p (lines_of text) (after_lines text)) refl e
+run_from_text-of_plant p plant text t e = by_answer (run_from_lines p (lines_of text) (unterminated_tail text)) refl e
   where
-    by_answer : (r : Result Told ℕ) → run_from_lines p (lines_of text) (after_lines text) ≡ r → answered r ≡ IsTold t → IsRunOfPlant p t
+    by_answer : (r : Result Told ℕ) → run_from_lines p (lines_of text) (unterminated_tail text) ≡ r → answered r ≡ IsTold t → IsRunOfPlant p t
     by_answer (Ok u) this that =
-        let same : u ≡ t = cc in subst (IsRunOfPlant p) same (run_from_lines-of_plant p plant (lines_of text) (after_lines text) u this)
+        let same : u ≡ t = cc in subst (IsRunOfPlant p) same (run_from_lines-of_plant p plant (lines_of text) (unterminated_tail text) u this)
     by_answer (Err n) this that = cc
 
 pub written-run_from_lines : (p : PlantLists) → IsPlant p → (t : Told) → IsRunOfPlant p t → run_from_text p (run_text p t) ≡ IsTold t

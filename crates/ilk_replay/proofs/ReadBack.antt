@@ -3,10 +3,10 @@ use Rattle.std.proofs.Common.{◌≡◌, ℕ, ◌<◌, true, Option, Some, None,
 use Rattle.std.specs.Option.{option_or}
 use Rattle.std.proofs.lemmas.Option.{slice_get-get_or, slice_get_within}
 use Rattle.ilk_lines.specs.Lines.{Bytes}
-use Rattle.ilk_lines.specs.Written.{LacksByte, word_and_rest}
+use Rattle.ilk_lines.specs.Written.{LacksByte, join_word_and_rest}
 use Rattle.ilk_lines.proofs.LineWords.{first_back}
 use Rattle.ilk_plant.proofs.NamesDiffer.{first_number_named-own}
-use Rattle.ilk_base.specs.Option.{◌>>=◌, is_some_and, only_if}
+use Rattle.ilk_base.specs.Option.{◌>>=◌, is_some_and, then_some}
 use Rattle.ilk_plant.specs.Network.{is_point}
 use Rattle.ilk_plant.specs.Plant.{IsPlant, PlantLists, first_number_named, is_point_section}
 use Rattle.ilk_plant.proofs.Once.{names_differ-places}
@@ -17,7 +17,7 @@ use Rattle.ilk_model.specs.declared.event.Event.TheVariants.{Mark, Allocate, Loc
 use Rattle.ilk_replay.specs.EventLine.{event_from_line, event_from_words, point_named}
 use Rattle.ilk_replay.specs.EventSubjects.{event_with}
 use Rattle.ilk_replay.specs.RunText.{event_line, name_of}
-use Rattle.ilk_replay.specs.Writable.{HasSubjectOf}
+use Rattle.ilk_replay.specs.Writable.{IsEventSubjectOfPlant}
 use Rattle.ilk_replay.specs.declared.event_line.Subject.{Subject}
 use Rattle.ilk_replay.specs.declared.event_line.Subject.TheVariants.{Route, Point, Section as AtSection}
 use Rattle.ilk_replay.proofs.Written.{of_point, of_section}
@@ -56,8 +56,8 @@ point_back p word x event plant at none tells =
     let within = slice_get_within p.sections x found.0 found.1 in
     let first : first_number_named p.section_names name ≡ Some x = named_back p.section_names x plant.section_names_differ (omega arith) in
     let point : point_named p name ≡ Some x =
-    ap (λ (o : Option ℕ). o >>= (λ y. slice_get p.sections y >>= (λ section. only_if (is_point section) y))) first
-    ∙ ap (λ (o : Option Section). o >>= (λ section. only_if (is_point section) x)) found.1 ∙ ap (λ b. only_if b x) found.2 in
+    ap (λ (o : Option ℕ). o >>= (λ y. slice_get p.sections y >>= (λ section. then_some (is_point section) y))) first
+    ∙ ap (λ (o : Option Section). o >>= (λ section. then_some (is_point section) x)) found.1 ∙ ap (λ b. then_some b x) found.2 in
     ap (λ (o : Option Event). option_or o (option_or (of_point p word name) (of_section p word name))) (no_event (first_number_named p.route_names name) word Route none)
     ∙ ap (λ (o : Option ℕ). option_or (o >>= (λ y. event_with word (Point y))) (of_section p word name)) point
     ∙ ap (λ (o : Option Event). option_or o (of_section p word name)) tells
@@ -73,10 +73,10 @@ section_back p word x event plant within none none_point tells =
     ∙ ap (λ (o : Option Event). option_or o (of_section p word name)) (no_event (point_named p name) word Point none_point)
     ∙ ap (λ (o : Option ℕ). o >>= (λ y. event_with word (AtSection y))) first ∙ tells
 
-told_back : (p : PlantLists) (word name : Bytes) (event : Event) → LacksByte 32 word → event_from_words p word name ≡ Some event → event_from_line p (word_and_rest word name) ≡ Some event
+told_back : (p : PlantLists) (word name : Bytes) (event : Event) → LacksByte 32 word → event_from_words p word name ≡ Some event → event_from_line p (join_word_and_rest word name) ≡ Some event
 told_back p word name event lacks tells = ap (λ (o : Option (Bytes × Bytes)). o >>= (λ words. event_from_words p words.0 words.1)) (first_back word name lacks) ∙ tells
 
-pub event_back : (p : PlantLists) → IsPlant p → (event : Event) → HasSubjectOf p event → event_from_line p (event_line p event) ≡ Some event
+pub event_back : (p : PlantLists) → IsPlant p → (event : Event) → IsEventSubjectOfPlant p event → event_from_line p (event_line p event) ≡ Some event
 event_back p plant (Mark r) about = told_back p (codes "mark") _ (Mark r) refl (route_back p (codes "mark") r (Mark r) plant about refl)
 event_back p plant (Allocate r) about = told_back p (codes "allocate") _ (Allocate r) refl (route_back p (codes "allocate") r (Allocate r) plant about refl)
 event_back p plant (Lock r) about = told_back p (codes "lock") _ (Lock r) refl (route_back p (codes "lock") r (Lock r) plant about refl)

@@ -6,7 +6,7 @@ use Rattle.std.proofs.lemmas.Option.{same_Some, slice_get_within, slice_get-get_
 use Rattle.ilk_base.specs.Option.{◌>>=◌}
 use Rattle.ilk_plant.specs.Plant.{PlantLists}
 use Rattle.ilk_plant.specs.declared.state.State.{State}
-use Rattle.ilk_model.specs.Run.{run, next_if_no_hazard}
+use Rattle.ilk_model.specs.Run.{run, next_from_hazard_free}
 use Rattle.ilk_model.specs.declared.event.Event.{Event}
 use Rattle.ilk_replay.specs.Seen.{replay_result}
 use Rattle.ilk_replay.specs.declared.seen.Seen.TheVariants.{NotARun}
@@ -18,14 +18,14 @@ refused-after p t None events more f e = refl
 refused-after p t (Some u) events more f e = f u e
 
 -- After a refused event, no longer prefix is a run.
-pub run-refused : (p : PlantLists) (s t : State) (events : List Event) (event : Event) (i n : ℕ) → run p s (take i events) ≡ Some t → slice_get events i ≡ Some event → next_if_no_hazard p t event ≡ None → i < n → run p s (take n events) ≡ None
+pub run-refused : (p : PlantLists) (s t : State) (events : List Event) (event : Event) (i n : ℕ) → run p s (take i events) ≡ Some t → slice_get events i ≡ Some event → next_from_hazard_free p t event ≡ None → i < n → run p s (take n events) ≡ None
 run-refused p s t [] event i n ends here refused more = cc
 run-refused p s t (first ∷ rest) event i zero ends here refused more = absurd (omega arith)
 run-refused p s t (first ∷ rest) event zero (suc n) ends here refused more =
-    let none : next_if_no_hazard p s first ≡ None = subst (λ (e : Event). next_if_no_hazard p s e ≡ None) (sym (same_Some _ _ here)) (subst (λ (u : State). next_if_no_hazard p u event ≡ None) (sym (same_Some _ _ ends)) refused) in
+    let none : next_from_hazard_free p s first ≡ None = subst (λ (e : Event). next_from_hazard_free p s e ≡ None) (sym (same_Some _ _ here)) (subst (λ (u : State). next_from_hazard_free p u event ≡ None) (sym (same_Some _ _ ends)) refused) in
     ap (λ (o : Option State). o >>= (λ u. run p u (take n rest))) none
 run-refused p s t (first ∷ rest) event (suc i) (suc n) ends here refused more =
-    refused-after p t (next_if_no_hazard p s first) (take i rest) (take n rest) (λ u e. run-refused p u t rest event i n e here refused (omega arith)) ends
+    refused-after p t (next_from_hazard_free p s first) (take i rest) (take n rest) (λ u e. run-refused p u t rest event i n e here refused (omega arith)) ends
 
 prefix-after : (p : PlantLists) (t : State) (o : Option State) (events fewer : List Event) →
     ((u : State) → run p u events ≡ Some t → is_none (run p u fewer) ≡ false) →
@@ -39,7 +39,7 @@ run-prefix p s t [] i (suc j) ends below = refl
 run-prefix p s t (first ∷ rest) i zero ends below = refl
 run-prefix p s t (first ∷ rest) zero (suc j) ends below = absurd (omega arith)
 run-prefix p s t (first ∷ rest) (suc i) (suc j) ends below =
-    prefix-after p t (next_if_no_hazard p s first) (take i rest) (take j rest) (λ u e. run-prefix p u t rest i j e (omega arith)) ends
+    prefix-after p t (next_from_hazard_free p s first) (take i rest) (take j rest) (λ u e. run-prefix p u t rest i j e (omega arith)) ends
 
 more-after :
     (p : PlantLists) (t : State) (o : Option State) (events more : List Event) (next : Option State) →
@@ -48,17 +48,17 @@ more-after :
 more-after p t None events more next f e = cc
 more-after p t (Some u) events more next f e = f u e
 
-pub run-more : (p : PlantLists) (s t : State) (events : List Event) (event : Event) (i : ℕ) → run p s (take i events) ≡ Some t → slice_get events i ≡ Some event → run p s (take (suc i) events) ≡ next_if_no_hazard p t event
+pub run-more : (p : PlantLists) (s t : State) (events : List Event) (event : Event) (i : ℕ) → run p s (take i events) ≡ Some t → slice_get events i ≡ Some event → run p s (take (suc i) events) ≡ next_from_hazard_free p t event
 run-more p s t [] event i ends here = cc
-run-more p s t (first ∷ rest) event zero ends here = once (next_if_no_hazard p s first) refl
+run-more p s t (first ∷ rest) event zero ends here = once (next_from_hazard_free p s first) refl
   where
-    once : (o : Option State) → next_if_no_hazard p s first ≡ o → (o >>= (λ u. run p u [])) ≡ next_if_no_hazard p t event
-    once None e = sym (subst (λ (v : Event). next_if_no_hazard p t v ≡ None) (same_Some _ _ here) (subst (λ (u : State). next_if_no_hazard p u first ≡ None) (same_Some _ _ ends) e))
-    once (Some u) e = sym (subst (λ (v : Event). next_if_no_hazard p t v ≡ Some u) (same_Some _ _ here) (subst (λ (w : State). next_if_no_hazard p w first ≡ Some u) (same_Some _ _ ends) e))
+    once : (o : Option State) → next_from_hazard_free p s first ≡ o → (o >>= (λ u. run p u [])) ≡ next_from_hazard_free p t event
+    once None e = sym (subst (λ (v : Event). next_from_hazard_free p t v ≡ None) (same_Some _ _ here) (subst (λ (u : State). next_from_hazard_free p u first ≡ None) (same_Some _ _ ends) e))
+    once (Some u) e = sym (subst (λ (v : Event). next_from_hazard_free p t v ≡ Some u) (same_Some _ _ here) (subst (λ (w : State). next_from_hazard_free p w first ≡ Some u) (same_Some _ _ ends) e))
 run-more p s t (first ∷ rest) event (suc i) ends here =
-    more-after p t (next_if_no_hazard p s first) (take i rest) (take (suc i) rest) (next_if_no_hazard p t event) (λ u e. run-more p u t rest event i e here) ends
+    more-after p t (next_from_hazard_free p s first) (take i rest) (take (suc i) rest) (next_from_hazard_free p t event) (λ u e. run-more p u t rest event i e here) ends
 
-pub seen-refused : (p : PlantLists) (s t : State) (events : List Event) (event : Event) (i : ℕ) → run p s (take i events) ≡ Some t → slice_get events i ≡ Some event → next_if_no_hazard p t event ≡ None → replay_result p s events ≡ NotARun (i + 1)
+pub seen-refused : (p : PlantLists) (s t : State) (events : List Event) (event : Event) (i : ℕ) → run p s (take i events) ≡ Some t → slice_get events i ≡ Some event → next_from_hazard_free p t event ≡ None → replay_result p s events ≡ NotARun (i + 1)
 seen-refused p s t events event i ends here refused =
     let none : run p s events ≡ None = rw (take_all (length events) events (omega arith)) at (run-refused p s t events event i (length events) ends here refused (slice_get_within events i event here)) in
     let first : find (λ n. is_none (run p s (take n events))) (range_with_len 1 (length events)) ≡ Some (i + 1) =
@@ -68,7 +68,7 @@ seen-refused p s t events event i ends here refused =
     rw none (ap (λ (o : Option ℕ). NotARun (unwrap_or o 0)) first)
 
 -- The same with the event read by index.
-pub run-read : (p : PlantLists) (s t u : State) (items events : List Event) (d : Event) (i : ℕ) → items ≡ events → i < length items → run p s (take i events) ≡ Some t → next_if_no_hazard p t (get_or items i d) ≡ Some u
+pub run-read : (p : PlantLists) (s t u : State) (items events : List Event) (d : Event) (i : ℕ) → items ≡ events → i < length items → run p s (take i events) ≡ Some t → next_from_hazard_free p t (get_or items i d) ≡ Some u
     → run p s (take (i + 1) events) ≡ Some u
 run-read p s t u items events d i same within ends next =
     let here : slice_get items i ≡ Some (get_or items i d) = slice_get-get_or items i d within in
@@ -77,8 +77,8 @@ run-read p s t u items events d i same within ends next =
 
 pub seen-refused-read : (p : PlantLists) (s t : State) (items events : List Event) (d : Event) (i : ℕ) →
     items ≡ events → i < length items → run p s (take i events) ≡ Some t →
-    is_some (next_if_no_hazard p t (get_or items i d)) ≡ false → NotARun (i + 1) ≡ replay_result p s events
+    is_some (next_from_hazard_free p t (get_or items i d)) ≡ false → NotARun (i + 1) ≡ replay_result p s events
 seen-refused-read p s t items events d i same within ends refused =
     let here : slice_get items i ≡ Some (get_or items i d) = slice_get-get_or items i d within in
     let at : slice_get events i ≡ Some (get_or items i d) = subst (λ (xs : List Event). slice_get xs i ≡ Some (get_or items i d)) same here in
-    sym (seen-refused p s t events (get_or items i d) i ends at (none-of (next_if_no_hazard p t (get_or items i d)) refused))
+    sym (seen-refused p s t events (get_or items i d) i ends at (none-of (next_from_hazard_free p t (get_or items i d)) refused))

@@ -7,8 +7,8 @@ use Rattle.ilk_plant.specs.Plant.{IsPlant, PlantLists}
 use Rattle.ilk_plant.specs.Start.{start}
 use Rattle.ilk_model.specs.declared.event.Event.{Event}
 use Rattle.ilk_model.specs.declared.event.Event.TheVariants.{Mark, Allocate, Lock, Sense, Release, Finish, Throw, Settle, Enter, Head, Tail, Leave, Cancel}
-use Rattle.ilk_lines.specs.Lines.{Bytes, after_lines}
-use Rattle.ilk_lines.specs.Reading.{lines_after, expect_end}
+use Rattle.ilk_lines.specs.Lines.{Bytes, unterminated_tail}
+use Rattle.ilk_lines.specs.Reading.{strip_first_line, expect_end}
 use Rattle.ilk_lines.specs.Written.{LacksByte}
 use Rattle.ilk_lines.proofs.Lacking.{lacks_spaced}
 use Rattle.ilk_base.proofs.Lists.{drop-mapped}
@@ -22,7 +22,7 @@ use Rattle.ilk_replay.specs.declared.event_line.Subject.TheVariants.{Route, Poin
 use Rattle.ilk_replay.specs.EventLine.{event_from_line}
 use Rattle.ilk_replay.specs.Told.{events_from_lines, run_from_text, run_from_lines, run_from_start}
 use Rattle.ilk_replay.specs.RunText.{event_line, name_of, run_text, subject_name}
-use Rattle.ilk_replay.specs.Writable.{HasSubjectOf}
+use Rattle.ilk_replay.specs.Writable.{IsEventSubjectOfPlant}
 use Rattle.ilk_replay.proofs.PlainNames.{HasPlainNames}
 use Rattle.ilk_replay.specs.declared.told.Tale.TheVariants.{Told as IsTold}
 use Rattle.ilk_replay.proofs.WrittenRun.{answered}
@@ -68,20 +68,20 @@ pub event_lines-plain : (p : PlantLists) → HasPlainNames p → (events : List 
 event_lines-plain p plain [] = All-cons (LacksByte 10) (codes "end") [] refl (All-nil (LacksByte 10))
 event_lines-plain p plain (event ∷ events) = All-cons (LacksByte 10) (event_line p event) (map (event_line p) events ++ codes "end" ∷ []) (event_line-plain p plain event) (event_lines-plain p plain events)
 
-pub events_back : (p : PlantLists) → IsPlant p → (n : ℕ) (events : List Event) → All (HasSubjectOf p) events → events_from_lines p n (map (event_line p) events ++ codes "end" ∷ []) [] ≡ Ok events
+pub events_back : (p : PlantLists) → IsPlant p → (n : ℕ) (events : List Event) → All (IsEventSubjectOfPlant p) events → events_from_lines p n (map (event_line p) events ++ codes "end" ∷ []) [] ≡ Ok events
 events_back p plant n events about =
     let lines : List Bytes = map (event_line p) events ++ codes "end" ∷ [] in
     let told : All (λ event. event_from_line p (event_line p event) ≡ Some event) events = λ k d within. event_back p plant (get_or events k d) (about k d within) in
-    ap (λ (es : List Event). lines_after (codes "end") (n + length es) (drop (length es) lines) >>= (λ more. expect_end (n + length es + 1) more [] >>= (λ none. Ok es)))
+    ap (λ (es : List Event). strip_first_line (codes "end") (n + length es) (drop (length es) lines) >>= (λ more. expect_end (n + length es + 1) more [] >>= (λ none. Ok es)))
     (leading_back (event_from_line p) (event_line p) events (codes "end") [] told refl)
-    ∙ ap (λ (ls : List Bytes). lines_after (codes "end") (n + length events) ls >>= (λ more. expect_end (n + length events + 1) more [] >>= (λ none. Ok events))) (drop-mapped (event_line p) events (codes "end" ∷ []))
+    ∙ ap (λ (ls : List Bytes). strip_first_line (codes "end") (n + length events) ls >>= (λ more. expect_end (n + length events + 1) more [] >>= (λ none. Ok events))) (drop-mapped (event_line p) events (codes "end" ∷ []))
 
-pub started_back : (p : PlantLists) → IsPlant p → HasPlainNames p → (events : List Event) → All (HasSubjectOf p) events → run_from_text p (run_text p (run_from_start p events)) ≡ IsTold (run_from_start p events)
+pub started_back : (p : PlantLists) → IsPlant p → HasPlainNames p → (events : List Event) → All (IsEventSubjectOfPlant p) events → run_from_text p (run_text p (run_from_start p events)) ≡ IsTold (run_from_start p events)
 started_back p plant plain events about =
     let lines : List Bytes = map (event_line p) events ++ codes "end" ∷ [] in
     let all : All (LacksByte 10) (codes "run 1" ∷ codes "start" ∷ lines) =
     All-cons (LacksByte 10) (codes "run 1") (codes "start" ∷ lines) refl (All-cons (LacksByte 10) (codes "start") lines refl (event_lines-plain p plain events)) in
     let back = lines_back (codes "run 1" ∷ codes "start" ∷ lines) all in
-    ap (λ (ls : List Bytes). answered (run_from_lines p ls (after_lines (run_text p (run_from_start p events))))) back.0
+    ap (λ (ls : List Bytes). answered (run_from_lines p ls (unterminated_tail (run_text p (run_from_start p events))))) back.0
     ∙ ap (λ (bs : Bytes). answered (run_from_lines p (codes "run 1" ∷ codes "start" ∷ lines) bs)) back.1
     ∙ ap (λ (r : Result (List Event) ℕ). answered (r >>= (λ es. Ok (record { first = start p; from_start = true; events = es })))) (events_back p plant 3 events about)

@@ -2,14 +2,14 @@
 use Rattle.std.proofs.Common.{◌≡◌, ℕ, ◌<◌, ◌≤◌, ◌^◌, nat_lt, true, All, Option, Some, List, [], ◌∷◌, ◌++◌, codes, flat_map, get_or, length, map, slice_get, unwrap_or, refl, sym, ap, ◌∙◌, arith, subst, suc, zero, append-nil}
 use Rattle.ilk_lines.specs.Decimal.{decimal_up_to}
 use Rattle.ilk_lines.specs.Lines.{Bytes}
-use Rattle.ilk_lines.specs.Words.{strip_first_word, split_first_word, words_of}
-use Rattle.ilk_lines.specs.Written.{LacksByte, word_and_rest}
+use Rattle.ilk_lines.specs.Words.{strip_first_word, split_at_first_space, words_of}
+use Rattle.ilk_lines.specs.Written.{LacksByte, join_word_and_rest}
 use Rattle.ilk_lines.proofs.Decimals.{decimal_back, decimal_lacks}
 use Rattle.ilk_lines.proofs.Lacking.{part_alone, part_first}
 use Rattle.ilk_lines.proofs.LineWords.{first_back, word_back}
 use Rattle.std.specs.Fmt.{decimal}
 use Rattle.std.proofs.lemmas.Option.{slice_get-get_or}
-use Rattle.ilk_base.specs.Option.{◌>>=◌, only_if}
+use Rattle.ilk_base.specs.Option.{◌>>=◌, then_some}
 use Rattle.ilk_plant.specs.Plant.{IsPlant, PlantLists, next_to}
 use Rattle.ilk_plant.specs.declared.network.Dir.{Dir}
 use Rattle.ilk_plant.specs.declared.network.Position.{Position}
@@ -21,28 +21,28 @@ use Rattle.ilk_plant.specs.declared.state.PointState.{PointState}
 use Rattle.ilk_plant.specs.declared.state.RouteState.{RouteState}
 use Rattle.ilk_plant.specs.declared.state.Train.{Train}
 use Rattle.ilk_plant.specs.declared.table.Route.{Route}
-use Rattle.ilk_replay.specs.StateLine.{board_from_line, lock_from_line, point_state_from_words, point_from_line, route_state_from_words, route_from_line, rest_after_name, sections_named, train_words, train_from_line, train_with}
+use Rattle.ilk_replay.specs.StateLine.{board_from_line, lock_from_line, point_state_from_words, point_from_line, route_state_from_words, route_from_line, rest_after_name, sections_named, dir_and_names_from_words, train_from_line, train_with}
 use Rattle.ilk_plant.specs.Words.{aspect_from_word, aspect_word, direction_from_word, direction_word, hold_from_word, hold_word, lie_from_word, lie_word, mode_from_word, mode_word, position_from_word, position_word}
 use Rattle.ilk_replay.specs.RunText.{board_line, name_of, point_line, route_line, section_line, train_line}
 use Rattle.ilk_replay.proofs.PlainNames.{HasPlainNames}
-use Rattle.ilk_plant.proofs.Shapes.{counts_fit_path-counts}
+use Rattle.ilk_plant.proofs.Shapes.{seen_and_released_fit_path-counts}
 use Rattle.ilk_plant.specs.Network.{has_section}
-use Rattle.ilk_plant.specs.Shape.{counts_fit_path, has_valid_body, is_connected}
+use Rattle.ilk_plant.specs.Shape.{seen_and_released_fit_path, train_body_is_valid, is_connected_chain}
 use Rattle.ilk_plant.proofs.WordsBack.{direction_back, position_back}
 use Rattle.ilk_replay.proofs.ReadBack.{named_back}
 use Rattle.ilk_replay.proofs.StateWords.{aspect_back, direction_lacks, hold_back, lie_back, lie_lacks, mode_back, mode_lacks}
 use Rattle.std.proofs.lemmas.Bool.{and_parts, ltb-true}
 
-said_back : (kind name text : Bytes) → rest_after_name kind name (word_and_rest kind (word_and_rest name text)) ≡ Some text
-said_back kind name text = ap (λ (o : Option Bytes). o >>= strip_first_word name) (word_back kind (word_and_rest name text)) ∙ word_back name text
+said_back : (kind name text : Bytes) → rest_after_name kind name (join_word_and_rest kind (join_word_and_rest name text)) ≡ Some text
+said_back kind name text = ap (λ (o : Option Bytes). o >>= strip_first_word name) (word_back kind (join_word_and_rest name text)) ∙ word_back name text
 
-said_route_back : (limit : ℕ) (now : RouteState) → limit < 2 ^ 32 → now.seen ≤ limit → now.rel ≤ limit → route_state_from_words limit (word_and_rest (mode_word now.mode) (word_and_rest (decimal now.seen) (decimal now.rel))) ≡ Some now
+said_route_back : (limit : ℕ) (now : RouteState) → limit < 2 ^ 32 → now.seen ≤ limit → now.rel ≤ limit → route_state_from_words limit (join_word_and_rest (mode_word now.mode) (join_word_and_rest (decimal now.seen) (decimal now.rel))) ≡ Some now
 said_route_back limit now small seen rel =
-    let rest : Bytes = word_and_rest (decimal now.seen) (decimal now.rel) in
+    let rest : Bytes = join_word_and_rest (decimal now.seen) (decimal now.rel) in
     let plain : LacksByte 32 (decimal now.seen) = decimal_lacks 32 now.seen refl (omega arith) in
     ap
     (λ (o : Option (Bytes × Bytes)). o >>=
-    (λ first. split_first_word first.1 >>=
+    (λ first. split_at_first_space first.1 >>=
     (λ second. mode_from_word first.0 >>=
     (λ mode. decimal_up_to limit second.0 >>=
     (λ s. decimal_up_to limit second.1 >>=
@@ -64,18 +64,18 @@ name_there names i within =
     let here : slice_get names i ≡ Some (get_or names i []) = slice_get-get_or names i [] within in
     here ∙ ap (λ (n : Bytes). Some n) (sym (ap (λ (o : Option Bytes). unwrap_or o []) here))
 
-pub route_back : (p : PlantLists) → IsPlant p → (r : ℕ) (route : Route) (now : RouteState) → slice_get p.routes r ≡ Some route → r < length p.routes → counts_fit_path route now ≡ true → route_from_line p r (route_line p r now) ≡ Some now
+pub route_back : (p : PlantLists) → IsPlant p → (r : ℕ) (route : Route) (now : RouteState) → slice_get p.routes r ≡ Some route → r < length p.routes → seen_and_released_fit_path route now ≡ true → route_from_line p r (route_line p r now) ≡ Some now
 route_back p plant r route now here within counts =
     let named = plant.routes_named in
     let short = (plant.routes_known r route here).path_ends in
-    let fits = counts_fit_path-counts route now counts in
-    let text : Bytes = word_and_rest (mode_word now.mode) (word_and_rest (decimal now.seen) (decimal now.rel)) in
+    let fits = seen_and_released_fit_path-counts route now counts in
+    let text : Bytes = join_word_and_rest (mode_word now.mode) (join_word_and_rest (decimal now.seen) (decimal now.rel)) in
     ap (λ (o : Option Route). o >>= (λ q. slice_get p.route_names r >>= (λ name. rest_after_name (codes "route") name (route_line p r now) >>= route_state_from_words (length q.path)))) here
     ∙ ap (λ (o : Option Bytes). o >>= (λ name. rest_after_name (codes "route") name (route_line p r now) >>= route_state_from_words (length route.path))) (name_there p.route_names r (omega arith))
     ∙ ap (λ (o : Option Bytes). o >>= route_state_from_words (length route.path)) (said_back (codes "route") (name_of p.route_names r) text)
     ∙ said_route_back (length route.path) now (omega arith) fits.0 fits.1
 
-said_point_back : (now : PointState) → point_state_from_words (word_and_rest (lie_word now.at) (position_word now.to)) ≡ Some now
+said_point_back : (now : PointState) → point_state_from_words (join_word_and_rest (lie_word now.at) (position_word now.to)) ≡ Some now
 said_point_back now =
     ap (λ (o : Option (Bytes × Bytes)). o >>= (λ words. lie_from_word words.0 >>= (λ at. position_from_word words.1 >>= (λ to. Some (record { at = at; to = to }))))) (first_back (lie_word now.at) (position_word now.to) (lie_lacks 32 now.at refl))
     ∙ ap (λ (o : Option Lie). o >>= (λ at. position_from_word (position_word now.to) >>= (λ to. Some (record { at = at; to = to })))) (lie_back now.at)
@@ -85,7 +85,7 @@ pub point_back : (p : PlantLists) → IsPlant p → (x : ℕ) (now : PointState)
 point_back p plant x now within =
     let named = plant.sections_named in
     ap (λ (o : Option Bytes). o >>= (λ name. rest_after_name (codes "point") name (point_line p x now) >>= point_state_from_words)) (name_there p.section_names x (omega arith))
-    ∙ ap (λ (o : Option Bytes). o >>= point_state_from_words) (said_back (codes "point") (name_of p.section_names x) (word_and_rest (lie_word now.at) (position_word now.to)))
+    ∙ ap (λ (o : Option Bytes). o >>= point_state_from_words) (said_back (codes "point") (name_of p.section_names x) (join_word_and_rest (lie_word now.at) (position_word now.to)))
     ∙ said_point_back now
 
 pub board_back : (p : PlantLists) → IsPlant p → (m : ℕ) (aspect : Aspect) → m < length p.boards → board_from_line p m (board_line p m aspect) ≡ Some aspect
@@ -122,27 +122,27 @@ names_back p plant (x ∷ rest) known =
     ap (λ (o : Option ℕ). o >>= (λ y. sections_named p (map (name_of p.section_names) rest) >>= (λ ys. Some (y ∷ ys)))) (named_back p.section_names x plant.section_names_differ (omega arith))
     ∙ ap (λ (o : Option (List ℕ)). o >>= (λ ys. Some (x ∷ ys))) (names_back p plant rest (λ k d within. known (suc k) d (omega arith)))
 
-known_next : (p : PlantLists) → IsPlant p → (d : Dir) (x : ℕ) (rest : List ℕ) → x < length p.sections → is_connected p d x rest ≡ true → (k e : ℕ) → k < length (x ∷ rest) → get_or (x ∷ rest) k e < length p.sections
+known_next : (p : PlantLists) → IsPlant p → (d : Dir) (x : ℕ) (rest : List ℕ) → x < length p.sections → is_connected_chain p d x rest ≡ true → (k e : ℕ) → k < length (x ∷ rest) → get_or (x ∷ rest) k e < length p.sections
 known_next p plant d x rest within leads zero e below = within
 known_next p plant d x [] within leads (suc k) e below = absurd (omega arith)
-known_next p plant d x (y ∷ rest) within leads (suc k) e below = let next = and_parts (has_section y (next_to p x d)) (is_connected p d y rest) leads in known_next p plant d y rest (plant.neighbours x y d next.0) next.1 k e (omega arith)
+known_next p plant d x (y ∷ rest) within leads (suc k) e below = let next = and_parts (has_section y (next_to p x d)) (is_connected_chain p d y rest) leads in known_next p plant d y rest (plant.neighbours x y d next.0) next.1 k e (omega arith)
 
 abbrev said_pair : Dir → Bytes → Option (Dir × Bytes)
 said_pair dir names = Some (dir, names)
 
-said_train_back : (d : Dir) (names : Bytes) → train_words (word_and_rest (codes "train") (word_and_rest (direction_word d) names)) ≡ Some (d, names)
+said_train_back : (d : Dir) (names : Bytes) → dir_and_names_from_words (join_word_and_rest (codes "train") (join_word_and_rest (direction_word d) names)) ≡ Some (d, names)
 said_train_back d names =
-    ap (λ (o : Option Bytes). o >>= (λ rest. split_first_word rest >>= (λ words. direction_from_word words.0 >>= (λ dir. said_pair dir words.1)))) (word_back (codes "train") (word_and_rest (direction_word d) names))
+    ap (λ (o : Option Bytes). o >>= (λ rest. split_at_first_space rest >>= (λ words. direction_from_word words.0 >>= (λ dir. said_pair dir words.1)))) (word_back (codes "train") (join_word_and_rest (direction_word d) names))
     ∙ ap (λ (o : Option (Bytes × Bytes)). o >>= (λ words. direction_from_word words.0 >>= (λ dir. said_pair dir words.1))) (first_back (direction_word d) names (direction_lacks 32 d refl))
     ∙ ap (λ (o : Option Dir). o >>= (λ dir. said_pair dir names)) (direction_back d)
 
-pub body_known : (p : PlantLists) → IsPlant p → (d : Dir) (body : List ℕ) → has_valid_body p (record { dir = d; body = body }) ≡ true → All (λ x. x < length p.sections) body
+pub body_known : (p : PlantLists) → IsPlant p → (d : Dir) (body : List ℕ) → train_body_is_valid p (record { dir = d; body = body }) ≡ true → All (λ x. x < length p.sections) body
 body_known p plant d [] shape = cc
 body_known p plant d (x ∷ rest) shape =
-    let begins = and_parts (nat_lt x (length p.sections)) (is_connected p d x rest) shape in
+    let begins = and_parts (nat_lt x (length p.sections)) (is_connected_chain p d x rest) shape in
     known_next p plant d x rest (ltb-true x (length p.sections) begins.0) begins.1
 
-body_back : (p : PlantLists) → IsPlant p → HasPlainNames p → (d : Dir) (body : List ℕ) → has_valid_body p (record { dir = d; body = body }) ≡ true
+body_back : (p : PlantLists) → IsPlant p → HasPlainNames p → (d : Dir) (body : List ℕ) → train_body_is_valid p (record { dir = d; body = body }) ≡ true
     → train_from_line p (train_line p (record { dir = d; body = body })) ≡ Some (record { dir = d; body = body })
 body_back p plant plain d [] shape = cc
 body_back p plant plain d (x ∷ rest) shape =
@@ -151,7 +151,7 @@ body_back p plant plain d (x ∷ rest) shape =
     ap (λ (o : Option (Dir × Bytes)). o >>= (λ said. sections_named p (words_of said.1) >>= train_with p said.0)) (said_train_back d names)
     ∙ ap (λ (ws : List Bytes). sections_named p ws >>= train_with p d) (body_words p plant plain x rest known)
     ∙ ap (λ (o : Option (List ℕ)). o >>= train_with p d) (names_back p plant (x ∷ rest) known)
-    ∙ ap (λ b. only_if b (record { dir = d; body = x ∷ rest })) shape
+    ∙ ap (λ b. then_some b (record { dir = d; body = x ∷ rest })) shape
 
-pub train_back : (p : PlantLists) → IsPlant p → HasPlainNames p → (train : Train) → has_valid_body p train ≡ true → train_from_line p (train_line p train) ≡ Some train
+pub train_back : (p : PlantLists) → IsPlant p → HasPlainNames p → (train : Train) → train_body_is_valid p train ≡ true → train_from_line p (train_line p train) ≡ Some train
 train_back p plant plain train shape = body_back p plant plain train.dir train.body shape

@@ -5,19 +5,19 @@ use Rattle.std.specs.List.{list_all}
 use Rattle.ilk_base.proofs.Lists.{drop_from}
 use Rattle.ilk_base.proofs.Tested.{All-tested}
 use Rattle.ilk_lines.specs.Lines.{Bytes}
-use Rattle.ilk_lines.specs.Reading.{numbers_of}
+use Rattle.ilk_lines.specs.Reading.{indices_of_items}
 use Rattle.ilk_lines.specs.Written.{lines_of_items, text_of}
 use Rattle.ilk_base.proofs.Ranges.{passing_within}
 use Rattle.ilk_plant.specs.Plant.{PlantLists, is_point_section}
-use Rattle.ilk_plant.specs.Shape.{HasShape, has_valid_body}
+use Rattle.ilk_plant.specs.Shape.{HasShape, train_body_is_valid}
 use Rattle.ilk_plant.specs.declared.state.State.{State}
 use Rattle.ilk_plant.specs.declared.state.Train.{Train}
 use Rattle.ilk_plant.specs.Words.{direction_word}
-use Rattle.ilk_replay.proofs.Shape.{point_sections-length}
+use Rattle.ilk_replay.proofs.Shape.{sections_with_points-length}
 use Rattle.ilk_replay.proofs.StateBack.{body_known}
 use Rattle.ilk_plant.specs.Plant.{IsPlant}
 use Rattle.ilk_replay.specs.RunText.{board_line, name_of, point_line, route_line, section_line, state_lines, train_line}
-use Rattle.ilk_replay.specs.StateTold.{point_sections}
+use Rattle.ilk_replay.specs.StateTold.{sections_with_points}
 use Rattle.ilk_lines.proofs.TextLines.{text_of-append}
 
 -- The lines of items from index i on.
@@ -54,17 +54,17 @@ trains-are p [] = refl
 trains-are p (train ∷ trains) = ap (λ (t : Bytes). (train_line p train ++ 10 ∷ []) ++ t) (trains-are p trains)
 
 pub state_is : (p : PlantLists) (s : State) (start : Bytes) →
-    ((((start ++ text_of (lines_of_items (route_line p) (numbers_of p.routes) s.routes))
-    ++ text_of (lines_of_items (point_line p) (point_sections p) s.points))
-    ++ text_of (lines_of_items (board_line p) (numbers_of p.boards) s.boards))
-    ++ text_of (lines_of_items (section_line p) (numbers_of p.sections) s.locks))
+    ((((start ++ text_of (lines_of_items (route_line p) (indices_of_items p.routes) s.routes))
+    ++ text_of (lines_of_items (point_line p) (sections_with_points p) s.points))
+    ++ text_of (lines_of_items (board_line p) (indices_of_items p.boards) s.boards))
+    ++ text_of (lines_of_items (section_line p) (indices_of_items p.sections) s.locks))
     ++ flat_map (λ train. train_line p train ++ 10 ∷ []) s.trains
     ≡ start ++ text_of (state_lines p s)
 state_is p s start =
-    let a : List Bytes = lines_of_items (route_line p) (numbers_of p.routes) s.routes in
-    let b : List Bytes = lines_of_items (point_line p) (point_sections p) s.points in
-    let c : List Bytes = lines_of_items (board_line p) (numbers_of p.boards) s.boards in
-    let d : List Bytes = lines_of_items (section_line p) (numbers_of p.sections) s.locks in
+    let a : List Bytes = lines_of_items (route_line p) (indices_of_items p.routes) s.routes in
+    let b : List Bytes = lines_of_items (point_line p) (sections_with_points p) s.points in
+    let c : List Bytes = lines_of_items (board_line p) (indices_of_items p.boards) s.boards in
+    let d : List Bytes = lines_of_items (section_line p) (indices_of_items p.sections) s.locks in
     let e : List Bytes = map (train_line p) s.trains in
     let parts : text_of (state_lines p s) ≡ (((text_of a ++ text_of b) ++ text_of c) ++ text_of d) ++ text_of e =
     text_of-append (((a ++ b) ++ c) ++ d) e
@@ -81,11 +81,11 @@ train_is p train start = regroup start (codes "train ") (direction_word train.di
     regroup : (z a b c d : Bytes) → ((z ++ (a ++ b)) ++ c) ++ d ≡ z ++ ((a ++ (b ++ c)) ++ d)
     regroup z a b c d = simp append_assoc
 
-pub point_known : (p : PlantLists) (n x : ℕ) → slice_get (point_sections p) n ≡ Some x → x < length p.sections
+pub point_known : (p : PlantLists) (n x : ℕ) → slice_get (sections_with_points p) n ≡ Some x → x < length p.sections
 point_known p n x at = let within = passing_within (is_point_section p) 0 (length p.sections) n x at in omega arith
 
-pub points_counted : (p : PlantLists) (s : State) → HasShape p s → length s.points ≡ length (point_sections p)
-points_counted p s shape = shape.points ∙ sym (point_sections-length p)
+pub points_counted : (p : PlantLists) (s : State) → HasShape p s → length s.points ≡ length (sections_with_points p)
+points_counted p s shape = shape.points ∙ sym (sections_with_points-length p)
 
-pub bodies_known : (p : PlantLists) (trains : List Train) → IsPlant p → list_all (has_valid_body p) trains ≡ true → All (λ train. All (λ x. x < length p.sections) train.body) trains
-bodies_known p trains plant bodies = All-tested (has_valid_body p) (λ train. All (λ x. x < length p.sections) train.body) (λ train body. body_known p plant train.dir train.body body) trains bodies
+pub bodies_known : (p : PlantLists) (trains : List Train) → IsPlant p → list_all (train_body_is_valid p) trains ≡ true → All (λ train. All (λ x. x < length p.sections) train.body) trains
+bodies_known p trains plant bodies = All-tested (train_body_is_valid p) (λ train. All (λ x. x < length p.sections) train.body) (λ train body. body_known p plant train.dir train.body body) trains bodies

@@ -2,8 +2,8 @@
 use Rattle.std.specs.Prelude.{Option, slice_get, ℕ}
 use Rattle.std.specs.Option.{option_or}
 use Rattle.ilk_lines.specs.Lines.{Bytes}
-use Rattle.ilk_lines.specs.Words.{split_first_word}
-use Rattle.ilk_base.specs.Option.{◌>>=◌, only_if}
+use Rattle.ilk_lines.specs.Words.{split_at_first_space}
+use Rattle.ilk_base.specs.Option.{◌>>=◌, then_some}
 use Rattle.ilk_plant.specs.Network.{is_point}
 use Rattle.ilk_plant.specs.Plant.{PlantLists, first_number_named}
 use Rattle.ilk_model.specs.declared.event.Event.{Event}
@@ -15,7 +15,7 @@ abbrev pub point_named : PlantLists → Bytes → Option ℕ
 point_named p name = do
   x ← first_number_named p.section_names name
   section ← slice_get p.sections x
-  only_if (is_point section) x
+  then_some (is_point section) x
 
 -- The event with this keyword, about the route, the point or the trains with this name.
 abbrev pub event_from_words : PlantLists → Bytes → Bytes → Option Event
@@ -33,5 +33,5 @@ event_from_words p word name = option_or about_route (option_or about_point abou
 -- The event of a line, or `None` if it isn't the line of an event.
 abbrev pub event_from_line : PlantLists → Bytes → Option Event
 event_from_line p line = do
-  words ← split_first_word line
+  words ← split_at_first_space line
   event_from_words p words.0 words.1

@@ -2,8 +2,8 @@
 use Rattle.std.specs.Prelude.{ℕ, Bool, true, false, List, [], ◌∷◌, ◌++◌, codes, flat_map, map, slice_get, unwrap_or}
 use Rattle.std.specs.Fmt.{decimal}
 use Rattle.ilk_lines.specs.Lines.{Bytes}
-use Rattle.ilk_lines.specs.Reading.{numbers_of}
-use Rattle.ilk_lines.specs.Written.{lines_of_items, word_and_rest, text_of}
+use Rattle.ilk_lines.specs.Reading.{indices_of_items}
+use Rattle.ilk_lines.specs.Written.{lines_of_items, join_word_and_rest, text_of}
 use Rattle.ilk_plant.specs.Plant.{PlantLists}
 use Rattle.ilk_plant.specs.declared.state.Aspect.{Aspect}
 use Rattle.ilk_plant.specs.declared.state.Hold.{Hold}
@@ -14,7 +14,7 @@ use Rattle.ilk_plant.specs.declared.state.Train.{Train}
 use Rattle.ilk_model.specs.declared.event.Event.{Event}
 use Rattle.ilk_model.specs.EventWords.{event_word}
 use Rattle.ilk_replay.specs.EventSubjects.{subject}
-use Rattle.ilk_replay.specs.StateTold.{point_sections}
+use Rattle.ilk_replay.specs.StateTold.{sections_with_points}
 use Rattle.ilk_plant.specs.Words.{aspect_word, direction_word, hold_word, lie_word, mode_word, position_word}
 use Rattle.ilk_replay.specs.declared.event_line.Subject.{Subject}
 use Rattle.ilk_replay.specs.declared.event_line.Subject.TheVariants.{Route, Point, Section}
@@ -32,35 +32,35 @@ subject_name p (Section x) = name_of p.section_names x
 
 -- An event's line: its keyword and the name of its subject.
 abbrev pub event_line : PlantLists → Event → Bytes
-event_line p event = word_and_rest (event_word event) (subject_name p (subject event))
+event_line p event = join_word_and_rest (event_word event) (subject_name p (subject event))
 
 -- A route's line: its name, mode, `seen` and `rel`.
 abbrev pub route_line : PlantLists → ℕ → RouteState → Bytes
-route_line p r now = word_and_rest (codes "route") (word_and_rest (name_of p.route_names r) (word_and_rest (mode_word now.mode) (word_and_rest (decimal now.seen) (decimal now.rel))))
+route_line p r now = join_word_and_rest (codes "route") (join_word_and_rest (name_of p.route_names r) (join_word_and_rest (mode_word now.mode) (join_word_and_rest (decimal now.seen) (decimal now.rel))))
 
 -- A point's line: its name, detected position and commanded position.
 abbrev pub point_line : PlantLists → ℕ → PointState → Bytes
-point_line p x now = word_and_rest (codes "point") (word_and_rest (name_of p.section_names x) (word_and_rest (lie_word now.at) (position_word now.to)))
+point_line p x now = join_word_and_rest (codes "point") (join_word_and_rest (name_of p.section_names x) (join_word_and_rest (lie_word now.at) (position_word now.to)))
 
 -- A board's line: its name and aspect.
 abbrev pub board_line : PlantLists → ℕ → Aspect → Bytes
-board_line p m aspect = word_and_rest (codes "board") (word_and_rest (name_of p.board_names m) (aspect_word aspect))
+board_line p m aspect = join_word_and_rest (codes "board") (join_word_and_rest (name_of p.board_names m) (aspect_word aspect))
 
 -- A section's line: its name and lock.
 abbrev pub section_line : PlantLists → ℕ → Hold → Bytes
-section_line p x lock = word_and_rest (codes "section") (word_and_rest (name_of p.section_names x) (hold_word lock))
+section_line p x lock = join_word_and_rest (codes "section") (join_word_and_rest (name_of p.section_names x) (hold_word lock))
 
 -- A train's line: its direction, and the names of its sections from tail to head.
 abbrev pub train_line : PlantLists → Train → Bytes
-train_line p train = word_and_rest (codes "train") (direction_word train.dir ++ flat_map (λ x. 32 ∷ name_of p.section_names x) train.body)
+train_line p train = join_word_and_rest (codes "train") (direction_word train.dir ++ flat_map (λ x. 32 ∷ name_of p.section_names x) train.body)
 
 -- The lines of a state: routes, points in the order of sections, boards, sections, trains.
 abbrev pub state_lines : PlantLists → State → List Bytes
 state_lines p s =
-    lines_of_items (route_line p) (numbers_of p.routes) s.routes
-    ++ lines_of_items (point_line p) (point_sections p) s.points
-    ++ lines_of_items (board_line p) (numbers_of p.boards) s.boards
-    ++ lines_of_items (section_line p) (numbers_of p.sections) s.locks
+    lines_of_items (route_line p) (indices_of_items p.routes) s.routes
+    ++ lines_of_items (point_line p) (sections_with_points p) s.points
+    ++ lines_of_items (board_line p) (indices_of_items p.boards) s.boards
+    ++ lines_of_items (section_line p) (indices_of_items p.sections) s.locks
     ++ map (train_line p) s.trains
 
 -- The beginning of a run: `start`, or `state`, the lines of the state and `events`.

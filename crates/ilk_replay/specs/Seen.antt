@@ -12,8 +12,8 @@ use Rattle.ilk_replay.specs.declared.seen.Seen.TheVariants.{NotARun, NoHazard, H
 
 -- The least n, from 1, such that the first n events are not a run from s. Event n isn't enabled, or
 -- the state before it has a hazard.
-abbrev pub first_refused : PlantLists → State → List Event → ℕ
-first_refused p s events =
+abbrev pub first_failing_event : PlantLists → State → List Event → ℕ
+first_failing_event p s events =
     unwrap_or (find (λ n. is_none (run p s (take n events))) (range_with_len 1 (length events))) 0
 
 -- The result of replaying these events from s. For a run: the hazard of its last state, or no
@@ -26,5 +26,5 @@ replay_result p s events = after (run p s events)
     shown (Some at) = Hazard at
 
     after : Option State → Seen
-    after None = NotARun (first_refused p s events)
+    after None = NotARun (first_failing_event p s events)
     after (Some t) = shown (hazard p t)

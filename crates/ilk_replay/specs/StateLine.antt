@@ -2,10 +2,10 @@
 use Rattle.std.specs.Prelude.{ℕ, Option, Some, List, [], ◌∷◌, codes, length, slice_get}
 use Rattle.ilk_lines.specs.Decimal.{decimal_up_to}
 use Rattle.ilk_lines.specs.Lines.{Bytes}
-use Rattle.ilk_lines.specs.Words.{strip_first_word, split_first_word, words_of}
-use Rattle.ilk_base.specs.Option.{◌>>=◌, only_if}
+use Rattle.ilk_lines.specs.Words.{strip_first_word, split_at_first_space, words_of}
+use Rattle.ilk_base.specs.Option.{◌>>=◌, then_some}
 use Rattle.ilk_plant.specs.Plant.{PlantLists, first_number_named}
-use Rattle.ilk_plant.specs.Shape.{has_valid_body}
+use Rattle.ilk_plant.specs.Shape.{train_body_is_valid}
 use Rattle.ilk_plant.specs.declared.network.Dir.{Dir}
 use Rattle.ilk_plant.specs.declared.state.Aspect.{Aspect}
 use Rattle.ilk_plant.specs.declared.state.Hold.{Hold}
@@ -23,8 +23,8 @@ rest_after_name kind name line = do
 -- A route's mode, `seen` and `rel`, each count at most the limit.
 abbrev pub route_state_from_words : ℕ → Bytes → Option RouteState
 route_state_from_words limit text = do
-  first ← split_first_word text
-  second ← split_first_word first.1
+  first ← split_at_first_space text
+  second ← split_at_first_space first.1
   mode ← mode_from_word first.0
   seen ← decimal_up_to limit second.0
   rel ← decimal_up_to limit second.1
@@ -42,7 +42,7 @@ route_from_line p r line = do
 -- A point's detected and commanded position.
 abbrev pub point_state_from_words : Bytes → Option PointState
 point_state_from_words text = do
-  words ← split_first_word text
+  words ← split_at_first_space text
   at ← lie_from_word words.0
   to ← position_from_word words.1
   Some (record { at = at; to = to })
@@ -78,21 +78,21 @@ sections_named p (name ∷ more) = do
   Some (x ∷ rest)
 
 -- A train's direction and the names of its sections: the line after `train`.
-abbrev pub train_words : Bytes → Option (Dir × Bytes)
-train_words line = do
+abbrev pub dir_and_names_from_words : Bytes → Option (Dir × Bytes)
+dir_and_names_from_words line = do
   rest ← strip_first_word (codes "train") line
-  words ← split_first_word rest
+  words ← split_at_first_space rest
   dir ← direction_from_word words.0
   Some (dir, words.1)
 
 -- A train with this body, or `None` if the body doesn't lead on in its direction.
 abbrev pub train_with : PlantLists → Dir → List ℕ → Option Train
-train_with p dir body = only_if (has_valid_body p (record { dir = dir; body = body })) (record { dir = dir; body = body })
+train_with p dir body = then_some (train_body_is_valid p (record { dir = dir; body = body })) (record { dir = dir; body = body })
 
 -- The train of a line: `train`, its direction, and the names of its sections from tail to head,
 -- each next to the one before.
 abbrev pub train_from_line : PlantLists → Bytes → Option Train
 train_from_line p line = do
-  said ← train_words line
+  said ← dir_and_names_from_words line
   body ← sections_named p (words_of said.1)
   train_with p said.0 body

@@ -5,10 +5,10 @@ use Rattle.ilk_plant.specs.Plant.{PlantLists}
 use Rattle.ilk_plant.specs.Start.{start}
 use Rattle.ilk_model.specs.declared.event.Event.{Event}
 use Rattle.ilk_base.specs.Result.{◌>>=◌}
-use Rattle.ilk_lines.specs.Lines.{Bytes, after_lines, lines_of}
-use Rattle.ilk_lines.specs.Reading.{lines_after, expect_end, leading_part}
+use Rattle.ilk_lines.specs.Lines.{Bytes, unterminated_tail, lines_of}
+use Rattle.ilk_lines.specs.Reading.{strip_first_line, expect_end, parsed_prefix}
 use Rattle.ilk_replay.specs.EventLine.{event_from_line}
-use Rattle.ilk_replay.specs.StateTold.{Beginning, state_from_lines}
+use Rattle.ilk_replay.specs.StateTold.{BeginningAndEventLines, state_from_lines}
 use Rattle.ilk_replay.specs.declared.told.Tale.{Tale}
 use Rattle.ilk_replay.specs.declared.told.Tale.TheVariants.{Told as IsTold, Bad}
 use Rattle.ilk_replay.specs.declared.told.Told.{Told}
@@ -17,13 +17,13 @@ use Rattle.ilk_replay.specs.declared.told.Told.{Told}
 -- nothing after it.
 abbrev pub events_from_lines : PlantLists → ℕ → List Bytes → Bytes → Result (List Event) ℕ
 events_from_lines p n lines bytes = do
-  events ← Ok (leading_part (event_from_line p) n lines)
-  more ← lines_after (codes "end") events.number events.lines
+  events ← Ok (parsed_prefix (event_from_line p) n lines)
+  more ← strip_first_line (codes "end") events.number events.lines
   none ← expect_end (events.number + 1) more bytes
   Ok events.values
 
 -- From line 2 on: the line `start`, or the line `state` and the state.
-abbrev pub beginning_from_lines : PlantLists → List Bytes → Result Beginning ℕ
+abbrev pub beginning_from_lines : PlantLists → List Bytes → Result BeginningAndEventLines ℕ
 beginning_from_lines p [] = Err 2
 beginning_from_lines p (line ∷ more) =
     if bytes_eq line (codes "start") then Ok (record { first = start p; from_start = true; number = 3; lines = more }) else
@@ -33,14 +33,14 @@ beginning_from_lines p (line ∷ more) =
 -- are `run 1`, the beginning and the events.
 abbrev pub run_from_lines : PlantLists → List Bytes → Bytes → Result Told ℕ
 run_from_lines p lines bytes = do
-  second ← lines_after (codes "run 1") 1 lines
+  second ← strip_first_line (codes "run 1") 1 lines
   beginning ← beginning_from_lines p second
   events ← events_from_lines p beginning.number beginning.lines bytes
   Ok (record { first = beginning.first; from_start = beginning.from_start; events = events })
 
 -- The result of reading a run text.
 abbrev pub run_from_text : PlantLists → Bytes → Tale
-run_from_text p text = answer (run_from_lines p (lines_of text) (after_lines text))
+run_from_text p text = answer (run_from_lines p (lines_of text) (unterminated_tail text))
   where
     answer : Result Told ℕ → Tale
     answer (Ok x) = IsTold x

@@ -14,21 +14,21 @@ use Rattle.ilk_replay.specs.declared.told.Tale.TheVariants.{Bad}
 use Rattle.ilk_replay.specs.declared.told.Told.{Told}
 
 -- Holds if the plant has the subject.
-abbrev pub HasSubject : PlantLists → Subject → Type 0
-HasSubject p (Route r) = r < length p.routes
-HasSubject p (Point x) = IsTrue (is_point_section p x)
-HasSubject p (Section x) = x < length p.sections
+abbrev pub IsSubjectOfPlant : PlantLists → Subject → Type 0
+IsSubjectOfPlant p (Route r) = r < length p.routes
+IsSubjectOfPlant p (Point x) = IsTrue (is_point_section p x)
+IsSubjectOfPlant p (Section x) = x < length p.sections
 
 -- Holds if the event is about a route, a point or a section of the plant.
-abbrev pub HasSubjectOf : PlantLists → Event → Type 0
-HasSubjectOf p event = HasSubject p (subject event)
+abbrev pub IsEventSubjectOfPlant : PlantLists → Event → Type 0
+IsEventSubjectOfPlant p event = IsSubjectOfPlant p (subject event)
 
 -- Holds if a text can describe this run of the plant. It begins in a state with the plant's shape,
 -- which is the initial state if the text says `start`. The plant has the subjects of its events.
 pub record IsRunOfPlant (p : PlantLists) (told : Told) : Type 0 where
   pub shape : HasShape p told.first
   pub start : told.from_start ≡ true → told.first ≡ start p
-  pub events : All (HasSubjectOf p) told.events
+  pub events : All (IsEventSubjectOfPlant p) told.events
 
 -- Holds if the text is the one written for this run of the plant.
 abbrev pub IsTextOfRun : PlantLists → Told → Bytes → Type 0

@@ -4,7 +4,7 @@ ghost use Rattle.ilk_replay.specs.EventSubjects.{event_with};
 
 use crate::names::{point_named, route_named, section_named};
 use ilk_base::value_of_word;
-use ilk_lines::split_first_word;
+use ilk_lines::split_at_first_space;
 use ilk_model::Event;
 use ilk_plant::Plant;
 
@@ -67,6 +67,6 @@ fn event_told(plant: &Plant, word: &[u8], name: &[u8]) -> Option<Event>
 pub fn event_from_line(plant: &Plant, line: &[u8]) -> Option<Event>
     ensures { result ≡ event_from_line plant.now line.now }
 {
-    let (word, name) = split_first_word(line)?;
+    let (word, name) = split_at_first_space(line)?;
     event_told(plant, word, name)
 }

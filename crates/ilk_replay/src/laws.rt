@@ -19,5 +19,5 @@ pub fn texts_are_those_written(plant: &Plant, text: &[u8])
     ensures first { (n : ℕ) →
         (run_from_text plant.now text.now ≡ Bad n) ↔ IsFirstBadLineOfRun plant.now text.now n }
 {
-    plant.is_sound();
+    plant.prove_is_plant();
 }

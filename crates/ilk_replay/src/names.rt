@@ -9,7 +9,7 @@ use ilk_plant::Plant;
 pub(crate) fn route_named(plant: &Plant, name: &[u8]) -> Option<u32>
     ensures { result ≡ first_number_named plant.now.route_names name.now }
 {
-    plant.is_sound();
+    plant.prove_is_plant();
     match str::from_utf8(name) {
         Ok(name) => plant.route_named(name),
         Err(_) => None,
@@ -21,7 +21,7 @@ pub(crate) fn section_named(plant: &Plant, name: &[u8]) -> Option<u32>
     ensures number { result ≡ first_number_named plant.now.section_names name.now }
     ensures known { IfSome result (λ x. x < length plant.now.sections) }
 {
-    plant.is_sound();
+    plant.prove_is_plant();
     match str::from_utf8(name) {
         Ok(name) => plant.section_named(name),
         Err(_) => None,

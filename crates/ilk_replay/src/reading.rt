@@ -1,7 +1,7 @@
 ghost use Rattle.std.specs.Prelude.{◌≡◌, IfOk, OnOk};
-ghost use Rattle.ilk_lines.specs.Answers.{MatchesResult, part_with};
-ghost use Rattle.ilk_lines.specs.Lines.{after_lines, lines_of};
-ghost use Rattle.ilk_lines.specs.Reading.{leading_part};
+ghost use Rattle.ilk_lines.specs.Answers.{MatchesResult, prefix_with_rest};
+ghost use Rattle.ilk_lines.specs.Lines.{unterminated_tail, lines_of};
+ghost use Rattle.ilk_lines.specs.Reading.{parsed_prefix};
 ghost use Rattle.ilk_plant.specs.Shape.{HasShape};
 ghost use Rattle.ilk_replay.specs.EventLine.{event_from_line};
 ghost use Rattle.ilk_replay.specs.Reading.{IsBeginningRead};
@@ -23,8 +23,8 @@ fn read_event_lines(
     lines: &mut Lines,
 ) -> Result<Row<Event>, AllocError>
     ensures told { IfOk result
-        (λ events. leading_part (event_from_line plant.now) lines.old.number lines.old.lines
-        ≡ part_with events lines.new) }
+        (λ events. parsed_prefix (event_from_line plant.now) lines.old.number lines.old.lines
+        ≡ prefix_with_rest events lines.new) }
     ensures after { lines.new.after ≡ lines.old.after }
 {
     read_while_some(alloc, lines, |line| Ok(event_from_line(plant, line)))
@@ -37,7 +37,7 @@ fn read_events(alloc: Global, plant: &Plant, lines: &mut Lines) -> Result<Row<Ev
 {
     let events = read_event_lines(alloc, plant, lines)?;
     lines.expect_line(b"end")?;
-    lines.finish()?;
+    lines.check_at_end()?;
     Ok(events)
 }
 
@@ -53,7 +53,7 @@ fn read_beginning(
     ensures after { OnOk result (lines.new.after ≡ lines.old.after) }
     ensures shape { IfOk result (λ begun. HasShape plant.now begun.0) }
 {
-    let line = lines.read_line()?;
+    let line = lines.require_line()?;
     if line == b"start".as_slice() {
         let first = start_state(alloc, plant)?;
         return Ok((first, true));
@@ -68,7 +68,7 @@ fn read_beginning(
 // Reads the run of a text.
 fn read_told(alloc: Global, plant: &Plant, text: &[u8]) -> Result<Told, LineFault>
     ensures told { MatchesResult (run_from_lines plant.now (lines_of text.now)
-        (after_lines text.now))
+        (unterminated_tail text.now))
         result }
     ensures shape { IfOk result (λ told. HasShape plant.now told.first) }
 {

@@ -2,12 +2,12 @@ ghost use Rattle.std.specs.Prelude.{◌≡◌, ◌++◌, ◌∷◌, [], All, fla
 ghost use Rattle.ilk_lines.specs.Written.{text_of};
 ghost use Rattle.ilk_replay.specs.EventSubjects.{subject};
 ghost use Rattle.ilk_replay.specs.RunText.{beginning_lines, event_line, run_text, subject_name};
-ghost use Rattle.ilk_replay.specs.Writable.{HasSubject, HasSubjectOf, IsRunOfPlant};
+ghost use Rattle.ilk_replay.specs.Writable.{IsSubjectOfPlant, IsEventSubjectOfPlant, IsRunOfPlant};
 
 use crate::Told;
 use crate::event_line::Subject;
 use crate::state_writing::push_state;
-use ilk_base::Worded;
+use ilk_base::HasWord;
 use ilk_model::Event;
 use ilk_plant::{Plant, Row};
 use std::alloc::{AllocError, Global};
@@ -36,7 +36,7 @@ fn subject(event: Event) -> Subject
 #[tactic(auto, using(crate::proofs::Subjects::subject_known))]
 // Returns the name of a subject.
 fn subject_name<'a>(plant: &'a Plant, about: Subject) -> &'a str
-    requires { HasSubject plant.now about }
+    requires { IsSubjectOfPlant plant.now about }
     ensures { result.now ≡ subject_name plant.now about }
 {
     match about {
@@ -48,7 +48,7 @@ fn subject_name<'a>(plant: &'a Plant, about: Subject) -> &'a str
 
 // Appends the line of an event.
 fn push_event(text: &mut String, plant: &Plant, event: Event) -> Result<(), AllocError>
-    requires { HasSubjectOf plant.now event }
+    requires { IsEventSubjectOfPlant plant.now event }
     ensures { OnOk result
         (string_bytes text.new ≡ string_bytes text.old ++ (event_line plant.now event ++ 10 ∷ [])) }
 {
@@ -58,7 +58,7 @@ fn push_event(text: &mut String, plant: &Plant, event: Event) -> Result<(), Allo
 
 // Appends the lines of events.
 fn push_events(text: &mut String, plant: &Plant, events: &Row<Event>) -> Result<(), AllocError>
-    requires { All (HasSubjectOf plant.now) events.now }
+    requires { All (IsEventSubjectOfPlant plant.now) events.now }
     ensures { OnOk result
         (string_bytes text.new
         ≡ string_bytes text.old

@@ -1,6 +1,6 @@
 ghost use Rattle.std.specs.Prelude.{◌≡◌, IfOk, Some, IsTrue, is_some};
 ghost use Rattle.ilk_plant.specs.Shape.{HasShape};
-ghost use Rattle.ilk_model.specs.Run.{next_if_no_hazard};
+ghost use Rattle.ilk_model.specs.Run.{next_from_hazard_free};
 ghost use Rattle.ilk_replay.specs.Seen.{replay_result};
 
 use ilk_model::{Event, HazardAt, apply, hazard};
@@ -23,9 +23,9 @@ pub enum Seen {
 fn advance(alloc: Global, plant: &Plant, s: &mut State, event: Event) -> Result<bool, AllocError>
     requires { HasShape plant.now s.old }
     ensures answer { IfOk result (λ enabled. enabled
-        ≡ is_some (next_if_no_hazard plant.now s.old event)) }
+        ≡ is_some (next_from_hazard_free plant.now s.old event)) }
     ensures next { IfOk result
-        (λ enabled. IsTrue enabled → next_if_no_hazard plant.now s.old event ≡ Some s.new) }
+        (λ enabled. IsTrue enabled → next_from_hazard_free plant.now s.old event ≡ Some s.new) }
     ensures shape { HasShape plant.now s.new }
 {
     if hazard(plant, s).is_some() {

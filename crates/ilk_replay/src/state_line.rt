@@ -1,9 +1,9 @@
 ghost use Rattle.std.specs.Prelude.{◌≡◌, IfOk, option_map};
-ghost use Rattle.ilk_replay.specs.StateLine.{board_from_line, lock_from_line, point_state_from_words, point_from_line, route_state_from_words, route_from_line, rest_after_name, sections_named, train_words, train_from_line, train_with};
+ghost use Rattle.ilk_replay.specs.StateLine.{board_from_line, lock_from_line, point_state_from_words, point_from_line, route_state_from_words, route_from_line, rest_after_name, sections_named, dir_and_names_from_words, train_from_line, train_with};
 ghost use Rattle.ilk_lines.specs.Words.{words_of};
 
 use crate::names::section_named;
-use ilk_lines::{decimal_up_to, split_first_word, split_next_word, strip_first_word};
+use ilk_lines::{decimal_up_to, split_at_first_space, split_off_first_word, strip_first_word};
 use ilk_plant::{
     Aspect, Dir, Hold, Lie, Mode, Plant, PointState, Position, RouteState, Row, Train,
 };
@@ -20,8 +20,8 @@ fn said_of<'a>(kind: &[u8], name: &[u8], line: &'a [u8]) -> Option<&'a [u8]>
 fn route_said(limit: u32, text: &[u8]) -> Option<RouteState>
     ensures { result ≡ route_state_from_words limit text.now }
 {
-    let (mode, counts) = split_first_word(text)?;
-    let (seen, rel) = split_first_word(counts)?;
+    let (mode, counts) = split_at_first_space(text)?;
+    let (seen, rel) = split_at_first_space(counts)?;
     let mode = Mode::from_word(mode)?;
     let seen = decimal_up_to(seen, limit as u64)? as u32;
     let rel = decimal_up_to(rel, limit as u64)? as u32;
@@ -44,7 +44,7 @@ pub(crate) fn route_from_line(plant: &Plant, r: u32, line: &[u8]) -> Option<Rout
 fn point_said(text: &[u8]) -> Option<PointState>
     ensures { result ≡ point_state_from_words text.now }
 {
-    let (at, to) = split_first_word(text)?;
+    let (at, to) = split_at_first_space(text)?;
     let at = Lie::from_word(at)?;
     let to = Position::from_word(to)?;
     Some(PointState { at, to })
@@ -54,7 +54,7 @@ fn point_said(text: &[u8]) -> Option<PointState>
 pub(crate) fn point_from_line(plant: &Plant, x: u32, line: &[u8]) -> Option<PointState>
     ensures { result ≡ point_from_line plant.now x line.now }
 {
-    plant.is_sound();
+    plant.prove_is_plant();
     if x >= plant.sections() {
         return None;
     }
@@ -66,7 +66,7 @@ pub(crate) fn point_from_line(plant: &Plant, x: u32, line: &[u8]) -> Option<Poin
 pub(crate) fn board_from_line(plant: &Plant, m: u32, line: &[u8]) -> Option<Aspect>
     ensures { result ≡ board_from_line plant.now m line.now }
 {
-    plant.is_sound();
+    plant.prove_is_plant();
     if m >= plant.boards() {
         return None;
     }
@@ -78,7 +78,7 @@ pub(crate) fn board_from_line(plant: &Plant, m: u32, line: &[u8]) -> Option<Aspe
 pub(crate) fn lock_from_line(plant: &Plant, x: u32, line: &[u8]) -> Option<Hold>
     ensures { result ≡ lock_from_line plant.now x line.now }
 {
-    plant.is_sound();
+    plant.prove_is_plant();
     if x >= plant.sections() {
         return None;
     }
@@ -98,7 +98,7 @@ fn sections_named(
     let mut body = Row::new(alloc);
     let mut rest = Some(names);
     while let Some(text) = rest {
-        let (name, more) = split_next_word(text);
+        let (name, more) = split_off_first_word(text);
         let Some(x) = section_named(plant, name) else {
             return Ok(None);
         };
@@ -110,10 +110,10 @@ fn sections_named(
 
 // Returns a train's direction and the names of its sections.
 fn train_said(line: &[u8]) -> Option<(Dir, &[u8])>
-    ensures { option_map (λ said. (said.0, said.1.now)) result ≡ train_words line.now }
+    ensures { option_map (λ said. (said.0, said.1.now)) result ≡ dir_and_names_from_words line.now }
 {
     let rest = strip_first_word(line, b"train")?;
-    let (dir, names) = split_first_word(rest)?;
+    let (dir, names) = split_at_first_space(rest)?;
     Some((Dir::from_word(dir)?, names))
 }
 
@@ -122,7 +122,7 @@ fn train_with(plant: &Plant, dir: Dir, body: Row<u32>) -> Option<Train>
     ensures { result ≡ train_with plant.now dir body }
 {
     let train = Train { dir, body };
-    if plant.has_valid_body(&train) {
+    if plant.train_body_is_valid(&train) {
         Some(train)
     } else {
         None

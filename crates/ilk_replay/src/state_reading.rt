@@ -1,10 +1,10 @@
 ghost use Rattle.std.specs.Prelude.{◌≡◌, IfOk, OnOk};
 ghost use Rattle.std.specs.List.{range_with_len};
-ghost use Rattle.ilk_lines.specs.Answers.{MatchesPartResult, part_with};
-ghost use Rattle.ilk_lines.specs.Reading.{values_from_lines, leading_part, numbers_of};
+ghost use Rattle.ilk_lines.specs.Answers.{MatchesPrefixResult, prefix_with_rest};
+ghost use Rattle.ilk_lines.specs.Reading.{item_values_from_lines, parsed_prefix, indices_of_items};
 ghost use Rattle.ilk_plant.specs.Shape.{HasShape};
 ghost use Rattle.ilk_replay.specs.StateLine.{board_from_line, lock_from_line, point_from_line, route_from_line, train_from_line};
-ghost use Rattle.ilk_replay.specs.StateTold.{point_sections, state_from_lines};
+ghost use Rattle.ilk_replay.specs.StateTold.{sections_with_points, state_from_lines};
 ghost use Rattle.ilk_replay.specs.Reading.{IsStateRead};
 
 use crate::state_line::{
@@ -28,8 +28,8 @@ fn numbers_below(alloc: Global, count: u32) -> Result<Row<u32>, AllocError>
 
 #[tactic(auto, using(crate::proofs::Items::listed_more, crate::proofs::Items::listed_same))]
 /// Returns the numbers of the point sections, in order.
-pub(crate) fn point_sections(alloc: Global, plant: &Plant) -> Result<Row<u32>, AllocError>
-    ensures { IfOk result (λ numbers. numbers ≡ point_sections plant.now) }
+pub(crate) fn sections_with_points(alloc: Global, plant: &Plant) -> Result<Row<u32>, AllocError>
+    ensures { IfOk result (λ numbers. numbers ≡ sections_with_points plant.now) }
 {
     let mut numbers = Row::new(alloc);
     for x in 0..plant.sections() {
@@ -46,8 +46,8 @@ fn read_routes(
     plant: &Plant,
     lines: &mut Lines,
 ) -> Result<Row<RouteState>, LineFault>
-    ensures told { MatchesPartResult
-        (values_from_lines (route_from_line plant.now) (numbers_of plant.now.routes)
+    ensures told { MatchesPrefixResult
+        (item_values_from_lines (route_from_line plant.now) (indices_of_items plant.now.routes)
         lines.old.number
         lines.old.lines) lines.new result }
     ensures after { OnOk result (lines.new.after ≡ lines.old.after) }
@@ -67,12 +67,13 @@ fn read_points(
     plant: &Plant,
     lines: &mut Lines,
 ) -> Result<Row<PointState>, LineFault>
-    ensures told { MatchesPartResult
-        (values_from_lines (point_from_line plant.now) (point_sections plant.now) lines.old.number
+    ensures told { MatchesPrefixResult
+        (item_values_from_lines (point_from_line plant.now)
+        (sections_with_points plant.now) lines.old.number
         lines.old.lines) lines.new result }
     ensures after { OnOk result (lines.new.after ≡ lines.old.after) }
 {
-    let points = point_sections(alloc, plant)?;
+    let points = sections_with_points(alloc, plant)?;
     read_lines(
         alloc,
         lines,
@@ -83,8 +84,8 @@ fn read_points(
 
 // Reads the aspects of the boards, one per line.
 fn read_boards(alloc: Global, plant: &Plant, lines: &mut Lines) -> Result<Row<Aspect>, LineFault>
-    ensures told { MatchesPartResult
-        (values_from_lines (board_from_line plant.now) (numbers_of plant.now.boards)
+    ensures told { MatchesPrefixResult
+        (item_values_from_lines (board_from_line plant.now) (indices_of_items plant.now.boards)
         lines.old.number
         lines.old.lines) lines.new result }
     ensures after { OnOk result (lines.new.after ≡ lines.old.after) }
@@ -100,8 +101,8 @@ fn read_boards(alloc: Global, plant: &Plant, lines: &mut Lines) -> Result<Row<As
 
 // Reads the locks of the sections, one per line.
 fn read_locks(alloc: Global, plant: &Plant, lines: &mut Lines) -> Result<Row<Hold>, LineFault>
-    ensures told { MatchesPartResult
-        (values_from_lines (lock_from_line plant.now) (numbers_of plant.now.sections)
+    ensures told { MatchesPrefixResult
+        (item_values_from_lines (lock_from_line plant.now) (indices_of_items plant.now.sections)
         lines.old.number
         lines.old.lines) lines.new result }
     ensures after { OnOk result (lines.new.after ≡ lines.old.after) }
@@ -118,8 +119,8 @@ fn read_locks(alloc: Global, plant: &Plant, lines: &mut Lines) -> Result<Row<Hol
 // Reads the trains of the next lines, up to the first line that isn't a train.
 fn read_trains(alloc: Global, plant: &Plant, lines: &mut Lines) -> Result<Row<Train>, AllocError>
     ensures told { IfOk result
-        (λ trains. leading_part (train_from_line plant.now) lines.old.number lines.old.lines
-        ≡ part_with trains lines.new) }
+        (λ trains. parsed_prefix (train_from_line plant.now) lines.old.number lines.old.lines
+        ≡ prefix_with_rest trains lines.new) }
     ensures after { lines.new.after ≡ lines.old.after }
 {
     read_while_some(alloc, lines, |line| train_from_line(alloc, plant, line))
@@ -136,7 +137,7 @@ pub(crate) fn read_state(
     ensures after { OnOk result (lines.new.after ≡ lines.old.after) }
     ensures shape { IfOk result (HasShape plant.now) }
 {
-    plant.is_sound();
+    plant.prove_is_plant();
     let routes = read_routes(alloc, plant, lines)?;
     let points = read_points(alloc, plant, lines)?;
     let boards = read_boards(alloc, plant, lines)?;

@@ -1,12 +1,12 @@
 ghost use Rattle.std.specs.Prelude.{◌≡◌, ◌<◌, ◌++◌, ◌∷◌, [], All, flat_map, length, string_bytes, OnOk};
-ghost use Rattle.ilk_lines.specs.Reading.{numbers_of};
+ghost use Rattle.ilk_lines.specs.Reading.{indices_of_items};
 ghost use Rattle.ilk_lines.specs.Written.{lines_of_items, text_of};
 ghost use Rattle.ilk_plant.specs.Shape.{HasShape};
 ghost use Rattle.ilk_replay.specs.RunText.{board_line, name_of, point_line, route_line, section_line, state_lines, train_line};
-ghost use Rattle.ilk_replay.specs.StateTold.{point_sections};
+ghost use Rattle.ilk_replay.specs.StateTold.{sections_with_points};
 
-use crate::state_reading::point_sections;
-use ilk_base::Worded;
+use crate::state_reading::sections_with_points;
+use ilk_base::HasWord;
 use ilk_plant::{Aspect, Hold, Plant, PointState, RouteState, Row, State, Train};
 use std::alloc::{AllocError, Global};
 
@@ -95,7 +95,7 @@ fn push_routes(text: &mut String, plant: &Plant, routes: &Row<RouteState>) -> Re
         (string_bytes text.new
         ≡ string_bytes text.old
         ++ text_of
-        (lines_of_items (route_line plant.now) (numbers_of plant.now.routes) routes.now)) }
+        (lines_of_items (route_line plant.now) (indices_of_items plant.now.routes) routes.now)) }
 {
     for r in 0..plant.routes() {
         push_route(text, plant, r, routes.at(r as u64))?;
@@ -110,14 +110,14 @@ fn push_points(
     plant: &Plant,
     points: &Row<PointState>,
 ) -> Result<(), AllocError>
-    requires { length points.now ≡ length (point_sections plant.now) }
+    requires { length points.now ≡ length (sections_with_points plant.now) }
     ensures { OnOk result
         (string_bytes text.new
         ≡ string_bytes text.old
         ++ text_of
-        (lines_of_items (point_line plant.now) (point_sections plant.now) points.now)) }
+        (lines_of_items (point_line plant.now) (sections_with_points plant.now) points.now)) }
 {
-    let sections = point_sections(alloc, plant)?;
+    let sections = sections_with_points(alloc, plant)?;
     for n in 0..sections.len() {
         push_point(text, plant, *sections.at(n), points.at(n))?;
     }
@@ -130,7 +130,7 @@ fn push_boards(text: &mut String, plant: &Plant, boards: &Row<Aspect>) -> Result
         (string_bytes text.new
         ≡ string_bytes text.old
         ++ text_of
-        (lines_of_items (board_line plant.now) (numbers_of plant.now.boards) boards.now)) }
+        (lines_of_items (board_line plant.now) (indices_of_items plant.now.boards) boards.now)) }
 {
     for m in 0..plant.boards() {
         push_board(text, plant, m, *boards.at(m as u64))?;
@@ -144,7 +144,7 @@ fn push_sections(text: &mut String, plant: &Plant, locks: &Row<Hold>) -> Result<
         (string_bytes text.new
         ≡ string_bytes text.old
         ++ text_of
-        (lines_of_items (section_line plant.now) (numbers_of plant.now.sections)
+        (lines_of_items (section_line plant.now) (indices_of_items plant.now.sections)
         locks.now)) }
 {
     for x in 0..plant.sections() {
@@ -178,7 +178,7 @@ pub(crate) fn push_state(
     ensures { OnOk result
         (string_bytes text.new ≡ string_bytes text.old ++ text_of (state_lines plant.now s.now)) }
 {
-    plant.is_sound();
+    plant.prove_is_plant();
     push_routes(text, plant, &s.routes)?;
     push_points(alloc, text, plant, &s.points)?;
     push_boards(text, plant, &s.boards)?;

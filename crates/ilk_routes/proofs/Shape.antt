@@ -4,9 +4,9 @@ use Rattle.std.proofs.lemmas.Option.{option_and_then_some, cond_some, same_Some,
 use Rattle.std.specs.List.{last_or}
 use Rattle.std.proofs.lemmas.List.Elements.{All-append, All-map}
 use Rattle.ilk_base.proofs.ListTests.{all-at}
-use Rattle.ilk_plant.specs.Plant.{PlantLists, point_number, IsRouteOf}
-use Rattle.ilk_plant.specs.Shape.{HasShape, counts_fit_path}
-use Rattle.ilk_plant.proofs.Shapes.{counts_fit_path-counts, counts_fit_path-from_counts}
+use Rattle.ilk_plant.specs.Plant.{PlantLists, point_number, IsValidRouteOf}
+use Rattle.ilk_plant.specs.Shape.{HasShape, seen_and_released_fit_path}
+use Rattle.ilk_plant.proofs.Shapes.{seen_and_released_fit_path-counts, seen_and_released_fit_path-from_counts}
 use Rattle.ilk_plant.specs.declared.state.Aspect.{Aspect}
 use Rattle.ilk_plant.specs.declared.state.Aspect.TheVariants.{Closed}
 use Rattle.ilk_plant.specs.declared.state.Hold.{Hold}
@@ -18,7 +18,7 @@ use Rattle.ilk_plant.specs.declared.table.Route.{Route}
 use Rattle.ilk_routes.proofs.Commands.{length-with_commands}
 use Rattle.ilk_routes.proofs.Locks.{length-with_locks}
 use Rattle.ilk_plant.specs.TableRules.{sections_locked_for}
-use Rattle.ilk_routes.specs.Claims.{sections_beside_path, required_points}
+use Rattle.ilk_routes.specs.Claims.{sections_outside_path, required_points}
 use Rattle.ilk_routes.specs.Locks.{with_locks}
 use Rattle.ilk_routes.specs.Points.{after_settle, after_throw}
 use Rattle.ilk_routes.specs.Routes.{after_allocate, after_cancel, after_finish, after_lock, after_mark, after_release, after_sense}
@@ -33,7 +33,7 @@ length-close_if false boards m = refl
 reshaped :
     (p : PlantLists) (s : State) (r : ℕ) (mine : Route) (now : RouteState) (boards : List Aspect)
     (points : List PointState) (locks : List Hold) → HasShape p s →
-    slice_get p.routes r ≡ Some mine → counts_fit_path mine now ≡ true → length boards ≡ length s.boards →
+    slice_get p.routes r ≡ Some mine → seen_and_released_fit_path mine now ≡ true → length boards ≡ length s.boards →
     length points ≡ length s.points → length locks ≡ length s.locks →
     HasShape p (record s { routes = set s.routes r now; boards = boards; points = points; locks = locks })
 reshaped p s r mine now boards points locks shape known within b n l = record {
@@ -78,9 +78,9 @@ after_sense-shape p s t r shape e =
     let below = slice_get_within route.path now.seen x there in
     subst (HasShape p) done.1
     (reshaped p s r route _ _ s.points _ shape known
-    (counts_fit_path-from_counts route (record now { mode = Occupied; seen = now.seen + 1 })
+    (seen_and_released_fit_path-from_counts route (record now { mode = Occupied; seen = now.seen + 1 })
     (omega (arith, below))
-    (counts_fit_path-counts route now (shape.counts r route now known here)).1)
+    (seen_and_released_fit_path-counts route now (shape.counts r route now known here)).1)
     (length-close_if _ s.boards route.source) refl (length-set s.locks x _)))))
 
 pub after_release-shape : (p : PlantLists) (s t : State) (r : ℕ) → HasShape p s → after_release p s r ≡ Some t → HasShape p t
@@ -92,8 +92,8 @@ after_release-shape p s t r shape e =
     let below = slice_get_within route.path now.rel x there in
     subst (HasShape p) done.1
     (reshaped p s r route _ s.boards s.points _ shape known
-    (counts_fit_path-from_counts route (record now { rel = now.rel + 1 })
-    (counts_fit_path-counts route now (shape.counts r route now known here)).0
+    (seen_and_released_fit_path-from_counts route (record now { rel = now.rel + 1 })
+    (seen_and_released_fit_path-counts route now (shape.counts r route now known here)).0
     (omega (arith, below))) refl refl
     (length-set s.locks x _)))))
 
@@ -105,9 +105,9 @@ after_finish-shape p s t r shape e =
     let done = cond_some _ _ t e3 in
     subst (HasShape p) done.1
     (reshaped p s r route _ s.boards s.points _ shape known
-    (counts_fit_path-from_counts route (record { mode = Free; seen = 0; rel = 0 }) (omega arith)
+    (seen_and_released_fit_path-from_counts route (record { mode = Free; seen = 0; rel = 0 }) (omega arith)
     (omega arith)) refl refl
-    (length-with_locks _ (sections_beside_path route) _ ∙ length-set s.locks x _)))))
+    (length-with_locks _ (sections_outside_path route) _ ∙ length-set s.locks x _)))))
 
 length-give_back_if : (b : Bool) (locks : List Hold) (sections : List ℕ) (hold : Hold) → length (if b then with_locks locks sections hold else locks) ≡ length locks
 length-give_back_if true locks sections hold = length-with_locks locks sections hold
@@ -144,9 +144,9 @@ after_settle-shape p s t x shape e =
     let done = cond_some _ _ t e2 in
     subst (HasShape p) done.1 (repointed p s n _ shape)))
 
-pub beside-known : (p : PlantLists) (route : Route) → IsRouteOf p route → (i x : ℕ) → slice_get (sections_beside_path route) i ≡ Some x → x < length p.sections
+pub beside-known : (p : PlantLists) (route : Route) → IsValidRouteOf p route → (i x : ℕ) → slice_get (sections_outside_path route) i ≡ Some x → x < length p.sections
 beside-known p route of i x at =
-    all-at (λ x. x < length p.sections) (sections_beside_path route) i x
+    all-at (λ x. x < length p.sections) (sections_outside_path route) i x
     (All-append (λ x. x < length p.sections) route.overlap
     (map (λ listed. listed.point) route.protecting_points) of.overlap
     (All-map (λ x. x < length p.sections) (λ (listed : Listed). listed.point)

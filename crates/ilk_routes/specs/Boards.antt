@@ -21,9 +21,9 @@ abbrev pub has_aspect : State → ℕ → Aspect → Bool
 has_aspect s m aspect = is_some_and (slice_get s.boards m) (λ now. same_aspect now aspect)
 
 -- Returns whether board m is a protecting board of route q.
-abbrev pub has_protecting_board : PlantLists → ℕ → ℕ → Bool
-has_protecting_board p q m = is_some_and (slice_get p.routes q) (λ route. has_number m route.protecting_boards)
+abbrev pub is_protecting_board : PlantLists → ℕ → ℕ → Bool
+is_protecting_board p q m = is_some_and (slice_get p.routes q) (λ route. has_number m route.protecting_boards)
 
 -- Returns whether board m is a protecting board of some Locked route.
 abbrev pub is_held_closed : PlantLists → State → ℕ → Bool
-is_held_closed p s m = any_below (length p.routes) (λ q. has_mode s q Locked && has_protecting_board p q m)
+is_held_closed p s m = any_below (length p.routes) (λ q. has_mode s q Locked && is_protecting_board p q m)

@@ -1,7 +1,7 @@
 -- Detected and commanded positions of points.
 use Rattle.std.specs.Prelude.{ℕ, Bool, true, false, Option, None, List, [], ◌∷◌, ◌==◌, unwrap_or}
 use Rattle.std.specs.Option.{option_or}
-use Rattle.ilk_base.specs.Option.{is_some_and, only_if}
+use Rattle.ilk_base.specs.Option.{is_some_and, then_some}
 use Rattle.ilk_plant.specs.Plant.{PlantLists, point_number}
 use Rattle.ilk_plant.specs.State.{detected_position}
 use Rattle.ilk_plant.specs.declared.network.Position.{Position}
@@ -14,10 +14,10 @@ use Rattle.ilk_plant.specs.declared.table.Listed.{Listed}
 use Rattle.ilk_base.specs.Numbered.{map_numbered}
 
 -- Returns whether a point with this detected position is moving.
-abbrev pub is_moving : Lie → Bool
-is_moving LiesPlus = false
-is_moving LiesMinus = false
-is_moving Moving = true
+abbrev pub is_detected_moving : Lie → Bool
+is_detected_moving LiesPlus = false
+is_detected_moving LiesMinus = false
+is_detected_moving Moving = true
 
 -- The detected position that equals a position.
 abbrev pub lie_from_position : Position → Lie
@@ -35,13 +35,13 @@ abbrev pub is_detected_as_listed : PlantLists → State → Listed → Bool
 is_detected_as_listed p s listed = is_some_and (detected_position p s listed.point) (λ lie. is_lie_at_position lie listed.at)
 
 -- Returns whether an entry lists the point with number n.
-abbrev pub lists_point : PlantLists → ℕ → Listed → Bool
-lists_point p n listed = is_some_and (point_number p listed.point) (λ m. m == n)
+abbrev pub is_entry_for_point : PlantLists → ℕ → Listed → Bool
+is_entry_for_point p n listed = is_some_and (point_number p listed.point) (λ m. m == n)
 
 -- The position in which these entries list the point with number n. If several do, the last counts.
 abbrev pub listed_position : PlantLists → ℕ → List Listed → Option Position
 listed_position p n [] = None
-listed_position p n (listed ∷ rest) = option_or (listed_position p n rest) (only_if (lists_point p n listed) listed.at)
+listed_position p n (listed ∷ rest) = option_or (listed_position p n rest) (then_some (is_entry_for_point p n listed) listed.at)
 
 -- The points with each listed one commanded to its listed position, and all else unchanged.
 abbrev pub with_commands : PlantLists → List PointState → List Listed → List PointState

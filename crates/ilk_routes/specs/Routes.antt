@@ -2,17 +2,17 @@
 -- `None`.
 use Rattle.std.specs.Prelude.{ℕ, ◌+◌, Bool, Option, ◌==◌, ◌&&◌, ◌||◌, if◌then◌else◌, length, nat_le, slice_get, set, not}
 use Rattle.std.specs.List.{list_any, list_all}
-use Rattle.ilk_base.specs.Option.{◌>>=◌, only_if}
+use Rattle.ilk_base.specs.Option.{◌>>=◌, then_some}
 use Rattle.ilk_plant.specs.Plant.{PlantLists}
 use Rattle.ilk_plant.specs.TableRules.{sections_locked_for}
-use Rattle.ilk_plant.specs.State.{has_lock, is_clear, is_occupied}
+use Rattle.ilk_plant.specs.State.{has_lock_state, is_unlocked_and_vacant, is_occupied}
 use Rattle.ilk_plant.specs.declared.state.Aspect.TheVariants.{Open, Closed}
 use Rattle.ilk_plant.specs.declared.state.Hold.TheVariants.{Free as FreeLock, Locked as LockedLock, Used as UsedLock}
 use Rattle.ilk_plant.specs.declared.state.Mode.TheVariants.{Free, Marked, Allocating, Locked, Occupied}
 use Rattle.ilk_plant.specs.declared.state.State.{State}
 use Rattle.ilk_plant.specs.declared.table.Route.{Route}
 use Rattle.ilk_routes.specs.Boards.{has_aspect, is_held_closed}
-use Rattle.ilk_routes.specs.Claims.{sections_beside_path, required_points}
+use Rattle.ilk_routes.specs.Claims.{sections_outside_path, required_points}
 use Rattle.ilk_routes.specs.Lies.{is_detected_as_listed, with_commands}
 use Rattle.ilk_routes.specs.Locks.{with_locks}
 use Rattle.ilk_routes.specs.Modes.{is_allocating_or_locked, same_mode}
@@ -23,7 +23,7 @@ abbrev pub after_mark : PlantLists → State → ℕ → Option State
 after_mark p s r = do
   route ← slice_get p.routes r
   now ← slice_get s.routes r
-  only_if (same_mode now.mode Free) (record s {
+  then_some (same_mode now.mode Free) (record s {
     routes = set s.routes r (record now { mode = Marked });
   })
 
@@ -31,7 +31,7 @@ after_mark p s r = do
 -- protecting points has lock Free and is vacant.
 abbrev pub can_reserve_sections : State → Route → Bool
 can_reserve_sections s route =
-    not (list_any (is_allocating_or_locked s) route.conflicts) && list_all (is_clear s) (sections_locked_for route)
+    not (list_any (is_allocating_or_locked s) route.conflicts) && list_all (is_unlocked_and_vacant s) (sections_locked_for route)
 
 -- `allocate r`. Enabled if r is Marked and can claim its sections. It becomes Allocating, those
 -- locks become Locked, and its listed and protecting points are commanded.
@@ -39,7 +39,7 @@ abbrev pub after_allocate : PlantLists → State → ℕ → Option State
 after_allocate p s r = do
   route ← slice_get p.routes r
   now ← slice_get s.routes r
-  only_if (same_mode now.mode Marked && can_reserve_sections s route) (record s {
+  then_some (same_mode now.mode Marked && can_reserve_sections s route) (record s {
     routes = set s.routes r (record now { mode = Allocating });
     locks = with_locks s.locks (sections_locked_for route) LockedLock;
     points = with_commands p s.points (required_points route);
@@ -58,7 +58,7 @@ abbrev pub after_lock : PlantLists → State → ℕ → Option State
 after_lock p s r = do
   route ← slice_get p.routes r
   now ← slice_get s.routes r
-  only_if (same_mode now.mode Allocating && can_lock p s route) (record s {
+  then_some (same_mode now.mode Allocating && can_lock p s route) (record s {
     routes = set s.routes r (record now { mode = Locked });
     boards = set s.boards route.source Open;
   })
@@ -71,9 +71,9 @@ after_sense p s r = do
   route ← slice_get p.routes r
   now ← slice_get s.routes r
   x ← slice_get route.path now.seen
-  only_if ((same_mode now.mode Locked || same_mode now.mode Occupied)
+  then_some ((same_mode now.mode Locked || same_mode now.mode Occupied)
       && is_occupied s x
-      && has_lock s x LockedLock) (record s {
+      && has_lock_state s x LockedLock) (record s {
         routes = set s.routes r (record now { mode = Occupied; seen = now.seen + 1 });
         locks = set s.locks x UsedLock;
         boards = (if now.seen == 0 then set s.boards route.source Closed else s.boards);
@@ -87,10 +87,10 @@ after_release p s r = do
   route ← slice_get p.routes r
   now ← slice_get s.routes r
   x ← slice_get route.path now.rel
-  only_if (same_mode now.mode Occupied
+  then_some (same_mode now.mode Occupied
       && nat_le (now.rel + 2) now.seen
       && not (is_occupied s x)
-      && has_lock s x UsedLock) (record s {
+      && has_lock_state s x UsedLock) (record s {
         routes = set s.routes r (record now { rel = now.rel + 1 });
         locks = set s.locks x FreeLock;
       })
@@ -103,11 +103,11 @@ after_finish p s r = do
   route ← slice_get p.routes r
   now ← slice_get s.routes r
   x ← last_of route.path
-  only_if (same_mode now.mode Occupied
+  then_some (same_mode now.mode Occupied
       && now.seen == length route.path
       && now.rel + 1 == length route.path) (record s {
         routes = set s.routes r (record { mode = Free; seen = 0; rel = 0 });
-        locks = with_locks (set s.locks x FreeLock) (sections_beside_path route) FreeLock;
+        locks = with_locks (set s.locks x FreeLock) (sections_outside_path route) FreeLock;
       })
 
 -- `cancel r`. Enabled if r is Marked or Allocating. If it is Allocating, the locks of path, overlap
@@ -116,7 +116,7 @@ abbrev pub after_cancel : PlantLists → State → ℕ → Option State
 after_cancel p s r = do
   route ← slice_get p.routes r
   now ← slice_get s.routes r
-  only_if (same_mode now.mode Marked || same_mode now.mode Allocating) (record s {
+  then_some (same_mode now.mode Marked || same_mode now.mode Allocating) (record s {
     routes = set s.routes r (record now { mode = Free });
     locks = (if same_mode now.mode Allocating then with_locks s.locks (sections_locked_for route) FreeLock else s.locks);
   })

@@ -1,7 +1,7 @@
 ghost use Rattle.std.specs.Prelude.{◌≡◌, ◌<◌, [], ◌∷◌, All, length, map};
 ghost use Rattle.ilk_plant.specs.Plant.{point_count};
 ghost use Rattle.ilk_plant.specs.TableRules.{sections_locked_for};
-ghost use Rattle.ilk_routes.specs.Claims.{sections_beside_path, required_points};
+ghost use Rattle.ilk_routes.specs.Claims.{sections_outside_path, required_points};
 ghost use Rattle.ilk_routes.specs.Lies.{with_commands};
 ghost use Rattle.ilk_routes.specs.Locks.{with_locks};
 
@@ -30,12 +30,12 @@ fn give_point_locks(locks: &mut Row<Hold>, points: &Row<Listed>, hold: Hold)
 }
 
 /// Sets the lock of each section of the route's overlap and protecting points to `hold`.
-pub fn set_locks_beside_path(locks: &mut Row<Hold>, route: &Route, hold: Hold)
+pub fn set_locks_outside_path(locks: &mut Row<Hold>, route: &Route, hold: Hold)
     requires overlap { All (λ x. x < length locks.old) route.now.overlap }
     requires protecting { All (λ listed. listed.point < length locks.old)
         route.now.protecting_points }
     ensures long { length locks.new ≡ length locks.old }
-    ensures locks { locks.new ≡ with_locks locks.old (sections_beside_path route.now) hold }
+    ensures locks { locks.new ≡ with_locks locks.old (sections_outside_path route.now) hold }
 {
     set_section_locks(locks, &route.overlap, hold);
     give_point_locks(locks, &route.protecting_points, hold);

@@ -1,22 +1,22 @@
 ghost use Rattle.std.specs.Prelude.{◌≡◌, ◌≤◌, ◌<◌, ◌-◌, ◌&&◌, ◌==◌, Some, length, map, slice_get};
-ghost use Rattle.ilk_plant.specs.Plant.{IsRouteOf};
+ghost use Rattle.ilk_plant.specs.Plant.{IsValidRouteOf};
 ghost use Rattle.ilk_plant.specs.Shape.{HasShape};
 ghost use Rattle.std.specs.List.{list_any, list_all};
 ghost use Rattle.ilk_plant.specs.Network.{last_of};
-ghost use Rattle.ilk_plant.specs.State.{is_clear};
+ghost use Rattle.ilk_plant.specs.State.{is_unlocked_and_vacant};
 ghost use Rattle.ilk_plant.specs.declared.state.Aspect.TheVariants.{Closed};
 ghost use Rattle.ilk_plant.specs.declared.state.Mode.TheVariants.{Locked};
-ghost use Rattle.ilk_routes.specs.Boards.{has_aspect, is_held_closed, has_protecting_board};
+ghost use Rattle.ilk_routes.specs.Boards.{has_aspect, is_held_closed, is_protecting_board};
 ghost use Rattle.ilk_plant.specs.TableRules.{sections_locked_for};
 ghost use Rattle.ilk_routes.specs.Claims.{required_points};
-ghost use Rattle.ilk_routes.specs.Lies.{is_moving, lie_from_position, is_detected_as_listed, is_lie_at_position};
+ghost use Rattle.ilk_routes.specs.Lies.{is_detected_moving, lie_from_position, is_detected_as_listed, is_lie_at_position};
 ghost use Rattle.ilk_routes.specs.Modes.{has_mode, is_allocating_or_locked};
 ghost use Rattle.ilk_routes.specs.Routes.{can_reserve_sections, can_lock};
 
 use ilk_base::has_number;
 use ilk_plant::{
     Aspect, Lie, Listed, Mode, Plant, Position, Route, RouteState, Row, State, detected_position,
-    is_clear,
+    is_unlocked_and_vacant,
 };
 
 /// Returns whether route `r` has the mode.
@@ -46,23 +46,27 @@ fn any_claimed(s: &State, routes: &Row<u32>) -> bool
 }
 
 fn all_clear(s: &State, sections: &Row<u32>) -> bool
-    ensures { result ≡ list_all (is_clear s.now) sections.now }
+    ensures { result ≡ list_all (is_unlocked_and_vacant s.now) sections.now }
 {
-    sections.as_slice().iter().all(|x| is_clear(s, *x))
+    sections
+        .as_slice()
+        .iter()
+        .all(|x| is_unlocked_and_vacant(s, *x))
 }
 
 fn all_points_clear(s: &State, points: &Row<Listed>) -> bool
-    ensures { result ≡ list_all (is_clear s.now) (map (λ listed. listed.point) points.now) }
+    ensures { result ≡ list_all (is_unlocked_and_vacant s.now)
+        (map (λ listed. listed.point) points.now) }
 {
     points
         .as_slice()
         .iter()
         .map(|listed| listed.point)
-        .all(|x| is_clear(s, x))
+        .all(|x| is_unlocked_and_vacant(s, x))
 }
 
 fn all_claimed_clear(s: &State, route: &Route) -> bool
-    ensures { result ≡ list_all (is_clear s.now) (sections_locked_for route.now) }
+    ensures { result ≡ list_all (is_unlocked_and_vacant s.now) (sections_locked_for route.now) }
 {
     all_clear(s, &route.path)
         && all_clear(s, &route.overlap)
@@ -87,8 +91,8 @@ pub fn last_of(sections: &Row<u32>) -> u32
 }
 
 /// Returns whether a point with this detected position is moving.
-pub fn is_moving(lie: Lie) -> bool
-    ensures { result ≡ is_moving lie }
+pub fn is_detected_moving(lie: Lie) -> bool
+    ensures { result ≡ is_detected_moving lie }
 {
     lie == Lie::Moving
 }
@@ -159,16 +163,16 @@ pub fn all_closed(s: &State, boards: &Row<u32>) -> bool
 }
 
 /// Returns whether board `m` is a protecting board of route `q`.
-pub fn has_protecting_board(plant: &Plant, q: u32, m: u32) -> bool
-    ensures { result ≡ has_protecting_board plant.now q m }
+pub fn is_protecting_board(plant: &Plant, q: u32, m: u32) -> bool
+    ensures { result ≡ is_protecting_board plant.now q m }
 {
     q < plant.routes() && has_number(plant.route(q).protecting_boards.as_slice(), m)
 }
 
 fn is_locked_by(plant: &Plant, s: &State, q: u32, m: u32) -> bool
-    ensures { result ≡ (has_mode s.now q Locked && has_protecting_board plant.now q m) }
+    ensures { result ≡ (has_mode s.now q Locked && is_protecting_board plant.now q m) }
 {
-    has_mode(s, q, Mode::Locked) && has_protecting_board(plant, q, m)
+    has_mode(s, q, Mode::Locked) && is_protecting_board(plant, q, m)
 }
 
 // Returns whether board `m` is a protecting board of some Locked route.
@@ -189,11 +193,11 @@ pub fn can_lock(plant: &Plant, s: &State, route: &Route) -> bool
 }
 
 /// Returns route `r` with its state. Its counts are at most the length of its path.
-pub fn route_with_state<'a>(plant: &'a Plant, s: &State, r: u32) -> (&'a Route, RouteState)
+pub fn route_and_state<'a>(plant: &'a Plant, s: &State, r: u32) -> (&'a Route, RouteState)
     requires shape { HasShape plant.now s.now }
     requires known { r < length plant.now.routes }
     ensures route { slice_get plant.now.routes r ≡ Some result.0.now }
-    ensures of { IsRouteOf plant.now result.0.now }
+    ensures of { IsValidRouteOf plant.now result.0.now }
     ensures state { slice_get s.now.routes r ≡ Some result.1 }
     ensures seen { result.1.seen ≤ length result.0.now.path }
     ensures rel { result.1.rel ≤ length result.0.now.path }

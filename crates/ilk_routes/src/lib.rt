@@ -16,7 +16,7 @@ mod points;
 mod routes;
 
 pub use conditions::{
-    all_closed, has_aspect, has_protecting_board, is_detected_as_listed, last_of, lie_from_position,
+    all_closed, has_aspect, is_detected_as_listed, is_protecting_board, last_of, lie_from_position,
 };
 pub use points::{step_settle, step_throw};
 pub use routes::{

@@ -2,9 +2,9 @@ ghost use Rattle.std.specs.Prelude.{◌≡◌, is_some, unwrap_or};
 ghost use Rattle.ilk_plant.specs.Shape.{HasShape};
 ghost use Rattle.ilk_routes.specs.Routes.{after_allocate, after_cancel, after_finish, after_lock, after_mark, after_release, after_sense};
 
-use crate::changes::{command_route_points, set_locks_beside_path, set_route_locks};
-use crate::conditions::{can_lock, can_reserve_sections, last_of, route_with_state};
-use ilk_plant::{Aspect, Hold, Mode, Plant, RouteState, State, has_lock, occupied};
+use crate::changes::{command_route_points, set_locks_outside_path, set_route_locks};
+use crate::conditions::{can_lock, can_reserve_sections, last_of, route_and_state};
+use ilk_plant::{Aspect, Hold, Mode, Plant, RouteState, State, has_lock_state, occupied};
 
 fn mark(plant: &Plant, s: &mut State, r: u32) -> bool
     requires { HasShape plant.now s.old }
@@ -62,13 +62,13 @@ fn sense(plant: &Plant, s: &mut State, r: u32) -> bool
     if r >= plant.routes() {
         return false;
     }
-    let (route, now) = route_with_state(plant, s, r);
+    let (route, now) = route_and_state(plant, s, r);
     let seen = now.seen as u64;
     if seen >= route.path.len() || (now.mode != Mode::Locked && now.mode != Mode::Occupied) {
         return false;
     }
     let x = *route.path.at(seen);
-    if !occupied(s, x) || !has_lock(s, x, Hold::Locked) {
+    if !occupied(s, x) || !has_lock_state(s, x, Hold::Locked) {
         return false;
     }
     *s.locks.at_mut(x as u64) = Hold::Used;
@@ -89,13 +89,13 @@ fn release(plant: &Plant, s: &mut State, r: u32) -> bool
     if r >= plant.routes() {
         return false;
     }
-    let (route, now) = route_with_state(plant, s, r);
+    let (route, now) = route_and_state(plant, s, r);
     let rel = now.rel as u64;
     if now.mode != Mode::Occupied || rel >= route.path.len() || rel + 2 > now.seen as u64 {
         return false;
     }
     let x = *route.path.at(rel);
-    if occupied(s, x) || !has_lock(s, x, Hold::Used) {
+    if occupied(s, x) || !has_lock_state(s, x, Hold::Used) {
         return false;
     }
     *s.locks.at_mut(x as u64) = Hold::Free;
@@ -111,14 +111,14 @@ fn finish(plant: &Plant, s: &mut State, r: u32) -> bool
     if r >= plant.routes() {
         return false;
     }
-    let (route, now) = route_with_state(plant, s, r);
+    let (route, now) = route_and_state(plant, s, r);
     let length = route.path.len();
     if now.mode != Mode::Occupied || now.seen as u64 != length || now.rel as u64 + 1 != length {
         return false;
     }
     let last = last_of(&route.path);
     *s.locks.at_mut(last as u64) = Hold::Free;
-    set_locks_beside_path(&mut s.locks, route, Hold::Free);
+    set_locks_outside_path(&mut s.locks, route, Hold::Free);
     *s.routes.at_mut(r as u64) = RouteState {
         mode: Mode::Free,
         seen: 0,

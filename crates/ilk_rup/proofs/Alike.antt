@@ -8,18 +8,18 @@ use Rattle.std.proofs.lemmas.Option.{same_Some}
 use Rattle.ilk_base.specs.Option.{◌>>=◌, is_some_and}
 use Rattle.ilk_base.proofs.Options.{bind_some, some-and}
 use Rattle.ilk_base.proofs.Lists.{at-before, at-either, at-past, slice_get-push_cases}
-use Rattle.ilk_cnf.specs.Literal.{Literal, negated_lit, same_lit, has_lit, vars_differ}
+use Rattle.ilk_cnf.specs.Literal.{Literal, negated_lit, same_lit, has_lit, has_distinct_vars}
 use Rattle.ilk_cnf.specs.Formula.{is_clause_over}
 use Rattle.ilk_cnf.proofs.SameLiterals.{same-lit, lit-is}
 use Rattle.ilk_watches.proofs.Forced.{unit-forces}
-use Rattle.ilk_log.specs.Propagation.{is_false, is_falsified, single_unset_lit, unit_lit, after_hint}
+use Rattle.ilk_log.specs.Propagation.{is_false, is_falsified, only_lit_if_unset, unit_lit, after_hint}
 use Rattle.ilk_log.specs.Derived.{hints_end_in_conflict, negated_clause}
 use Rattle.ilk_log.specs.Fresh.{other_lits}
 use Rattle.ilk_log.proofs.Closed.{Within, lone-is}
 use Rattle.ilk_learn.proofs.Derived.{false-from, false-at, has-negated_lit, unit-one}
 use Rattle.ilk_learn.proofs.Members.{kept-at, kept-from}
-use Rattle.ilk_rup.specs.Accepted.{Follows}
-use Rattle.ilk_rup.specs.Alike.{AreEquivalent, HasConsequencesOf, HasFalsifyingHints}
+use Rattle.ilk_rup.specs.Accepted.{FollowsByHints}
+use Rattle.ilk_rup.specs.Alike.{AreEquivalent, ConsequencesHoldIn, HasFalsifyingHints}
 
 pub ends-first : (cs : List (List Literal)) (set next : List Literal) (h : ℕ) (hints : List ℕ) → after_hint cs set h ≡ Some next → hints_end_in_conflict cs next hints ≡ true → hints_end_in_conflict cs set (h ∷ hints) ≡ true
 ends-first cs set next h [] t e = absurd (true≢false (sym e))
@@ -80,7 +80,8 @@ ends-unit ds i d all l at u k =
     let e = k (l ∷ all) (λ m h. or_right (same_lit m l) (has_lit m all) h) (own l all) in
     (suc i ∷ e.0, ends-first ds all (l ∷ all) (suc i) e.0 (rw at (rw u refl)) e.1)
 
-ends-forced : (ds : List (List Literal)) (i : ℕ) (d all : List Literal) (l : Literal) → slice_get ds i ≡ Some d → vars_differ d ≡ true → has_lit l d ≡ true → is_falsified all (other_lits l d) ≡ true → EndsWith ds all l → HasFalsifyingHints ds all
+ends-forced : (ds : List (List Literal)) (i : ℕ) (d all : List Literal) (l : Literal) → slice_get ds i ≡ Some d → has_distinct_vars d ≡ true → has_lit l d ≡ true → is_falsified all (other_lits l d) ≡ true → EndsWith ds all l →
+    HasFalsifyingHints ds all
 ends-forced ds i d all l at differ h o k = elim (cases_Bool (has_lit (negated_lit l) all)) [
   | inl t ↦ ends-at ds i d all at (all-false all d l o t)
   | inr t ↦ elim (cases_Bool (has_lit l all)) [
@@ -117,9 +118,9 @@ behind-own ds i d at = record {
           | inr x ↦ not_from_false (has_lit (negated_lit m) set) x
         ] in
         let one : filter q (l ∷ []) ≡ l ∷ [] = rw t refl in
-        ap (single_unset_lit all) (twice p q d less ∙ ap (filter q) (lone-is set (filter p d) l u) ∙ one) ∙ rw h refl
+        ap (only_lit_if_unset all) (twice p q d less ∙ ap (filter q) (lone-is set (filter p d) l u) ∙ one) ∙ rw h refl
 
-behind-same : (ds : List (List Literal)) (i : ℕ) (d c : List Literal) → slice_get ds i ≡ Some d → vars_differ d ≡ true → Within c d → Within d c → Behind ds c
+behind-same : (ds : List (List Literal)) (i : ℕ) (d c : List Literal) → slice_get ds i ≡ Some d → has_distinct_vars d ≡ true → Within c d → Within d c → Behind ds c
 behind-same ds i d c at differ f g = record {
   ends = λ set h. ends-at ds i d set at (false-from set d (λ m x. false-at set c m h (g m x)));
   forces = λ set all l w u k. (let t = told set all c l w u in
@@ -148,7 +149,7 @@ cleared ds (m ∷ ms) all b k =
     k next (λ x y. v x (w x y)) (and_from (has_lit (negated_lit m) next) (is_falsified next ms) (v (negated_lit m) h) f)))
 
 behind-forced : (ds : List (List Literal)) (r : ℕ) (d : List Literal) (l : Literal) →
-    slice_get ds r ≡ Some d → vars_differ d ≡ true → has_lit l d ≡ true →
+    slice_get ds r ≡ Some d → has_distinct_vars d ≡ true → has_lit l d ≡ true →
     ((m : Literal) → has_lit m (other_lits l d) ≡ true → (i : ℕ) × (slice_get ds i ≡ Some (negated_lit m ∷ []))) →
     Behind ds (l ∷ [])
 behind-forced ds r d l at differ h b = record {
@@ -156,7 +157,7 @@ behind-forced ds r d l at differ h b = record {
   forces = λ set all x w u k. cleared ds (other_lits l d) all b (λ top v o. ends-forced ds r d top l at differ h o (λ next y z. k next (λ m q. y m (v m q)) (ap (λ (q : Literal). has_lit q next) (only l x (told set all (l ∷ []) x w u).0) ∙ z)));
 }
 
-covers-by : (ds cs : List (List Literal)) → ((more : List (List Literal)) (i : ℕ) (d : List Literal) → slice_get cs i ≡ Some d → Behind (ds ++ more) d) → HasConsequencesOf ds cs
+covers-by : (ds cs : List (List Literal)) → ((more : List (List Literal)) (i : ℕ) (d : List Literal) → slice_get cs i ≡ Some d → Behind (ds ++ more) d) → ConsequencesHoldIn ds cs
 covers-by ds cs f = λ more set e. covered (ds ++ more) (cs ++ more) (λ i d at. elim (at-either cs more i d at) [
   | inl a ↦ f more a.0 d a.1
   | inr a ↦ behind-own (ds ++ more) (length ds + a.0) d (at-past ds more a.0 d a.1)
@@ -178,7 +179,7 @@ alike-back cs ds k = record { there = k.back; back = k.there }
 pub alike-more : (cs ds xs : List (List Literal)) → AreEquivalent cs ds → AreEquivalent (cs ++ xs) (ds ++ xs)
 alike-more cs ds xs k = record { there = covers-more ds cs k.there; back = covers-more cs ds k.back }
   where
-    covers-more : (ds cs : List (List Literal)) → HasConsequencesOf ds cs → HasConsequencesOf (ds ++ xs) (cs ++ xs)
+    covers-more : (ds cs : List (List Literal)) → ConsequencesHoldIn ds cs → ConsequencesHoldIn (ds ++ xs) (cs ++ xs)
     covers-more ds cs c = λ more set e.
         (let P : List (List Literal) → Type 0 = λ ys. HasFalsifyingHints ys set in
         subst P (sym (append_assoc ds xs more)) (c (xs ++ more) set (subst P (append_assoc cs xs more) e)))
@@ -193,7 +194,7 @@ alike-spare cs d f = record {
 }
 
 pub alike-forced : (cs : List (List Literal)) (r : ℕ) (d : List Literal) (l : Literal) →
-    slice_get cs r ≡ Some d → vars_differ d ≡ true → has_lit l d ≡ true →
+    slice_get cs r ≡ Some d → has_distinct_vars d ≡ true → has_lit l d ≡ true →
     ((m : Literal) → has_lit m (other_lits l d) ≡ true → (i : ℕ) × (slice_get cs i ≡ Some (negated_lit m ∷ []))) →
     AreEquivalent (cs ++ (l ∷ []) ∷ []) cs
 alike-forced cs r d l at differ h b = alike-spare cs (l ∷ []) (λ more. behind-forced (cs ++ more) r d l (at-before cs more r d at) differ h (λ m x. (let u = b m x in (u.0, at-before cs more u.0 (negated_lit m ∷ []) u.1))))
@@ -201,36 +202,36 @@ alike-forced cs r d l at differ h b = alike-spare cs (l ∷ []) (λ more. behind
 pub alike-known : (cs : List (List Literal)) (i : ℕ) (l : Literal) (c : List Literal) → slice_get cs i ≡ Some (l ∷ []) → has_lit l c ≡ true → AreEquivalent (cs ++ c ∷ []) cs
 alike-known cs i l c at h = alike-spare cs c (λ more. behind-alone (cs ++ more) i l c (at-before cs more i (l ∷ []) at) h)
 
-pub alike-same : (cs : List (List Literal)) (c d : List Literal) → vars_differ c ≡ true → vars_differ d ≡ true → Within c d → Within d c → AreEquivalent (cs ++ c ∷ []) (cs ++ d ∷ [])
+pub alike-same : (cs : List (List Literal)) (c d : List Literal) → has_distinct_vars c ≡ true → has_distinct_vars d ≡ true → Within c d → Within d c → AreEquivalent (cs ++ c ∷ []) (cs ++ d ∷ [])
 alike-same cs c d v w f g = record { there = one c d w f g; back = one d c v g f }
   where
-    one : (c d : List Literal) → vars_differ d ≡ true → Within c d → Within d c → HasConsequencesOf (cs ++ d ∷ []) (cs ++ c ∷ [])
+    one : (c d : List Literal) → has_distinct_vars d ≡ true → Within c d → Within d c → ConsequencesHoldIn (cs ++ d ∷ []) (cs ++ c ∷ [])
     one c d w f g = covers-by (cs ++ d ∷ []) (cs ++ c ∷ []) (λ more i x at. elim (slice_get-push_cases cs c x i at) [
       | inl b ↦ behind-own ((cs ++ d ∷ []) ++ more) i x (at-before (cs ++ d ∷ []) more i x (at-before cs (d ∷ []) i x b))
       | inr b ↦ (let P : List Literal → Type 0 = λ y. Behind ((cs ++ d ∷ []) ++ more) y in
           subst P b.1 (behind-same ((cs ++ d ∷ []) ++ more) (length cs) d c (at-before (cs ++ d ∷ []) more (length cs) d (last-at cs d)) w f g))
     ])
 
-pub follows-alike : (n : ℕ) (cs ds : List (List Literal)) (c : List Literal) → AreEquivalent cs ds → Follows n cs c → Follows n ds c
+pub follows-alike : (n : ℕ) (cs ds : List (List Literal)) (c : List Literal) → AreEquivalent cs ds → FollowsByHints n cs c → FollowsByHints n ds c
 follows-alike n cs ds c k h =
-    let p = and_parts (is_clause_over n c && vars_differ c) (hints_end_in_conflict cs (negated_clause c) h.0) h.1 in
+    let p = and_parts (is_clause_over n c && has_distinct_vars c) (hints_end_in_conflict cs (negated_clause c) h.0) h.1 in
     let P : List (List Literal) → Type 0 = λ ys. HasFalsifyingHints ys (negated_clause c) in
     let e = subst P (append-nil ds) (k.there [] (negated_clause c) (subst P (sym (append-nil cs)) (h.0, p.1))) in
-    (e.0, and_from (is_clause_over n c && vars_differ c) (hints_end_in_conflict ds (negated_clause c) e.0) p.0 e.1)
+    (e.0, and_from (is_clause_over n c && has_distinct_vars c) (hints_end_in_conflict ds (negated_clause c) e.0) p.0 e.1)
 
 ends-any : (cs more : List (List Literal)) (set : List Literal) → HasFalsifyingHints cs [] → HasFalsifyingHints (cs ++ more) set
 ends-any cs more set e = covered (cs ++ more) cs (λ i x at. behind-own (cs ++ more) i x (at-before cs more i x at)) e.0 [] set (λ m x. absurd (true≢false (sym x))) e.1
 
-pub follows-any : (n : ℕ) (cs : List (List Literal)) (c : List Literal) → is_clause_over n c ≡ true → vars_differ c ≡ true → Follows n cs [] → Follows n cs c
+pub follows-any : (n : ℕ) (cs : List (List Literal)) (c : List Literal) → is_clause_over n c ≡ true → has_distinct_vars c ≡ true → FollowsByHints n cs [] → FollowsByHints n cs c
 follows-any n cs c w d h =
     let P : List (List Literal) → Type 0 = λ ys. HasFalsifyingHints ys (negated_clause c) in
     let e = subst P (append-nil cs) (ends-any cs [] (negated_clause c) h) in
-    (e.0, and_from (is_clause_over n c && vars_differ c) (hints_end_in_conflict cs (negated_clause c) e.0) (and_from (is_clause_over n c) (vars_differ c) w d) e.1)
+    (e.0, and_from (is_clause_over n c && has_distinct_vars c) (hints_end_in_conflict cs (negated_clause c) e.0) (and_from (is_clause_over n c) (has_distinct_vars c) w d) e.1)
 
-pub alike-ended : (n : ℕ) (cs : List (List Literal)) (c : List Literal) → Follows n cs [] → AreEquivalent (cs ++ c ∷ []) cs
+pub alike-ended : (n : ℕ) (cs : List (List Literal)) (c : List Literal) → FollowsByHints n cs [] → AreEquivalent (cs ++ c ∷ []) cs
 alike-ended n cs c h = alike-spare cs c (λ more. record { ends = λ set f. ends-any cs more set h; forces = λ set all l w u k. ends-any cs more all h })
 
-pub follows-known : (n : ℕ) (cs : List (List Literal)) (i : ℕ) (l : Literal) (c : List Literal) → slice_get cs i ≡ Some (l ∷ []) → has_lit l c ≡ true → is_clause_over n c ≡ true → vars_differ c ≡ true → Follows n cs c
+pub follows-known : (n : ℕ) (cs : List (List Literal)) (i : ℕ) (l : Literal) (c : List Literal) → slice_get cs i ≡ Some (l ∷ []) → has_lit l c ≡ true → is_clause_over n c ≡ true → has_distinct_vars c ≡ true → FollowsByHints n cs c
 follows-known n cs i l c at h w d =
     let e = ends-at cs i (l ∷ []) (negated_clause c) at (and_from (has_lit (negated_lit l) (negated_clause c)) true (has-negated_lit c l h) refl) in
-    (e.0, and_from (is_clause_over n c && vars_differ c) (hints_end_in_conflict cs (negated_clause c) e.0) (and_from (is_clause_over n c) (vars_differ c) w d) e.1)
+    (e.0, and_from (is_clause_over n c && has_distinct_vars c) (hints_end_in_conflict cs (negated_clause c) e.0) (and_from (is_clause_over n c) (has_distinct_vars c) w d) e.1)

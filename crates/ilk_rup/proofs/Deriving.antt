@@ -9,12 +9,12 @@ use Rattle.std.proofs.lemmas.Option.{slice_get_within}
 use Rattle.std.proofs.Math.Seq.{take-length}
 use Rattle.ilk_base.proofs.Lists.{at-past, item_at}
 use Rattle.ilk_base.proofs.Ranges.{below_or_past}
-use Rattle.ilk_cnf.specs.Literal.{Literal, negated_lit, has_lit, has_var, vars_differ}
+use Rattle.ilk_cnf.specs.Literal.{Literal, negated_lit, has_lit, has_var, has_distinct_vars}
 use Rattle.ilk_cnf.specs.Formula.{is_clause_over}
 use Rattle.ilk_cnf.proofs.Gates.{negated_lit-negated_lit}
 use Rattle.ilk_arena.specs.Arena.{ArenaLists, literals_of}
 use Rattle.ilk_watches.specs.Chained.{IsClauses}
-use Rattle.ilk_watches.specs.Reasons.{clause_at, is_conflict}
+use Rattle.ilk_watches.specs.Reasons.{nth_clause_or_empty, is_conflict}
 use Rattle.ilk_log.specs.Derived.{hints_end_in_conflict, negated_clause}
 use Rattle.ilk_log.specs.Propagation.{is_saturated, is_falsified}
 use Rattle.ilk_log.proofs.Closed.{no-false-end}
@@ -23,7 +23,7 @@ use Rattle.ilk_trail.specs.Trail.{TrailList, level_of, entries_up_to}
 use Rattle.ilk_trail.specs.Laws.{has_rising_levels, is_set, lits_of}
 use Rattle.ilk_trail.proofs.Entries.{entry-lit}
 use Rattle.ilk_trail.proofs.Levels.{entries_up_to-all}
-use Rattle.ilk_watches.specs.Propagated.{IsPropagated}
+use Rattle.ilk_watches.specs.Propagated.{ExtendsByPropagation}
 use Rattle.ilk_watches.specs.Watched.{IsQueue}
 use Rattle.ilk_watches.proofs.Covers.{covered-more}
 use Rattle.ilk_watches.proofs.Entries.{at-kept, at-old, entry-of-lit, length-kept, lit-kept, one-entry}
@@ -31,11 +31,11 @@ use Rattle.ilk_watches.proofs.Looks.{satisfied-kept}
 use Rattle.ilk_watches.proofs.Queues.{all-covered}
 use Rattle.ilk_learn.proofs.Derived.{false-at, negated_lit-of}
 use Rattle.ilk_learn.proofs.Members.{same-var, var-of}
-use Rattle.ilk_rup.specs.Accepted.{Follows}
-use Rattle.ilk_rup.specs.Needs.{Explains, IsAssumed, IsClauseOf}
+use Rattle.ilk_rup.specs.Accepted.{FollowsByHints}
+use Rattle.ilk_rup.specs.Needs.{IsFalseBySetAndEntries, AssumesNegations, IsClauseOfLiterals}
 use Rattle.ilk_rup.proofs.Signs.{var-either}
 
-pub queue-assumed : (a : ArenaLists) (es fs : List Entry) (h s : ℕ) (set : List Literal) → IsQueue a es h s → IsClauses a → s ≡ length a.clauses → h ≡ length es → IsAssumed set es fs → IsQueue a fs h s
+pub queue-assumed : (a : ArenaLists) (es fs : List Entry) (h s : ℕ) (set : List Literal) → IsQueue a es h s → IsClauses a → s ≡ length a.clauses → h ≡ length es → AssumesNegations set es fs → IsQueue a fs h s
 queue-assumed a es fs h s set k cl all here p =
     let v = all-covered a es h s k cl all in
     let more = length-kept es fs p.kept in
@@ -47,9 +47,9 @@ queue-assumed a es fs h s set k cl all here p =
       short = λ c known le n. satisfied-kept es fs (literals_of a c) p.kept (k.short c known le n);
     }
 
-assumed-false : (set : List Literal) (es fs : List Entry) (m : Literal) → vars_differ set ≡ true →
-    vars_differ (lits_of fs) ≡ true →
-    ((l : Literal) → has_lit l set ≡ true → has_lit l (lits_of es) ≡ false) → IsAssumed set es fs →
+assumed-false : (set : List Literal) (es fs : List Entry) (m : Literal) → has_distinct_vars set ≡ true →
+    has_distinct_vars (lits_of fs) ≡ true →
+    ((l : Literal) → has_lit l set ≡ true → has_lit l (lits_of es) ≡ false) → AssumesNegations set es fs →
     has_lit m set ≡ true → has_lit (negated_lit m) (lits_of fs) ≡ true
 assumed-false set es fs m differ once untrue p h =
     let x = var-of (lits_of fs) m.var (p.covered m h) in
@@ -68,26 +68,26 @@ assumed-false set es fs m differ once untrue p h =
 pub none-follows : (n : ℕ) (cs : List (List Literal)) (es : List Entry) (set : List Literal) →
     is_saturated cs (lits_of es) ≡ true →
     ((m : Literal) → has_lit m set ≡ true → has_lit (negated_lit m) (lits_of es) ≡ true) → (c : List Literal) →
-    IsClauseOf n set c → Follows n cs c → ⊥
+    IsClauseOfLiterals n set c → FollowsByHints n cs c → ⊥
 none-follows n cs es set closed false_all c of follows =
     let none = no-false-end cs (negated_clause c) (lits_of es) follows.0 closed (λ m h. (let o = negated_lit-of c m h in ap (λ (l : Literal). has_lit l (lits_of es)) o.2 ∙ false_all o.0 (of.fewer o.0 o.1))) in
-    true≢false (sym (and_parts (is_clause_over n c && vars_differ c) (hints_end_in_conflict cs (negated_clause c) follows.0) follows.1).1 ∙ none)
+    true≢false (sym (and_parts (is_clause_over n c && has_distinct_vars c) (hints_end_in_conflict cs (negated_clause c) follows.0) follows.1).1 ∙ none)
 
 pub assumed-none : (n : ℕ) (cs : List (List Literal)) (es fs gs : List Entry) (set : List Literal) →
-    is_saturated cs (lits_of gs) ≡ true → vars_differ set ≡ true → vars_differ (lits_of fs) ≡ true →
+    is_saturated cs (lits_of gs) ≡ true → has_distinct_vars set ≡ true → has_distinct_vars (lits_of fs) ≡ true →
     take (length fs) gs ≡ fs → ((l : Literal) → has_lit l set ≡ true → has_lit l (lits_of es) ≡ false) →
-    IsAssumed set es fs → (c : List Literal) → IsClauseOf n set c → Follows n cs c → ⊥
+    AssumesNegations set es fs → (c : List Literal) → IsClauseOfLiterals n set c → FollowsByHints n cs c → ⊥
 assumed-none n cs es fs gs set closed differ once kept untrue p = none-follows n cs gs set closed (λ m h. lit-kept fs gs (negated_lit m) kept (assumed-false set es fs m differ once untrue p h))
 
 pub kept-join : (es fs gs : List Entry) → take (length es) fs ≡ es → take (length fs) gs ≡ fs → take (length es) gs ≡ es
 kept-join es fs gs a b = ap (take (length es)) (sym (take-append-drop (length fs) gs) ∙ ap (λ (xs : List Entry). xs ++ drop (length fs) gs) b) ∙ take-append-le (length es) fs (drop (length fs) gs) (length-kept es fs a) ∙ a
 
 pub derive-explains : (cs : List (List Literal)) (es fs gs : List Entry) (set : List Literal) (c : ℕ) →
-    is_conflict cs (lits_of gs) c ≡ true → vars_differ (lits_of gs) ≡ true →
-    ((l : Literal) → has_lit l set ≡ true → has_lit l (lits_of es) ≡ false) → IsAssumed set es fs →
-    IsPropagated cs fs gs → Explains cs gs set c (length fs) (length gs) (length es)
+    is_conflict cs (lits_of gs) c ≡ true → has_distinct_vars (lits_of gs) ≡ true →
+    ((l : Literal) → has_lit l set ≡ true → has_lit l (lits_of es) ≡ false) → AssumesNegations set es fs →
+    ExtendsByPropagation cs fs gs → IsFalseBySetAndEntries cs gs set c (length fs) (length gs) (length es)
 derive-explains cs es fs gs set c h once untrue p q =
-    let t = and_parts (nat_lt c (length cs)) (is_falsified (lits_of gs) (clause_at cs c)) h in
+    let t = and_parts (nat_lt c (length cs)) (is_falsified (lits_of gs) (nth_clause_or_empty cs c)) h in
     let ef = length-kept es fs p.kept in
     let fg = length-kept fs gs q.kept in
     record {
@@ -95,7 +95,7 @@ derive-explains cs es fs gs set c h once untrue p q =
       known_in = ef;
       from_in = fg;
       top_in = omega arith;
-      denied = λ m x. inr (ap (λ (xs : List Entry). has_lit (negated_lit m) (lits_of xs)) (take-length gs) ∙ false-at (lits_of gs) (clause_at cs c) m t.1 x);
+      denied = λ m x. inr (ap (λ (xs : List Entry). has_lit (negated_lit m) (lits_of xs)) (take-length gs) ∙ false-at (lits_of gs) (nth_clause_or_empty cs c) m t.1 x);
       walk = λ i e le lt at. (
         q.reasons i e le at,
         elim (cases_Bool (has_var e.lit.var set)) [
@@ -131,7 +131,7 @@ back-level es gs p climb level f =
     ap (entries_up_to 0) (sym whole) ∙ filter-append (λ (e : Entry). nat_le e.level 0) es (drop (length es) gs) ∙ ap (λ (xs : List Entry). entries_up_to 0 es ++ xs) rest ∙ append-nil (entries_up_to 0 es)
     ∙ entries_up_to-all 0 0 es climb (omega (arith, level))
 
-above-level : (cs : List (List Literal)) (es fs gs : List Entry) (set : List Literal) → length es < length fs → IsAssumed set es fs → IsPropagated cs fs gs → (i : ℕ) (e : Entry) → length es ≤ i → slice_get gs i ≡ Some e → 0 < e.level
+above-level : (cs : List (List Literal)) (es fs gs : List Entry) (set : List Literal) → length es < length fs → AssumesNegations set es fs → ExtendsByPropagation cs fs gs → (i : ℕ) (e : Entry) → length es ≤ i → slice_get gs i ≡ Some e → 0 < e.level
 above-level cs es fs gs set more p q i e le at =
     elim (below_or_past i (length fs)) [
       | inl b ↦ (let v = p.levels i e le (at-old fs gs i e q.kept b at) in omega (arith, v.1))
@@ -141,10 +141,10 @@ above-level cs es fs gs set more p q i e le at =
           omega (arith, v.0, v.1, w))
     ]
 
-pub back-known : (cs : List (List Literal)) (es fs gs : List Entry) (set : List Literal) → has_rising_levels 0 es ≡ true → level_of es ≡ 0 → length es < length fs → IsAssumed set es fs → IsPropagated cs fs gs → entries_up_to 0 gs ≡ es
+pub back-known : (cs : List (List Literal)) (es fs gs : List Entry) (set : List Literal) → has_rising_levels 0 es ≡ true → level_of es ≡ 0 → length es < length fs → AssumesNegations set es fs → ExtendsByPropagation cs fs gs → entries_up_to 0 gs ≡ es
 back-known cs es fs gs set climb level more p q = back-level es gs (kept-join es fs gs p.kept q.kept) climb level (above-level cs es fs gs set more p q)
 
-pub some-unset : (set : List Literal) (es fs : List Entry) → length es < length fs → vars_differ (lits_of fs) ≡ true → IsAssumed set es fs → (l : Literal) × (has_lit l set ≡ true) × (is_set es l.var ≡ false)
+pub some-unset : (set : List Literal) (es fs : List Entry) → length es < length fs → has_distinct_vars (lits_of fs) ≡ true → AssumesNegations set es fs → (l : Literal) × (has_lit l set ≡ true) × (is_set es l.var ≡ false)
 some-unset set es fs more once p =
     let x = item_at fs (length es) more in
     let v = p.levels (length es) x.0 (omega arith) x.1 in (

@@ -3,7 +3,7 @@ use Rattle.std.proofs.Common.{◌≡◌, ℕ, zero, suc, inl, inr, ◌⊎◌, tr
 use Rattle.std.specs.Prelude.{slice_get}
 use Rattle.std.proofs.lemmas.Bool.{and_parts, or_cases, or_left, or_right, cases_Bool, not-true, not_from_false, true≢false, eqb-true, or_from}
 use Rattle.std.proofs.lemmas.Bool.Decides.{nat_tests}
-use Rattle.ilk_cnf.specs.Literal.{Literal, negated_lit, same_lit, has_lit, has_var, vars_differ}
+use Rattle.ilk_cnf.specs.Literal.{Literal, negated_lit, same_lit, has_lit, has_var, has_distinct_vars}
 use Rattle.ilk_cnf.proofs.Gates.{negated_lit-negated_lit}
 use Rattle.ilk_cnf.proofs.SameLiterals.{same-lit, lit-is, has-var}
 use Rattle.ilk_log.specs.Propagation.{is_falsified, unit_lit}
@@ -11,11 +11,11 @@ use Rattle.ilk_log.specs.Derived.{hints_end_in_conflict, negated_clause}
 use Rattle.ilk_log.specs.Fresh.{other_lits}
 use Rattle.ilk_learn.proofs.Derived.{false-from, false-at, unit-one, has-negated_lit, negated_lit-of}
 use Rattle.ilk_learn.proofs.Members.{kept-at, no-var, same-var, var-of}
-use Rattle.ilk_rup.specs.Needs.{IsNeeded, FalsifiesWithNeeded, unit_hints}
+use Rattle.ilk_rup.specs.Needs.{AddsNeededOfClause, FalsifiesWithNeeded, unit_hints_of_needed}
 use Rattle.ilk_rup.proofs.Alike.{ends-first}
 use Rattle.ilk_rup.proofs.Signs.{var-either}
 
-needed-is : (all new : List Literal) (m : Literal) → vars_differ all ≡ true → ((x : Literal) → has_lit x new ≡ true → has_lit x all ≡ true) → has_lit (negated_lit m) all ≡ true → has_var m.var new ≡ true → has_lit (negated_lit m) new ≡ true
+needed-is : (all new : List Literal) (m : Literal) → has_distinct_vars all ≡ true → ((x : Literal) → has_lit x new ≡ true → has_lit x all ≡ true) → has_lit (negated_lit m) all ≡ true → has_var m.var new ≡ true → has_lit (negated_lit m) new ≡ true
 needed-is all new m d w h v =
     let x = var-of new m.var v in
     let e : x.0 ≡ negated_lit m = same-var all x.0 (negated_lit m) d (w x.0 x.2) h x.1 in
@@ -25,9 +25,9 @@ pub not-in : (m : Literal) (xs : List Literal) → (has_lit m xs ≡ true → �
 not-in m xs f = elim (cases_Bool (has_lit m xs)) [ inl t ↦ absurd (f t) | inr t ↦ t ]
 
 pub shows-start : (cs : List (List Literal)) (all set d needed : List Literal) (i : ℕ) →
-    slice_get cs i ≡ Some d → vars_differ all ≡ true →
+    slice_get cs i ≡ Some d → has_distinct_vars all ≡ true →
     ((m : Literal) → has_lit m d ≡ true → (has_lit m set ≡ true) ⊎ (has_lit (negated_lit m) all ≡ true)) →
-    IsNeeded set d [] needed → FalsifiesWithNeeded cs all all set needed (suc i ∷ [])
+    AddsNeededOfClause set d [] needed → FalsifiesWithNeeded cs all all set needed (suc i ∷ [])
 shows-start cs all set d needed i at differ f n = record {
   apart = λ x h. elim (n.made x h) [ inl y ↦ absurd (true≢false (sym y)) | inr y ↦ y.1 ];
   within = within;
@@ -69,10 +69,10 @@ shows-skip cs all before more set needed l hints n u s = record {
 pub shows-step :
     (cs : List (List Literal)) (all before more set needed next d : List Literal) (l : Literal) (r : ℕ)
     (hints : List ℕ) →
-    Next before more l → has_lit l needed ≡ true → slice_get cs r ≡ Some d → vars_differ d ≡ true →
+    Next before more l → has_lit l needed ≡ true → slice_get cs r ≡ Some d → has_distinct_vars d ≡ true →
     has_lit l d ≡ true → is_falsified before (other_lits l d) ≡ true → has_var l.var set ≡ false →
-    vars_differ all ≡ true → ((m : Literal) → has_lit m before ≡ true → has_lit m all ≡ true) →
-    IsNeeded set d needed next → FalsifiesWithNeeded cs all more set needed hints →
+    has_distinct_vars all ≡ true → ((m : Literal) → has_lit m before ≡ true → has_lit m all ≡ true) →
+    AddsNeededOfClause set d needed next → FalsifiesWithNeeded cs all more set needed hints →
     FalsifiesWithNeeded cs all before set next (suc r ∷ hints)
 shows-step cs all before more set needed next d l r hints n u at differ own falsified away once inside k s = record {
   apart = λ x h. elim (k.made x h) [ inl y ↦ s.apart x y | inr y ↦ y.1 ];
@@ -135,17 +135,17 @@ pub record Taken (now ls : List Literal) (units : List ℕ) (next : List Literal
   pub only : (m : Literal) → has_lit m next ≡ true → (has_lit m now ≡ true) ⊎ ((has_lit m ls ≡ true) × (k : ℕ) × (get_or units m.var 0 ≡ suc k))
 
 pub take-units : (cs : List (List Literal)) (units hints : List ℕ) (now ls : List Literal) →
-    vars_differ ls ≡ true →
+    has_distinct_vars ls ≡ true →
     ((x : Literal) (k : ℕ) → has_lit x ls ≡ true → get_or units x.var 0 ≡ suc k →
     (slice_get cs k ≡ Some (x ∷ [])) × (has_var x.var now ≡ false)) →
     ((next : List Literal) → Taken now ls units next → hints_end_in_conflict cs next hints ≡ true) →
-    hints_end_in_conflict cs now (unit_hints units ls ++ hints) ≡ true
+    hints_end_in_conflict cs now (unit_hints_of_needed units ls ++ hints) ≡ true
 take-units cs units hints now [] d f e = e now (record { kept = λ m h. h; set = λ x k h q. absurd (true≢false (sym h)); only = λ m h. inl h })
 take-units cs units hints now (l ∷ ls) d f e =
-    let p = and_parts (not (has_var l.var ls)) (vars_differ ls) d in
+    let p = and_parts (not (has_var l.var ls)) (has_distinct_vars ls) d in
     let none = not-true (has_var l.var ls) p.0 in
     let P : List ℕ → Type 0 = λ hs. hints_end_in_conflict cs now (hs ++ hints) ≡ true in
-    by-unit (get_or units l.var 0) (λ z. (let same : unit_hints units ls ≡ unit_hints units (l ∷ ls) = rw z refl in
+    by-unit (get_or units l.var 0) (λ z. (let same : unit_hints_of_needed units ls ≡ unit_hints_of_needed units (l ∷ ls) = rw z refl in
     subst P same (take-units cs units hints now ls p.1 (λ x k h q. f x k (later ls l x h) q) (λ next t. e next (record {
       kept = t.kept;
       set = λ x k h q. elim (or_cases (same_lit x l) (has_lit x ls) h) [
@@ -160,9 +160,9 @@ take-units cs units hints now (l ∷ ls) d f e =
       | inr t ↦ true≢false (sym t)
     ])) in
     let w : eqb (suc u) 0 ≡ false = grind (arith, nat_tests) in
-    let same : suc u ∷ unit_hints units ls ≡ unit_hints units (l ∷ ls) = rw z (rw w refl) in
+    let same : suc u ∷ unit_hints_of_needed units ls ≡ unit_hints_of_needed units (l ∷ ls) = rw z (rw w refl) in
     let at = here.0 in
-    subst P same (ends-first cs now (l ∷ now) (suc u) (unit_hints units ls ++ hints) (rw at (rw one refl)) (take-units cs units hints (l ∷ now) ls p.1 (λ x k h q. (let g = f x k (later ls l x h) q in
+    subst P same (ends-first cs now (l ∷ now) (suc u) (unit_hints_of_needed units ls ++ hints) (rw at (rw one refl)) (take-units cs units hints (l ∷ now) ls p.1 (λ x k h q. (let g = f x k (later ls l x h) q in
     (g.0, or_from (eqb l.var x.var) (has_var x.var now) (var-apart ls l x none h) g.1))) (λ next t. e next (record {
       kept = λ m h. t.kept m (or_right (same_lit m l) (has_lit m now) h);
       set = λ x k h q. elim (or_cases (same_lit x l) (has_lit x ls) h) [
@@ -181,14 +181,14 @@ take-units cs units hints now (l ∷ ls) d f e =
 pub shows-end :
     (cs : List (List Literal)) (all before set needed : List Literal) (units hints : List ℕ)
     (c : List Literal) →
-    FalsifiesWithNeeded cs all before set needed hints → vars_differ needed ≡ true →
+    FalsifiesWithNeeded cs all before set needed hints → has_distinct_vars needed ≡ true →
     ((x : Literal) (k : ℕ) → has_lit x needed ≡ true → get_or units x.var 0 ≡ suc k →
     (slice_get cs k ≡ Some (x ∷ [])) × (has_lit x set ≡ false) × (has_lit x before ≡ true)) →
     ((x : Literal) → has_lit x needed ≡ true → has_lit x before ≡ true →
     (k : ℕ) × (get_or units x.var 0 ≡ suc k)) →
     ((m : Literal) → has_lit m c ≡ true → has_lit m set ≡ true) →
     ((m : Literal) → has_lit m set ≡ true → has_lit m c ≡ true) →
-    hints_end_in_conflict cs (negated_clause c) (unit_hints units needed ++ hints) ≡ true
+    hints_end_in_conflict cs (negated_clause c) (unit_hints_of_needed units needed ++ hints) ≡ true
 shows-end cs all before set needed units hints c s d f g fewer more =
     take-units cs units hints (negated_clause c) needed d (λ x k h e. (let q = f x k h e in (q.0, free x h q.1))) (λ next t. s.ends next (λ m h. elim (t.only m h) [
       | inl y ↦ (let o = negated_lit-of c m y in inr (ap (λ (z : Literal). has_lit z set) (ap negated_lit o.2 ∙ negated_lit-negated_lit o.0) ∙ fewer o.0 o.1))

@@ -15,35 +15,35 @@ use Rattle.ilk_cnf.specs.Literal.{Literal, has_lit, negated_lit}
 use Rattle.ilk_cnf.specs.Formula.{Formula}
 use Rattle.ilk_arena.specs.Arena.{ArenaLists}
 use Rattle.ilk_watches.specs.Chained.{IsClauses, IsClauseAdded, SameClauses}
-use Rattle.ilk_watches.specs.Reasons.{clause_at, is_conflict, is_reason}
+use Rattle.ilk_watches.specs.Reasons.{nth_clause_or_empty, is_conflict, is_reason}
 use Rattle.ilk_log.specs.declared.step.Step.{Step}
 use Rattle.ilk_log.specs.Derived.{is_derived}
 use Rattle.ilk_trail.specs.declared.entry.Entry.{Entry}
 use Rattle.ilk_trail.specs.Trail.{TrailList}
 use Rattle.ilk_trail.specs.Laws.{IsTrail, lits_of}
 use Rattle.ilk_watches.specs.declared.queue.Propagator.{Propagator}
-use Rattle.ilk_watches.specs.Propagated.{IsPropagated}
+use Rattle.ilk_watches.specs.Propagated.{ExtendsByPropagation}
 use Rattle.ilk_watches.specs.Watched.{IsQueue}
 use Rattle.ilk_watches.proofs.Added.{queue-with_clause_added}
 use Rattle.ilk_watches.proofs.Entries.{at-kept, at-old, length-kept}
 use Rattle.ilk_rup.specs.declared.base.Base.{Base}
 use Rattle.ilk_rup.specs.Alike.{AreEquivalent}
 use Rattle.ilk_rup.specs.LitSet.{LitSetList}
-use Rattle.ilk_rup.specs.Needs.{Explains, IsForced, AreUnitHints}
-use Rattle.ilk_rup.specs.Standing.{IsBaseInvariant, KeepsConsequences, IsLogged, HasUnitsAdded, IsBeforeClosure, IsBetweenItems}
+use Rattle.ilk_rup.specs.Needs.{IsFalseBySetAndEntries, IsForced, AreUnitHintsByVar}
+use Rattle.ilk_rup.specs.Standing.{IsBaseInvariant, KeepsConsequences, IsLogged, HasOnlyUnitClausesAdded, IsBeforeClosure, IsBetweenItems}
 use Rattle.ilk_rup.proofs.Keeping.{forced-more, known-more, logged-more}
 
 take-kept : (es fs : List Entry) (i : ℕ) → take (length es) fs ≡ es → i ≤ length es → take i fs ≡ take i es
 take-kept es fs i p le = ap (take i) (sym (take-append-drop (length es) fs) ∙ ap (λ (xs : List Entry). xs ++ drop (length es) fs) p) ∙ take-append-le i es (drop (length es) fs) le
 
-pub forced-propagated : (cs : List (List Literal)) (es fs : List Entry) (i : ℕ) → IsPropagated cs es fs → IsForced cs es i → IsForced cs fs i
+pub forced-propagated : (cs : List (List Literal)) (es fs : List Entry) (i : ℕ) → ExtendsByPropagation cs es fs → IsForced cs es i → IsForced cs fs i
 forced-propagated cs es fs i p h = λ e at. elim (below_or_past i (length es)) [
   | inl b ↦ (let P : List Entry → Type 0 = λ xs. IsSomeAnd e.reason (λ c. is_reason cs (lits_of xs) e.lit c ≡ true) in
       subst P (sym (take-kept es fs i p.kept (omega (arith, b)))) (h e (at-old es fs i e p.kept b at)))
   | inr b ↦ p.reasons i e b at
 ]
 
-pub known-propagated : (units : List ℕ) (cs : List (List Literal)) (es fs : List Entry) (n k : ℕ) → take (length es) fs ≡ es → AreUnitHints units cs es n k → AreUnitHints units cs fs n k
+pub known-propagated : (units : List ℕ) (cs : List (List Literal)) (es fs : List Entry) (n k : ℕ) → take (length es) fs ≡ es → AreUnitHintsByVar units cs es n k → AreUnitHintsByVar units cs fs n k
 known-propagated units cs es fs n k p h = record {
   sized = h.sized;
   within = (let m = length-kept es fs p in omega (arith, m, h.within));
@@ -55,12 +55,12 @@ pub held-propagated :
     (f : Formula) (a b : ArenaLists) (t u : TrailList) (q r : Propagator) (units : List ℕ) (named : ℕ)
     (log : List Step) →
     IsBaseInvariant f a t q units named log → SameClauses a b → u ≡ record t { entries = u.entries } →
-    IsPropagated a.clauses t.entries u.entries → IsQueue b u.entries r.head r.settled →
+    ExtendsByPropagation a.clauses t.entries u.entries → IsQueue b u.entries r.head r.settled →
     IsBaseInvariant f b u r units named log
 held-propagated f a b t u q r units named log h same is p queue =
     let cs = sym same.clauses in
     let F : List (List Literal) → Type 0 = λ xs. (i : ℕ) → IsForced xs u.entries i in
-    let K : List (List Literal) → Type 0 = λ xs. AreUnitHints units xs u.entries f.vars named in
+    let K : List (List Literal) → Type 0 = λ xs. AreUnitHintsByVar units xs u.entries f.vars named in
     let L : List (List Literal) → Type 0 = λ xs. IsLogged f xs log in
     record {
       vars = same.vars ∙ h.vars;
@@ -74,7 +74,7 @@ held-propagated f a b t u q r units named log h same is p queue =
 
 pub loose-propagated : (k : Base) (b : ArenaLists) (u : TrailList) (r : Propagator) → IsBeforeClosure k →
     SameClauses k.clauses b → u ≡ record k.trail { entries = u.entries } →
-    IsPropagated k.clauses.clauses k.trail.entries u.entries → IsQueue b u.entries r.head r.settled →
+    ExtendsByPropagation k.clauses.clauses k.trail.entries u.entries → IsQueue b u.entries r.head r.settled →
     IsBeforeClosure (record k { clauses = b; trail = u; queue = r })
 loose-propagated k b u r h same is p queue = record {
   held = held-propagated k.formula.now k.clauses b k.trail u k.queue r k.explainer.units.items k.explainer.named k.log h.held same is p queue;
@@ -98,7 +98,7 @@ held-named f a b t q units named count log e hints h ka kb added trail at derive
     let is = added-clauses a b (e.lit ∷ []) added in
     let cs = sym is in
     let F : List (List Literal) → Type 0 = λ xs. (i : ℕ) → IsForced xs t.entries i in
-    let K : List (List Literal) → Type 0 = λ xs. AreUnitHints (set units e.lit.var count) xs t.entries f.vars (named + 1) in
+    let K : List (List Literal) → Type 0 = λ xs. AreUnitHintsByVar (set units e.lit.var count) xs t.entries f.vars (named + 1) in
     let L : List (List Literal) → Type 0 = λ xs. IsLogged f xs (log ++ record { clause = e.lit ∷ []; hints = hints } ∷ []) in
     let long = length-append a.clauses ((e.lit ∷ []) ∷ []) in
     record {
@@ -133,16 +133,16 @@ held-start f a vars is = record {
   logged = record { clauses_are = is ∙ sym (append-nil f.clauses); derived = refl; unended = refl };
 }
 
-pub refute-explains : (cs : List (List Literal)) (es : List Entry) (k c : ℕ) → is_conflict cs (lits_of es) c ≡ true → k ≡ length es → Explains cs es [] c k k k
+pub refute-explains : (cs : List (List Literal)) (es : List Entry) (k c : ℕ) → is_conflict cs (lits_of es) c ≡ true → k ≡ length es → IsFalseBySetAndEntries cs es [] c k k k
 refute-explains cs es k c h e =
-    let p = and_parts (nat_lt c (length cs)) (is_falsified (lits_of es) (clause_at cs c)) h in
+    let p = and_parts (nat_lt c (length cs)) (is_falsified (lits_of es) (nth_clause_or_empty cs c)) h in
     let all : take k es ≡ es = ap (λ (n : ℕ). take n es) e ∙ take-length es in
     record {
       clause = ltb-true c (length cs) p.0;
       known_in = omega arith;
       from_in = omega arith;
       top_in = omega (arith, e);
-      denied = λ m x. inr (ap (λ (xs : List Entry). has_lit (negated_lit m) (lits_of xs)) all ∙ false-at (lits_of es) (clause_at cs c) m p.1 x);
+      denied = λ m x. inr (ap (λ (xs : List Entry). has_lit (negated_lit m) (lits_of xs)) all ∙ false-at (lits_of es) (nth_clause_or_empty cs c) m p.1 x);
       walk = λ i x le lt at. absurd (omega (arith, le, lt));
       assumed = λ i x le lt at. absurd (omega (arith, le, lt));
       untrue = λ m x. absurd (true≢false (sym x));
@@ -154,10 +154,10 @@ alike-twice a b c j k = record { formula = k.formula ∙ j.formula; alike = alik
 pub alike-propagated : (k : Base) (b : ArenaLists) (u : TrailList) (r : Propagator) → SameClauses k.clauses b → KeepsConsequences k (record k { clauses = b; trail = u; queue = r })
 alike-propagated k b u r same = (let A : List (List Literal) → Type 0 = λ cs. AreEquivalent k.clauses.clauses cs in record { formula = refl; alike = subst A (sym same.clauses) (alike-self k.clauses.clauses) })
 
-pub named_self : (k : Base) → HasUnitsAdded k k
+pub named_self : (k : Base) → HasOnlyUnitClausesAdded k k
 named_self k = record { same = record { formula = refl; alike = alike-self k.clauses.clauses }; refuted = refl; trail = refl; conflicts = λ c h. h }
 
-pub named-twice : (a b c : Base) → HasUnitsAdded a b → HasUnitsAdded b c → HasUnitsAdded a c
+pub named-twice : (a b c : Base) → HasOnlyUnitClausesAdded a b → HasOnlyUnitClausesAdded b c → HasOnlyUnitClausesAdded a c
 named-twice a b c j k = record { same = alike-twice a b c j.same k.same; refuted = k.refuted ∙ j.refuted; trail = k.trail ∙ j.trail; conflicts = λ i h. k.conflicts i (j.conflicts i h) }
 
 pub stands-read : (k : Base) (s : LitSetList) → s.vars ≡ k.set.vars → IsBetweenItems k → IsBetweenItems (record k { set = s })

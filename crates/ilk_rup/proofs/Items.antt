@@ -5,17 +5,17 @@ use Rattle.std.specs.Str.Parse.{digits_value}
 use Rattle.std.proofs.lemmas.Slice.Eq.{bytes_eq-Decides}
 use Rattle.ilk_base.proofs.Options.{bind_some, mapped-Some}
 use Rattle.ilk_lines.specs.Decimal.{decimal_up_to, is_decimal}
-use Rattle.ilk_rup.specs.Needs.{IsClauseOf}
+use Rattle.ilk_rup.specs.Needs.{IsClauseOfLiterals}
 use Rattle.std.proofs.lemmas.Bool.{and_from, and_parts, cases_Bool, not_from_false, or_cases, or_left, or_parts, or_right, true≢false}
 use Rattle.std.proofs.lemmas.Option.{same_Some}
-use Rattle.ilk_base.specs.Option.{◌>>=◌, only_if}
-use Rattle.ilk_cnf.specs.Literal.{Literal, negated_lit, same_lit, has_lit, has_var, vars_differ}
-use Rattle.ilk_cnf.specs.Formula.{as_clause, is_clause_over, distinct, is_tautology, is_lit_over}
+use Rattle.ilk_base.specs.Option.{◌>>=◌, then_some}
+use Rattle.ilk_cnf.specs.Literal.{Literal, negated_lit, same_lit, has_lit, has_var, has_distinct_vars}
+use Rattle.ilk_cnf.specs.Formula.{clause_unless_tautology, is_clause_over, deduped_lits, is_tautology, is_lit_over}
 use Rattle.ilk_cnf.proofs.SameLiterals.{lit-is}
 use Rattle.ilk_lines.specs.Lines.{Bytes}
 use Rattle.ilk_learn.proofs.Members.{each-within, var-of}
 use Rattle.ilk_rup.specs.RefutationText.{clauses_added_by, with_word_in_first, is_end, items_of, literal_of, literals_of, var_of}
-use Rattle.ilk_rup.specs.Items.{AreLiteralsRead, IsItemRead, IsPut, IsFirstItemRead, deletion_item, addition_item, there, clash, more}
+use Rattle.ilk_rup.specs.Items.{IsSetUnlessTautology, IsItemRead, IsPut, AreFirstItemLiteralsRead, deletion_item_kind, addition_item_kind, there, clash, more}
 use Rattle.ilk_rup.proofs.Signs.{var-either}
 use Rattle.ilk_rup.proofs.Needing.{pushed-lit, push-old, push-new}
 use Rattle.ilk_rup.proofs.FirstItem.{first-item, not-both-there, taut-push}
@@ -25,33 +25,33 @@ other-sign ls l v n =
     let x = var-of ls l.var v in
     elim (var-either x.0 l ls x.1 x.2) [ inl t ↦ absurd (true≢false (sym t ∙ n)) | inr t ↦ t ]
 
-pub are-none : AreLiteralsRead [] [] false
+pub are-none : IsSetUnlessTautology [] [] false
 are-none = record { clash = refl; fewer = λ e m h. h; members = λ e m h. h }
 
-pub are-more : (ls old new : List Literal) (l : Literal) (was one : Bool) → AreLiteralsRead ls old was → IsPut l old new one → AreLiteralsRead (ls ++ l ∷ []) new (one || was)
+pub are-more : (ls old new : List Literal) (l : Literal) (was one : Bool) → IsSetUnlessTautology ls old was → IsPut l old new one → IsSetUnlessTautology (ls ++ l ∷ []) new (one || was)
 are-more ls old new l was one k p = by was k p
   where
-    yes : (b : Bool) → is_tautology (ls ++ l ∷ []) ≡ true → b ≡ true → AreLiteralsRead (ls ++ l ∷ []) new b
+    yes : (b : Bool) → is_tautology (ls ++ l ∷ []) ≡ true → b ≡ true → IsSetUnlessTautology (ls ++ l ∷ []) new b
     yes b t e = record { clash = t ∙ sym e; fewer = λ f. absurd (true≢false (sym e ∙ f)); members = λ f. absurd (true≢false (sym e ∙ f)) }
 
     or-true : (b : Bool) → (b || true) ≡ true
     or-true true = refl
     or-true false = refl
 
-    by : (was : Bool) → AreLiteralsRead ls old was → IsPut l old new one → AreLiteralsRead (ls ++ l ∷ []) new (one || was)
+    by : (was : Bool) → IsSetUnlessTautology ls old was → IsPut l old new one → IsSetUnlessTautology (ls ++ l ∷ []) new (one || was)
     by true k p = yes (one || true) (taut-push ls l ∙ ap (λ b. b || has_lit (negated_lit l) ls) k.clash) (or-true one)
-    by false k (there e h f) = (let P : Bool → Type 0 = λ b. AreLiteralsRead (ls ++ l ∷ []) new (b || false) in
-        let Q : List Literal → Type 0 = λ s. AreLiteralsRead (ls ++ l ∷ []) s false in
+    by false k (there e h f) = (let P : Bool → Type 0 = λ b. IsSetUnlessTautology (ls ++ l ∷ []) new (b || false) in
+        let Q : List Literal → Type 0 = λ s. IsSetUnlessTautology (ls ++ l ∷ []) s false in
         let own = k.fewer refl l h in
         subst P (sym f) (subst Q (sym e) (record {
           clash = taut-push ls l ∙ ap (λ b. b || has_lit (negated_lit l) ls) k.clash ∙ not-both-there ls l k.clash own;
           fewer = λ _ m x. push-old ls l m (k.fewer refl m x);
           members = λ _ m x. elim (pushed-lit ls l m x) [ inl y ↦ k.members refl m y | inr y ↦ ap (λ (z : Literal). has_lit z old) y ∙ h ];
         })))
-    by false k (clash e h f) = (let P : Bool → Type 0 = λ b. AreLiteralsRead (ls ++ l ∷ []) new (b || false) in
+    by false k (clash e h f) = (let P : Bool → Type 0 = λ b. IsSetUnlessTautology (ls ++ l ∷ []) new (b || false) in
         subst P (sym f) (yes true (taut-push ls l ∙ ap (λ b. is_tautology ls || b) (k.fewer refl (negated_lit l) h) ∙ or-true (is_tautology ls)) refl))
-    by false k (more e h f) = (let P : Bool → Type 0 = λ b. AreLiteralsRead (ls ++ l ∷ []) new (b || false) in
-        let Q : List Literal → Type 0 = λ s. AreLiteralsRead (ls ++ l ∷ []) s false in
+    by false k (more e h f) = (let P : Bool → Type 0 = λ b. IsSetUnlessTautology (ls ++ l ∷ []) new (b || false) in
+        let Q : List Literal → Type 0 = λ s. IsSetUnlessTautology (ls ++ l ∷ []) s false in
         subst P (sym f) (subst Q (sym e) (record {
           clash = taut-push ls l ∙ ap (λ b. b || has_lit (negated_lit l) ls) k.clash ∙ elim (cases_Bool (has_lit (negated_lit l) ls)) [
             | inl t ↦ absurd (true≢false (sym (k.members refl (negated_lit l) t) ∙ h))
@@ -61,13 +61,13 @@ are-more ls old new l was one k p = by was k p
           members = λ _ m x. elim (pushed-lit ls l m x) [ inl y ↦ push-old old l m (k.members refl m y) | inr y ↦ ap (λ (z : Literal). has_lit z (old ++ l ∷ [])) y ∙ push-new old l ];
         })))
 
-only-some : {X : Type 0} (b : Bool) (x y : X) → only_if b x ≡ Some y → (b ≡ true) × (x ≡ y)
+only-some : {X : Type 0} (b : Bool) (x y : X) → then_some b x ≡ Some y → (b ≡ true) × (x ≡ y)
 only-some true x y e = (refl, same_Some x y e)
 only-some false x y e = absurd (cc)
 
 var-in : (n v : ℕ) (word : Bytes) → var_of n word ≡ Some v → (nat_lt 0 v ≡ true) × (nat_le v n ≡ true)
 var-in n v word e =
-    let b = bind_some (decimal_up_to n word) (λ (x : ℕ). only_if (nat_lt 0 x) x) v e in
+    let b = bind_some (decimal_up_to n word) (λ (x : ℕ). then_some (nat_lt 0 x) x) v e in
     let low = only-some (nat_lt 0 b.0) b.0 v b.2 in
     let d = only-some (is_decimal word && nat_le (digits_value 10 word) n) (digits_value 10 word) b.0 b.1 in
     let high = and_parts (is_decimal word) (nat_le (digits_value 10 word) n) d.0 in
@@ -91,18 +91,18 @@ literals-in n (w ∷ (v ∷ ws)) ls e =
     let c = bind_some (literals_of n (v ∷ ws)) (λ (xs : List Literal). Some (b.0 ∷ xs)) ls b.2 in
     ap (is_clause_over n) (sym (same_Some (b.0 ∷ c.0) ls c.2)) ∙ and_from (is_lit_over n b.0) (is_clause_over n c.0) (literal-in n w b.0 b.1) (literals-in n (v ∷ ws) c.0 c.1)
 
-distinct-fewer : (ls : List Literal) (m : Literal) → has_lit m (distinct ls) ≡ true → has_lit m ls ≡ true
+distinct-fewer : (ls : List Literal) (m : Literal) → has_lit m (deduped_lits ls) ≡ true → has_lit m ls ≡ true
 distinct-fewer [] m h = h
 distinct-fewer (l ∷ ls) m h = elim (cases_Bool (has_lit l ls)) [
   | inl t ↦ or_right (same_lit m l) (has_lit m ls) (distinct-fewer ls m (rw t at h))
-  | inr t ↦ (let k : has_lit m (l ∷ distinct ls) ≡ true = rw t at h in
-      elim (or_cases (same_lit m l) (has_lit m (distinct ls)) k) [
+  | inr t ↦ (let k : has_lit m (l ∷ deduped_lits ls) ≡ true = rw t at h in
+      elim (or_cases (same_lit m l) (has_lit m (deduped_lits ls)) k) [
         | inl y ↦ or_left (same_lit m l) (has_lit m ls) y
         | inr y ↦ or_right (same_lit m l) (has_lit m ls) (distinct-fewer ls m y)
       ])
 ]
 
-distinct-more : (ls : List Literal) (m : Literal) → has_lit m ls ≡ true → has_lit m (distinct ls) ≡ true
+distinct-more : (ls : List Literal) (m : Literal) → has_lit m ls ≡ true → has_lit m (deduped_lits ls) ≡ true
 distinct-more [] m h = h
 distinct-more (l ∷ ls) m h = elim (cases_Bool (has_lit l ls)) [
   | inl t ↦ rw t (elim (or_cases (same_lit m l) (has_lit m ls) h) [
@@ -110,19 +110,19 @@ distinct-more (l ∷ ls) m h = elim (cases_Bool (has_lit l ls)) [
     | inr y ↦ distinct-more ls m y
   ])
   | inr t ↦ rw t (elim (or_cases (same_lit m l) (has_lit m ls) h) [
-    | inl y ↦ or_left (same_lit m l) (has_lit m (distinct ls)) y
-    | inr y ↦ or_right (same_lit m l) (has_lit m (distinct ls)) (distinct-more ls m y)
+    | inl y ↦ or_left (same_lit m l) (has_lit m (deduped_lits ls)) y
+    | inr y ↦ or_right (same_lit m l) (has_lit m (deduped_lits ls)) (distinct-more ls m y)
   ])
 ]
 
-distinct-differ : (ls : List Literal) → is_tautology ls ≡ false → vars_differ (distinct ls) ≡ true
+distinct-differ : (ls : List Literal) → is_tautology ls ≡ false → has_distinct_vars (deduped_lits ls) ≡ true
 distinct-differ [] t = refl
 distinct-differ (l ∷ ls) t =
     let p = or_parts (has_lit (negated_lit l) ls) (is_tautology ls) t in
     elim (cases_Bool (has_lit l ls)) [
       | inl y ↦ rw y (distinct-differ ls p.1)
-      | inr y ↦ rw y (and_from (not (has_var l.var (distinct ls))) (vars_differ (distinct ls)) (not_from_false (has_var l.var (distinct ls)) (elim (cases_Bool (has_var l.var (distinct ls))) [
-        | inl z ↦ absurd (let x = var-of (distinct ls) l.var z in
+      | inr y ↦ rw y (and_from (not (has_var l.var (deduped_lits ls))) (has_distinct_vars (deduped_lits ls)) (not_from_false (has_var l.var (deduped_lits ls)) (elim (cases_Bool (has_var l.var (deduped_lits ls))) [
+        | inl z ↦ absurd (let x = var-of (deduped_lits ls) l.var z in
             elim (var-either x.0 l ls x.1 (distinct-fewer ls x.0 x.2)) [
               | inl w ↦ true≢false (sym w ∙ y)
               | inr w ↦ true≢false (sym w ∙ p.0)
@@ -131,9 +131,9 @@ distinct-differ (l ∷ ls) t =
       ])) (distinct-differ ls p.1))
     ]
 
-pub clause-read : (n : ℕ) (item : List Bytes) (ls set : List Literal) → literals_of n item ≡ Some ls → AreLiteralsRead ls set false → IsClauseOf n set (distinct ls)
+pub clause-read : (n : ℕ) (item : List Bytes) (ls set : List Literal) → literals_of n item ≡ Some ls → IsSetUnlessTautology ls set false → IsClauseOfLiterals n set (deduped_lits ls)
 clause-read n item ls set e k = record {
-  within = each-within n (distinct ls) ls (λ m h. distinct-fewer ls m h) (literals-in n item ls e);
+  within = each-within n (deduped_lits ls) ls (λ m h. distinct-fewer ls m h) (literals-in n item ls e);
   differ = distinct-differ ls k.clash;
   fewer = λ m h. k.members refl m (distinct-fewer ls m h);
   more = λ m h. distinct-more ls m (k.fewer refl m h);
@@ -149,18 +149,19 @@ begins {P} word rest item items e f = elim (cases_Bool (is_end word)) [
 ]
 
 pub plain-none : (n : ℕ) (word : Bytes) (rest : List Bytes) (item : List Bytes) (items : List (List Bytes)) → bytes_eq word (codes "d") ≡ false → items_of (word ∷ rest) ≡ item ∷ items → literals_of n item ≡ None → clauses_added_by n item ≡ None
-plain-none n word rest item items d e k = begins word rest item items e (λ tail is. (let P : List Bytes → Type 0 = λ xs. literals_of n xs ≡ None → clauses_added_by n xs ≡ None in subst P (sym is) (λ h. rw d (ap (option_map as_clause) h)) k))
+plain-none n word rest item items d e k = begins word rest item items e
+    (λ tail is. (let P : List Bytes → Type 0 = λ xs. literals_of n xs ≡ None → clauses_added_by n xs ≡ None in subst P (sym is) (λ h. rw d (ap (option_map clause_unless_tautology) h)) k))
 
 pub plain-some :
     (n : ℕ) (word : Bytes) (rest : List Bytes) (item : List Bytes) (items : List (List Bytes))
     (ls : List Literal) →
     bytes_eq word (codes "d") ≡ false → items_of (word ∷ rest) ≡ item ∷ items → literals_of n item ≡ Some ls →
-    clauses_added_by n item ≡ Some (as_clause ls)
+    clauses_added_by n item ≡ Some (clause_unless_tautology ls)
 plain-some n word rest item items ls d e k = begins word rest item items e
     (λ tail is.
     (let P : List Bytes → Type 0 = λ xs. literals_of n xs ≡ Some ls →
-    clauses_added_by n xs ≡ Some (as_clause ls) in
-    subst P (sym is) (λ h. rw d (ap (option_map as_clause) h)) k))
+    clauses_added_by n xs ≡ Some (clause_unless_tautology ls) in
+    subst P (sym is) (λ h. rw d (ap (option_map clause_unless_tautology) h)) k))
 
 pub kept-items : (word : Bytes) (rest item : List Bytes) (items : List (List Bytes)) → bytes_eq word (codes "d") ≡ true → items_of rest ≡ item ∷ items → items_of (word ∷ rest) ≡ (word ∷ item) ∷ items
 kept-items word rest item items d e = rw (not-end word d) (ap (with_word_in_first word) e)
@@ -174,12 +175,13 @@ kept-some n word item ls d k = rw d (ap (option_map (λ xs. [])) k)
 pub kept-alone : (n : ℕ) (word : Bytes) → bytes_eq word (codes "d") ≡ true → (items_of (word ∷ []) ≡ (word ∷ []) ∷ []) × (clauses_added_by n (word ∷ []) ≡ None)
 kept-alone n word d = (rw (not-end word d) refl, rw d refl)
 
-pub plain-read : (n : ℕ) (word : Bytes) (rest : List Bytes) (set : List Literal) (left : List Bytes) (r : Option Bool) → bytes_eq word (codes "d") ≡ false → IsFirstItemRead n (word ∷ rest) set left r
-    → IsItemRead n (word ∷ rest) set left (addition_item r)
+pub plain-read : (n : ℕ) (word : Bytes) (rest : List Bytes) (set : List Literal) (left : List Bytes) (r : Option Bool) → bytes_eq word (codes "d") ≡ false → AreFirstItemLiteralsRead n (word ∷ rest) set left r
+    → IsItemRead n (word ∷ rest) set left (addition_item_kind r)
 plain-read n word rest set left None d k = (k.0, k.1, k.2, plain-none n word rest k.0 k.1 d k.2 k.3)
 plain-read n word rest set left (Some true) d k = (k.0, k.2, plain-some n word rest k.0 (items_of left) k.1 d k.2 k.3 ∙ rw k.4.clash refl, k.5)
-plain-read n word rest set left (Some false) d k = (k.0, distinct k.1, k.2, plain-some n word rest k.0 (items_of left) k.1 d k.2 k.3 ∙ rw k.4.clash refl, clause-read n k.0 k.1 set k.3 k.4, k.5)
+plain-read n word rest set left (Some false) d k = (k.0, deduped_lits k.1, k.2, plain-some n word rest k.0 (items_of left) k.1 d k.2 k.3 ∙ rw k.4.clash refl, clause-read n k.0 k.1 set k.3 k.4, k.5)
 
-pub kept-read : (n : ℕ) (word : Bytes) (rest : List Bytes) (set : List Literal) (left : List Bytes) (r : Option Bool) → bytes_eq word (codes "d") ≡ true → IsFirstItemRead n rest set left r → IsItemRead n (word ∷ rest) set left (deletion_item r)
+pub kept-read : (n : ℕ) (word : Bytes) (rest : List Bytes) (set : List Literal) (left : List Bytes) (r : Option Bool) → bytes_eq word (codes "d") ≡ true → AreFirstItemLiteralsRead n rest set left r →
+    IsItemRead n (word ∷ rest) set left (deletion_item_kind r)
 kept-read n word rest set left None d k = (word ∷ k.0, k.1, kept-items word rest k.0 k.1 d k.2, kept-none n word k.0 d k.3)
 kept-read n word rest set left (Some b) d k = (word ∷ k.0, kept-items word rest k.0 (items_of left) d k.2, kept-some n word k.0 k.1 d k.3, omega (arith, k.5))

@@ -6,42 +6,42 @@ use Rattle.std.proofs.lemmas.Bool.{and_from, and_parts, cases_Bool, not-true, no
 use Rattle.std.proofs.lemmas.List.Folds.{list_any-append}
 use Rattle.std.proofs.lemmas.Option.{slice_get_within}
 use Rattle.ilk_base.proofs.Lists.{at-before}
-use Rattle.ilk_cnf.specs.Literal.{Literal, same_lit, has_lit, has_var, vars_differ}
+use Rattle.ilk_cnf.specs.Literal.{Literal, same_lit, has_lit, has_var, has_distinct_vars}
 use Rattle.ilk_cnf.specs.Formula.{is_clause_over}
 use Rattle.ilk_cnf.proofs.SameLiterals.{same-lit}
 use Rattle.ilk_arena.specs.Arena.{ArenaLists}
 use Rattle.ilk_watches.specs.Chained.{IsClauses, IsClauseAdded}
 use Rattle.ilk_log.specs.declared.step.Step.{Step}
-use Rattle.ilk_log.specs.Derived.{is_empty}
+use Rattle.ilk_log.specs.Derived.{is_empty_clause}
 use Rattle.ilk_log.specs.Propagation.{is_falsified}
 use Rattle.ilk_trail.specs.declared.entry.Entry.{Entry}
 use Rattle.ilk_trail.specs.Trail.{level_of}
 use Rattle.ilk_trail.specs.Laws.{IsTrail, has_rising_levels, is_set, lits_of}
 use Rattle.ilk_trail.proofs.Levels.{entries_up_to-all}
-use Rattle.ilk_watches.specs.Watched.{FalseAtCurrentLevel, IsAddable}
+use Rattle.ilk_watches.specs.Watched.{NotFalseBelowCurrentLevel, FirstTwoAreWatchable}
 use Rattle.ilk_watches.proofs.Added.{queue-with_clause_added}
 use Rattle.ilk_watches.proofs.Entries.{entry-of-lit}
 use Rattle.ilk_watches.proofs.Prefixes.{up-level}
 use Rattle.ilk_learn.proofs.Derived.{false-from}
 use Rattle.ilk_learn.proofs.Members.{differ-kept, each-within, kept-at, kept-from, var-of}
-use Rattle.ilk_rup.specs.Accepted.{Follows}
+use Rattle.ilk_rup.specs.Accepted.{FollowsByHints}
 use Rattle.ilk_rup.specs.Alike.{AreEquivalent}
-use Rattle.ilk_rup.specs.Needs.{IsClauseOf, IsForced, AreUnitHints, unset_first}
-use Rattle.ilk_rup.specs.Standing.{HasTaken, KeepsConsequences, IsDerivedStep, IsLogged, IsStepAdded, IsBeforeClosure, IsBetweenItems}
+use Rattle.ilk_rup.specs.Needs.{IsClauseOfLiterals, IsForced, AreUnitHintsByVar, unset_literals_first}
+use Rattle.ilk_rup.specs.Standing.{HasCurrentClauseAdded, KeepsConsequences, IsDerivedStep, IsLogged, IsStepAdded, IsBeforeClosure, IsBetweenItems}
 use Rattle.ilk_rup.specs.declared.base.Base.{Base}
 use Rattle.ilk_rup.proofs.Alike.{alike-ended, alike-join, alike-known, alike-same, follows-any, follows-known}
 use Rattle.ilk_rup.proofs.Holds.{added-clauses}
 use Rattle.ilk_rup.proofs.Keeping.{forced-more, logged-more, step-derived}
 use Rattle.ilk_rup.proofs.Signs.{var-either}
 
-first-has : (es : List Entry) (ls : List Literal) (m : Literal) → has_lit m (unset_first es ls) ≡ true → has_lit m ls ≡ true
+first-has : (es : List Entry) (ls : List Literal) (m : Literal) → has_lit m (unset_literals_first es ls) ≡ true → has_lit m ls ≡ true
 first-has es ls m h =
     elim (or_cases (has_lit m (filter (λ l. not (is_set es l.var)) ls)) (has_lit m (filter (λ l. is_set es l.var) ls)) (sym (list_any-append (same_lit m) (filter (λ l. not (is_set es l.var)) ls) (filter (λ l. is_set es l.var) ls)) ∙ h)) [
       | inl x ↦ (kept-from (λ l. not (is_set es l.var)) ls m x).0
       | inr x ↦ (kept-from (λ l. is_set es l.var) ls m x).0
     ]
 
-has-first : (es : List Entry) (ls : List Literal) (m : Literal) → has_lit m ls ≡ true → has_lit m (unset_first es ls) ≡ true
+has-first : (es : List Entry) (ls : List Literal) (m : Literal) → has_lit m ls ≡ true → has_lit m (unset_literals_first es ls) ≡ true
 has-first es ls m h =
     let a = filter (λ l. not (is_set es l.var)) ls in
     let b = filter (λ l. is_set es l.var) ls in
@@ -50,19 +50,19 @@ has-first es ls m h =
       | inr t ↦ or_left (has_lit m a) (has_lit m b) (kept-at (λ l. not (is_set es l.var)) ls m h (not_from_false (is_set es m.var) t))
     ]
 
-apart-differ : (xs ys : List Literal) → vars_differ xs ≡ true → vars_differ ys ≡ true → ((x : Literal) → has_lit x xs ≡ true → has_var x.var ys ≡ false) → vars_differ (xs ++ ys) ≡ true
+apart-differ : (xs ys : List Literal) → has_distinct_vars xs ≡ true → has_distinct_vars ys ≡ true → ((x : Literal) → has_lit x xs ≡ true → has_var x.var ys ≡ false) → has_distinct_vars (xs ++ ys) ≡ true
 apart-differ [] ys d e f = e
 apart-differ (x ∷ xs) ys d e f =
-    let p = and_parts (not (has_var x.var xs)) (vars_differ xs) d in
+    let p = and_parts (not (has_var x.var xs)) (has_distinct_vars xs) d in
     let none : has_var x.var (xs ++ ys) ≡ false = list_any-append (λ (l : Literal). l.var == x.var) xs ys ∙ or_from (has_var x.var xs) (has_var x.var ys) (not-true (has_var x.var xs) p.0) (f x (or_left (same_lit x x) (has_lit x xs) (same-lit x))) in
-    and_from (not (has_var x.var (xs ++ ys))) (vars_differ (xs ++ ys)) (not_from_false (has_var x.var (xs ++ ys)) none) (apart-differ xs ys p.1 e (λ y h. f y (or_right (same_lit y x) (has_lit y xs) h)))
+    and_from (not (has_var x.var (xs ++ ys))) (has_distinct_vars (xs ++ ys)) (not_from_false (has_var x.var (xs ++ ys)) none) (apart-differ xs ys p.1 e (λ y h. f y (or_right (same_lit y x) (has_lit y xs) h)))
 
-pub first-clause : (n : ℕ) (es : List Entry) (set : List Literal) → is_clause_over n set ≡ true → vars_differ set ≡ true → IsClauseOf n set (unset_first es set)
+pub first-clause : (n : ℕ) (es : List Entry) (set : List Literal) → is_clause_over n set ≡ true → has_distinct_vars set ≡ true → IsClauseOfLiterals n set (unset_literals_first es set)
 first-clause n es set w d =
     let p : Literal → Bool = λ l. not (is_set es l.var) in
     let q : Literal → Bool = λ l. is_set es l.var in
     record {
-      within = each-within n (unset_first es set) set (λ m h. first-has es set m h) w;
+      within = each-within n (unset_literals_first es set) set (λ m h. first-has es set m h) w;
       differ = apart-differ (filter p set) (filter q set) (differ-kept p set d) (differ-kept q set d) (λ x h. elim (cases_Bool (has_var x.var (filter q set))) [
         | inl t ↦ absurd (let y = var-of (filter q set) x.var t in
             let a = kept-from p set x h in
@@ -79,7 +79,7 @@ filter-each p ls rest x e m h = (let k = kept-from p ls m (ap (has_lit m) e ∙ 
 
 pub first-addable : (es : List Entry) (set : List Literal) (l : Literal) → level_of es ≡ 0 →
     has_rising_levels 0 es ≡ true → ((m : Literal) → has_lit m set ≡ true → has_lit m (lits_of es) ≡ false) →
-    has_lit l set ≡ true → is_set es l.var ≡ false → IsAddable es (unset_first es set)
+    has_lit l set ≡ true → is_set es l.var ≡ false → FirstTwoAreWatchable es (unset_literals_first es set)
 first-addable es set l level climb untrue h u = go (filter p set) (filter q set) refl refl
   where
     p : Literal → Bool
@@ -88,7 +88,7 @@ first-addable es set l level climb untrue h u = go (filter p set) (filter q set)
     q : Literal → Bool
     q m = is_set es m.var
 
-    now : (m : Literal) → FalseAtCurrentLevel es m
+    now : (m : Literal) → NotFalseBelowCurrentLevel es m
     now m = λ i e at is.
         (let all = entries_up_to-all 0 0 es climb (omega (arith, level)) in
         let low = up-level 0 es i e (ap (λ (xs : List Entry). slice_get xs i) all ∙ at) in
@@ -105,13 +105,13 @@ first-addable es set l level climb untrue h u = go (filter p set) (filter q set)
     own : (x : Literal) (ls : List Literal) → has_lit x (x ∷ ls) ≡ true
     own x ls = or_left (same_lit x x) (has_lit x ls) (same-lit x)
 
-    go : (xs ys : List Literal) → filter p set ≡ xs → filter q set ≡ ys → IsAddable es (xs ++ ys)
+    go : (xs ys : List Literal) → filter p set ≡ xs → filter q set ≡ ys → FirstTwoAreWatchable es (xs ++ ys)
     go [] ys a b = absurd (true≢false (sym (kept-at p set l h (not_from_false (is_set es l.var) u)) ∙ ap (has_lit l) a))
     go (x ∷ []) [] a b = tt
     go (x ∷ []) (y ∷ ys) a b = (not-true (is_set es x.var) (filter-each p set [] x a x (own x [])).0, inr (denied (y ∷ ys) (λ m k. filter-each q set ys y b m k), now y))
     go (x ∷ (z ∷ xs)) ys a b = (not-true (is_set es x.var) (filter-each p set (z ∷ xs) x a x (own x (z ∷ xs))).0, inl (not-true (is_set es z.var) (filter-each p set (z ∷ xs) x a z (or_right (same_lit z x) (has_lit z (z ∷ xs)) (own z xs))).0))
 
-known-grown : (units : List ℕ) (cs more : List (List Literal)) (es : List Entry) (n k : ℕ) → AreUnitHints units cs es n k → AreUnitHints units (cs ++ more) es n k
+known-grown : (units : List ℕ) (cs more : List (List Literal)) (es : List Entry) (n k : ℕ) → AreUnitHintsByVar units cs es n k → AreUnitHintsByVar units (cs ++ more) es n k
 known-grown units cs more es n k h = record {
   sized = h.sized;
   within = h.within;
@@ -119,18 +119,18 @@ known-grown units cs more es n k h = record {
   only = h.only;
 }
 
-not-empty : (c : List Literal) (l : Literal) → has_lit l c ≡ true → is_empty c ≡ false
+not-empty : (c : List Literal) (l : Literal) → has_lit l c ≡ true → is_empty_clause c ≡ false
 not-empty [] l h = absurd (true≢false (sym h))
 not-empty (x ∷ c) l h = refl
 
-pub taken-clause : (k : Base) (s : Step) → IsDerivedStep k s → is_clause_over k.set.vars k.set.lits ≡ true → vars_differ k.set.lits ≡ true → IsClauseOf k.formula.now.vars k.set.lits s.clause
+pub taken-clause : (k : Base) (s : Step) → IsDerivedStep k s → is_clause_over k.set.vars k.set.lits ≡ true → has_distinct_vars k.set.lits ≡ true → IsClauseOfLiterals k.formula.now.vars k.set.lits s.clause
 taken-clause k s step w d =
     let n = k.formula.now.vars in
-    let P : List Literal → Type 0 = λ x. IsClauseOf n k.set.lits x in
+    let P : List Literal → Type 0 = λ x. IsClauseOfLiterals n k.set.lits x in
     subst P (sym step.clause) (first-clause n k.trail.entries k.set.lits (ap (λ (v : ℕ). is_clause_over v k.set.lits) (sym step.loose.set_vars) ∙ w) d)
 
 pub loose-taken : (k : Base) (b : ArenaLists) (s : Step) → IsDerivedStep k s →
-    IsClauseOf k.formula.now.vars k.set.lits s.clause → IsClauses k.clauses → IsClauses b →
+    IsClauseOfLiterals k.formula.now.vars k.set.lits s.clause → IsClauses k.clauses → IsClauses b →
     IsClauseAdded k.clauses s.clause b → IsTrail k.trail →
     IsBeforeClosure (record k { clauses = b; log = k.log ++ s ∷ [] })
 loose-taken k b s step own ka kb added trail =
@@ -139,12 +139,12 @@ loose-taken k b s step own ka kb added trail =
     let es = k.trail.entries in
     let l = step.loose in
     let h = l.held in
-    let A : List Literal → Type 0 = λ x. IsAddable es x in
+    let A : List Literal → Type 0 = λ x. FirstTwoAreWatchable es x in
     let may = subst A (sym step.clause) (first-addable es k.set.lits step.unset h.level trail.climbing step.untrue step.has step.open_) in
     let derived = step-derived f.vars a.clauses k.set.lits s.clause s.hints step.hints own in
     let cs = sym (added-clauses a b s.clause added) in
     let F : List (List Literal) → Type 0 = λ xs. (i : ℕ) → IsForced xs es i in
-    let K : List (List Literal) → Type 0 = λ xs. AreUnitHints k.explainer.units.items xs es f.vars k.explainer.named in
+    let K : List (List Literal) → Type 0 = λ xs. AreUnitHintsByVar k.explainer.units.items xs es f.vars k.explainer.named in
     let L : List (List Literal) → Type 0 = λ xs. IsLogged f xs (k.log ++ s ∷ []) in
     record {
       held = record {
@@ -163,8 +163,8 @@ loose-taken k b s step own ka kb added trail =
 pub has-taken : (k m a new : Base) (s : Step) →
     m ≡ record k { clauses = m.clauses; trail = m.trail; queue = m.queue; explainer = m.explainer } →
     m.clauses.clauses ≡ k.clauses.clauses → IsDerivedStep m s →
-    IsClauseOf m.formula.now.vars m.set.lits s.clause → IsStepAdded m s a → IsBetweenItems new → KeepsConsequences a new →
-    HasTaken k new
+    IsClauseOfLiterals m.formula.now.vars m.set.lits s.clause → IsStepAdded m s a → IsBetweenItems new → KeepsConsequences a new →
+    HasCurrentClauseAdded k new
 has-taken k m a new s rest cs step own added stands same =
     let old = k.clauses.clauses in
     let vars = ap (λ (b : Base). b.formula.now.vars) rest in
@@ -173,8 +173,8 @@ has-taken k m a new s rest cs step own added stands same =
       stands = stands;
       formula = same.formula ∙ ap (λ (b : Base). b.formula) added.rest ∙ ap (λ (b : Base). b.formula) rest;
       follows = λ d of. (let p = here d of in
-          let N : ℕ → Type 0 = λ n. Follows n m.clauses.clauses d in
-          let C : List (List Literal) → Type 0 = λ xs. Follows k.formula.now.vars xs d in
+          let N : ℕ → Type 0 = λ n. FollowsByHints n m.clauses.clauses d in
+          let C : List (List Literal) → Type 0 = λ xs. FollowsByHints k.formula.now.vars xs d in
           subst C cs (subst N vars (s.hints, step-derived m.formula.now.vars m.clauses.clauses m.set.lits d s.hints step.hints p)));
       alike = λ d of. (let p = here d of in
           let C : List (List Literal) → Type 0 = λ xs. AreEquivalent (xs ++ d ∷ []) a.clauses.clauses in
@@ -183,10 +183,10 @@ has-taken k m a new s rest cs step own added stands same =
           alike-join (old ++ d ∷ []) a.clauses.clauses new.clauses.clauses (subst C cs (subst A (sym is) more)) same.alike);
     }
   where
-    here : (d : List Literal) → IsClauseOf k.formula.now.vars k.set.lits d → IsClauseOf m.formula.now.vars m.set.lits d
-    here d of = (let P : Base → Type 0 = λ b. IsClauseOf b.formula.now.vars b.set.lits d in subst P (sym rest) of)
+    here : (d : List Literal) → IsClauseOfLiterals k.formula.now.vars k.set.lits d → IsClauseOfLiterals m.formula.now.vars m.set.lits d
+    here d of = (let P : Base → Type 0 = λ b. IsClauseOfLiterals b.formula.now.vars b.set.lits d in subst P (sym rest) of)
 
-pub taken-known : (k : Base) (l : Literal) → IsBetweenItems k → k.refuted ≡ false → has_lit l k.set.lits ≡ true → has_lit l (lits_of k.trail.entries) ≡ true → HasTaken k k
+pub taken-known : (k : Base) (l : Literal) → IsBetweenItems k → k.refuted ≡ false → has_lit l k.set.lits ≡ true → has_lit l (lits_of k.trail.entries) ≡ true → HasCurrentClauseAdded k k
 taken-known k l st e h t =
     let s = st.going e in
     let cs = k.clauses.clauses in
@@ -201,7 +201,7 @@ taken-known k l st e h t =
       alike = λ c of. alike-known cs n.0 l c at (of.more l h);
     }
 
-pub taken-refuted : (k : Base) → IsBetweenItems k → k.refuted ≡ true → HasTaken k k
+pub taken-refuted : (k : Base) → IsBetweenItems k → k.refuted ≡ true → HasCurrentClauseAdded k k
 taken-refuted k st e =
     let n = k.formula.now.vars in
     let cs = k.clauses.clauses in

@@ -9,10 +9,10 @@ HasFalsifyingHints cs set = (hints : List ℕ) × (hints_end_in_conflict cs set 
 
 -- Holds if some list of hints over `ds` ends whenever one over `cs` does, after any clauses are
 -- added to both.
-abbrev pub HasConsequencesOf : List (List Literal) → List (List Literal) → Type 0
-HasConsequencesOf ds cs = (more : List (List Literal)) (set : List Literal) → HasFalsifyingHints (cs ++ more) set → HasFalsifyingHints (ds ++ more) set
+abbrev pub ConsequencesHoldIn : List (List Literal) → List (List Literal) → Type 0
+ConsequencesHoldIn ds cs = (more : List (List Literal)) (set : List Literal) → HasFalsifyingHints (cs ++ more) set → HasFalsifyingHints (ds ++ more) set
 
 -- Holds if the lists have the same consequences: each covers the other.
 pub record AreEquivalent (cs ds : List (List Literal)) : Type 0 where
-  pub there : HasConsequencesOf ds cs
-  pub back : HasConsequencesOf cs ds
+  pub there : ConsequencesHoldIn ds cs
+  pub back : ConsequencesHoldIn cs ds

@@ -9,5 +9,5 @@ pub record CheckerLists : Type 0 where
   pub formula : Formula
   pub clauses : List (List Literal)
 
-abbrev pub checker_of : Base → CheckerLists
-checker_of k = record { formula = k.formula.now; clauses = k.clauses.clauses }
+abbrev pub checker_lists_of_base : Base → CheckerLists
+checker_lists_of_base k = record { formula = k.formula.now; clauses = k.clauses.clauses }

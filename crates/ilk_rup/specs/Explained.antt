@@ -3,7 +3,7 @@ use Rattle.std.specs.Prelude.{ℕ, ◌≡◌, ◌+◌, replicate}
 use Rattle.ilk_arena.specs.Arena.{ArenaLists}
 use Rattle.ilk_trail.specs.Trail.{TrailList}
 use Rattle.ilk_rup.specs.LitSet.{LitSetList}
-use Rattle.ilk_rup.specs.Needs.{Explains, AreUnitHints}
+use Rattle.ilk_rup.specs.Needs.{IsFalseBySetAndEntries, AreUnitHintsByVar}
 use Rattle.ilk_rup.specs.declared.explain.Explainer.{Explainer}
 use Rattle.ilk_rup.specs.declared.explain.Conflict.{Conflict}
 
@@ -18,5 +18,5 @@ pub record CanExplain (x : Explainer) (clauses : ArenaLists) (trail : TrailList)
   pub vars : x.needed.vars ≡ clauses.vars
   pub set_vars : set.vars ≡ clauses.vars
   pub trail_vars : trail.vars ≡ clauses.vars
-  pub units : AreUnitHints x.units.items clauses.clauses trail.entries clauses.vars x.named
-  pub explains : Explains clauses.clauses trail.entries set.lits at.clause at.from at.top x.named
+  pub units : AreUnitHintsByVar x.units.items clauses.clauses trail.entries clauses.vars x.named
+  pub explains : IsFalseBySetAndEntries clauses.clauses trail.entries set.lits at.clause at.from at.top x.named

@@ -9,5 +9,5 @@ pub record LitSetList : Type 0 where
   pub lits : List Literal
 
 -- Holds if no entry has a reason.
-abbrev pub AllDecided : List Entry → Type 0
-AllDecided es = (i : ℕ) (e : Entry) → slice_get es i ≡ Some e → e.reason ≡ None
+abbrev pub NoEntryHasReason : List Entry → Type 0
+NoEntryHasReason es = (i : ℕ) (e : Entry) → slice_get es i ≡ Some e → e.reason ≡ None

@@ -1,9 +1,9 @@
 -- A refutation as other solvers write it: the words of its text, and its items.
 use Rattle.std.specs.Prelude.{ℕ, Bool, true, false, ◌==◌, ◌||◌, List, [], ◌∷◌, Option, Some, None, bytes_eq, codes, flat_map, nat_lt, not, option_map, if◌then◌else◌}
 use Rattle.std.specs.List.{filter, slice_split}
-use Rattle.ilk_base.specs.Option.{◌>>=◌, only_if}
+use Rattle.ilk_base.specs.Option.{◌>>=◌, then_some}
 use Rattle.ilk_cnf.specs.Literal.{Literal}
-use Rattle.ilk_cnf.specs.Formula.{as_clause}
+use Rattle.ilk_cnf.specs.Formula.{clause_unless_tautology}
 use Rattle.ilk_lines.specs.Lines.{Bytes, parts_at}
 use Rattle.ilk_lines.specs.Decimal.{decimal_up_to}
 
@@ -36,7 +36,7 @@ text_words text = flat_map line_words (parts_at 10 text)
 abbrev pub var_of : ℕ → Bytes → Option ℕ
 var_of n word = do
   v ← decimal_up_to n word
-  only_if (nat_lt 0 v) v
+  then_some (nat_lt 0 v) v
 
 -- The literal that a word writes: its variable, after a minus sign if it is negative.
 abbrev pub literal_of : ℕ → Bytes → Option Literal
@@ -60,7 +60,7 @@ items_of (word ∷ words) = if is_end word then (word ∷ []) ∷ items_of words
 -- The literals that the words write, followed by the word `0`, and nothing more.
 abbrev pub literals_of : ℕ → List Bytes → Option (List Literal)
 literals_of n [] = None
-literals_of n (word ∷ []) = only_if (is_end word) []
+literals_of n (word ∷ []) = then_some (is_end word) []
 literals_of n (word ∷ (next ∷ words)) = do
   l ← literal_of n word
   ls ← literals_of n (next ∷ words)
@@ -71,4 +71,4 @@ literals_of n (word ∷ (next ∷ words)) = do
 -- keeping a clause is sound. Any other item, or an unfinished one, gives `None`.
 abbrev pub clauses_added_by : ℕ → List Bytes → Option (List (List Literal))
 clauses_added_by n [] = None
-clauses_added_by n (word ∷ words) = if bytes_eq word (codes "d") then option_map (λ ls. []) (literals_of n words) else option_map as_clause (literals_of n (word ∷ words))
+clauses_added_by n (word ∷ words) = if bytes_eq word (codes "d") then option_map (λ ls. []) (literals_of n words) else option_map clause_unless_tautology (literals_of n (word ∷ words))

@@ -4,7 +4,7 @@ use Rattle.ilk_cnf.specs.Formula.{Formula}
 use Rattle.ilk_cnf.specs.Literal.{Literal}
 use Rattle.ilk_lines.specs.Lines.{Bytes}
 use Rattle.ilk_log.specs.Derived.{is_refutation}
-use Rattle.ilk_rup.specs.Accepted.{AllItemsRight, IsFirstBadAmong, Follows, IsRightItem, after_item, text_items}
+use Rattle.ilk_rup.specs.Accepted.{ItemsRefuteClauses, IsFirstBadAmong, FollowsByHints, IsRightItem, after_item, text_items}
 use Rattle.ilk_rup.specs.Alike.{AreEquivalent}
 use Rattle.ilk_rup.specs.Checker.{CheckerLists}
 use Rattle.ilk_rup.specs.RefutationText.{items_of}
@@ -12,7 +12,7 @@ use Rattle.ilk_rup.specs.declared.next.Next.{Next}
 use Rattle.ilk_rup.specs.declared.next.Next.TheVariants.{Right, Bad, Refuted}
 
 -- Holds if an item is right, and the state after it has the same consequences.
-pub record IsStep (k : CheckerLists) (old left : List Bytes) (new : CheckerLists) : Type 0 where
+pub record HasCheckedItem (k : CheckerLists) (old left : List Bytes) (new : CheckerLists) : Type 0 where
   pub item : List Bytes
   pub is : items_of old ≡ item ∷ items_of left
   pub right : IsRightItem k.formula.vars k.clauses item
@@ -22,13 +22,13 @@ pub record IsStep (k : CheckerLists) (old left : List Bytes) (new : CheckerLists
 
 -- The meaning of a result. `Right`: the next item is right. `Bad`: it is bad, or there is none and
 -- the empty clause doesn't follow. `Refuted`: there is none, and the log refutes the formula.
-abbrev pub IsStepped : CheckerLists → List Bytes → List Bytes → Next → Type 0
-IsStepped k old left (Right new) = IsStep k old left new
-IsStepped k old left Bad = IsFirstBadAmong k.formula.vars k.clauses (items_of old) 1
-IsStepped k old left (Refuted log) = (old ≡ []) × Follows k.formula.vars k.clauses [] × IsTrue (is_refutation k.formula log)
+abbrev pub IsItemCheckResult : CheckerLists → List Bytes → List Bytes → Next → Type 0
+IsItemCheckResult k old left (Right new) = HasCheckedItem k old left new
+IsItemCheckResult k old left Bad = IsFirstBadAmong k.formula.vars k.clauses (items_of old) 1
+IsItemCheckResult k old left (Refuted log) = (old ≡ []) × FollowsByHints k.formula.vars k.clauses [] × IsTrue (is_refutation k.formula log)
 
 -- Holds if a verdict on the rest of a text holds for the whole, with these words left before item
 -- `k`.
 pub record RestDecidesWhole (f : Formula) (text : Bytes) (given : List (List Literal)) (left : List Bytes) (k : ℕ) : Type 0 where
-  pub accepted : AllItemsRight f.vars given (items_of left) → AllItemsRight f.vars f.clauses (text_items text)
+  pub accepted : ItemsRefuteClauses f.vars given (items_of left) → ItemsRefuteClauses f.vars f.clauses (text_items text)
   pub bad : (j : ℕ) → IsFirstBadAmong f.vars given (items_of left) (suc j) → IsFirstBadAmong f.vars f.clauses (text_items text) (k + j)

@@ -6,7 +6,7 @@ ghost use Rattle.ilk_cnf.specs.Formula.{is_lit_over};
 ghost use Rattle.ilk_trail.specs.Trail.{level_of};
 ghost use Rattle.ilk_cnf.specs.Literal.{has_lit};
 ghost use Rattle.ilk_trail.specs.Laws.{is_set, lits_of};
-ghost use Rattle.ilk_rup.specs.Needs.{AssumesOne, IsAssumed, unset_first};
+ghost use Rattle.ilk_rup.specs.Needs.{AssumesNegation, AssumesNegations, unset_literals_first};
 
 use crate::set::LitSet;
 use ilk_cnf::{Lit, Lits};
@@ -19,7 +19,7 @@ fn assume_one(trail: &mut Trail, l: Lit)
     requires within { IsTrue (is_lit_over trail.old.vars l) }
     requires low { level_of trail.old.entries ≤ 1 }
     ensures trail { trail.new ≡ record trail.old { entries = trail.new.entries } }
-    ensures assumed { AssumesOne l trail.old.entries trail.new.entries }
+    ensures assumed { AssumesNegation l trail.old.entries trail.new.entries }
 {
     if is_set(trail, l) {
         return;
@@ -60,7 +60,7 @@ pub fn assume_negations(trail: &mut Trail, set: &LitSet)
     requires vars { set.now.vars ≡ trail.old.vars }
     requires level { level_of trail.old.entries ≡ 0 }
     ensures trail { trail.new ≡ record trail.old { entries = trail.new.entries } }
-    ensures assumed { IsAssumed set.now.lits trail.old.entries trail.new.entries }
+    ensures assumed { AssumesNegations set.now.lits trail.old.entries trail.new.entries }
 {
     for i in 0..set.len() {
         assume_one(trail, set.at(i));
@@ -94,9 +94,9 @@ fn push_unset(clause: &mut Lits, trail: &Trail, set: &LitSet) -> Result<(), Allo
 }
 
 /// Returns the literals of a set, the unset ones first, in memory of exactly their size.
-pub fn unset_first(alloc: Global, trail: &Trail, set: &LitSet) -> Result<Lits, AllocError>
+pub fn unset_literals_first(alloc: Global, trail: &Trail, set: &LitSet) -> Result<Lits, AllocError>
     requires { set.now.vars ≡ trail.now.vars }
-    ensures { IfOk result (λ clause. clause ≡ unset_first trail.now.entries set.now.lits) }
+    ensures { IfOk result (λ clause. clause ≡ unset_literals_first trail.now.entries set.now.lits) }
 {
     let mut clause = Lits::new(alloc);
     push_unset(&mut clause, trail, set)?;

@@ -2,12 +2,12 @@
 
 ghost use Rattle.std.specs.Prelude.{◌≡◌, ◌<◌, ◌+◌, ◌∷◌, [], true, false, length, IfOk, IfNone, IfSome, OnOk, IsTrue};
 ghost use Rattle.ilk_cnf.specs.Formula.{is_clause_over};
-ghost use Rattle.ilk_cnf.specs.Literal.{Literal, has_lit, vars_differ};
+ghost use Rattle.ilk_cnf.specs.Literal.{Literal, has_lit, has_distinct_vars};
 ghost use Rattle.ilk_watches.specs.Reasons.{is_conflict};
 ghost use Rattle.ilk_trail.specs.Laws.{lits_of};
-ghost use Rattle.ilk_rup.specs.Standing.{KeepsConsequences, IsDerivedStep, HasUnitsAdded, IsStepAdded, IsTaken, IsBeforeClosure, NoneFollows, IsAfterClosure, IsBetweenItems};
+ghost use Rattle.ilk_rup.specs.Standing.{KeepsConsequences, IsDerivedStep, HasOnlyUnitClausesAdded, IsStepAdded, IsTryAddResult, IsBeforeClosure, NoHintsDeriveClause, IsAfterClosure, IsBetweenItems};
 
-use crate::assume::{assume_negations, is_true, unset_first};
+use crate::assume::{assume_negations, is_true, unset_literals_first};
 use crate::explain::{Conflict, Explainer, reason_of};
 use crate::set::LitSet;
 use ilk_cnf::{Cnf, Lit, Lits};
@@ -72,7 +72,7 @@ impl<'a> Base<'a> {
     // Adds a clause, and the step that derives it.
     fn add(&mut self, clause: Lits, hints: Hints) -> Result<(), AllocError>
         requires within { IsTrue (is_clause_over self.old.clauses.vars clause) }
-        requires differ { IsTrue (vars_differ clause) }
+        requires differ { IsTrue (has_distinct_vars clause) }
         ensures { OnOk result
             (IsStepAdded self.old (record { clause = clause; hints = hints }) self.new) }
     {
@@ -86,7 +86,7 @@ impl<'a> Base<'a> {
         requires loose { IsBeforeClosure self.old }
         requires below { self.old.explainer.named < length self.old.trail.entries }
         ensures loose { OnOk result (IsBeforeClosure self.new) }
-        ensures same { OnOk result (HasUnitsAdded self.old self.new) }
+        ensures same { OnOk result (HasOnlyUnitClausesAdded self.old self.new) }
         ensures named { OnOk result (self.new.explainer.named ≡ self.old.explainer.named + 1) }
     {
         let _ = self.clauses.count();
@@ -114,7 +114,7 @@ impl<'a> Base<'a> {
     fn name_all(&mut self, alloc: Global) -> Result<(), AllocError>
         requires { IsBeforeClosure self.old }
         ensures loose { OnOk result (IsBeforeClosure self.new) }
-        ensures same { OnOk result (HasUnitsAdded self.old self.new) }
+        ensures same { OnOk result (HasOnlyUnitClausesAdded self.old self.new) }
         ensures named { OnOk result (self.new.explainer.named ≡ length self.new.trail.entries) }
     {
         'names: while self.explainer.named < self.trail.count() {
@@ -198,7 +198,7 @@ impl<'a> Base<'a> {
         requires settled { IsAfterClosure self.old }
         requires untrue { (l : Literal) → has_lit l self.old.set.lits ≡ true →
             has_lit l (lits_of self.old.trail.entries) ≡ false }
-        ensures none { IfOk result (λ step. IfNone step (NoneFollows self.old)) }
+        ensures none { IfOk result (λ step. IfNone step (NoHintsDeriveClause self.old)) }
         ensures derived { IfOk result (λ step. IfSome step (λ s. IsDerivedStep self.new s)) }
         ensures clauses { self.new.clauses.clauses ≡ self.old.clauses.clauses }
         ensures rest { self.new
@@ -233,7 +233,7 @@ impl<'a> Base<'a> {
             .explain(alloc, &self.clauses, &self.trail, &self.set, at)?;
         self.trail.back_to(0);
         self.queue.back_to(&self.trail);
-        let clause = unset_first(alloc, &self.trail, &self.set)?;
+        let clause = unset_literals_first(alloc, &self.trail, &self.set)?;
         Ok(Some(Step { clause, hints }))
     }
 
@@ -241,7 +241,7 @@ impl<'a> Base<'a> {
     /// the clauses so far. After `false` nothing is known about the base.
     pub fn try_add_clause(&mut self, alloc: Global) -> Result<bool, AllocError>
         requires { IsBetweenItems self.old }
-        ensures { IfOk result (λ right. IsTaken self.old right self.new) }
+        ensures { IfOk result (λ right. IsTryAddResult self.old right self.new) }
     {
         if self.refuted {
             return Ok(true);

@@ -2,10 +2,10 @@
 
 ghost use Rattle.std.specs.Prelude.{◌≡◌, IfOk};
 ghost use Rattle.ilk_rup.specs.Alike.{AreEquivalent};
-ghost use Rattle.ilk_rup.specs.Stepped.{IsStepped};
+ghost use Rattle.ilk_rup.specs.Stepped.{IsItemCheckResult};
 
 use crate::base::Base;
-use crate::item::{Item, read_item};
+use crate::item::{ItemKind, read_item};
 use crate::next::Next;
 use crate::words::Words;
 use ilk_cnf::Cnf;
@@ -19,12 +19,12 @@ pub struct Checker<'a> {
 }
 
 impl<'a> Model for Checker<'a> {
-    ghost use Rattle.ilk_rup.specs.Checker.{CheckerLists, checker_of};
+    ghost use Rattle.ilk_rup.specs.Checker.{CheckerLists, checker_lists_of_base};
     ghost use Rattle.ilk_rup.specs.Standing.{IsBetweenItems};
 
     ghost Value = { CheckerLists };
 
-    ghost view = { λ k. checker_of k.base };
+    ghost view = { λ k. checker_lists_of_base k.base };
 
     ghost invariant = { λ k. IsBetweenItems k.base };
 }
@@ -42,13 +42,13 @@ impl<'a> Checker<'a> {
 
     /// Takes the next item.
     pub fn step(self, alloc: Global, words: &mut Words) -> Result<Next<'a>, AllocError>
-        ensures { IfOk result (λ next. IsStepped self.entry words.old words.new next) }
+        ensures { IfOk result (λ next. IsItemCheckResult self.entry words.old words.new next) }
     {
         let Checker { mut base } = self;
         let vars = base.formula.vars();
         base.set.clear();
         match read_item(words, &mut base.set, vars) {
-            Item::End => {
+            ItemKind::End => {
                 let Base { log, refuted, .. } = base;
                 if refuted {
                     Ok(Next::Refuted(log))
@@ -56,9 +56,9 @@ impl<'a> Checker<'a> {
                     Ok(Next::Bad)
                 }
             }
-            Item::Malformed => Ok(Next::Bad),
-            Item::Idle => Ok(Next::Right(Checker { base })),
-            Item::Adds => {
+            ItemKind::Malformed => Ok(Next::Bad),
+            ItemKind::Idle => Ok(Next::Right(Checker { base })),
+            ItemKind::Adds => {
                 if base.try_add_clause(alloc)? {
                     Ok(Next::Right(Checker { base }))
                 } else {

@@ -2,11 +2,11 @@
 
 ghost use Rattle.std.specs.Prelude.{◌≡◌, ◌<◌, ◌≤◌, ◌+◌, ◌^◌, ◌++◌, ◌∷◌, [], ◌==◌, not, length, replicate, reverse, slice_index, take, IfOk, OnOk, IsTrue};
 ghost use Rattle.ilk_cnf.specs.Formula.{is_lit_over};
-ghost use Rattle.ilk_watches.specs.Reasons.{clause_at};
+ghost use Rattle.ilk_watches.specs.Reasons.{nth_clause_or_empty};
 ghost use Rattle.std.specs.List.{filter};
 ghost use Rattle.ilk_trail.specs.Laws.{lits_of};
 ghost use Rattle.ilk_rup.specs.Explained.{CanExplain, IsNewExplainer};
-ghost use Rattle.ilk_rup.specs.Needs.{AreHints, CanWalk, IsForced, IsNeeded, IsPassed, IsReasonAt, NeedsOne, FalsifiesWithNeeded, unit_hints};
+ghost use Rattle.ilk_rup.specs.Needs.{AreHints, EntriesHaveReasons, IsForced, AddsNeededOfClause, HintsWorkWithoutEntry, IsReasonAt, AddsNeededOfLiteral, FalsifiesWithNeeded, unit_hints_of_needed};
 
 use crate::set::LitSet;
 use ilk_cnf::Lit;
@@ -19,7 +19,7 @@ use std::alloc::{AllocError, Global};
 fn need_one(needed: &mut LitSet, set: &LitSet, l: Lit)
     requires within { IsTrue (is_lit_over needed.old.vars l) }
     requires vars { set.now.vars ≡ needed.old.vars }
-    ensures needed { NeedsOne set.now.lits l needed.old.lits needed.new.lits }
+    ensures needed { AddsNeededOfLiteral set.now.lits l needed.old.lits needed.new.lits }
     ensures vars { needed.new.vars ≡ needed.old.vars }
 {
     if set.has(l) || needed.has_var(l) {
@@ -33,7 +33,8 @@ fn need(needed: &mut LitSet, clauses: &Clauses, set: &LitSet, c: u64)
     requires known { c < length clauses.now.clauses }
     requires vars { needed.old.vars ≡ clauses.now.vars }
     requires set { set.now.vars ≡ clauses.now.vars }
-    ensures needed { IsNeeded set.now.lits (clause_at clauses.now.clauses c) needed.old.lits
+    ensures needed { AddsNeededOfClause set.now.lits
+        (nth_clause_or_empty clauses.now.clauses c) needed.old.lits
         needed.new.lits }
     ensures vars { needed.new.vars ≡ needed.old.vars }
 {
@@ -68,9 +69,10 @@ fn pass(
     requires set { set.now.vars ≡ clauses.now.vars }
     requires trail { trail.now.vars ≡ clauses.now.vars }
     requires below { i < length trail.now.entries }
-    requires walk { CanWalk clauses.now.clauses trail.now.entries set.now.lits i (i + 1) }
+    requires walk { EntriesHaveReasons clauses.now.clauses trail.now.entries set.now.lits i
+        (i + 1) }
     ensures passed { OnOk result
-        (IsPassed clauses.now.clauses trail.now.entries set.now.lits i needed.old.lits
+        (HintsWorkWithoutEntry clauses.now.clauses trail.now.entries set.now.lits i needed.old.lits
         (reverse reasons.old.items) needed.new.lits (reverse reasons.new.items)) }
     ensures vars { needed.new.vars ≡ needed.old.vars }
 {
@@ -101,7 +103,7 @@ fn walk(
     requires trail { trail.now.vars ≡ clauses.now.vars }
     requires from { from ≤ top }
     requires top { top ≤ length trail.now.entries }
-    requires walk { CanWalk clauses.now.clauses trail.now.entries set.now.lits from top }
+    requires walk { EntriesHaveReasons clauses.now.clauses trail.now.entries set.now.lits from top }
     requires shows { FalsifiesWithNeeded clauses.now.clauses (lits_of (take top trail.now.entries))
         (lits_of (take top trail.now.entries)) set.now.lits needed.old.lits
         (reverse reasons.old.items) }
@@ -131,7 +133,7 @@ fn unit_of(units: &[u64], l: Lit) -> u64
 
 // Returns the number of needed literals that have a unit clause.
 fn count_units(needed: &LitSet, units: &[u64]) -> u64
-    ensures { result ≡ length (unit_hints units.now needed.now.lits) }
+    ensures { result ≡ length (unit_hints_of_needed units.now needed.now.lits) }
 {
     let mut count: u64 = 0;
     for i in 0..needed.len() {
@@ -151,7 +153,7 @@ fn gather(
     reasons: &[u64],
 ) -> Result<Hints, AllocError>
     ensures { IfOk result
-        (λ hints. hints ≡ unit_hints units.now needed.now.lits ++ reverse reasons.now) }
+        (λ hints. hints ≡ unit_hints_of_needed units.now needed.now.lits ++ reverse reasons.now) }
 {
     let count = count_units(needed, units).saturating_add(reasons.len() as u64);
     let mut hints = Hints::with_capacity(alloc, count)?;
@@ -172,7 +174,8 @@ fn push_unit(hints: &mut Hints, unit: u64) -> Result<(), AllocError>
 
 // Adds the hints of needed unit clauses.
 fn push_units(hints: &mut Hints, needed: &LitSet, units: &[u64]) -> Result<(), AllocError>
-    ensures { OnOk result (hints.new ≡ hints.old ++ unit_hints units.now needed.now.lits) }
+    ensures { OnOk result
+        (hints.new ≡ hints.old ++ unit_hints_of_needed units.now needed.now.lits) }
 {
     for i in 0..needed.len() {
         push_unit(hints, unit_of(units, needed.at(i)))?;
@@ -235,7 +238,7 @@ impl Explainer {
     }
 
     /// Returns hints that derive a clause of the literals of `set`. Clause `at.clause` has to be
-    /// false by the set and the entries before `at.top`: see `Explains`.
+    /// false by the set and the entries before `at.top`: see `IsFalseBySetAndEntries`.
     pub fn explain(
         &mut self,
         alloc: Global,

@@ -3,7 +3,7 @@
 ghost use Rattle.std.specs.Prelude.{◌≡◌, ◌≤◌, ◌^◌, ◌∷◌, [], ◌||◌, IsTrue, bytes_eq, codes};
 ghost use Rattle.ilk_cnf.specs.Formula.{is_lit_over};
 ghost use Rattle.ilk_rup.specs.RefutationText.{is_end, literal_of, var_of};
-ghost use Rattle.ilk_rup.specs.Items.{IsItemRead, IsPut, IsFirstItemRead, deletion_item, addition_item};
+ghost use Rattle.ilk_rup.specs.Items.{IsItemRead, IsPut, AreFirstItemLiteralsRead, deletion_item_kind, addition_item_kind};
 
 use crate::set::LitSet;
 use crate::words::Words;
@@ -12,7 +12,7 @@ use ilk_lines::decimal_up_to;
 
 /// The kind of the item that was read.
 #[derive(Clone, Copy)]
-pub enum Item {
+pub enum ItemKind {
     /// No item: the text has ended.
     End,
     /// A malformed or unfinished item.
@@ -83,7 +83,8 @@ fn read_literals(first: &[u8], words: &mut Words, set: &mut LitSet, vars: u64) -
     requires numbered { vars ≤ 2 ^ 62 }
     requires vars { set.old.vars ≡ vars }
     requires empty { set.old.lits ≡ [] }
-    ensures read { IsFirstItemRead vars (first.now ∷ words.old) set.new.lits words.new result }
+    ensures read { AreFirstItemLiteralsRead vars
+        (first.now ∷ words.old) set.new.lits words.new result }
     ensures vars { set.new.vars ≡ set.old.vars }
 {
     let mut word = first;
@@ -104,29 +105,29 @@ fn read_literals(first: &[u8], words: &mut Words, set: &mut LitSet, vars: u64) -
 }
 
 // Returns the kind of an item without the word `d`.
-fn plain_item(read: Option<bool>) -> Item
-    ensures { result ≡ addition_item read }
+fn plain_item(read: Option<bool>) -> ItemKind
+    ensures { result ≡ addition_item_kind read }
 {
     match read {
-        None => Item::Malformed,
-        Some(true) => Item::Idle,
-        Some(false) => Item::Adds,
+        None => ItemKind::Malformed,
+        Some(true) => ItemKind::Idle,
+        Some(false) => ItemKind::Adds,
     }
 }
 
 // Returns the kind of an item with the word `d`.
-fn kept_item(read: Option<bool>) -> Item
-    ensures { result ≡ deletion_item read }
+fn kept_item(read: Option<bool>) -> ItemKind
+    ensures { result ≡ deletion_item_kind read }
 {
     match read {
-        None => Item::Malformed,
-        Some(_) => Item::Idle,
+        None => ItemKind::Malformed,
+        Some(_) => ItemKind::Idle,
     }
 }
 
 /// Reads the next item, with an empty set. If the item adds a clause, the set then has its
 /// literals.
-pub fn read_item(words: &mut Words, set: &mut LitSet, vars: u64) -> Item
+pub fn read_item(words: &mut Words, set: &mut LitSet, vars: u64) -> ItemKind
     requires numbered { vars ≤ 2 ^ 62 }
     requires vars { set.old.vars ≡ vars }
     requires empty { set.old.lits ≡ [] }
@@ -134,13 +135,13 @@ pub fn read_item(words: &mut Words, set: &mut LitSet, vars: u64) -> Item
     ensures vars { set.new.vars ≡ set.old.vars }
 {
     match words.next() {
-        None => Item::End,
+        None => ItemKind::End,
         Some(word) => read_after(word, words, set, vars),
     }
 }
 
 // Reads an item from its first word on.
-fn read_after(word: &[u8], words: &mut Words, set: &mut LitSet, vars: u64) -> Item
+fn read_after(word: &[u8], words: &mut Words, set: &mut LitSet, vars: u64) -> ItemKind
     requires numbered { vars ≤ 2 ^ 62 }
     requires vars { set.old.vars ≡ vars }
     requires empty { set.old.lits ≡ [] }
@@ -151,7 +152,7 @@ fn read_after(word: &[u8], words: &mut Words, set: &mut LitSet, vars: u64) -> It
         return plain_item(read_literals(word, words, set, vars));
     }
     match words.next() {
-        None => Item::Malformed,
+        None => ItemKind::Malformed,
         Some(first) => kept_item(read_literals(first, words, set, vars)),
     }
 }

@@ -2,7 +2,7 @@
 
 ghost use Rattle.std.specs.Prelude.{◌≡◌, ◌<◌, ◌≤◌, ◌^◌, ◌++◌, ◌∷◌, [], false, length, slice_get, Some, IfOk, IsTrue};
 ghost use Rattle.ilk_cnf.specs.Formula.{is_clause_over, is_lit_over};
-ghost use Rattle.ilk_cnf.specs.Literal.{has_lit, has_var, vars_differ};
+ghost use Rattle.ilk_cnf.specs.Literal.{has_lit, has_var, has_distinct_vars};
 ghost use Rattle.ilk_trail.specs.Laws.{lits_of};
 
 use ilk_cnf::Lit;
@@ -19,13 +19,13 @@ pub struct LitSet {
 
 impl Model for LitSet {
     ghost use Rattle.ilk_trail.specs.Laws.{lits_of};
-    ghost use Rattle.ilk_rup.specs.LitSet.{LitSetList, AllDecided};
+    ghost use Rattle.ilk_rup.specs.LitSet.{LitSetList, NoEntryHasReason};
 
     ghost Value = { LitSetList };
 
     ghost view = { λ s. record { vars = s.trail.vars; lits = lits_of s.trail.entries } };
 
-    ghost invariant = { λ s. AllDecided s.trail.entries };
+    ghost invariant = { λ s. NoEntryHasReason s.trail.entries };
 }
 
 impl LitSet {
@@ -80,7 +80,7 @@ impl LitSet {
     /// Returns the number of literals.
     pub fn len(&self) -> u64
         ensures count { result ≡ length self.now.lits }
-        ensures differ { IsTrue (vars_differ self.now.lits) }
+        ensures differ { IsTrue (has_distinct_vars self.now.lits) }
         ensures within { IsTrue (is_clause_over self.now.vars self.now.lits) }
     {
         self.trail.count()

@@ -3,7 +3,7 @@ use Rattle.std.proofs.Common.{◌≡◌, ◌&&◌, ◌<◌, ◌≤◌, ℕ, true
 use Rattle.std.specs.Prelude.{nat_le, nat_lt, is_none}
 use Rattle.std.proofs.lemmas.Bool.{and_parts, cases_Bool, eqb-true, ltb-true, not-true, or_parts, or_from}
 use Rattle.std.proofs.lemmas.Bool.Decides.{eqb_tells, nat_tests}
-use Rattle.ilk_cnf.specs.Literal.{Literal, negated_lit, has_var, vars_differ}
+use Rattle.ilk_cnf.specs.Literal.{Literal, negated_lit, has_var, has_distinct_vars}
 use Rattle.ilk_log.specs.Propagation.{is_saturated, is_false, is_falsified, unit_lit}
 use Rattle.ilk_trail.specs.declared.entry.Entry.{Entry}
 use Rattle.ilk_trail.specs.Trail.{level_of, entries_up_to}
@@ -18,7 +18,7 @@ use Rattle.ilk_learn.proofs.Derived.{false-at, false-from}
 use Rattle.ilk_learn.proofs.Fresh.{has-entries_up_to}
 use Rattle.ilk_learn.proofs.Highest.{below-highest}
 use Rattle.ilk_learn.proofs.Latest.{level-entry}
-use Rattle.ilk_watches.specs.Watched.{FalseAtCurrentLevel, IsAddable}
+use Rattle.ilk_watches.specs.Watched.{NotFalseBelowCurrentLevel, FirstTwoAreWatchable}
 use Rattle.ilk_watches.proofs.Entries.{at-kept}
 use Rattle.ilk_watches.proofs.Prefixes.{front-kept, entries_up_to-twice}
 
@@ -32,10 +32,10 @@ none-fewer (x ∷ es) k v h =
       | inr t ↦ rw t rest
     ]
 
-unset-below : (es : List Entry) (k : ℕ) (l : Literal) → vars_differ (lits_of es) ≡ true → k < level_at es l → has_var l.var (lits_of (entries_up_to k es)) ≡ false
+unset-below : (es : List Entry) (k : ℕ) (l : Literal) → has_distinct_vars (lits_of es) ≡ true → k < level_at es l → has_var l.var (lits_of (entries_up_to k es)) ≡ false
 unset-below [] k l d h = refl
 unset-below (x ∷ es) k l d h =
-    let p = and_parts (not (has_var x.lit.var (lits_of es))) (vars_differ (lits_of es)) d in
+    let p = and_parts (not (has_var x.lit.var (lits_of es))) (has_distinct_vars (lits_of es)) d in
     elim (eqb_tells x.lit.var l.var) [
       | inl q ↦ (let high : k < x.level = rw q.0 at h in
           let t : nat_le x.level k ≡ false = grind (arith, nat_tests) in
@@ -48,13 +48,13 @@ unset-below (x ∷ es) k l d h =
           ])
     ]
 
-open-below : (es : List Entry) (k : ℕ) (l : Literal) → vars_differ (lits_of es) ≡ true → k < level_at es l → is_false (lits_of (entries_up_to k es)) l ≡ false
+open-below : (es : List Entry) (k : ℕ) (l : Literal) → has_distinct_vars (lits_of es) ≡ true → k < level_at es l → is_false (lits_of (entries_up_to k es)) l ≡ false
 open-below es k l d h = no_lit (negated_lit l) l.var (lits_of (entries_up_to k es)) refl (unset-below es k l d h)
 
 two-open : (set : List Literal) (l m : Literal) (ls : List Literal) → is_false set l ≡ false → is_false set m ≡ false → (not (is_falsified set (l ∷ (m ∷ ls))) && is_none (unit_lit set (l ∷ (m ∷ ls))) && true) ≡ true
 two-open set l m ls h k = rw (h, k) refl
 
-pub asserting-open : (es : List Entry) (c : List Literal) (n : ℕ) → vars_differ (lits_of es) ≡ true → is_asserting es c ≡ true → n ≤ back_level es c → level_of (entries_up_to n es) ≡ n → LevelsClosed (c ∷ []) (entries_up_to n es)
+pub asserting-open : (es : List Entry) (c : List Literal) (n : ℕ) → has_distinct_vars (lits_of es) ≡ true → is_asserting es c ≡ true → n ≤ back_level es c → level_of (entries_up_to n es) ≡ n → LevelsClosed (c ∷ []) (entries_up_to n es)
 asserting-open es [] n d a b top = absurd (cc)
 asserting-open es (l ∷ []) n d a b top = λ k low. absurd (omega (arith, b, top, low))
 asserting-open es (l ∷ (m ∷ c)) n d a b top = λ k low.
@@ -69,17 +69,18 @@ asserting-open es (l ∷ (m ∷ c)) n d a b top = λ k low.
     let P : List Entry → Type 0 = λ xs. is_saturated ((l ∷ (m ∷ c)) ∷ []) (lits_of xs) ≡ true in
     subst P (sym (entries_up_to-twice k n es (omega (arith, below)))) (two-open (lits_of (entries_up_to k es)) l m c (open-below es k l d (omega (arith, below, b, first, under))) (open-below es k m d (omega (arith, below, b, second))))
 
-rest-false : (es : List Entry) (ls : List Literal) (n : ℕ) → vars_differ (lits_of es) ≡ true → is_falsified (lits_of es) ls ≡ true → highest_level es ls ≤ n → is_falsified (lits_of (entries_up_to n es)) ls ≡ true
+rest-false : (es : List Entry) (ls : List Literal) (n : ℕ) → has_distinct_vars (lits_of es) ≡ true → is_falsified (lits_of es) ls ≡ true → highest_level es ls ≤ n → is_falsified (lits_of (entries_up_to n es)) ls ≡ true
 rest-false es ls n d f h = false-from (lits_of (entries_up_to n es)) ls (λ x s.
     (let low = below-highest es ls x s in
     has-entries_up_to n es (negated_lit x) d (false-at (lits_of es) ls x f s) (omega (arith, low, h))))
 
-second-now : (es : List Entry) (m : Literal) (n : ℕ) → has_rising_levels 0 es ≡ true → vars_differ (lits_of es) ≡ true → level_at es m ≡ n → level_of (entries_up_to n es) ≡ n → FalseAtCurrentLevel (entries_up_to n es) m
+second-now : (es : List Entry) (m : Literal) (n : ℕ) → has_rising_levels 0 es ≡ true → has_distinct_vars (lits_of es) ≡ true → level_at es m ≡ n → level_of (entries_up_to n es) ≡ n → NotFalseBelowCurrentLevel (entries_up_to n es) m
 second-now es m n climb d at top = λ i e s q.
     (let old = at-kept (entries_up_to n es) es i e (front-kept n es climb) s in
     sym (level-entry es i e d old) ∙ ap (level_at es) q ∙ at ∙ sym top)
 
-pub addable : (es : List Entry) (c : List Literal) (n : ℕ) → has_rising_levels 0 es ≡ true → vars_differ (lits_of es) ≡ true → is_asserting es c ≡ true → n ≤ back_level es c → level_of (entries_up_to n es) ≡ n → IsAddable (entries_up_to n es) c
+pub addable : (es : List Entry) (c : List Literal) (n : ℕ) → has_rising_levels 0 es ≡ true → has_distinct_vars (lits_of es) ≡ true → is_asserting es c ≡ true → n ≤ back_level es c → level_of (entries_up_to n es) ≡ n →
+    FirstTwoAreWatchable (entries_up_to n es) c
 addable es [] n climb d a b top = tt
 addable es (l ∷ []) n climb d a b top = tt
 addable es (l ∷ (m ∷ c)) n climb d a b top =

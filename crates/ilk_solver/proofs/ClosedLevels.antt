@@ -17,7 +17,7 @@ use Rattle.ilk_trail.specs.Laws.{has_rising_levels, is_next_level, lits_of}
 use Rattle.ilk_trail.proofs.Levels.{last_level-push, next-level, entries_up_to-above, entries_up_to-all}
 use Rattle.ilk_watches.specs.Reasons.{HasReasons, is_reason}
 use Rattle.ilk_watches.proofs.Forced.{reasons-front, reasons-push}
-use Rattle.ilk_watches.specs.Propagated.{IsPropagated}
+use Rattle.ilk_watches.specs.Propagated.{ExtendsByPropagation}
 use Rattle.ilk_watches.proofs.Prefixes.{entries_up_to-twice}
 use Rattle.ilk_solver.specs.Levels.{LevelsClosed}
 
@@ -44,24 +44,24 @@ later old new i e k s =
     let at = at-past (take (length old) new) (drop (length old) new) i e s in
     ap (λ xs. slice_get xs (length old + i)) (sym joined) ∙ ap (λ n. slice_get (take (length old) new ++ drop (length old) new) (n + i)) (sym size) ∙ at
 
-pub entries_up_to-propagated : (cs : List (List Literal)) (old new : List Entry) (k : ℕ) → IsPropagated cs old new → k < level_of old → entries_up_to k new ≡ entries_up_to k old
+pub entries_up_to-propagated : (cs : List (List Literal)) (old new : List Entry) (k : ℕ) → ExtendsByPropagation cs old new → k < level_of old → entries_up_to k new ≡ entries_up_to k old
 entries_up_to-propagated cs old new k p b =
     let n = length old in
     let none = none-pass (λ e. nat_le e.level k) (drop n new) (λ i e s. above old new k i e p b s) in
     ap (entries_up_to k) (sym (take-append-drop n new)) ∙ filter-append (λ e. nat_le e.level k) (take n new) (drop n new) ∙ ap (λ xs. entries_up_to k (take n new) ++ xs) none ∙ append-nil (entries_up_to k (take n new)) ∙ ap (entries_up_to k) p.kept
   where
-    above : (old new : List Entry) (k i : ℕ) (e : Entry) → IsPropagated cs old new → k < level_of old → slice_get (drop (length old) new) i ≡ Some e → nat_le e.level k ≡ false
+    above : (old new : List Entry) (k i : ℕ) (e : Entry) → ExtendsByPropagation cs old new → k < level_of old → slice_get (drop (length old) new) i ≡ Some e → nat_le e.level k ≡ false
     above old new k i e p b s =
         let l = p.levels (length old + i) e (omega arith) (later old new i e p.kept s) in
         grind (arith, nat_tests)
 
-pub closed-propagated : (cs : List (List Literal)) (old new : List Entry) → IsPropagated cs old new → LevelsClosed cs old → LevelsClosed cs new
+pub closed-propagated : (cs : List (List Literal)) (old new : List Entry) → ExtendsByPropagation cs old new → LevelsClosed cs old → LevelsClosed cs new
 closed-propagated cs old new p h = λ k b.
     let low : k < level_of old = omega (arith, p.level, b) in
     let P : List Entry → Type 0 = λ xs. is_saturated cs (lits_of xs) ≡ true in
     subst P (sym (entries_up_to-propagated cs old new k p low)) (h k low)
 
-pub reasons-propagated : (cs : List (List Literal)) (old new : List Entry) → IsPropagated cs old new → HasReasons cs old → HasReasons cs new
+pub reasons-propagated : (cs : List (List Literal)) (old new : List Entry) → ExtendsByPropagation cs old new → HasReasons cs old → HasReasons cs new
 reasons-propagated cs old new p h = λ i e c s r. elim (below_or_past i (length old)) [
   | inl b ↦ (let P : List Entry → Type 0 = λ xs. is_reason cs (lits_of xs) e.lit c ≡ true in
       let there : slice_get old i ≡ Some e = ap (λ xs. slice_get xs i) (sym p.kept) ∙ take-at new i (length old) e b s in

@@ -17,11 +17,11 @@ use Rattle.ilk_trail.proofs.Levels.{next-level}
 use Rattle.ilk_learn.proofs.Latest.{entry-at}
 use Rattle.ilk_solver.specs.Assigned.{AllSet}
 use Rattle.ilk_solver.specs.Heaviest.{IsHeaviest}
-use Rattle.ilk_solver.specs.Order.{HasEntriesAbove, HoldsView, HasUnsetTop, KeepsUnset}
-use Rattle.ilk_solver.specs.Tree.{IsTree, KeepsLeaves, KeepsVariables, IsAtLeaf, leaves_of, top_of}
+use Rattle.ilk_solver.specs.Order.{HasEntriesAbove, TreeFitsView, HasNoSetTop, LosesNoUnset}
+use Rattle.ilk_solver.specs.Tree.{IsTree, LosesNoVariable, HasSameVariables, IsAtLeaf, leaves_of, top_of}
 use Rattle.ilk_solver.specs.Word.{word_of}
 use Rattle.ilk_solver.specs.View.{ViewLists, IsView, is_unset}
-use Rattle.ilk_solver.proofs.Trees.{leaves-short, top-greatest, top-stands, top-within}
+use Rattle.ilk_solver.proofs.Trees.{leaves-short, top-pick_greatest_positive, top-stands, top-within}
 use Rattle.ilk_solver.proofs.Words.{greater-heavier, word-positive}
 
 pub fewer : (ws t u : List ℕ) → IsTree ws t → 0 < top_of t → leaves_of ws u ≡ set (leaves_of ws t) (top_of t) 0 → sum_by (λ (x : ℕ). cond (eqb x 0) 0 1) (leaves_of ws u) < sum_by (λ (x : ℕ). cond (eqb x 0) 0 1) (leaves_of ws t)
@@ -40,7 +40,7 @@ fewer ws t u h p e =
           omega (arith, s, one, to))
     ]
 
-pub put-one : (ws t u : List ℕ) (v : ℕ) → IsTree ws t → v ≤ length ws → leaves_of ws u ≡ set (leaves_of ws t) v (word_of ws v) → KeepsLeaves ws t u × IsAtLeaf ws u v
+pub put-one : (ws t u : List ℕ) (v : ℕ) → IsTree ws t → v ≤ length ws → leaves_of ws u ≡ set (leaves_of ws t) v (word_of ws v) → LosesNoVariable ws t u × IsAtLeaf ws u v
 put-one ws t u v h q e =
     let x = word_of ws v in
     let here : IsAtLeaf ws u v = ap (λ (ls : List ℕ). get_or ls v 0) e ∙ get_or-set_same (leaves_of ws t) v x 0 (leaves-short ws t v h q) in (
@@ -139,8 +139,8 @@ above-at k (x ∷ es) v h u =
           ])
     ]
 
-pub holds : (view : ViewLists) (t u : List ℕ) → IsView view → IsTree view.weights u → ((v : ℕ) → is_unset view v ≡ true → IsAtLeaf view.weights t v) → KeepsUnset view.trail.entries view.weights t u → HasUnsetTop view.trail.entries u
-    → HoldsView view u
+pub holds : (view : ViewLists) (t u : List ℕ) → IsView view → IsTree view.weights u → ((v : ℕ) → is_unset view v ≡ true → IsAtLeaf view.weights t v) → LosesNoUnset view.trail.entries view.weights t u → HasNoSetTop view.trail.entries u
+    → TreeFitsView view u
 holds view t u h w s k e = record {
   is = h;
   won = w;
@@ -148,8 +148,8 @@ holds view t u h w s k e = record {
   settled = e;
 }
 
-pub stands-back : (view : ViewLists) (t u : List ℕ) (k : ℕ) → HoldsView view t →
-    KeepsLeaves view.weights t u → HasEntriesAbove view.trail.entries k view.weights u → (v : ℕ) → 0 < v →
+pub stands-back : (view : ViewLists) (t u : List ℕ) (k : ℕ) → TreeFitsView view t →
+    LosesNoVariable view.weights t u → HasEntriesAbove view.trail.entries k view.weights u → (v : ℕ) → 0 < v →
     v ≤ view.trail.vars → is_set (entries_up_to k view.trail.entries) v ≡ false → IsAtLeaf view.weights u v
 stands-back view t u k h kept above v p w e =
     elim (cases_Bool (is_set view.trail.entries v)) [
@@ -159,7 +159,7 @@ stands-back view t u k h kept above v p w e =
       | inr s ↦ kept v (h.stands v (unset-from view v p w s))
     ]
 
-pub top-heaviest : (view : ViewLists) (t : List ℕ) → HoldsView view t → 0 < top_of t → IsHeaviest view (top_of t)
+pub top-heaviest : (view : ViewLists) (t : List ℕ) → TreeFitsView view t → 0 < top_of t → IsHeaviest view (top_of t)
 top-heaviest view t h p = record {
   unset = elim h.settled [
     | inl e ↦ absurd (omega (arith, e, p))
@@ -170,17 +170,17 @@ top-heaviest view t h p = record {
     | inr z ↦ (let few = h.won.numbered in
         let u = unset-parts view w s in
         let n = h.is.weighed in
-        let less = top-greatest view.weights t w h.won (h.stands w s) in
+        let less = top-pick_greatest_positive view.weights t w h.won (h.stands w s) in
         greater-heavier view.weights w (top_of t) (omega (arith, few, n, u.1)) (omega (arith, few, z.1)) (omega (arith, less, z.3)))
   ];
 }
 
-pub top-none : (view : ViewLists) (t : List ℕ) → HoldsView view t → top_of t ≡ 0 → AllSet view
+pub top-none : (view : ViewLists) (t : List ℕ) → TreeFitsView view t → top_of t ≡ 0 → AllSet view
 top-none view t h e = λ v p w.
     elim (cases_Bool (is_set view.trail.entries v)) [
       | inl s ↦ s
       | inr s ↦ elim (top-stands view.weights t h.won) [
-        | inl z ↦ absurd (let c = top-greatest view.weights t v h.won (h.stands v (unset-from view v p w s)) in
+        | inl z ↦ absurd (let c = top-pick_greatest_positive view.weights t v h.won (h.stands v (unset-from view v p w s)) in
             let few = h.won.numbered in
             let n = h.is.weighed in
             let some = word-positive view.weights v (omega (arith, few, n, w)) in
@@ -189,18 +189,18 @@ top-none view t h e = λ v p w.
       ]
     ]
 
-pub holds-counted : (view : ViewLists) (ws t u s : List ℕ) → HoldsView view t →
-    length ws ≡ length view.weights → KeepsVariables view.weights t ws u → IsTree ws s →
-    KeepsUnset view.trail.entries ws u s → HasUnsetTop view.trail.entries s →
-    HoldsView (record { trail = view.trail; weights = ws }) s
+pub holds-counted : (view : ViewLists) (ws t u s : List ℕ) → TreeFitsView view t →
+    length ws ≡ length view.weights → HasSameVariables view.weights t ws u → IsTree ws s →
+    LosesNoUnset view.trail.entries ws u s → HasNoSetTop view.trail.entries s →
+    TreeFitsView (record { trail = view.trail; weights = ws }) s
 holds-counted view ws t u s h n kept w keeps settled =
     let new : ViewLists = record { trail = view.trail; weights = ws } in
     holds new u s (record { trail = h.is.trail; weighed = n ∙ h.is.weighed }) w (λ v q. (let p = unset-parts new v q in kept.kept v p.0 (h.stands v (unset-from view v p.0 p.1 p.2)))) keeps settled
 
-pub holds-longer : (view : ViewLists) (now : TrailList) (t u : List ℕ) → HoldsView view t → IsTrail now →
+pub holds-longer : (view : ViewLists) (now : TrailList) (t u : List ℕ) → TreeFitsView view t → IsTrail now →
     now.vars ≡ view.trail.vars → take (length view.trail.entries) now.entries ≡ view.trail.entries →
-    IsTree view.weights u → KeepsUnset now.entries view.weights t u → HasUnsetTop now.entries u →
-    HoldsView (record { trail = now; weights = view.weights }) u
+    IsTree view.weights u → LosesNoUnset now.entries view.weights t u → HasNoSetTop now.entries u →
+    TreeFitsView (record { trail = now; weights = view.weights }) u
 holds-longer view now t u h k n e w kept settled =
     let new : ViewLists = record { trail = now; weights = view.weights } in
     holds new t u (record { trail = k; weighed = h.is.weighed ∙ sym n }) w
@@ -208,11 +208,11 @@ holds-longer view now t u h k n e w kept settled =
     h.stands v (unset-from view v p.0 (let b = p.1 in omega (arith, b, n)) (unset-before view.trail.entries now.entries v e p.2))))
     kept settled
 
-pub holds-back : (view : ViewLists) (now : TrailList) (k : ℕ) (t s u : List ℕ) → HoldsView view t →
+pub holds-back : (view : ViewLists) (now : TrailList) (k : ℕ) (t s u : List ℕ) → TreeFitsView view t →
     IsTrail now → now ≡ record { vars = view.trail.vars; entries = entries_up_to k view.trail.entries } →
-    KeepsLeaves view.weights t s → HasEntriesAbove view.trail.entries k view.weights s → IsTree view.weights u →
-    KeepsUnset now.entries view.weights s u → HasUnsetTop now.entries u →
-    HoldsView (record { trail = now; weights = view.weights }) u
+    LosesNoVariable view.weights t s → HasEntriesAbove view.trail.entries k view.weights s → IsTree view.weights u →
+    LosesNoUnset now.entries view.weights s u → HasNoSetTop now.entries u →
+    TreeFitsView (record { trail = now; weights = view.weights }) u
 holds-back view now k t s u h i e kept above w keeps settled =
     let new : ViewLists = record { trail = now; weights = view.weights } in
     let n : now.vars ≡ view.trail.vars = ap (λ (x : TrailList). x.vars) e in

@@ -9,7 +9,7 @@ use Rattle.std.proofs.lemmas.List.{take-append-drop}
 use Rattle.std.proofs.lemmas.List.Folds.{list_all-append}
 use Rattle.std.proofs.lemmas.List.FromFn.{get_or-map-range_with_len, length-map-range_with_len}
 use Rattle.ilk_base.specs.Option.{is_some_and}
-use Rattle.ilk_cnf.specs.Literal.{Literal, positive_lit, vars_differ}
+use Rattle.ilk_cnf.specs.Literal.{Literal, positive_lit, has_distinct_vars}
 use Rattle.ilk_cnf.specs.Formula.{Formula, IsFormula, is_clause_over, are_clauses_over, is_lit_over}
 use Rattle.ilk_cnf.specs.Truth.{is_true, is_clause_true, satisfies, value}
 use Rattle.ilk_cnf.proofs.Literals.{is_lit_over-parts}
@@ -59,7 +59,7 @@ not-false None h k = absurd (h refl)
 not-false (Some true) h k = refl
 not-false (Some false) h k = absurd (cc)
 
-true-clause : (view : ViewLists) (c : List Literal) → vars_differ (lits_of view.trail.entries) ≡ true → AllSet view → is_clause_over view.trail.vars c ≡ true → is_falsified (lits_of view.trail.entries) c ≡ false
+true-clause : (view : ViewLists) (c : List Literal) → has_distinct_vars (lits_of view.trail.entries) ≡ true → AllSet view → is_clause_over view.trail.vars c ≡ true → is_falsified (lits_of view.trail.entries) c ≡ false
     → is_clause_true (assignment_of view) c ≡ true
 true-clause view [] d s h f = absurd (cc)
 true-clause view (l ∷ c) d s h f =
@@ -73,7 +73,7 @@ true-clause view (l ∷ c) d s h f =
     ]
 
 pub satisfied : (view : ViewLists) (cs : List (List Literal)) →
-    vars_differ (lits_of view.trail.entries) ≡ true → AllSet view → are_clauses_over view.trail.vars cs ≡ true →
+    has_distinct_vars (lits_of view.trail.entries) ≡ true → AllSet view → are_clauses_over view.trail.vars cs ≡ true →
     is_saturated cs (lits_of view.trail.entries) ≡ true → satisfies (assignment_of view) cs ≡ true
 satisfied view [] d s h k = refl
 satisfied view (c ∷ cs) d s h k =

@@ -3,7 +3,7 @@ use Rattle.std.proofs.Common.{◌≡◌, ◌+◌, ◌<◌, ◌≤◌, ℕ, true,
 use Rattle.std.proofs.lemmas.Bool.{and_parts, and_from, cases_Bool, cases_eq, le-leb, lt-ltb, not-true, not_from_false}
 use Rattle.std.proofs.lemmas.Bool.Decides.{eqb_tells}
 use Rattle.std.proofs.lemmas.List.{length-map}
-use Rattle.ilk_cnf.specs.Literal.{Literal, has_var, vars_differ}
+use Rattle.ilk_cnf.specs.Literal.{Literal, has_var, has_distinct_vars}
 use Rattle.ilk_cnf.specs.Formula.{is_clause_over, is_lit_over}
 use Rattle.ilk_cnf.proofs.Literals.{is_lit_over-parts}
 use Rattle.ilk_trail.specs.declared.entry.Entry.{Entry}
@@ -46,11 +46,11 @@ count-more (suc n) l ls apart p h =
     below : (v n : ℕ) → v ≤ suc n → (v ≡ suc n → ⊥) → v ≤ n
     below v n h q = elim (cases_eq v (suc n)) [ inl e ↦ absurd (q e) | inr e ↦ omega (arith, h, e) ]
 
-count-all : (n : ℕ) (ls : List Literal) → is_clause_over n ls ≡ true → vars_differ ls ≡ true → count_set n ls ≡ length ls
+count-all : (n : ℕ) (ls : List Literal) → is_clause_over n ls ≡ true → has_distinct_vars ls ≡ true → count_set n ls ≡ length ls
 count-all n [] h d = count-none n
 count-all n (l ∷ ls) h d =
     let p = and_parts (is_lit_over n l) (is_clause_over n ls) h in
-    let q = and_parts (not (has_var l.var ls)) (vars_differ ls) d in
+    let q = and_parts (not (has_var l.var ls)) (has_distinct_vars ls) d in
     let w = is_lit_over-parts n l p.0 in
     let r = count-all n ls p.1 q.1 in
     let m = count-more n l ls (not-true (has_var l.var ls) q.0) w.0 w.1 in

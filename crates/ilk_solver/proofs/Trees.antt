@@ -3,8 +3,8 @@ use Rattle.std.proofs.Common.{◌≡◌, ◌≢◌, ◌⊎◌, ◌+◌, ◌*◌,
 use Rattle.std.proofs.lemmas.Bool.{cases_eq, cases_lt}
 use Rattle.std.proofs.lemmas.List.{get_or-drop, get_or-set_same, get_or-set_other, length-set, drop-set-lt, drop-set-add, get_or_past, length-drop}
 use Rattle.ilk_solver.specs.declared.word.TheConstants.{MOST_VARIABLES}
-use Rattle.ilk_solver.specs.Word.{IsGreater, variable_of, word_of}
-use Rattle.ilk_solver.specs.Tree.{IsTree, IsTreeExceptAt, IsWinnerNode, KeepsVariables, IsAtLeaf, leaves_of, top_of}
+use Rattle.ilk_solver.specs.Word.{IsGreaterOfTwo, variable_of, word_of}
+use Rattle.ilk_solver.specs.Tree.{IsTree, IsTreeExceptAt, IsWinnerNode, HasSameVariables, IsAtLeaf, leaves_of, top_of}
 use Rattle.ilk_solver.proofs.Words.{variable-is, variable-none}
 
 won-other : (t : List ℕ) (i x k : ℕ) → k ≢ i → 2 * k ≢ i → 2 * k + 1 ≢ i → IsWinnerNode t k → IsWinnerNode (set t i x) k
@@ -14,7 +14,7 @@ won-other t i x k a b c w =
     let g = get_or-set_other t i (2 * k + 1) x 0 c in
     rw (e, f, g) w
 
-pub decided-node : (ws t : List ℕ) (j x : ℕ) → IsTreeExceptAt ws t j → 0 < j → j ≤ length ws → IsGreater x (get_or t (2 * j) 0) (get_or t (2 * j + 1) 0) → IsTreeExceptAt ws (set t j x) (j / 2)
+pub decided-node : (ws t : List ℕ) (j x : ℕ) → IsTreeExceptAt ws t j → 0 < j → j ≤ length ws → IsGreaterOfTwo x (get_or t (2 * j) 0) (get_or t (2 * j + 1) 0) → IsTreeExceptAt ws (set t j x) (j / 2)
 decided-node ws t j x h p q e =
     let same : leaves_of ws (set t j x) ≡ leaves_of ws t = drop-set-lt (length ws + 1) t j x (omega (arith, q)) in
     let inside : j < length t = (let s = h.size in omega (arith, s, q)) in
@@ -33,7 +33,7 @@ decided-node ws t j x h p q e =
       ];
     }
 
-pub right-node : (ws t : List ℕ) (j : ℕ) → IsTreeExceptAt ws t j → IsGreater (get_or t j 0) (get_or t (2 * j) 0) (get_or t (2 * j + 1) 0) → IsTree ws t
+pub right-node : (ws t : List ℕ) (j : ℕ) → IsTreeExceptAt ws t j → IsGreaterOfTwo (get_or t j 0) (get_or t (2 * j) 0) (get_or t (2 * j + 1) 0) → IsTree ws t
 right-node ws t j h e = record {
   numbered = h.numbered;
   size = h.size;
@@ -128,8 +128,8 @@ below-top (suc n) ws t k h a f =
       ]
     ]
 
-pub top-greatest : (ws t : List ℕ) (u : ℕ) → IsTree ws t → IsAtLeaf ws t u → word_of ws u ≤ get_or t 1 0
-top-greatest ws t u h s =
+pub top-pick_greatest_positive : (ws t : List ℕ) (u : ℕ) → IsTree ws t → IsAtLeaf ws t u → word_of ws u ≤ get_or t 1 0
+top-pick_greatest_positive ws t u h s =
     let k = length ws + 1 + u in
     let at : get_or t k 0 ≡ word_of ws u = sym (leaf-at ws t u) ∙ s in
     let b = below-top k ws t k h (omega arith) (omega arith) in
@@ -162,16 +162,16 @@ empty-tree n ws t e b s z = record {
 pub leaves-short : (ws t : List ℕ) (v : ℕ) → IsTree ws t → v ≤ length ws → v < length (leaves_of ws t)
 leaves-short ws t v h q = (let s = h.size in let d = length-drop (length ws + 1) t in omega (arith, s, d, q))
 
-pub keeps-all : (ws t : List ℕ) → KeepsVariables ws t ws t
+pub keeps-all : (ws t : List ℕ) → HasSameVariables ws t ws t
 keeps-all ws t = record { kept = λ v p s. s; none = λ v e. e }
 
-pub keeps-on : (ws t ws2 t2 ws3 t3 : List ℕ) → KeepsVariables ws t ws2 t2 → KeepsVariables ws2 t2 ws3 t3 → KeepsVariables ws t ws3 t3
+pub keeps-on : (ws t ws2 t2 ws3 t3 : List ℕ) → HasSameVariables ws t ws2 t2 → HasSameVariables ws2 t2 ws3 t3 → HasSameVariables ws t ws3 t3
 keeps-on ws t ws2 t2 ws3 t3 h k = record {
   kept = λ v p s. k.kept v p (h.kept v p s);
   none = λ v e. k.none v (h.none v e);
 }
 
-pub keeps-out : (ws t : List ℕ) (v x : ℕ) → 0 < v → v ≤ MOST_VARIABLES → get_or (leaves_of ws t) v 0 ≡ 0 → KeepsVariables ws t (set ws (v - 1) x) t
+pub keeps-out : (ws t : List ℕ) (v x : ℕ) → 0 < v → v ≤ MOST_VARIABLES → get_or (leaves_of ws t) v 0 ≡ 0 → HasSameVariables ws t (set ws (v - 1) x) t
 keeps-out ws t v x p b e =
     let n = length-set ws (v - 1) x in
     record {
@@ -182,7 +182,7 @@ keeps-out ws t v x p b e =
       none = rw n (λ u z. z);
     }
 
-pub keeps-in : (ws t t2 : List ℕ) (v x : ℕ) → 0 < v → v < length (leaves_of ws t) → get_or (leaves_of ws t) v 0 ≢ 0 → leaves_of ws t2 ≡ set (leaves_of ws t) v (word_of (set ws (v - 1) x) v) → KeepsVariables ws t (set ws (v - 1) x) t2
+pub keeps-in : (ws t t2 : List ℕ) (v x : ℕ) → 0 < v → v < length (leaves_of ws t) → get_or (leaves_of ws t) v 0 ≢ 0 → leaves_of ws t2 ≡ set (leaves_of ws t) v (word_of (set ws (v - 1) x) v) → HasSameVariables ws t (set ws (v - 1) x) t2
 keeps-in ws t t2 v x p inside full e =
     let n = length-set ws (v - 1) x in
     let w = word_of (set ws (v - 1) x) v in

@@ -5,9 +5,9 @@ use Rattle.std.proofs.lemmas.Bool.{and_parts, not-true}
 use Rattle.std.proofs.lemmas.Bool.Decides.{eqb_tells}
 use Rattle.std.proofs.lemmas.List.Sums.{sum_by-cons}
 use Rattle.std.proofs.lemmas.List.{get_or-set_same, get_or-set_other}
-use Rattle.ilk_cnf.specs.Literal.{Literal, has_var, vars_differ}
+use Rattle.ilk_cnf.specs.Literal.{Literal, has_var, has_distinct_vars}
 
-pub counted-step : (w : List ℕ) (v : ℕ) (l : Literal) (rest : List Literal) → vars_differ (l ∷ rest) ≡ true →
+pub counted-step : (w : List ℕ) (v : ℕ) (l : Literal) (rest : List Literal) → has_distinct_vars (l ∷ rest) ≡ true →
     0 < v → 0 < l.var → l.var - 1 < length w →
     get_or (set w (l.var - 1) (get_or w (l.var - 1) 0 + 1)) (v - 1) 0 + cond (has_var v rest) 1 0
     ≡ get_or w (v - 1) 0 + cond (has_var v (l ∷ rest)) 1 0
@@ -26,11 +26,11 @@ counted-step w v l rest d v1 l1 in_w =
     true_false : true ≡ false → ⊥
     true_false e = absurd (cc)
 
-pub differ-drop : (ls : List Literal) (i : ℕ) → vars_differ ls ≡ true → vars_differ (drop i ls) ≡ true
+pub differ-drop : (ls : List Literal) (i : ℕ) → has_distinct_vars ls ≡ true → has_distinct_vars (drop i ls) ≡ true
 differ-drop [] zero d = refl
 differ-drop [] (suc i) d = refl
 differ-drop (l ∷ ls) zero d = d
-differ-drop (l ∷ ls) (suc i) d = differ-drop ls i (and_parts (not (has_var l.var ls)) (vars_differ ls) d).1
+differ-drop (l ∷ ls) (suc i) d = differ-drop ls i (and_parts (not (has_var l.var ls)) (has_distinct_vars ls) d).1
 
 pub count_by-push : {X : Type 0} (p : X → Bool) (xs : List X) (x : X) → count_by p (xs ++ x ∷ []) ≡ count_by p xs + cond (p x) 1 0
 count_by-push p [] x = (let e = sum_by-cons (λ y. cond (p y) 1 0) x [] in omega (arith, e))

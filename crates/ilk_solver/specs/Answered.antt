@@ -4,20 +4,20 @@ use Rattle.std.specs.List.{list_all}
 use Rattle.ilk_cnf.specs.Formula.{Formula}
 use Rattle.ilk_cnf.specs.Truth.{satisfies}
 use Rattle.ilk_log.specs.declared.step.Step.{Step}
-use Rattle.ilk_log.specs.Derived.{is_derived_log, is_empty, is_refutation}
-use Rattle.ilk_log.specs.Fresh.{EachFresh, IsStuck}
+use Rattle.ilk_log.specs.Derived.{is_derived_log, is_empty_clause, is_refutation}
+use Rattle.ilk_log.specs.Fresh.{EachEmpowering, CanLearnButNotRefute}
 use Rattle.ilk_solver.specs.declared.answer.Answer.{Answer}
 use Rattle.ilk_solver.specs.declared.answer.Answer.TheVariants.{Sat, Unsat, Spent}
 
 abbrev pub has_no_empty_step : List Step → Bool
-has_no_empty_step log = list_all (λ s. not (is_empty s.clause)) log
+has_no_empty_step log = list_all (λ s. not (is_empty_clause s.clause)) log
 
 -- Holds for every log of a search with a budget. Each step is derived, and each with a literal is
 -- fresh. The number of the latter is at most the budget.
 pub record IsSearchLog (f : Formula) (budget : ℕ) (log : List Step) : Type 0 where
   pub derived : IsTrue (is_derived_log f log)
-  pub fresh : EachFresh f.clauses log
-  pub few : count_by (λ s. not (is_empty s.clause)) log ≤ budget
+  pub fresh : EachEmpowering f.clauses log
+  pub few : count_by (λ s. not (is_empty_clause s.clause)) log ≤ budget
 
 -- Holds if the assignment gives each variable a value and satisfies the formula.
 pub record IsSolution (f : Formula) (a : List Bool) : Type 0 where
@@ -29,7 +29,7 @@ pub record IsSolution (f : Formula) (a : List Bool) : Type 0 where
 pub record IsSpentLog (f : Formula) (budget : ℕ) (log : List Step) : Type 0 where
   pub steps : length log ≡ budget
   pub unfinished : IsTrue (has_no_empty_step log)
-  pub stuck : IsStuck f log
+  pub stuck : CanLearnButNotRefute f log
   pub small : budget < 3 ^ f.vars
 
 -- The meaning of each answer for the formula, the budget and the log.

@@ -10,18 +10,18 @@ use Rattle.ilk_solver.specs.View.{ViewLists}
 use Rattle.ilk_solver.specs.Search.{SearchLists, IsSearch, all_clauses}
 
 -- The search with these clauses, of which the first `given` are the formula's.
-abbrev pub search_of : Formula → ℕ → List Step → ViewLists → SearchLists
-search_of clauses given log view = record { formula = record { vars = clauses.vars; clauses = take given clauses.clauses }; log = log; view = view }
+abbrev pub search_from_clauses : Formula → ℕ → List Step → ViewLists → SearchLists
+search_from_clauses clauses given log view = record { formula = record { vars = clauses.vars; clauses = take given clauses.clauses }; log = log; view = view }
 
 -- Holds if the clauses, of which the first `given` are the formula's, the log and the view are
 -- those of a search.
 pub record HoldsSearch (clauses : Formula) (given : ℕ) (log : List Step) (view : ViewLists) : Type 0 where
   pub first : given ≤ length clauses.clauses
-  pub laid : clauses.clauses ≡ all_clauses (search_of clauses given log view)
-  pub search : IsSearch (search_of clauses given log view)
+  pub laid : clauses.clauses ≡ all_clauses (search_from_clauses clauses given log view)
+  pub search : IsSearch (search_from_clauses clauses given log view)
 
 -- Holds if the arena's clauses, the log and the view are those of a search, with the progress of
 -- propagation.
-pub record HoldsWatched (clauses : ArenaLists) (head settled given : ℕ) (log : List Step) (view : ViewLists) : Type 0 where
+pub record HoldsSearchInArena (clauses : ArenaLists) (head settled given : ℕ) (log : List Step) (view : ViewLists) : Type 0 where
   pub search : HoldsSearch (formula_of clauses) given log view
   pub queue : IsQueue clauses view.trail.entries head settled

@@ -6,7 +6,7 @@ use Rattle.ilk_log.specs.declared.step.Step.{Step}
 use Rattle.ilk_log.specs.Derived.{step_clauses}
 use Rattle.ilk_trail.specs.declared.entry.Entry.{Entry}
 use Rattle.ilk_watches.specs.Reasons.{HasReasons}
-use Rattle.ilk_solver.specs.View.{ViewLists, weight_of, with_entries}
+use Rattle.ilk_solver.specs.View.{ViewLists, weight_of, with_trail_entries}
 use Rattle.ilk_solver.specs.Levels.{LevelsClosed}
 
 pub record SearchLists : Type 0 where
@@ -24,11 +24,11 @@ new_search f = record { formula = f; log = []; view = record { trail = record { 
 
 -- The search with these entries on its trail.
 abbrev pub with_trail : SearchLists → List Entry → SearchLists
-with_trail s entries = record s { view = with_entries s.view entries }
+with_trail s entries = record s { view = with_trail_entries s.view entries }
 
 -- Holds if the weight of each variable is the number of steps whose clause contains it.
-abbrev pub AreWeights : List Step → ViewLists → Type 0
-AreWeights log view = (v : ℕ) → IsTrue (is_lit_over view.trail.vars (positive_lit v)) → weight_of view v ≡ count_by (has_var v) (step_clauses log)
+abbrev pub WeightsCountSteps : List Step → ViewLists → Type 0
+WeightsCountSteps log view = (v : ℕ) → IsTrue (is_lit_over view.trail.vars (positive_lit v)) → weight_of view v ≡ count_by (has_var v) (step_clauses log)
 
 -- Holds for every search: its entries have reasons, its levels are closed, and its weights are
 -- those of its log.
@@ -36,7 +36,7 @@ pub record IsSearch (s : SearchLists) : Type 0 where
   pub vars : s.view.trail.vars ≡ s.formula.vars
   pub reasons : HasReasons (all_clauses s) s.view.trail.entries
   pub closed : LevelsClosed (all_clauses s) s.view.trail.entries
-  pub weighed : AreWeights s.log s.view
+  pub weighed : WeightsCountSteps s.log s.view
 
 -- Holds if one step was added, and nothing else changed but the weights.
 pub record HasStepAdded (old : SearchLists) (step : Step) (new : SearchLists) : Type 0 where

@@ -6,7 +6,7 @@
 -- last n + 1 entries are the leaves, one for each variable from 0 on; 0 means no variable.
 use Rattle.std.specs.Prelude.{ℕ, ◌≡◌, ◌≢◌, ◌⊎◌, ◌+◌, ◌*◌, ◌<◌, ◌≤◌, List, drop, length, slice_index}
 use Rattle.ilk_solver.specs.declared.word.TheConstants.{MOST_VARIABLES}
-use Rattle.ilk_solver.specs.Word.{IsGreater, variable_of, word_of}
+use Rattle.ilk_solver.specs.Word.{IsGreaterOfTwo, variable_of, word_of}
 
 -- The leaves of a tree over these weights.
 abbrev pub leaves_of : List ℕ → List ℕ → List ℕ
@@ -17,7 +17,7 @@ top_of tree = variable_of (slice_index tree 1)
 
 -- Holds if node `k` has the greater word of the two nodes below.
 abbrev pub IsWinnerNode : List ℕ → ℕ → Type 0
-IsWinnerNode tree k = IsGreater (slice_index tree k) (slice_index tree (2 * k)) (slice_index tree (2 * k + 1))
+IsWinnerNode tree k = IsGreaterOfTwo (slice_index tree k) (slice_index tree (2 * k)) (slice_index tree (2 * k + 1))
 
 -- Holds if variable `v` is at its leaf, with its weight.
 abbrev pub IsAtLeaf : List ℕ → List ℕ → ℕ → Type 0
@@ -35,10 +35,10 @@ abbrev pub IsTree : List ℕ → List ℕ → Type 0
 IsTree weights tree = IsTreeExceptAt weights tree 0
 
 -- Holds if the variables that were at their leaves still are.
-abbrev pub KeepsLeaves : List ℕ → List ℕ → List ℕ → Type 0
-KeepsLeaves weights old new = (v : ℕ) → IsAtLeaf weights old v → IsAtLeaf weights new v
+abbrev pub LosesNoVariable : List ℕ → List ℕ → List ℕ → Type 0
+LosesNoVariable weights old new = (v : ℕ) → IsAtLeaf weights old v → IsAtLeaf weights new v
 
 -- Holds if the tree has the same variables at its leaves after a weight has changed.
-pub record KeepsVariables (old_weights old weights new : List ℕ) : Type 0 where
+pub record HasSameVariables (old_weights old weights new : List ℕ) : Type 0 where
   pub kept : (v : ℕ) → 0 < v → IsAtLeaf old_weights old v → IsAtLeaf weights new v
   pub none : (v : ℕ) → slice_index (leaves_of old_weights old) v ≡ 0 → slice_index (leaves_of weights new) v ≡ 0

@@ -18,8 +18,8 @@ is_unset view v = is_lit_over view.trail.vars (positive_lit v) && not (is_set vi
 abbrev pub weight_of : ViewLists → ℕ → ℕ
 weight_of view v = slice_index view.weights (v - 1)
 
-abbrev pub with_entries : ViewLists → List Entry → ViewLists
-with_entries view entries = record { trail = record { vars = view.trail.vars; entries = entries }; weights = view.weights }
+abbrev pub with_trail_entries : ViewLists → List Entry → ViewLists
+with_trail_entries view entries = record { trail = record { vars = view.trail.vars; entries = entries }; weights = view.weights }
 
 -- Holds for every view: it has a trail, and a weight for each variable.
 pub record IsView (view : ViewLists) : Type 0 where

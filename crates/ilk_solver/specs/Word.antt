@@ -15,5 +15,5 @@ abbrev pub variable_of : ℕ → ℕ
 variable_of word = if word == 0 then 0 else (WEIGHT_LIMIT - 1 - word % WEIGHT_LIMIT)
 
 -- Holds if `x` is the greater of `a` and `b`.
-abbrev pub IsGreater : ℕ → ℕ → ℕ → Type 0
-IsGreater x a b = (a ≤ x) × (b ≤ x) × ((x ≡ a) ⊎ (x ≡ b))
+abbrev pub IsGreaterOfTwo : ℕ → ℕ → ℕ → Type 0
+IsGreaterOfTwo x a b = (a ≤ x) × (b ≤ x) × ((x ≡ a) ⊎ (x ≡ b))

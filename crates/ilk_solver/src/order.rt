@@ -1,7 +1,7 @@
 ghost use Rattle.std.specs.Prelude.{◌≡◌, ◌⊎◌, ◌≤◌, ◌<◌, ℕ, true, false, length, IfOk};
 ghost use Rattle.ilk_trail.specs.Laws.{is_set};
-ghost use Rattle.ilk_solver.specs.Order.{HasEntriesAbove, HasUnsetTop, KeepsUnset};
-ghost use Rattle.ilk_solver.specs.Tree.{IsTree, KeepsLeaves, IsAtLeaf};
+ghost use Rattle.ilk_solver.specs.Order.{HasEntriesAbove, HasNoSetTop, LosesNoUnset};
+ghost use Rattle.ilk_solver.specs.Tree.{IsTree, LosesNoVariable, IsAtLeaf};
 ghost use Rattle.ilk_solver.specs.declared.word.TheConstants.{MOST_VARIABLES};
 
 use crate::tree::{put_variable, write_leaf};
@@ -40,8 +40,8 @@ pub fn drop_set_from_top(trail: &Trail, weights: &[u32], tree: &mut [u64])
     requires vars { trail.now.vars ≡ length weights.now }
     requires tree { IsTree weights.now tree.old }
     ensures tree { IsTree weights.now tree.new }
-    ensures kept { KeepsUnset trail.now.entries weights.now tree.old tree.new }
-    ensures settled { HasUnsetTop trail.now.entries tree.new }
+    ensures kept { LosesNoUnset trail.now.entries weights.now tree.old tree.new }
+    ensures settled { HasNoSetTop trail.now.entries tree.new }
 {
     'tops: while is_past(trail, variable(tree[1])) {
         let top = variable(tree[1]);
@@ -54,7 +54,7 @@ pub fn put_back_above(trail: &Trail, weights: &[u32], tree: &mut [u64], level: u
     requires vars { trail.now.vars ≡ length weights.now }
     requires tree { IsTree weights.now tree.old }
     ensures tree { IsTree weights.now tree.new }
-    ensures kept { KeepsLeaves weights.now tree.old tree.new }
+    ensures kept { LosesNoVariable weights.now tree.old tree.new }
     ensures above { HasEntriesAbove trail.now.entries level weights.now tree.new }
 {
     let mut i = trail.count();

@@ -1,13 +1,13 @@
 ghost use Rattle.std.specs.Prelude.{◌≡◌, ◌≤◌, ◌<◌, [], ◌∷◌, false, true, IfNone, IfOk, IfSome, IsTrue};
 ghost use Rattle.ilk_watches.specs.Reasons.{is_conflict};
-ghost use Rattle.ilk_watches.specs.Watched.{IsAddable};
+ghost use Rattle.ilk_watches.specs.Watched.{FirstTwoAreWatchable};
 ghost use Rattle.ilk_cnf.specs.Formula.{is_clause_over, is_lit_over};
-ghost use Rattle.ilk_cnf.specs.Literal.{vars_differ};
+ghost use Rattle.ilk_cnf.specs.Literal.{has_distinct_vars};
 ghost use Rattle.ilk_log.specs.Derived.{is_derived};
 ghost use Rattle.ilk_log.specs.Propagation.{is_saturated};
 ghost use Rattle.ilk_trail.specs.Trail.{with_decision, level_of, entries_up_to};
 ghost use Rattle.ilk_trail.specs.Laws.{IsTrail, is_set, lits_of};
-ghost use Rattle.ilk_watches.specs.Propagated.{IsPropagated};
+ghost use Rattle.ilk_watches.specs.Propagated.{ExtendsByPropagation};
 ghost use Rattle.ilk_solver.specs.Search.{HasStepAdded, IsSearch, all_clauses, new_search, with_trail};
 ghost use Rattle.ilk_solver.specs.View.{IsView};
 ghost use Rattle.ilk_solver.specs.Levels.{LevelsClosed};
@@ -39,13 +39,13 @@ pub struct Search {
 impl Model for Search {
     ghost use Rattle.ilk_solver.specs.Search.{SearchLists};
     ghost use Rattle.ilk_watches.specs.Chained.{formula_of};
-    ghost use Rattle.ilk_solver.specs.Held.{search_of, HoldsWatched};
+    ghost use Rattle.ilk_solver.specs.Held.{search_from_clauses, HoldsSearchInArena};
 
     ghost Value = { SearchLists };
 
-    ghost view = { λ s. search_of (formula_of s.clauses) s.given s.log s.view };
+    ghost view = { λ s. search_from_clauses (formula_of s.clauses) s.given s.log s.view };
 
-    ghost invariant = { λ s. HoldsWatched s.clauses s.queue.head s.queue.settled s.given s.log
+    ghost invariant = { λ s. HoldsSearchInArena s.clauses s.queue.head s.queue.settled s.given s.log
         s.view };
 }
 
@@ -87,7 +87,7 @@ impl Search {
         ensures closed { IfNone result
             (IsTrue (is_saturated (all_clauses self.old) (lits_of self.new.view.trail.entries))) }
         ensures same { self.new ≡ with_trail self.old self.new.view.trail.entries }
-        ensures propagated { IsPropagated (all_clauses self.old) self.old.view.trail.entries
+        ensures propagated { ExtendsByPropagation (all_clauses self.old) self.old.view.trail.entries
             self.new.view.trail.entries }
     {
         let _ = self.view.vars();
@@ -124,9 +124,9 @@ impl Search {
     /// 2^32 clauses, which a weight cannot count.
     pub fn add(self, step: Step) -> Result<Search, AllocError>
         requires within { IsTrue (is_clause_over self.formula.vars step.clause) }
-        requires differ { IsTrue (vars_differ step.clause) }
+        requires differ { IsTrue (has_distinct_vars step.clause) }
         requires closed { LevelsClosed (step.clause ∷ []) self.view.trail.entries }
-        requires addable { IsAddable self.view.trail.entries step.clause }
+        requires addable { FirstTwoAreWatchable self.view.trail.entries step.clause }
         ensures { IfOk result (λ s. HasStepAdded self step s) }
     {
         let Search {
@@ -211,7 +211,7 @@ impl Search {
     }
 
     /// Goes back to `level`, which is at most the level of `learned_step`, and adds its step.
-    pub fn add_learned(mut self, learned: Learned, level: u64) -> Result<Search, AllocError>
+    pub fn backjump_and_add(mut self, learned: Learned, level: u64) -> Result<Search, AllocError>
         requires learned { IsLearned self learned.step learned.level }
         requires level { level ≤ learned.level }
         ensures { IfOk result (λ s. HasOneStepMore self learned.step s) }

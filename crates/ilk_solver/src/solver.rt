@@ -3,7 +3,7 @@ ghost use Rattle.ilk_watches.specs.Reasons.{is_conflict};
 ghost use Rattle.ilk_log.specs.Propagation.{is_saturated};
 ghost use Rattle.ilk_trail.specs.Laws.{lits_of};
 ghost use Rattle.ilk_solver.specs.Answered.{IsAnswer, IsSearchLog};
-ghost use Rattle.ilk_watches.specs.Propagated.{IsPropagated};
+ghost use Rattle.ilk_watches.specs.Propagated.{ExtendsByPropagation};
 ghost use Rattle.ilk_solver.specs.Search.{all_clauses, new_search, with_trail};
 
 use crate::answer::{Answer, Outcome};
@@ -58,7 +58,7 @@ impl Solver {
             ≡ with_trail self.old.search self.new.search.view.trail.entries }
         ensures picker { self.new.picker ≡ self.old.picker }
         ensures restart { self.new.restart ≡ self.old.restart }
-        ensures propagated { IsPropagated (all_clauses self.old.search)
+        ensures propagated { ExtendsByPropagation (all_clauses self.old.search)
             self.old.search.view.trail.entries self.new.search.view.trail.entries }
     {
         self.search.propagate()
@@ -113,7 +113,7 @@ impl Solver {
                     }
                     steps += 1;
                     let level = restart.level_after(steps, learned.level);
-                    search = search.add_learned(learned, level)?;
+                    search = search.backjump_and_add(learned, level)?;
                 }
             }
         }

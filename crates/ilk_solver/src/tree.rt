@@ -1,7 +1,7 @@
 ghost use Rattle.std.specs.Prelude.{◌≡◌, ◌⊎◌, ◌≤◌, ◌<◌, ◌+◌, ◌-◌, length, slice_index, slice_set};
 ghost use Rattle.ilk_solver.specs.Word.{word_of};
 ghost use Rattle.ilk_solver.specs.declared.word.TheConstants.{WEIGHT_LIMIT};
-ghost use Rattle.ilk_solver.specs.Tree.{IsTree, IsTreeExceptAt, KeepsLeaves, KeepsVariables, IsAtLeaf, leaves_of};
+ghost use Rattle.ilk_solver.specs.Tree.{IsTree, IsTreeExceptAt, LosesNoVariable, HasSameVariables, IsAtLeaf, leaves_of};
 
 use crate::word::{greater, word};
 
@@ -48,7 +48,7 @@ pub fn put_variable(weights: &[u32], tree: &mut [u64], v: u64)
     requires within { v ≤ length weights.now }
     requires tree { IsTree weights.now tree.old }
     ensures tree { IsTree weights.now tree.new }
-    ensures kept { KeepsLeaves weights.now tree.old tree.new }
+    ensures kept { LosesNoVariable weights.now tree.old tree.new }
     ensures stands { IsAtLeaf weights.now tree.new v }
 {
     let leaf = weights.len() + 1 + v as usize;
@@ -66,7 +66,7 @@ pub fn add_one_weight(weights: &mut [u32], tree: &mut [u64], v: u64)
     requires room { slice_index weights.old (v - 1) + 1 < WEIGHT_LIMIT }
     requires tree { IsTree weights.old tree.old }
     ensures tree { IsTree weights.new tree.new }
-    ensures leaves { KeepsVariables weights.old tree.old weights.new tree.new }
+    ensures leaves { HasSameVariables weights.old tree.old weights.new tree.new }
     ensures weights { weights.new
         ≡ slice_set weights.old (v - 1) (slice_index weights.old (v - 1) + 1) }
 {

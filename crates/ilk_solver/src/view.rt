@@ -1,18 +1,18 @@
 ghost use Rattle.std.specs.Prelude.{◌≡◌, ◌≤◌, ◌<◌, ◌+◌, ◌^◌, ◌-◌, ℕ, [], false, true, length, not, replicate, slice_index, if◌then◌else◌, IfNone, IfOk, IfSome, IsTrue};
 ghost use Rattle.ilk_cnf.specs.Formula.{is_clause_over, is_lit_over};
-ghost use Rattle.ilk_cnf.specs.Literal.{has_var, vars_differ};
+ghost use Rattle.ilk_cnf.specs.Literal.{has_var, has_distinct_vars};
 ghost use Rattle.ilk_trail.specs.Trail.{with_decision, level_of, entries_up_to};
 ghost use Rattle.ilk_trail.specs.Laws.{is_set, lits_of};
 ghost use Rattle.ilk_log.specs.Propagation.{is_saturated};
 ghost use Rattle.ilk_watches.specs.Reasons.{is_conflict};
 ghost use Rattle.ilk_watches.specs.Chained.{SameClauses};
-ghost use Rattle.ilk_watches.specs.Propagated.{IsPropagated};
+ghost use Rattle.ilk_watches.specs.Propagated.{ExtendsByPropagation};
 ghost use Rattle.ilk_watches.specs.Watched.{IsQueue};
 ghost use Rattle.ilk_solver.specs.declared.word.TheConstants.{WEIGHT_LIMIT};
 ghost use Rattle.ilk_solver.specs.Assigned.{AllSet, SomeUnset};
 ghost use Rattle.ilk_solver.specs.Heaviest.{IsHeaviest};
-ghost use Rattle.ilk_solver.specs.Tree.{IsTree, KeepsVariables};
-ghost use Rattle.ilk_solver.specs.View.{IsView, weight_of, with_entries};
+ghost use Rattle.ilk_solver.specs.Tree.{IsTree, HasSameVariables};
+ghost use Rattle.ilk_solver.specs.View.{IsView, weight_of, with_trail_entries};
 
 use crate::order::{drop_set_from_top, new_tree, put_back_above};
 use crate::tree::add_one_weight;
@@ -34,14 +34,14 @@ pub struct View {
 }
 
 impl Model for View {
-    ghost use Rattle.ilk_solver.specs.Order.{HoldsView};
+    ghost use Rattle.ilk_solver.specs.Order.{TreeFitsView};
     ghost use Rattle.ilk_solver.specs.View.{ViewLists};
 
     ghost Value = { ViewLists };
 
     ghost view = { λ v. record { trail = v.trail; weights = v.weights.items } };
 
-    ghost invariant = { λ v. HoldsView (record { trail = v.trail; weights = v.weights.items })
+    ghost invariant = { λ v. TreeFitsView (record { trail = v.trail; weights = v.weights.items })
         v.tree.items };
 }
 
@@ -136,8 +136,8 @@ impl View {
             (λ c. IsTrue (is_conflict clauses.old.clauses (lits_of self.new.trail.entries) c)) }
         ensures closed { IfNone result
             (IsTrue (is_saturated clauses.old.clauses (lits_of self.new.trail.entries))) }
-        ensures entries { self.new ≡ with_entries self.old self.new.trail.entries }
-        ensures propagated { IsPropagated clauses.old.clauses self.old.trail.entries
+        ensures entries { self.new ≡ with_trail_entries self.old self.new.trail.entries }
+        ensures propagated { ExtendsByPropagation clauses.old.clauses self.old.trail.entries
             self.new.trail.entries }
         ensures queued { IsQueue clauses.new self.new.trail.entries queue.new.head
             queue.new.settled }
@@ -158,7 +158,7 @@ impl View {
         requires unset { is_set self.old.trail.entries l.var ≡ false }
         requires closed { IsTrue (is_saturated clauses.old.clauses
             (lits_of self.old.trail.entries)) }
-        ensures entries { self.new ≡ with_entries self.old
+        ensures entries { self.new ≡ with_trail_entries self.old
             (with_decision self.old.trail.entries l) }
         ensures queued { IsQueue clauses.new self.new.trail.entries queue.new.head
             queue.new.settled }
@@ -172,7 +172,7 @@ impl View {
     // Removes the levels above `level`.
     pub(crate) fn back_to(&mut self, level: u64)
         requires { level ≤ level_of self.old.trail.entries }
-        ensures entries { self.new ≡ with_entries self.old
+        ensures entries { self.new ≡ with_trail_entries self.old
             (entries_up_to level self.old.trail.entries) }
         ensures level { level_of self.new.trail.entries ≡ level }
     {
@@ -185,7 +185,7 @@ impl View {
     // Adds 1 to the weight of each variable of `clause`.
     pub(crate) fn count(&mut self, clause: &[Lit])
         requires within { IsTrue (is_clause_over self.old.trail.vars clause.now) }
-        requires differ { IsTrue (vars_differ clause.now) }
+        requires differ { IsTrue (has_distinct_vars clause.now) }
         requires room { (i : ℕ) → slice_index self.old.weights i + 1 < WEIGHT_LIMIT }
         ensures trail { self.new.trail ≡ self.old.trail }
         ensures weights { (v : ℕ) → 0 < v →
@@ -199,14 +199,14 @@ impl View {
 // Adds 1 to entry `v - 1` for each variable `v` of the clause. The tree keeps its variables.
 fn count_in(weights: &mut [u32], tree: &mut [u64], clause: &[Lit])
     requires within { IsTrue (is_clause_over (length weights.old) clause.now) }
-    requires differ { IsTrue (vars_differ clause.now) }
+    requires differ { IsTrue (has_distinct_vars clause.now) }
     requires room { (i : ℕ) → slice_index weights.old i + 1 < WEIGHT_LIMIT }
     requires tree { IsTree weights.old tree.old }
     ensures weights { (v : ℕ) → 0 < v →
         slice_index weights.new (v - 1)
         ≡ slice_index weights.old (v - 1) + (if has_var v clause.now then 1 else 0) }
     ensures tree { IsTree weights.new tree.new }
-    ensures leaves { KeepsVariables weights.old tree.old weights.new tree.new }
+    ensures leaves { HasSameVariables weights.old tree.old weights.new tree.new }
 {
     for lit in clause {
         add_one_weight(weights, tree, lit.var());

@@ -7,13 +7,13 @@ use Rattle.ilk_base.proofs.Ranges.{range-suc}
 use Rattle.ilk_cnf.specs.Literal.{negative_lit, has_var}
 use Rattle.ilk_cnf.specs.Formula.{is_clause_over, are_clauses_over}
 use Rattle.ilk_cnf.specs.Truth.{value, is_true}
-use Rattle.ilk_cnf.specs.Extends.{Extends, IsExactlyIf, FollowedBy}
+use Rattle.ilk_cnf.specs.Extends.{ExtensionsAreExactly, PassesWithExactValues, ValuesFollowedBy}
 use Rattle.ilk_cnf.proofs.Parts.{value-new, in_turn, in_words}
-use Rattle.ilk_ints.specs.Named.{value_bits}
-use Rattle.ilk_ints.specs.OneOf.{one_of_bits, exactly_one_true, none_true}
+use Rattle.ilk_ints.specs.Named.{one_hot_bits}
+use Rattle.ilk_ints.specs.OneOf.{exactly_one_bits, exactly_one_true, none_true}
 use Rattle.ilk_ints.proofs.OneOfLaw.{one_of-law, one_of-low, part-in}
-use Rattle.ilk_ints.proofs.ValuesLaw.{length-value_bits}
-use Rattle.ilk_step.specs.Choice.{chosen_lits, choice_part, choice_bits, IsChoice, Chooses}
+use Rattle.ilk_ints.proofs.ValuesLaw.{length-one_hot_bits}
+use Rattle.ilk_step.specs.Choice.{chosen_lits, choice_part, choice_bits, AreChoiceBits, Chooses}
 
 pub chosen_lits-more : (first m : ℕ) → chosen_lits first (m + 1) ≡ chosen_lits first m ++ negative_lit (first + m) ∷ []
 chosen_lits-more first m =
@@ -38,38 +38,38 @@ chosen_lits-say (q ∷ b) a c first size =
     let moved : map (is_true (a ++ q ∷ (b ++ c))) (chosen_lits (first + 1) (length b)) ≡ map not b = subst (λ (u : List Bool). map (is_true u) (chosen_lits (first + 1) (length b)) ≡ map not b) (append_assoc a (q ∷ []) (b ++ c)) rest in
     rw (here, moved) refl
 
-none-value_bits : (qs : List Bool) (r v : ℕ) → r < v → none_true qs ≡ true → qs ≡ value_bits r v (length qs)
-none-value_bits [] r v h k = refl
-none-value_bits (true ∷ qs) r v h k = absurd (false≢true k)
-none-value_bits (false ∷ qs) r v h k =
+none-one_hot_bits : (qs : List Bool) (r v : ℕ) → r < v → none_true qs ≡ true → qs ≡ one_hot_bits r v (length qs)
+none-one_hot_bits [] r v h k = refl
+none-one_hot_bits (true ∷ qs) r v h k = absurd (false≢true k)
+none-one_hot_bits (false ∷ qs) r v h k =
     let here : eqb r v ≡ false = ne_eqb r v (λ e. absurd (omega arith)) in
-    let rest = none-value_bits qs r (v + 1) (omega arith) k in
+    let rest = none-one_hot_bits qs r (v + 1) (omega arith) k in
     cc
 
-one-value_bits : (qs : List Bool) (v : ℕ) → exactly_one_true qs ≡ true → (r : ℕ) × (v ≤ r) × (r < v + length qs) × (qs ≡ value_bits r v (length qs))
-one-value_bits [] v h = absurd (false≢true h)
-one-value_bits (true ∷ qs) v h =
+one-one_hot_bits : (qs : List Bool) (v : ℕ) → exactly_one_true qs ≡ true → (r : ℕ) × (v ≤ r) × (r < v + length qs) × (qs ≡ one_hot_bits r v (length qs))
+one-one_hot_bits [] v h = absurd (false≢true h)
+one-one_hot_bits (true ∷ qs) v h =
     let here : eqb v v ≡ true = eq-eqb v v refl in
-    let rest = none-value_bits qs v (v + 1) (omega arith) h in
+    let rest = none-one_hot_bits qs v (v + 1) (omega arith) h in
     (v, omega arith, omega arith, cc)
-one-value_bits (false ∷ qs) v h =
-    let more = one-value_bits qs (v + 1) h in
+one-one_hot_bits (false ∷ qs) v h =
+    let more = one-one_hot_bits qs (v + 1) h in
     let low = more.1 in
     let high = more.2 in
     let is = more.3 in
     let here : eqb more.0 v ≡ false = ne_eqb more.0 v (λ e. absurd (omega arith)) in
     (more.0, omega arith, omega arith, cc)
 
-value_bits-none : (m r v : ℕ) → r < v → none_true (value_bits r v m) ≡ true
-value_bits-none zero r v h = refl
-value_bits-none (suc m) r v h = let here = ne_eqb r v (λ e. absurd (omega arith)) in rw here (value_bits-none m r (v + 1) (omega arith))
+one_hot_bits-none : (m r v : ℕ) → r < v → none_true (one_hot_bits r v m) ≡ true
+one_hot_bits-none zero r v h = refl
+one_hot_bits-none (suc m) r v h = let here = ne_eqb r v (λ e. absurd (omega arith)) in rw here (one_hot_bits-none m r (v + 1) (omega arith))
 
-value_bits-one : (m r v : ℕ) → v ≤ r → r < v + m → exactly_one_true (value_bits r v m) ≡ true
-value_bits-one zero r v low high = absurd (omega arith)
-value_bits-one (suc m) r v low high =
+one_hot_bits-one : (m r v : ℕ) → v ≤ r → r < v + m → exactly_one_true (one_hot_bits r v m) ≡ true
+one_hot_bits-one zero r v low high = absurd (omega arith)
+one_hot_bits-one (suc m) r v low high =
     elim (cases_eq r v) [
-      | inl same ↦ (let here = eq-eqb r v same in rw here (value_bits-none m r (v + 1) (omega arith)))
-      | inr other ↦ (let here = ne_eqb r v other in rw here (value_bits-one m r (v + 1) (omega arith) (omega arith)))
+      | inl same ↦ (let here = eq-eqb r v same in rw here (one_hot_bits-none m r (v + 1) (omega arith)))
+      | inr other ↦ (let here = ne_eqb r v other in rw here (one_hot_bits-one m r (v + 1) (omega arith) (omega arith)))
     ]
 
 not_not : (b : List Bool) → map not (map not b) ≡ b
@@ -88,23 +88,23 @@ pub choice-in : (m n : ℕ) → are_clauses_over (choice_part m n).vars (choice_
 choice-in m n = part-in (chosen_lits (n + 1) m) (n + m) (chosen_lits-in m (n + 1) (n + m) (omega arith) (omega arith))
 
 -- New variables without clauses may have any values.
-any_values : (a : List Bool) (n m : ℕ) → length a ≡ n → Extends a (n + m) [] (λ b. length b ≡ m)
+any_values : (a : List Bool) (n m : ℕ) → length a ≡ n → ExtensionsAreExactly a (n + m) [] (λ b. length b ≡ m)
 any_values a n m size = record {
   sized = λ b h. omega (arith, length-append a b, size, h);
   all_satisfy = λ b h. refl;
   only = λ b long sat. omega (arith, length-append a b, size, long);
 }
 
-pub choice-law : (a : List Bool) (m n : ℕ) → length a ≡ n → Extends a (choice_part m n).vars (choice_part m n).clauses (IsChoice m)
+pub choice-law : (a : List Bool) (m n : ℕ) → length a ≡ n → ExtensionsAreExactly a (choice_part m n).vars (choice_part m n).clauses (AreChoiceBits m)
 choice-law a m n size =
-    in_words a (choice_part m n).vars (choice_part m n).clauses _ (IsChoice m) to from
+    in_words a (choice_part m n).vars (choice_part m n).clauses _ (AreChoiceBits m) to from
     (in_turn a (n + m) (choice_part m n).vars [] (choice_part m n).clauses (λ b. length b ≡ m) one
     (omega (arith, size)) (choice-low m n) refl (any_values a n m size) next)
   where
     one : (b : List Bool) → length b ≡ m → List Bool → Type 0
-    one b _ = IsExactlyIf (exactly_one_true (map not b)) (one_of_bits (map not b))
+    one b _ = PassesWithExactValues (exactly_one_true (map not b)) (exactly_one_bits (map not b))
 
-    next : (b : List Bool) → (long : length b ≡ m) → Extends (a ++ b) (choice_part m n).vars (choice_part m n).clauses (one b long)
+    next : (b : List Bool) → (long : length b ≡ m) → ExtensionsAreExactly (a ++ b) (choice_part m n).vars (choice_part m n).clauses (one b long)
     next b long =
         let here : length (a ++ b) ≡ n + m = omega (arith, length-append a b, size, long) in
         let bare : a ++ (b ++ []) ≡ a ++ b = simp append-nil in
@@ -113,32 +113,32 @@ choice-law a m n size =
         (subst (λ (k : ℕ). map (is_true (a ++ (b ++ []))) (chosen_lits (n + 1) k) ≡ map not b) long
         (chosen_lits-say b a [] (n + 1) (ap (λ (k : ℕ). k + 1) size))) in
         subst
-        (λ (u : List Bool). Extends (a ++ b) (choice_part m n).vars (choice_part m n).clauses
-        (IsExactlyIf (exactly_one_true u) (one_of_bits u))) say
+        (λ (u : List Bool). ExtensionsAreExactly (a ++ b) (choice_part m n).vars (choice_part m n).clauses
+        (PassesWithExactValues (exactly_one_true u) (exactly_one_bits u))) say
         (one_of-law (chosen_lits (n + 1) m) (a ++ b) (n + m) here
         (chosen_lits-in m (n + 1) (n + m) (omega arith) (omega arith)))
 
-    to : (d : List Bool) → FollowedBy (λ b. length b ≡ m) one d → IsChoice m d
+    to : (d : List Bool) → ValuesFollowedBy (λ b. length b ≡ m) one d → AreChoiceBits m d
     to d h =
-        let at = one-value_bits (map not h.0) 0 h.4.0 in
+        let at = one-one_hot_bits (map not h.0) 0 h.4.0 in
         let long : length (map not h.0) ≡ m = length-not h.0 ∙ h.3 in
         let less = at.2 in
-        let same : map not h.0 ≡ value_bits at.0 0 m = subst (λ (k : ℕ). map not h.0 ≡ value_bits at.0 0 k) long at.3 in
-        let skips : h.0 ≡ map not (value_bits at.0 0 m) = sym (not_not h.0) ∙ ap (map not) same in
-        (at.0, omega arith, h.2 ∙ ap (λ (u : List Bool). h.0 ++ u) h.4.1 ∙ ap (λ (u : List Bool). h.0 ++ one_of_bits u) same ∙ ap (λ (u : List Bool). u ++ one_of_bits (value_bits at.0 0 m)) skips)
+        let same : map not h.0 ≡ one_hot_bits at.0 0 m = subst (λ (k : ℕ). map not h.0 ≡ one_hot_bits at.0 0 k) long at.3 in
+        let skips : h.0 ≡ map not (one_hot_bits at.0 0 m) = sym (not_not h.0) ∙ ap (map not) same in
+        (at.0, omega arith, h.2 ∙ ap (λ (u : List Bool). h.0 ++ u) h.4.1 ∙ ap (λ (u : List Bool). h.0 ++ exactly_one_bits u) same ∙ ap (λ (u : List Bool). u ++ exactly_one_bits (one_hot_bits at.0 0 m)) skips)
 
-    from : (d : List Bool) → IsChoice m d → FollowedBy (λ b. length b ≡ m) one d
+    from : (d : List Bool) → AreChoiceBits m d → ValuesFollowedBy (λ b. length b ≡ m) one d
     from d h =
-        let qs = value_bits h.0 0 m in
+        let qs = one_hot_bits h.0 0 m in
         let less = h.1 in
         let same : qs ≡ map not (map not qs) = sym (not_not qs) in
-        (map not qs, one_of_bits qs, h.2, length-not qs ∙ length-value_bits h.0 0 m, (ap exactly_one_true (sym same) ∙ value_bits-one m h.0 0 (omega arith) (omega arith), ap one_of_bits same))
+        (map not qs, exactly_one_bits qs, h.2, length-not qs ∙ length-one_hot_bits h.0 0 m, (ap exactly_one_true (sym same) ∙ one_hot_bits-one m h.0 0 (omega arith) (omega arith), ap exactly_one_bits same))
 
-pub choice-says : (a c : List Bool) (m r n : ℕ) → length a ≡ n → map (is_true (a ++ (choice_bits m r ++ c))) (chosen_lits (n + 1) m) ≡ value_bits r 0 m
+pub choice-says : (a c : List Bool) (m r n : ℕ) → length a ≡ n → map (is_true (a ++ (choice_bits m r ++ c))) (chosen_lits (n + 1) m) ≡ one_hot_bits r 0 m
 choice-says a c m r n size =
-    let qs = value_bits r 0 m in
-    let d = one_of_bits qs in
-    let long : length (map not qs) ≡ m = length-not qs ∙ length-value_bits r 0 m in
+    let qs = one_hot_bits r 0 m in
+    let d = exactly_one_bits qs in
+    let long : length (map not qs) ≡ m = length-not qs ∙ length-one_hot_bits r 0 m in
     let whole : a ++ (map not qs ++ (d ++ c)) ≡ a ++ ((map not qs ++ d) ++ c) = ap (λ (u : List Bool). a ++ u) (sym (append_assoc (map not qs) d c)) in
     let say = chosen_lits-say (map not qs) a (d ++ c) (n + 1) (ap (λ (k : ℕ). k + 1) size) in
     subst (λ (u : List Bool). map (is_true u) (chosen_lits (n + 1) m) ≡ qs) whole (subst (λ (k : ℕ). map (is_true (a ++ (map not qs ++ (d ++ c)))) (chosen_lits (n + 1) k) ≡ qs) long (say ∙ not_not qs))
@@ -150,7 +150,7 @@ turned false true h = refl
 turned false false h = absurd cc
 
 -- Each variable of a choice is false exactly if its rule is chosen.
-pub chosen-at : (m : ℕ) (a : List Bool) (first r u i : ℕ) → map (is_true a) (chosen_lits first m) ≡ value_bits r u m → i < m → value a (first + i) ≡ not (eqb r (u + i))
+pub chosen-at : (m : ℕ) (a : List Bool) (first r u i : ℕ) → map (is_true a) (chosen_lits first m) ≡ one_hot_bits r u m → i < m → value a (first + i) ≡ not (eqb r (u + i))
 chosen-at zero a first r u i h less = absurd (omega arith)
 chosen-at (suc m) a first r u zero h less =
     let here : not (value a first) ≡ eqb r u = cc in
@@ -158,7 +158,7 @@ chosen-at (suc m) a first r u zero h less =
     let two : u ≡ u + 0 = omega arith in
     ap (value a) one ∙ turned (value a first) (eqb r u) here ∙ ap (λ (k : ℕ). not (eqb r k)) two
 chosen-at (suc m) a first r u (suc i) h less =
-    let others : map (is_true a) (chosen_lits (first + 1) m) ≡ value_bits r (u + 1) m = cc in
+    let others : map (is_true a) (chosen_lits (first + 1) m) ≡ one_hot_bits r (u + 1) m = cc in
     let one : first + suc i ≡ first + 1 + i = omega arith in
     let two : u + 1 + i ≡ u + suc i = omega arith in
     ap (value a) one ∙ chosen-at m a (first + 1) r (u + 1) i others (omega arith) ∙ ap (λ (k : ℕ). not (eqb r k)) two

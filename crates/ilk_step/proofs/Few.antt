@@ -3,17 +3,17 @@ use Rattle.std.proofs.Common.{◌≡◌, ◌==◌, ℕ, suc, ◌+◌, ◌*◌, �
 use Rattle.std.proofs.lemmas.List.FromFn.{length-map-range_with_len}
 use Rattle.ilk_cnf.specs.Literal.{Literal, positive_lit, negative_lit}
 use Rattle.ilk_ints.proofs.OneOfLaw.{one_of-vars, one_of-few}
-use Rattle.ilk_ir.specs.System.{RuleTree}
+use Rattle.ilk_ir.specs.System.{PlainRule}
 use Rattle.ilk_ir.specs.declared.system.Setting.{Setting}
-use Rattle.ilk_forms.specs.declared.copy.Column.{Column}
+use Rattle.ilk_forms.specs.declared.copy.VarLits.{VarLits}
 use Rattle.ilk_forms.specs.Size.{tree_size}
-use Rattle.ilk_forms.specs.Demand.{demand_part}
+use Rattle.ilk_forms.specs.Demand.{lit_or_form_part}
 use Rattle.ilk_forms.proofs.Few.{demand_of-few}
 use Rattle.ilk_step.specs.Choice.{chosen_lits, choice_part}
 use Rattle.ilk_step.specs.Rules.{settings_part, rules_part}
-use Rattle.ilk_step.specs.Frame.{setter_lits, carried_lits, carry_over, frames}
+use Rattle.ilk_step.specs.Frame.{setter_lits, lits_to_carry_over, carry_over, frame_axioms}
 use Rattle.ilk_step.specs.Step.{step_part}
-use Rattle.ilk_step.specs.Size.{guards_size, settings_count, literals_count}
+use Rattle.ilk_step.specs.Size.{guards_and_settings_size, settings_count, copy_literals_count}
 
 choice-few : (m n : ℕ) → ((choice_part m n).vars ≤ n + 2 * m) × (length (choice_part m n).clauses ≤ 4 * m + 1)
 choice-few m n =
@@ -23,15 +23,15 @@ choice-few m n =
     let clauses = one_of-few ls (n + m) in
     (omega arith, omega arith)
 
-settings-few : (sets : List Setting) (next : List Column) (skip : Literal) (n : ℕ) → ((settings_part next skip sets n).vars ≡ n) × (length (settings_part next skip sets n).clauses ≡ length sets)
+settings-few : (sets : List Setting) (next : List VarLits) (skip : Literal) (n : ℕ) → ((settings_part next skip sets n).vars ≡ n) × (length (settings_part next skip sets n).clauses ≡ length sets)
 settings-few [] next skip n = (refl, refl)
 settings-few (s ∷ sets) next skip n = let rest = settings-few sets next skip n in (rest.0, ap (λ (k : ℕ). suc k) rest.1)
 
-rules-few : (rs : List RuleTree) (now next : List Column) (k n : ℕ) → ((rules_part now next k rs n).vars ≤ n + guards_size rs) × (length (rules_part now next k rs n).clauses ≤ 2 * guards_size rs + settings_count rs)
+rules-few : (rs : List PlainRule) (now next : List VarLits) (k n : ℕ) → ((rules_part now next k rs n).vars ≤ n + guards_and_settings_size rs) × (length (rules_part now next k rs n).clauses ≤ 2 * guards_and_settings_size rs + settings_count rs)
 rules-few [] now next k n = (omega arith, omega arith)
 rules-few (r ∷ rs) now next k n =
     let skip = positive_lit k in
-    let p = demand_part now (skip ∷ []) r.guard n in
+    let p = lit_or_form_part now (skip ∷ []) r.guard n in
     let q = settings_part next skip r.sets p.vars in
     let rest = rules_part now next (k + 1) rs q.vars in
     let one = demand_of-few r.guard now (skip ∷ []) true n in
@@ -41,8 +41,8 @@ rules-few (r ∷ rs) now next k n =
     let set_vars : q.vars ≡ p.vars = two.0 in
     let set_clauses : length q.clauses ≡ length r.sets = two.1 in
     let three = rules-few rs now next (k + 1) q.vars in
-    let rest_vars : rest.vars ≤ q.vars + guards_size rs = three.0 in
-    let rest_clauses : length rest.clauses ≤ 2 * guards_size rs + settings_count rs = three.1 in
+    let rest_vars : rest.vars ≤ q.vars + guards_and_settings_size rs = three.0 in
+    let rest_clauses : length rest.clauses ≤ 2 * guards_and_settings_size rs + settings_count rs = three.1 in
     let first : length (p.clauses ++ q.clauses) ≡ length p.clauses + length q.clauses = length-append p.clauses q.clauses in
     let all : length ((p.clauses ++ q.clauses) ++ rest.clauses) ≡ length (p.clauses ++ q.clauses) + length rest.clauses = length-append (p.clauses ++ q.clauses) rest.clauses in
     (omega arith, omega arith)
@@ -52,8 +52,8 @@ carry_over-few [] ms first = omega arith
 carry_over-few (l ∷ ls) [] first = omega arith
 carry_over-few (l ∷ ls) (m ∷ ms) first = let rest = carry_over-few ls ms first in omega arith
 
-carried_lits-few : (ls : List Literal) → length (carried_lits ls) ≤ length ls
-carried_lits-few ls = by_case (length ls == 2)
+lits_to_carry_over-few : (ls : List Literal) → length (lits_to_carry_over ls) ≤ length ls
+lits_to_carry_over-few ls = by_case (length ls == 2)
   where
     first_few : (ls : List Literal) → length (take 1 ls) ≤ length ls
     first_few [] = omega arith
@@ -63,37 +63,37 @@ carried_lits-few ls = by_case (length ls == 2)
     by_case true = first_few ls
     by_case false = omega arith
 
-frames-few : (now next : List Column) (rs : List RuleTree) (k v : ℕ) → length (frames rs k v now next) ≤ 2 * literals_count now
-frames-few [] next rs k v = omega arith
-frames-few (c ∷ now) [] rs k v = omega arith
-frames-few (c ∷ now) (d ∷ next) rs k v =
+frame_axioms-few : (now next : List VarLits) (rs : List PlainRule) (k v : ℕ) → length (frame_axioms rs k v now next) ≤ 2 * copy_literals_count now
+frame_axioms-few [] next rs k v = omega arith
+frame_axioms-few (c ∷ now) [] rs k v = omega arith
+frame_axioms-few (c ∷ now) (d ∷ next) rs k v =
     let first = setter_lits v k rs in
-    let values = carry_over first (carried_lits c.values) (carried_lits d.values) in
+    let values = carry_over first (lits_to_carry_over c.values) (lits_to_carry_over d.values) in
     let bounds = carry_over first c.bounds d.bounds in
-    let rest = frames rs k (v + 1) now next in
-    let one : length values ≤ 2 * length (carried_lits c.values) = carry_over-few (carried_lits c.values) (carried_lits d.values) first in
-    let few : length (carried_lits c.values) ≤ length c.values = carried_lits-few c.values in
+    let rest = frame_axioms rs k (v + 1) now next in
+    let one : length values ≤ 2 * length (lits_to_carry_over c.values) = carry_over-few (lits_to_carry_over c.values) (lits_to_carry_over d.values) first in
+    let few : length (lits_to_carry_over c.values) ≤ length c.values = lits_to_carry_over-few c.values in
     let two : length bounds ≤ 2 * length c.bounds = carry_over-few c.bounds d.bounds first in
-    let three : length rest ≤ 2 * literals_count now = frames-few now next rs k (v + 1) in
+    let three : length rest ≤ 2 * copy_literals_count now = frame_axioms-few now next rs k (v + 1) in
     let here : length (values ++ bounds) ≡ length values + length bounds = length-append values bounds in
     let all : length ((values ++ bounds) ++ rest) ≡ length (values ++ bounds) + length rest = length-append (values ++ bounds) rest in
     omega arith
 
-pub step-few : (rs : List RuleTree) (now next : List Column) (n : ℕ) →
-    ((step_part rs now next n).vars ≤ n + 2 * length rs + guards_size rs) ×
+pub step-few : (rs : List PlainRule) (now next : List VarLits) (n : ℕ) →
+    ((step_part rs now next n).vars ≤ n + 2 * length rs + guards_and_settings_size rs) ×
     (length (step_part rs now next n).clauses
-    ≤ 4 * length rs + 1 + 2 * guards_size rs + settings_count rs + 2 * literals_count now)
+    ≤ 4 * length rs + 1 + 2 * guards_and_settings_size rs + settings_count rs + 2 * copy_literals_count now)
 step-few rs now next n =
     let p = choice_part (length rs) n in
     let q = rules_part now next (n + 1) rs p.vars in
-    let last = frames rs (n + 1) 0 now next in
+    let last = frame_axioms rs (n + 1) 0 now next in
     let one = choice-few (length rs) n in
     let choice_vars : p.vars ≤ n + 2 * length rs = one.0 in
     let choice_clauses : length p.clauses ≤ 4 * length rs + 1 = one.1 in
     let two = rules-few rs now next (n + 1) p.vars in
-    let rules_vars : q.vars ≤ p.vars + guards_size rs = two.0 in
-    let rules_clauses : length q.clauses ≤ 2 * guards_size rs + settings_count rs = two.1 in
-    let three : length last ≤ 2 * literals_count now = frames-few now next rs (n + 1) 0 in
+    let rules_vars : q.vars ≤ p.vars + guards_and_settings_size rs = two.0 in
+    let rules_clauses : length q.clauses ≤ 2 * guards_and_settings_size rs + settings_count rs = two.1 in
+    let three : length last ≤ 2 * copy_literals_count now = frame_axioms-few now next rs (n + 1) 0 in
     let here : length (q.clauses ++ last) ≡ length q.clauses + length last = length-append q.clauses last in
     let all : length (p.clauses ++ (q.clauses ++ last)) ≡ length p.clauses + length (q.clauses ++ last) = length-append p.clauses (q.clauses ++ last) in
     (omega arith, omega arith)

@@ -5,22 +5,22 @@ use Rattle.std.proofs.lemmas.List.Folds.{list_all-append}
 use Rattle.std.proofs.lemmas.Bool.{and_parts, and_from, cond_both, lt-ltb, le-leb}
 use Rattle.ilk_cnf.specs.Literal.{Literal, negative_lit, negated_lit}
 use Rattle.ilk_cnf.specs.Formula.{Formula, with_clauses, is_lit_over, is_clause_over, are_clauses_over}
-use Rattle.ilk_cnf.specs.Part.{as_clauses}
-use Rattle.ilk_cnf.proofs.Gates.{as_clauses-append, grown_more}
-use Rattle.ilk_ir.specs.System.{RuleTree}
-use Rattle.ilk_forms.specs.declared.copy.Column.{Column}
-use Rattle.ilk_forms.specs.Leaf.{columns_in}
+use Rattle.ilk_cnf.specs.Part.{clauses_from_lists}
+use Rattle.ilk_cnf.proofs.Gates.{clauses_from_lists-append, grown_more}
+use Rattle.ilk_ir.specs.System.{PlainRule}
+use Rattle.ilk_forms.specs.declared.copy.VarLits.{VarLits}
+use Rattle.ilk_forms.specs.Leaf.{has_lits_within_vars}
 use Rattle.ilk_forms.proofs.DemandLaw.{joined-in}
-use Rattle.ilk_step.specs.Frame.{sets_variable, setter_lits, carry_over, carried_lits, frame, frames}
+use Rattle.ilk_step.specs.Frame.{sets_variable, setter_lits, carry_over, lits_to_carry_over, frame_axiom, frame_axioms}
 
-pub setter_lits-in : (rs : List RuleTree) (v k n : ℕ) → 0 < k → k + length rs ≤ n + 1 → is_clause_over n (setter_lits v k rs) ≡ true
+pub setter_lits-in : (rs : List PlainRule) (v k n : ℕ) → 0 < k → k + length rs ≤ n + 1 → is_clause_over n (setter_lits v k rs) ≡ true
 setter_lits-in [] v k n low high = refl
 setter_lits-in (r ∷ rs) v k n low high =
     let rest = setter_lits-in rs v (k + 1) n (omega arith) (omega arith) in
     cond_both (sets_variable v r.sets) (negative_lit k ∷ setter_lits v (k + 1) rs) (setter_lits v (k + 1) rs) (λ ls. is_clause_over n ls ≡ true) (λ _. and_from _ _ (and_from _ _ (lt-ltb 0 k low) (le-leb k n (omega arith))) rest) (λ _. rest)
 
-pub carried_lits-in : (n : ℕ) (ls : List Literal) → is_clause_over n ls ≡ true → is_clause_over n (carried_lits ls) ≡ true
-carried_lits-in n ls h = by_case (length ls == 2)
+pub lits_to_carry_over-in : (n : ℕ) (ls : List Literal) → is_clause_over n ls ≡ true → is_clause_over n (lits_to_carry_over ls) ≡ true
+lits_to_carry_over-in n ls h = by_case (length ls == 2)
   where
     first_in : (ls : List Literal) → is_clause_over n ls ≡ true → is_clause_over n (take 1 ls) ≡ true
     first_in [] h = refl
@@ -41,28 +41,29 @@ carry_over-in (l ∷ ls) (m ∷ ms) first n f h k =
     (joined-in first (l ∷ negated_lit m ∷ []) n f (and_from _ _ one.0 (and_from _ _ two.0 refl)))
     (carry_over-in ls ms first n f one.1 two.1))
 
-frame-in : (first : List Literal) (c d : Column) (n : ℕ) → is_clause_over n first ≡ true → (is_clause_over n c.values && is_clause_over n c.bounds) ≡ true → (is_clause_over n d.values && is_clause_over n d.bounds) ≡ true
-    → are_clauses_over n (frame first c d) ≡ true
+frame-in : (first : List Literal) (c d : VarLits) (n : ℕ) → is_clause_over n first ≡ true → (is_clause_over n c.values && is_clause_over n c.bounds) ≡ true → (is_clause_over n d.values && is_clause_over n d.bounds) ≡ true
+    → are_clauses_over n (frame_axiom first c d) ≡ true
 frame-in first c d n f h k =
     let one = and_parts (is_clause_over n c.values) (is_clause_over n c.bounds) h in
     let two = and_parts (is_clause_over n d.values) (is_clause_over n d.bounds) k in
-    list_all-append (is_clause_over n) (carry_over first (carried_lits c.values) (carried_lits d.values)) (carry_over first c.bounds d.bounds)
-    ∙ and_from _ _ (carry_over-in (carried_lits c.values) (carried_lits d.values) first n f (carried_lits-in n c.values one.0) (carried_lits-in n d.values two.0)) (carry_over-in c.bounds d.bounds first n f one.1 two.1)
+    list_all-append (is_clause_over n) (carry_over first (lits_to_carry_over c.values) (lits_to_carry_over d.values)) (carry_over first c.bounds d.bounds)
+    ∙ and_from _ _ (carry_over-in (lits_to_carry_over c.values) (lits_to_carry_over d.values) first n f (lits_to_carry_over-in n c.values one.0) (lits_to_carry_over-in n d.values two.0)) (carry_over-in c.bounds d.bounds first n f one.1 two.1)
 
-pub frames-in : (now next : List Column) (rs : List RuleTree) (k v n : ℕ) → 0 < k → k + length rs ≤ n + 1 → columns_in n now ≡ true → columns_in n next ≡ true → are_clauses_over n (frames rs k v now next) ≡ true
-frames-in [] next rs k v n low high h x = refl
-frames-in (c ∷ now) [] rs k v n low high h x = refl
-frames-in (c ∷ now) (d ∷ next) rs k v n low high h x =
-    let one = and_parts (is_clause_over n c.values && is_clause_over n c.bounds) (columns_in n now) h in
-    let two = and_parts (is_clause_over n d.values && is_clause_over n d.bounds) (columns_in n next) x in
-    list_all-append (is_clause_over n) (frame (setter_lits v k rs) c d) (frames rs k (v + 1) now next)
-    ∙ and_from _ _ (frame-in (setter_lits v k rs) c d n (setter_lits-in rs v k n low high) one.0 two.0) (frames-in now next rs k (v + 1) n low high one.1 two.1)
+pub frame_axioms-in : (now next : List VarLits) (rs : List PlainRule) (k v n : ℕ) → 0 < k → k + length rs ≤ n + 1 → has_lits_within_vars n now ≡ true → has_lits_within_vars n next ≡ true → are_clauses_over n (frame_axioms rs k v now next) ≡ true
+frame_axioms-in [] next rs k v n low high h x = refl
+frame_axioms-in (c ∷ now) [] rs k v n low high h x = refl
+frame_axioms-in (c ∷ now) (d ∷ next) rs k v n low high h x =
+    let one = and_parts (is_clause_over n c.values && is_clause_over n c.bounds) (has_lits_within_vars n now) h in
+    let two = and_parts (is_clause_over n d.values && is_clause_over n d.bounds) (has_lits_within_vars n next) x in
+    list_all-append (is_clause_over n) (frame_axiom (setter_lits v k rs) c d) (frame_axioms rs k (v + 1) now next)
+    ∙ and_from _ _ (frame-in (setter_lits v k rs) c d n (setter_lits-in rs v k n low high) one.0 two.0) (frame_axioms-in now next rs k (v + 1) n low high one.1 two.1)
 
-pub rest_of : (old done : List (List Literal)) (added rest all : List (List Literal)) (whole : List (List Literal)) → all ≡ added ++ rest → done ≡ old ++ as_clauses added → old ++ as_clauses all ≡ whole → done ++ as_clauses rest ≡ whole
+pub rest_of : (old done : List (List Literal)) (added rest all : List (List Literal)) (whole : List (List Literal)) → all ≡ added ++ rest → done ≡ old ++ clauses_from_lists added → old ++ clauses_from_lists all ≡ whole →
+    done ++ clauses_from_lists rest ≡ whole
 rest_of old done added rest all whole split made h =
-    ap (λ (cs : List (List Literal)). cs ++ as_clauses rest) made
-    ∙ append_assoc old (as_clauses added) (as_clauses rest)
-    ∙ ap (λ (cs : List (List Literal)). old ++ cs) (sym (as_clauses-append added rest) ∙ ap as_clauses (sym split))
+    ap (λ (cs : List (List Literal)). cs ++ clauses_from_lists rest) made
+    ∙ append_assoc old (clauses_from_lists added) (clauses_from_lists rest)
+    ∙ ap (λ (cs : List (List Literal)). old ++ cs) (sym (clauses_from_lists-append added rest) ∙ ap clauses_from_lists (sym split))
     ∙ h
 
 pub carry_over-none : (first ls : List Literal) → carry_over first ls [] ≡ []
@@ -79,29 +80,29 @@ as_grown f g cs vars clauses =
 
 pub carried_all : (f g : Formula) (i : ℕ) (first ls ms : List Literal) → (length ls ≤ i) ⊎ (length ms ≤ i) →
     g.vars ≡ f.vars →
-    g.clauses ++ as_clauses (carry_over first (drop i ls) (drop i ms))
-    ≡ f.clauses ++ as_clauses (carry_over first ls ms) →
-    g ≡ with_clauses f f.vars (as_clauses (carry_over first ls ms))
+    g.clauses ++ clauses_from_lists (carry_over first (drop i ls) (drop i ms))
+    ≡ f.clauses ++ clauses_from_lists (carry_over first ls ms) →
+    g ≡ with_clauses f f.vars (clauses_from_lists (carry_over first ls ms))
 carried_all f g i first ls ms past vars rest =
-    as_grown f g (as_clauses (carry_over first ls ms)) vars (sym (append-nil g.clauses) ∙ sym (ap (λ (cs : List (List Literal)). g.clauses ++ as_clauses cs) (carry_over-end i first ls ms past)) ∙ rest)
+    as_grown f g (clauses_from_lists (carry_over first ls ms)) vars (sym (append-nil g.clauses) ∙ sym (ap (λ (cs : List (List Literal)). g.clauses ++ clauses_from_lists cs) (carry_over-end i first ls ms past)) ∙ rest)
 
-pub frame_made : (f g h : Formula) (first ls ms ks js : List Literal) (c d : Column) → ls ≡ carried_lits c.values →
-    ms ≡ carried_lits d.values → ks ≡ c.bounds → js ≡ d.bounds →
-    g ≡ with_clauses f f.vars (as_clauses (carry_over first ls ms)) →
-    h ≡ with_clauses g g.vars (as_clauses (carry_over first ks js)) →
-    h ≡ with_clauses f f.vars (as_clauses (frame first c d))
+pub frame_made : (f g h : Formula) (first ls ms ks js : List Literal) (c d : VarLits) → ls ≡ lits_to_carry_over c.values →
+    ms ≡ lits_to_carry_over d.values → ks ≡ c.bounds → js ≡ d.bounds →
+    g ≡ with_clauses f f.vars (clauses_from_lists (carry_over first ls ms)) →
+    h ≡ with_clauses g g.vars (clauses_from_lists (carry_over first ks js)) →
+    h ≡ with_clauses f f.vars (clauses_from_lists (frame_axiom first c d))
 frame_made f g h first ls ms ks js c d one two three four made more =
-    grown_more f g h (carry_over first (carried_lits c.values) (carried_lits d.values)) (carry_over first c.bounds d.bounds) (made ∙ rw (one, two) refl) (more ∙ rw (three, four) refl)
+    grown_more f g h (carry_over first (lits_to_carry_over c.values) (lits_to_carry_over d.values)) (carry_over first c.bounds d.bounds) (made ∙ rw (one, two) refl) (more ∙ rw (three, four) refl)
 
 pub frames_step :
-    (f g : Formula) (rs : List RuleTree) (k v : ℕ) (now next later after : List Column) (c d : Column)
+    (f g : Formula) (rs : List PlainRule) (k v : ℕ) (now next later after : List VarLits) (c d : VarLits)
     (ls : List Literal) (whole : List (List Literal)) →
     now ≡ c ∷ later → next ≡ d ∷ after → ls ≡ setter_lits v k rs →
-    g ≡ with_clauses f f.vars (as_clauses (frame ls c d)) →
-    f.clauses ++ as_clauses (frames rs k v now next) ≡ whole →
-    g.clauses ++ as_clauses (frames rs k (v + 1) later after) ≡ whole
+    g ≡ with_clauses f f.vars (clauses_from_lists (frame_axiom ls c d)) →
+    f.clauses ++ clauses_from_lists (frame_axioms rs k v now next) ≡ whole →
+    g.clauses ++ clauses_from_lists (frame_axioms rs k (v + 1) later after) ≡ whole
 frames_step f g rs k v now next later after c d ls whole one two three made h =
-    let first : frame (setter_lits v k rs) c d ≡ frame ls c d = ap (λ (ks : List Literal). frame ks c d) (sym three) in
-    let split : frames rs k v now next ≡ frame ls c d ++ frames rs k (v + 1) later after =
-    ap (λ (u : List Column). frames rs k v u next) one ∙ ap (frames rs k v (c ∷ later)) two ∙ ap (λ (cs : List (List Literal)). cs ++ frames rs k (v + 1) later after) first in
-    rest_of f.clauses g.clauses (frame ls c d) (frames rs k (v + 1) later after) (frames rs k v now next) whole split (ap (λ (u : Formula). u.clauses) made) h
+    let first : frame_axiom (setter_lits v k rs) c d ≡ frame_axiom ls c d = ap (λ (ks : List Literal). frame_axiom ks c d) (sym three) in
+    let split : frame_axioms rs k v now next ≡ frame_axiom ls c d ++ frame_axioms rs k (v + 1) later after =
+    ap (λ (u : List VarLits). frame_axioms rs k v u next) one ∙ ap (frame_axioms rs k v (c ∷ later)) two ∙ ap (λ (cs : List (List Literal)). cs ++ frame_axioms rs k (v + 1) later after) first in
+    rest_of f.clauses g.clauses (frame_axiom ls c d) (frame_axioms rs k (v + 1) later after) (frame_axioms rs k v now next) whole split (ap (λ (u : Formula). u.clauses) made) h

@@ -9,27 +9,27 @@ use Rattle.ilk_base.proofs.Lengths.{longer}
 use Rattle.ilk_cnf.specs.Literal.{Literal, positive_lit}
 use Rattle.ilk_cnf.specs.Formula.{is_clause_over}
 use Rattle.ilk_cnf.specs.Truth.{value, is_true}
-use Rattle.ilk_cnf.specs.Extends.{Extends, IsExactlyIf}
-use Rattle.ilk_cnf.specs.Part.{Part, and_then}
+use Rattle.ilk_cnf.specs.Extends.{ExtensionsAreExactly, PassesWithExactValues}
+use Rattle.ilk_cnf.specs.Part.{FormulaPart, and_then}
 use Rattle.ilk_cnf.proofs.Literals.{is_clause_over-more, are_clauses_over-more}
 use Rattle.ilk_cnf.proofs.Parts.{value-left, is_true-left}
 use Rattle.ilk_cnf.proofs.Extending.{no_more_if, if_then_if}
-use Rattle.ilk_ints.specs.Named.{value_bits}
-use Rattle.ilk_ir.specs.Tree.{is, tree_holds, tree_valid, value_valid, has_value}
-use Rattle.ilk_ir.specs.System.{RuleTree, rule_valid, sets_distinct_vars}
+use Rattle.ilk_ints.specs.Named.{one_hot_bits}
+use Rattle.ilk_ir.specs.Tree.{is, tree_holds, tree_valid, value_valid, var_has_value}
+use Rattle.ilk_ir.specs.System.{PlainRule, rule_valid, sets_distinct_vars}
 use Rattle.ilk_ir.specs.declared.system.Setting.{Setting}
-use Rattle.ilk_forms.specs.declared.copy.Column.{Column}
-use Rattle.ilk_forms.specs.Leaf.{columns_in, ranges_of}
-use Rattle.ilk_forms.specs.Demand.{demand_part}
-use Rattle.ilk_forms.specs.Truths.{demand_bits}
-use Rattle.ilk_forms.proofs.Reading.{Reads, reads-more, columns_in-more}
+use Rattle.ilk_forms.specs.declared.copy.VarLits.{VarLits}
+use Rattle.ilk_forms.specs.Leaf.{has_lits_within_vars, ranges_of}
+use Rattle.ilk_forms.specs.Demand.{lit_or_form_part}
+use Rattle.ilk_forms.specs.Truths.{lit_or_form_bits}
+use Rattle.ilk_forms.proofs.Reading.{Reads, reads-more, has_lits_within_vars-more}
 use Rattle.ilk_forms.proofs.DemandLaw.{PartFits, demand_of-fits, demand_of-law}
 use Rattle.ilk_step.specs.Choice.{chosen_lits}
 use Rattle.ilk_step.specs.Rules.{settings_part, rule_part, rules_part, rules_bits}
 use Rattle.ilk_step.proofs.ChoiceLaw.{turned}
 use Rattle.ilk_step.proofs.Firing.{rule_met}
 
-pub then-fits : (n : ℕ) (p : Part) (q : ℕ → Part) → PartFits n p → PartFits p.vars (q p.vars) → PartFits n (and_then p q)
+pub then-fits : (n : ℕ) (p : FormulaPart) (q : ℕ → FormulaPart) → PartFits n p → PartFits p.vars (q p.vars) → PartFits n (and_then p q)
 then-fits n p q one two =
     let first = one.low in
     let next = two.low in
@@ -38,45 +38,46 @@ then-fits n p q one two =
       inside = list_all-append (is_clause_over (q p.vars).vars) p.clauses (q p.vars).clauses ∙ and_from _ _ (are_clauses_over-more p.vars (q p.vars).vars p.clauses next one.inside) two.inside;
     }
 
-pub then-law : (a e d : List Bool) (o ok : Bool) (n : ℕ) (p : Part) (q : ℕ → Part) → length a ≡ n →
-    PartFits n p → PartFits p.vars (q p.vars) → Extends a p.vars p.clauses (IsExactlyIf o e) →
-    (length (a ++ e) ≡ p.vars → Extends (a ++ e) (q p.vars).vars (q p.vars).clauses (IsExactlyIf ok d)) →
-    Extends a (and_then p q).vars (and_then p q).clauses (IsExactlyIf (o && ok) (e ++ d))
+pub then-law : (a e d : List Bool) (o ok : Bool) (n : ℕ) (p : FormulaPart) (q : ℕ → FormulaPart) → length a ≡ n →
+    PartFits n p → PartFits p.vars (q p.vars) → ExtensionsAreExactly a p.vars p.clauses (PassesWithExactValues o e) →
+    (length (a ++ e) ≡ p.vars → ExtensionsAreExactly (a ++ e) (q p.vars).vars (q p.vars).clauses (PassesWithExactValues ok d)) →
+    ExtensionsAreExactly a (and_then p q).vars (and_then p q).clauses (PassesWithExactValues (o && ok) (e ++ d))
 then-law a e d o ok n p q size one two first next =
     if_then_if a e d o ok p.vars (q p.vars).vars p.clauses (q p.vars).clauses (rw size one.low) two.low one.inside first (λ yes. next (first.sized e (yes, refl)))
 
 abbrev pub settings_valid : List ℕ → List Setting → Bool
 settings_valid ranges sets = list_all (λ s. value_valid ranges s.var s.value) sets
 
-pub rule_valid-guard : (ranges : List ℕ) (r : RuleTree) → rule_valid ranges r ≡ true → tree_valid ranges r.guard ≡ true
+pub rule_valid-guard : (ranges : List ℕ) (r : PlainRule) → rule_valid ranges r ≡ true → tree_valid ranges r.guard ≡ true
 rule_valid-guard ranges r h = (and_parts (tree_valid ranges r.guard) (settings_valid ranges r.sets) (and_parts (tree_valid ranges r.guard && settings_valid ranges r.sets) (sets_distinct_vars r.sets) h).0).0
 
-pub rule_valid-settings : (ranges : List ℕ) (r : RuleTree) → rule_valid ranges r ≡ true → settings_valid ranges r.sets ≡ true
+pub rule_valid-settings : (ranges : List ℕ) (r : PlainRule) → rule_valid ranges r ≡ true → settings_valid ranges r.sets ≡ true
 rule_valid-settings ranges r h = (and_parts (tree_valid ranges r.guard) (settings_valid ranges r.sets) (and_parts (tree_valid ranges r.guard && settings_valid ranges r.sets) (sets_distinct_vars r.sets) h).0).1
 
 same : (n : ℕ) → n ≤ n
 same n = omega arith
 
-pub settings-fits : (sets : List Setting) (next : List Column) (skip : Literal) (n : ℕ) → columns_in n next ≡ true → is_clause_over n (skip ∷ []) ≡ true → settings_valid (ranges_of next) sets ≡ true → PartFits n (settings_part next skip sets n)
+pub settings-fits : (sets : List Setting) (next : List VarLits) (skip : Literal) (n : ℕ) → has_lits_within_vars n next ≡ true → is_clause_over n (skip ∷ []) ≡ true → settings_valid (ranges_of next) sets ≡ true →
+    PartFits n (settings_part next skip sets n)
 settings-fits [] next skip n h f k = record { low = same n; inside = refl }
 settings-fits (s ∷ sets) next skip n h f k =
     let parts = and_parts (value_valid (ranges_of next) s.var s.value) (settings_valid (ranges_of next) sets) k in
-    then-fits n (demand_part next (skip ∷ []) (is s.var s.value) n) (settings_part next skip sets) (demand_of-fits (is s.var s.value) next (skip ∷ []) true n h f parts.0) (settings-fits sets next skip n h f parts.1)
+    then-fits n (lit_or_form_part next (skip ∷ []) (is s.var s.value) n) (settings_part next skip sets) (demand_of-fits (is s.var s.value) next (skip ∷ []) true n h f parts.0) (settings-fits sets next skip n h f parts.1)
 
-pub rule-fits : (r : RuleTree) (now next : List Column) (skip : Literal) (n : ℕ) → columns_in n now ≡ true →
-    columns_in n next ≡ true → ranges_of next ≡ ranges_of now → is_clause_over n (skip ∷ []) ≡ true →
+pub rule-fits : (r : PlainRule) (now next : List VarLits) (skip : Literal) (n : ℕ) → has_lits_within_vars n now ≡ true →
+    has_lits_within_vars n next ≡ true → ranges_of next ≡ ranges_of now → is_clause_over n (skip ∷ []) ≡ true →
     rule_valid (ranges_of now) r ≡ true → PartFits n (rule_part now next skip r n)
 rule-fits r now next skip n hn hx same_ranges f k =
-    let p = demand_part now (skip ∷ []) r.guard n in
+    let p = lit_or_form_part now (skip ∷ []) r.guard n in
     let one = demand_of-fits r.guard now (skip ∷ []) true n hn f (rule_valid-guard (ranges_of now) r k) in
     let sets : settings_valid (ranges_of next) r.sets ≡ true = ap (λ (u : List ℕ). settings_valid u r.sets) same_ranges ∙ rule_valid-settings (ranges_of now) r k in
-    then-fits n p (settings_part next skip r.sets) one (settings-fits r.sets next skip p.vars (columns_in-more n p.vars next one.low hx) (is_clause_over-more n p.vars (skip ∷ []) one.low f) sets)
+    then-fits n p (settings_part next skip r.sets) one (settings-fits r.sets next skip p.vars (has_lits_within_vars-more n p.vars next one.low hx) (is_clause_over-more n p.vars (skip ∷ []) one.low f) sets)
 
 pub skip-in : (k n : ℕ) → 0 < k → k ≤ n → is_clause_over n (positive_lit k ∷ []) ≡ true
 skip-in k n low high = and_from _ _ (and_from _ _ (lt-ltb 0 k low) (le-leb k n high)) refl
 
-pub rules-fits : (rs : List RuleTree) (now next : List Column) (k n : ℕ) → columns_in n now ≡ true →
-    columns_in n next ≡ true → ranges_of next ≡ ranges_of now → 0 < k → k + length rs ≤ n + 1 →
+pub rules-fits : (rs : List PlainRule) (now next : List VarLits) (k n : ℕ) → has_lits_within_vars n now ≡ true →
+    has_lits_within_vars n next ≡ true → ranges_of next ≡ ranges_of now → 0 < k → k + length rs ≤ n + 1 →
     list_all (rule_valid (ranges_of now)) rs ≡ true → PartFits n (rules_part now next k rs n)
 rules-fits [] now next k n hn hx same_ranges low high valid = record { low = same n; inside = refl }
 rules-fits (r ∷ rs) now next k n hn hx same_ranges low high valid =
@@ -84,29 +85,30 @@ rules-fits (r ∷ rs) now next k n hn hx same_ranges low high valid =
     let p = rule_part now next (positive_lit k) r n in
     let one = rule-fits r now next (positive_lit k) n hn hx same_ranges (skip-in k n low (omega arith)) parts.0 in
     let grows = one.low in
-    then-fits n p (rules_part now next (k + 1) rs) one (rules-fits rs now next (k + 1) p.vars (columns_in-more n p.vars now grows hn) (columns_in-more n p.vars next grows hx) same_ranges (omega arith) (omega arith) parts.1)
+    then-fits n p (rules_part now next (k + 1) rs) one (rules-fits rs now next (k + 1) p.vars (has_lits_within_vars-more n p.vars now grows hn) (has_lits_within_vars-more n p.vars next grows hx) same_ranges (omega arith) (omega arith) parts.1)
 
 also : (x h rest : Bool) → (((x || false) || h) && (x || rest)) ≡ (x || (h && rest))
 also true h rest = refl
 also false h rest = refl
 
 pub settings-law :
-    (sets : List Setting) (next : List Column) (ranges xs : List ℕ) (skip : Literal) (a : List Bool) (n : ℕ) →
-    length a ≡ n → Reads a next ranges xs → columns_in n next ≡ true → is_clause_over n (skip ∷ []) ≡ true →
+    (sets : List Setting) (next : List VarLits) (ranges xs : List ℕ) (skip : Literal) (a : List Bool) (n : ℕ) →
+    length a ≡ n → Reads a next ranges xs → has_lits_within_vars n next ≡ true → is_clause_over n (skip ∷ []) ≡ true →
     settings_valid (ranges_of next) sets ≡ true →
-    Extends a (settings_part next skip sets n).vars (settings_part next skip sets n).clauses
-    (IsExactlyIf (is_true a skip || list_all (λ s. has_value xs s.var s.value) sets) [])
+    ExtensionsAreExactly a (settings_part next skip sets n).vars (settings_part next skip sets n).clauses
+    (PassesWithExactValues (is_true a skip || list_all (λ s. var_has_value xs s.var s.value) sets) [])
 settings-law [] next ranges xs skip a n size r h f k = no_more_if a n [] (is_true a skip || true) size (sym (or-true (is_true a skip)))
 settings-law (s ∷ sets) next ranges xs skip a n size r h f k =
     let parts = and_parts (value_valid (ranges_of next) s.var s.value) (settings_valid (ranges_of next) sets) k in
-    let p = demand_part next (skip ∷ []) (is s.var s.value) n in
+    let p = lit_or_form_part next (skip ∷ []) (is s.var s.value) n in
     let rest = settings_part next skip sets n in
     let x = is_true a skip in
-    let here = has_value xs s.var s.value in
-    let others = list_all (λ (t : Setting). has_value xs t.var t.value) sets in
+    let here = var_has_value xs s.var s.value in
+    let others = list_all (λ (t : Setting). var_has_value xs t.var t.value) sets in
     let law = settings-law sets next ranges xs skip a n size r h f parts.1 in
-    let moved : Extends (a ++ []) rest.vars rest.clauses (IsExactlyIf (x || others) []) = subst (λ (u : List Bool). Extends u rest.vars rest.clauses (IsExactlyIf (x || others) [])) (sym (append-nil a)) law in
-    subst (λ (b : Bool). Extends a rest.vars (p.clauses ++ rest.clauses) (IsExactlyIf b [])) (also x here others)
+    let moved : ExtensionsAreExactly (a ++ []) rest.vars rest.clauses (PassesWithExactValues (x || others) []) = subst
+    (λ (u : List Bool). ExtensionsAreExactly u rest.vars rest.clauses (PassesWithExactValues (x || others) [])) (sym (append-nil a)) law in
+    subst (λ (b : Bool). ExtensionsAreExactly a rest.vars (p.clauses ++ rest.clauses) (PassesWithExactValues b [])) (also x here others)
     (then-law a [] [] ((x || false) || here) (x || others) n p (settings_part next skip sets) size
     (demand_of-fits (is s.var s.value) next (skip ∷ []) true n h f parts.0)
     (settings-fits sets next skip n h f parts.1)
@@ -114,15 +116,15 @@ settings-law (s ∷ sets) next ranges xs skip a n size r h f k =
     (λ _. moved))
 
 pub rule-law :
-    (r : RuleTree) (now next : List Column) (ws xs : List ℕ) (skip : Literal) (a : List Bool) (n : ℕ) →
+    (r : PlainRule) (now next : List VarLits) (ws xs : List ℕ) (skip : Literal) (a : List Bool) (n : ℕ) →
     length a ≡ n → Reads a now (ranges_of now) ws → Reads a next (ranges_of now) xs →
-    columns_in n now ≡ true → columns_in n next ≡ true → ranges_of next ≡ ranges_of now →
+    has_lits_within_vars n now ≡ true → has_lits_within_vars n next ≡ true → ranges_of next ≡ ranges_of now →
     is_clause_over n (skip ∷ []) ≡ true → rule_valid (ranges_of now) r ≡ true →
-    Extends a (rule_part now next skip r n).vars (rule_part now next skip r n).clauses
-    (IsExactlyIf (is_true a skip || rule_met ws xs r) (demand_bits (ranges_of now) ws r.guard))
+    ExtensionsAreExactly a (rule_part now next skip r n).vars (rule_part now next skip r n).clauses
+    (PassesWithExactValues (is_true a skip || rule_met ws xs r) (lit_or_form_bits (ranges_of now) ws r.guard))
 rule-law r now next ws xs skip a n size rn rx hn hx same_ranges f k =
-    let p = demand_part now (skip ∷ []) r.guard n in
-    let e = demand_bits (ranges_of now) ws r.guard in
+    let p = lit_or_form_part now (skip ∷ []) r.guard n in
+    let e = lit_or_form_bits (ranges_of now) ws r.guard in
     let m = p.vars in
     let rest = settings_part next skip r.sets m in
     let x = is_true a skip in
@@ -130,28 +132,29 @@ rule-law r now next ws xs skip a n size rn rx hn hx same_ranges f k =
     let one = demand_of-fits r.guard now (skip ∷ []) true n hn f guard_valid in
     let grows = one.low in
     let sets : settings_valid (ranges_of next) r.sets ≡ true = ap (λ (u : List ℕ). settings_valid u r.sets) same_ranges ∙ rule_valid-settings (ranges_of now) r k in
-    let met = list_all (λ (s : Setting). has_value xs s.var s.value) r.sets in
-    let next_in = columns_in-more n m next grows hx in
+    let met = list_all (λ (s : Setting). var_has_value xs s.var s.value) r.sets in
+    let next_in = has_lits_within_vars-more n m next grows hx in
     let skip_in = is_clause_over-more n m (skip ∷ []) grows f in
     let skip_var : skip.var ≤ length a = rw size (leb-true _ _ (and_parts _ _ (and_parts _ _ f).0).1) in
     let old : is_true (a ++ e) skip ≡ x = is_true-left a e skip skip_var in
-    let second : length (a ++ e) ≡ m → Extends (a ++ e) rest.vars rest.clauses (IsExactlyIf (x || met) []) = λ long.
-    subst (λ (b : Bool). Extends (a ++ e) rest.vars rest.clauses (IsExactlyIf (b || met) [])) old (settings-law r.sets next (ranges_of now) xs skip (a ++ e) m long (reads-more a e next (ranges_of now) xs (longer a e) rx) next_in skip_in sets) in
+    let second : length (a ++ e) ≡ m → ExtensionsAreExactly (a ++ e) rest.vars rest.clauses (PassesWithExactValues (x || met) []) = λ long.
+    subst (λ (b : Bool). ExtensionsAreExactly (a ++ e) rest.vars rest.clauses (PassesWithExactValues (b || met) [])) old
+    (settings-law r.sets next (ranges_of now) xs skip (a ++ e) m long (reads-more a e next (ranges_of now) xs (longer a e) rx) next_in skip_in sets) in
     let both = then-law a e [] ((x || false) || rule_guard) (x || met) n p (settings_part next skip r.sets)
     size one (settings-fits r.sets next skip m next_in skip_in sets)
     (demand_of-law r.guard now (ranges_of now) ws (skip ∷ []) true a n size rn f guard_valid) second in
-    let said = subst (λ (b : Bool). Extends a rest.vars (p.clauses ++ rest.clauses) (IsExactlyIf b (e ++ []))) (also x rule_guard met) both in
-    subst (λ (d : List Bool). Extends a rest.vars (p.clauses ++ rest.clauses) (IsExactlyIf (x || rule_met ws xs r) d)) (append-nil e) said
+    let said = subst (λ (b : Bool). ExtensionsAreExactly a rest.vars (p.clauses ++ rest.clauses) (PassesWithExactValues b (e ++ []))) (also x rule_guard met) both in
+    subst (λ (d : List Bool). ExtensionsAreExactly a rest.vars (p.clauses ++ rest.clauses) (PassesWithExactValues (x || rule_met ws xs r) d)) (append-nil e) said
   where
     rule_guard : Bool
     rule_guard = tree_holds ws r.guard
 
 -- Returns whether each chosen rule is met.
-abbrev pub all_met : List Bool → ℕ → List ℕ → List ℕ → List RuleTree → Bool
+abbrev pub all_met : List Bool → ℕ → List ℕ → List ℕ → List PlainRule → Bool
 all_met a k ws xs [] = true
 all_met a k ws xs (r ∷ rs) = (value a k || rule_met ws xs r) && all_met a (k + 1) ws xs rs
 
-all_met-left : (rs : List RuleTree) (a e : List Bool) (k : ℕ) (ws xs : List ℕ) → k + length rs ≤ length a + 1 → all_met (a ++ e) k ws xs rs ≡ all_met a k ws xs rs
+all_met-left : (rs : List PlainRule) (a e : List Bool) (k : ℕ) (ws xs : List ℕ) → k + length rs ≤ length a + 1 → all_met (a ++ e) k ws xs rs ≡ all_met a k ws xs rs
 all_met-left [] a e k ws xs h = refl
 all_met-left (r ∷ rs) a e k ws xs h =
     let here = value-left a e k (omega arith) in
@@ -159,30 +162,30 @@ all_met-left (r ∷ rs) a e k ws xs h =
     rw (here, rest) refl
 
 pub rules-law :
-    (rs : List RuleTree) (now next : List Column) (ws xs : List ℕ) (k : ℕ) (a : List Bool) (n : ℕ) →
+    (rs : List PlainRule) (now next : List VarLits) (ws xs : List ℕ) (k : ℕ) (a : List Bool) (n : ℕ) →
     length a ≡ n → Reads a now (ranges_of now) ws → Reads a next (ranges_of now) xs →
-    columns_in n now ≡ true → columns_in n next ≡ true → ranges_of next ≡ ranges_of now → 0 < k →
+    has_lits_within_vars n now ≡ true → has_lits_within_vars n next ≡ true → ranges_of next ≡ ranges_of now → 0 < k →
     k + length rs ≤ n + 1 → list_all (rule_valid (ranges_of now)) rs ≡ true →
-    Extends a (rules_part now next k rs n).vars (rules_part now next k rs n).clauses
-    (IsExactlyIf (all_met a k ws xs rs) (rules_bits (ranges_of now) ws rs))
+    ExtensionsAreExactly a (rules_part now next k rs n).vars (rules_part now next k rs n).clauses
+    (PassesWithExactValues (all_met a k ws xs rs) (rules_bits (ranges_of now) ws rs))
 rules-law [] now next ws xs k a n size rn rx hn hx same_ranges low high valid = no_more_if a n [] true size refl
 rules-law (r ∷ rs) now next ws xs k a n size rn rx hn hx same_ranges low high valid =
     let parts = and_parts (rule_valid (ranges_of now) r) (list_all (rule_valid (ranges_of now)) rs) valid in
     let p = rule_part now next (positive_lit k) r n in
     let m = p.vars in
-    let e = demand_bits (ranges_of now) ws r.guard in
+    let e = lit_or_form_bits (ranges_of now) ws r.guard in
     let rest = rules_part now next (k + 1) rs m in
     let skip_in = skip-in k n low (omega arith) in
     let one = rule-fits r now next (positive_lit k) n hn hx same_ranges skip_in parts.0 in
     let grows = one.low in
-    let now_in = columns_in-more n m now grows hn in
-    let next_in = columns_in-more n m next grows hx in
+    let now_in = has_lits_within_vars-more n m now grows hn in
+    let next_in = has_lits_within_vars-more n m next grows hx in
     let fits : k + 1 + length rs ≤ m + 1 = omega arith in
     let more : 0 < k + 1 = omega arith in
     let old : all_met (a ++ e) (k + 1) ws xs rs ≡ all_met a (k + 1) ws xs rs = all_met-left rs a e (k + 1) ws xs (rw size (omega arith)) in
-    let second : length (a ++ e) ≡ m → Extends (a ++ e) rest.vars rest.clauses (IsExactlyIf (all_met a (k + 1) ws xs rs) (rules_bits (ranges_of now) ws rs)) = λ long.
+    let second : length (a ++ e) ≡ m → ExtensionsAreExactly (a ++ e) rest.vars rest.clauses (PassesWithExactValues (all_met a (k + 1) ws xs rs) (rules_bits (ranges_of now) ws rs)) = λ long.
     subst
-    (λ (b : Bool). Extends (a ++ e) rest.vars rest.clauses (IsExactlyIf b (rules_bits (ranges_of now) ws rs)))
+    (λ (b : Bool). ExtensionsAreExactly (a ++ e) rest.vars rest.clauses (PassesWithExactValues b (rules_bits (ranges_of now) ws rs)))
     old
     (rules-law rs now next ws xs (k + 1) (a ++ e) m long
     (reads-more a e now (ranges_of now) ws (longer a e) rn)
@@ -193,25 +196,25 @@ rules-law (r ∷ rs) now next ws xs k a n size rn rx hn hx same_ranges low high 
     (rules-fits rs now next (k + 1) m now_in next_in same_ranges more fits parts.1)
     (rule-law r now next ws xs (positive_lit k) a n size rn rx hn hx same_ranges skip_in parts.0) second
 
-none_met : (rs : List RuleTree) (a : List Bool) (k r u : ℕ) (ws xs : List ℕ) → map (is_true a) (chosen_lits k (length rs)) ≡ value_bits r u (length rs) → r < u → all_met a k ws xs rs ≡ true
+none_met : (rs : List PlainRule) (a : List Bool) (k r u : ℕ) (ws xs : List ℕ) → map (is_true a) (chosen_lits k (length rs)) ≡ one_hot_bits r u (length rs) → r < u → all_met a k ws xs rs ≡ true
 none_met [] a k r u ws xs h less = refl
 none_met (rule ∷ rs) a k r u ws xs h less =
     let here : not (value a k) ≡ eqb r u = cc in
     let away : eqb r u ≡ false = ne_eqb r u (λ e. absurd (omega arith)) in
     let skipped : value a k ≡ true = turned (value a k) (eqb r u) here ∙ ap not away in
-    let others : map (is_true a) (chosen_lits (k + 1) (length rs)) ≡ value_bits r (u + 1) (length rs) = cc in
+    let others : map (is_true a) (chosen_lits (k + 1) (length rs)) ≡ one_hot_bits r (u + 1) (length rs) = cc in
     let rest = none_met rs a (k + 1) r (u + 1) ws xs others (omega arith) in
     rw (skipped, rest) refl
 
-pub one_met : (rs : List RuleTree) (a : List Bool) (k i u : ℕ) (rule : RuleTree) (ws xs : List ℕ) →
-    map (is_true a) (chosen_lits k (length rs)) ≡ value_bits (u + i) u (length rs) →
+pub one_met : (rs : List PlainRule) (a : List Bool) (k i u : ℕ) (rule : PlainRule) (ws xs : List ℕ) →
+    map (is_true a) (chosen_lits k (length rs)) ≡ one_hot_bits (u + i) u (length rs) →
     slice_get rs i ≡ Some rule → all_met a k ws xs rs ≡ rule_met ws xs rule
 one_met [] a k i u rule ws xs h at = absurd cc
 one_met (r ∷ rs) a k zero u rule ws xs h at =
     let here : not (value a k) ≡ eqb (u + 0) u = cc in
     let one : eqb (u + 0) u ≡ true = eq-eqb (u + 0) u (omega arith) in
     let chosen : value a k ≡ false = turned (value a k) (eqb (u + 0) u) here ∙ ap not one in
-    let others : map (is_true a) (chosen_lits (k + 1) (length rs)) ≡ value_bits (u + 0) (u + 1) (length rs) = cc in
+    let others : map (is_true a) (chosen_lits (k + 1) (length rs)) ≡ one_hot_bits (u + 0) (u + 1) (length rs) = cc in
     let rest = none_met rs a (k + 1) (u + 0) (u + 1) ws xs others (omega arith) in
     let this : r ≡ rule = cc in
     rw (chosen, rest) (and-true (rule_met ws xs r)) ∙ ap (rule_met ws xs) this
@@ -219,7 +222,7 @@ one_met (r ∷ rs) a k (suc i) u rule ws xs h at =
     let here : not (value a k) ≡ eqb (u + suc i) u = cc in
     let away : eqb (u + suc i) u ≡ false = ne_eqb (u + suc i) u (λ e. absurd (omega arith)) in
     let skipped : value a k ≡ true = turned (value a k) (eqb (u + suc i) u) here ∙ ap not away in
-    let others : map (is_true a) (chosen_lits (k + 1) (length rs)) ≡ value_bits (u + suc i) (u + 1) (length rs) = cc in
+    let others : map (is_true a) (chosen_lits (k + 1) (length rs)) ≡ one_hot_bits (u + suc i) (u + 1) (length rs) = cc in
     let next : u + suc i ≡ u + 1 + i = omega arith in
-    let rest = one_met rs a (k + 1) i (u + 1) rule ws xs (others ∙ ap (λ (n : ℕ). value_bits n (u + 1) (length rs)) next) at in
+    let rest = one_met rs a (k + 1) i (u + 1) rule ws xs (others ∙ ap (λ (n : ℕ). one_hot_bits n (u + 1) (length rs)) next) at in
     rw skipped rest

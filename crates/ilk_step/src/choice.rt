@@ -1,7 +1,7 @@
 ghost use Rattle.std.specs.Prelude.{◌≡◌, ℕ, ◌+◌, ◌≤◌, ◌^◌, List, Bool, length, OnOk, IfOk};
-ghost use Rattle.ilk_cnf.specs.Extends.{PartExtends};
+ghost use Rattle.ilk_cnf.specs.Extends.{PartExtensionsAreExactly};
 ghost use Rattle.ilk_cnf.specs.Part.{with_part};
-ghost use Rattle.ilk_step.specs.Choice.{chosen_lits, new_variables, choice_part, IsChoice, Chooses};
+ghost use Rattle.ilk_step.specs.Choice.{chosen_lits, new_variables, choice_part, AreChoiceBits, Chooses};
 
 use ilk_cnf::{Assignment, Clause, Cnf, Lit};
 use ilk_ints::one_of;
@@ -32,7 +32,7 @@ pub fn add_choice(alloc: Global, cnf: &mut Cnf, rules: u64) -> Result<(), AllocE
     ensures made { OnOk result (cnf.new ≡ with_part cnf.old (choice_part rules cnf.old.vars)) }
     ensures law { OnOk result
         ((a : List Bool) → length a ≡ cnf.old.vars →
-        PartExtends a (choice_part rules cnf.old.vars) (IsChoice rules)) }
+        PartExtensionsAreExactly a (choice_part rules cnf.old.vars) (AreChoiceBits rules)) }
 {
     let chosen = add_variables(alloc, cnf, rules)?;
     one_of(alloc, cnf, &chosen)?;

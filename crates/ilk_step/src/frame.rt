@@ -1,12 +1,12 @@
 ghost use Rattle.std.specs.Prelude.{◌≡◌, ◌+◌, ◌≤◌, ◌<◌, ◌^◌, ◌++◌, ◌∷◌, [], length, map, OnOk, IfOk, IsTrue};
-ghost use Rattle.ilk_cnf.specs.Formula.{with_clauses, as_clause, is_clause_over};
-ghost use Rattle.ilk_cnf.specs.Part.{with_part, as_clauses};
-ghost use Rattle.ilk_ir.specs.System.{rule_tree};
-ghost use Rattle.ilk_forms.specs.Leaf.{columns_in, ranges_of};
-ghost use Rattle.ilk_step.specs.Frame.{sets_variable, setter_lits, carry_over, carried_lits, frame, frames_part};
+ghost use Rattle.ilk_cnf.specs.Formula.{with_clauses, clause_unless_tautology, is_clause_over};
+ghost use Rattle.ilk_cnf.specs.Part.{with_part, clauses_from_lists};
+ghost use Rattle.ilk_ir.specs.System.{plain_rule};
+ghost use Rattle.ilk_forms.specs.Leaf.{has_lits_within_vars, ranges_of};
+ghost use Rattle.ilk_step.specs.Frame.{sets_variable, setter_lits, carry_over, lits_to_carry_over, frame_axiom, frame_axioms_part};
 
 use ilk_cnf::{Cnf, Lit, Lits};
-use ilk_forms::{Column, Table};
+use ilk_forms::{CopyLits, VarLits};
 use ilk_ir::{Rule, Setting};
 use std::alloc::{AllocError, Global};
 
@@ -21,7 +21,7 @@ fn sets_variable(v: u64, sets: &[Setting]) -> bool
 fn setters(alloc: Global, v: u64, first: u64, rules: &[Rule]) -> Result<Lits, AllocError>
     requires from_1 { 0 < first }
     requires numbered { first + length rules.now ≤ 2 ^ 62 + 1 }
-    ensures { IfOk result (λ lits. lits ≡ setter_lits v first (map rule_tree rules.now)) }
+    ensures { IfOk result (λ lits. lits ≡ setter_lits v first (map plain_rule rules.now)) }
 {
     let mut lits = Lits::new(alloc);
     for (i, rule) in rules.iter().enumerate() {
@@ -36,12 +36,13 @@ fn add_pair(alloc: Global, cnf: &mut Cnf, first: &Lits, l: Lit, m: Lit) -> Resul
     requires first { IsTrue (is_clause_over cnf.old.vars first.now) }
     requires pair { IsTrue (is_clause_over cnf.old.vars (l ∷ m ∷ [])) }
     ensures { OnOk result
-        (cnf.new ≡ with_clauses cnf.old cnf.old.vars (as_clause (first.now ++ l ∷ m ∷ []))) }
+        (cnf.new ≡ with_clauses cnf.old cnf.old.vars
+        (clause_unless_tautology (first.now ++ l ∷ m ∷ []))) }
 {
     let mut lits = first.copy()?;
     lits.push(l)?;
     lits.push(m)?;
-    cnf.add_clause_of(lits.as_slice())?;
+    cnf.add_clause_from_lits(lits.as_slice())?;
     Ok(())
 }
 
@@ -50,7 +51,8 @@ fn add_same(alloc: Global, cnf: &mut Cnf, first: &Lits, l: Lit, m: Lit) -> Resul
     requires pair { IsTrue (is_clause_over cnf.old.vars (l ∷ m ∷ [])) }
     ensures { OnOk result
         (cnf.new
-        ≡ with_clauses cnf.old cnf.old.vars (as_clauses (carry_over first.now (l ∷ []) (m ∷ [])))) }
+        ≡ with_clauses cnf.old cnf.old.vars
+        (clauses_from_lists (carry_over first.now (l ∷ []) (m ∷ [])))) }
 {
     add_pair(alloc, cnf, first, l.negated(), m)?;
     add_pair(alloc, cnf, first, l, m.negated())?;
@@ -70,7 +72,8 @@ fn carry_over(
     requires next { IsTrue (is_clause_over cnf.old.vars next.now) }
     ensures { OnOk result
         (cnf.new
-        ≡ with_clauses cnf.old cnf.old.vars (as_clauses (carry_over first.now now.now next.now))) }
+        ≡ with_clauses cnf.old cnf.old.vars
+        (clauses_from_lists (carry_over first.now now.now next.now))) }
 {
     for i in 0..now.len().min(next.len()) {
         add_same(alloc, cnf, first, now[i], next[i])?;
@@ -80,7 +83,7 @@ fn carry_over(
 
 // Returns the literals of a variable's values that are carried over.
 fn carried(values: &[Lit]) -> &[Lit]
-    ensures { result.now ≡ carried_lits values.now }
+    ensures { result.now ≡ lits_to_carry_over values.now }
 {
     if values.len() == 2 {
         &values[..1]
@@ -94,14 +97,14 @@ fn add_frame(
     alloc: Global,
     cnf: &mut Cnf,
     first: &Lits,
-    now: &Column,
-    next: &Column,
+    now: &VarLits,
+    next: &VarLits,
 ) -> Result<(), AllocError>
     requires first { IsTrue (is_clause_over cnf.old.vars first.now) }
-    requires columns { IsTrue (columns_in cnf.old.vars (now.now ∷ next.now ∷ [])) }
+    requires columns { IsTrue (has_lits_within_vars cnf.old.vars (now.now ∷ next.now ∷ [])) }
     ensures { OnOk result
         (cnf.new ≡ with_clauses cnf.old cnf.old.vars
-        (as_clauses (frame first.now now.now next.now))) }
+        (clauses_from_lists (frame_axiom first.now now.now next.now))) }
 {
     carry_over(
         alloc,
@@ -122,23 +125,23 @@ fn add_frame(
 
 /// Demands that each variable is set by a chosen rule or has the same value in `next` as in `now`.
 /// The variables of the rules begin at `first`.
-pub fn add_frames(
+pub fn add_frame_axioms(
     alloc: Global,
     cnf: &mut Cnf,
-    now: &Table,
-    next: &Table,
+    now: &CopyLits,
+    next: &CopyLits,
     rules: &[Rule],
     first: u64,
 ) -> Result<(), AllocError>
-    requires now { IsTrue (columns_in cnf.old.vars now.now) }
-    requires next { IsTrue (columns_in cnf.old.vars next.now) }
+    requires now { IsTrue (has_lits_within_vars cnf.old.vars now.now) }
+    requires next { IsTrue (has_lits_within_vars cnf.old.vars next.now) }
     requires same { ranges_of next.now ≡ ranges_of now.now }
     requires from_1 { 0 < first }
     requires numbered { first + length rules.now ≤ cnf.old.vars + 1 }
     ensures { OnOk result
         (cnf.new
         ≡ with_part cnf.old
-        (frames_part (map rule_tree rules.now) first now.now next.now cnf.old.vars)) }
+        (frame_axioms_part (map plain_rule rules.now) first now.now next.now cnf.old.vars)) }
 {
     for (v, column) in now.as_slice().iter().enumerate() {
         let _ = cnf.vars();

@@ -2,14 +2,14 @@ ghost use Rattle.std.specs.Prelude.{◌≡◌, ◌+◌, ◌≤◌, ◌<◌, ◌�
 ghost use Rattle.std.specs.List.{list_all};
 ghost use Rattle.ilk_cnf.specs.Formula.{is_clause_over};
 ghost use Rattle.ilk_cnf.specs.Part.{with_part};
-ghost use Rattle.ilk_ir.specs.System.{rule_tree, rule_valid};
+ghost use Rattle.ilk_ir.specs.System.{plain_rule, rule_valid};
 ghost use Rattle.ilk_ir.specs.Form.{tree_of};
 ghost use Rattle.ilk_ir.specs.Tree.{is, value_valid};
-ghost use Rattle.ilk_forms.specs.Leaf.{columns_in, ranges_of};
+ghost use Rattle.ilk_forms.specs.Leaf.{has_lits_within_vars, ranges_of};
 ghost use Rattle.ilk_step.specs.Rules.{settings_part, rule_part, rules_part};
 
 use ilk_cnf::{Cnf, Lit};
-use ilk_forms::{Table, demand};
+use ilk_forms::{CopyLits, demand_lit_or_form};
 use ilk_ir::{Form, Rule, Setting};
 use std::alloc::{AllocError, Global};
 
@@ -23,11 +23,11 @@ fn set_form(s: Setting) -> Form
 fn add_settings(
     alloc: Global,
     cnf: &mut Cnf,
-    next: &Table,
+    next: &CopyLits,
     skip: Lit,
     sets: &[Setting],
 ) -> Result<(), AllocError>
-    requires next { IsTrue (columns_in cnf.old.vars next.now) }
+    requires next { IsTrue (has_lits_within_vars cnf.old.vars next.now) }
     requires skip { IsTrue (is_clause_over cnf.old.vars (skip ∷ [])) }
     requires valid { IsTrue
         (list_all (λ s. value_valid (ranges_of next.now) s.var s.value) sets.now) }
@@ -35,7 +35,7 @@ fn add_settings(
         (cnf.new ≡ with_part cnf.old (settings_part next.now skip sets.now cnf.old.vars)) }
 {
     for s in sets {
-        demand(alloc, cnf, next, &[skip], &set_form(*s))?;
+        demand_lit_or_form(alloc, cnf, next, &[skip], &set_form(*s))?;
     }
     Ok(())
 }
@@ -44,22 +44,22 @@ fn add_settings(
 fn add_rule(
     alloc: Global,
     cnf: &mut Cnf,
-    now: &Table,
-    next: &Table,
+    now: &CopyLits,
+    next: &CopyLits,
     skip: Lit,
     rule: &Rule,
 ) -> Result<(), AllocError>
-    requires now { IsTrue (columns_in cnf.old.vars now.now) }
-    requires next { IsTrue (columns_in cnf.old.vars next.now) }
+    requires now { IsTrue (has_lits_within_vars cnf.old.vars now.now) }
+    requires next { IsTrue (has_lits_within_vars cnf.old.vars next.now) }
     requires same { ranges_of next.now ≡ ranges_of now.now }
     requires skip { IsTrue (is_clause_over cnf.old.vars (skip ∷ [])) }
-    requires valid { IsTrue (rule_valid (ranges_of now.now) (rule_tree rule.now)) }
+    requires valid { IsTrue (rule_valid (ranges_of now.now) (plain_rule rule.now)) }
     ensures { OnOk result
         (cnf.new
         ≡ with_part cnf.old
-        (rule_part now.now next.now skip (rule_tree rule.now) cnf.old.vars)) }
+        (rule_part now.now next.now skip (plain_rule rule.now) cnf.old.vars)) }
 {
-    demand(alloc, cnf, now, &[skip], &rule.guard)?;
+    demand_lit_or_form(alloc, cnf, now, &[skip], &rule.guard)?;
     add_settings(alloc, cnf, next, skip, rule.sets.as_slice())?;
     Ok(())
 }
@@ -69,21 +69,21 @@ fn add_rule(
 pub fn add_rules(
     alloc: Global,
     cnf: &mut Cnf,
-    now: &Table,
-    next: &Table,
+    now: &CopyLits,
+    next: &CopyLits,
     first: u64,
     rules: &[Rule],
 ) -> Result<(), AllocError>
-    requires now { IsTrue (columns_in cnf.old.vars now.now) }
-    requires next { IsTrue (columns_in cnf.old.vars next.now) }
+    requires now { IsTrue (has_lits_within_vars cnf.old.vars now.now) }
+    requires next { IsTrue (has_lits_within_vars cnf.old.vars next.now) }
     requires same { ranges_of next.now ≡ ranges_of now.now }
     requires from_1 { 0 < first }
     requires numbered { first + length rules.now ≤ cnf.old.vars + 1 }
-    requires valid { IsTrue (list_all (rule_valid (ranges_of now.now)) (map rule_tree rules.now)) }
+    requires valid { IsTrue (list_all (rule_valid (ranges_of now.now)) (map plain_rule rules.now)) }
     ensures { OnOk result
         (cnf.new
         ≡ with_part cnf.old
-        (rules_part now.now next.now first (map rule_tree rules.now) cnf.old.vars)) }
+        (rules_part now.now next.now first (map plain_rule rules.now) cnf.old.vars)) }
 {
     let mut k = first;
     for rule in rules {

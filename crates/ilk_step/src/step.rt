@@ -1,19 +1,19 @@
 ghost use Rattle.std.specs.Prelude.{◌≡◌, ◌+◌, ◌*◌, ◌≤◌, ◌<◌, ◌^◌, ◌++◌, ℕ, List, Bool, Some, length, map, OnOk, IfOk, IsTrue};
 ghost use Rattle.std.specs.List.{list_all};
-ghost use Rattle.ilk_cnf.specs.Extends.{PartExtends};
+ghost use Rattle.ilk_cnf.specs.Extends.{PartExtensionsAreExactly};
 ghost use Rattle.ilk_cnf.specs.Part.{with_part};
-ghost use Rattle.ilk_ir.specs.System.{rule_tree, rule_valid, in_ranges};
+ghost use Rattle.ilk_ir.specs.System.{plain_rule, rule_valid, in_ranges};
 ghost use Rattle.ilk_forms.specs.Copy.{LiteralsEncode};
-ghost use Rattle.ilk_forms.specs.Leaf.{columns_in, ranges_of};
+ghost use Rattle.ilk_forms.specs.Leaf.{has_lits_within_vars, ranges_of};
 ghost use Rattle.ilk_step.specs.Choice.{Chooses};
-ghost use Rattle.ilk_step.specs.Size.{guards_size, settings_count, literals_count};
-ghost use Rattle.ilk_step.specs.Step.{step_part, step_bits, values_after_rule, IsStep};
+ghost use Rattle.ilk_step.specs.Size.{guards_and_settings_size, settings_count, copy_literals_count};
+ghost use Rattle.ilk_step.specs.Step.{step_part, step_bits, values_after_rule, AreStepBits};
 
 use crate::choice::{Choice, add_choice};
-use crate::frame::add_frames;
+use crate::frame::add_frame_axioms;
 use crate::rules::add_rules;
 use ilk_cnf::Cnf;
-use ilk_forms::Table;
+use ilk_forms::CopyLits;
 use ilk_ir::Rules;
 use std::alloc::{AllocError, Global};
 
@@ -24,21 +24,21 @@ use std::alloc::{AllocError, Global};
 pub fn add_step(
     alloc: Global,
     cnf: &mut Cnf,
-    now: &Table,
-    next: &Table,
+    now: &CopyLits,
+    next: &CopyLits,
     rules: &Rules,
 ) -> Result<Choice, AllocError>
-    requires now { IsTrue (columns_in cnf.old.vars now.now) }
-    requires next { IsTrue (columns_in cnf.old.vars next.now) }
+    requires now { IsTrue (has_lits_within_vars cnf.old.vars now.now) }
+    requires next { IsTrue (has_lits_within_vars cnf.old.vars next.now) }
     requires same { ranges_of next.now ≡ ranges_of now.now }
     requires few { length rules.now < 2 ^ 32 }
-    requires valid { IsTrue (list_all (rule_valid (ranges_of now.now)) (map rule_tree rules.now)) }
+    requires valid { IsTrue (list_all (rule_valid (ranges_of now.now)) (map plain_rule rules.now)) }
     ensures choice { IfOk result
         (λ choice. choice ≡ record { first = cnf.old.vars + 1; rules = length rules.now }) }
     ensures made { OnOk result
         (cnf.new
         ≡ with_part cnf.old
-        (step_part (map rule_tree rules.now) now.now next.now cnf.old.vars)) }
+        (step_part (map plain_rule rules.now) now.now next.now cnf.old.vars)) }
 
     // If the copies have the values `ws` and `xs`, there is exactly one extension for each rule
     // that leads from `ws` to `xs`.
@@ -48,15 +48,16 @@ pub fn add_step(
         LiteralsEncode a next.now (ranges_of now.now) xs →
         IsTrue (in_ranges ws (ranges_of now.now)) →
         IsTrue (in_ranges xs (ranges_of now.now)) →
-        PartExtends a (step_part (map rule_tree rules.now) now.now next.now cnf.old.vars)
-        (IsStep (ranges_of now.now) (map rule_tree rules.now) ws xs)) }
+        PartExtensionsAreExactly a
+        (step_part (map plain_rule rules.now) now.now next.now cnf.old.vars)
+        (AreStepBits (ranges_of now.now) (map plain_rule rules.now) ws xs)) }
 
     // The variables of the choice then say that it is that rule, regardless of what follows the
     // step.
     ensures exact { OnOk result
         ((a c : List Bool) (ws xs : List ℕ) (r : ℕ) → length a ≡ cnf.old.vars →
-        values_after_rule (map rule_tree rules.now) ws r ≡ Some xs →
-        Chooses (a ++ (step_bits (ranges_of now.now) (map rule_tree rules.now) ws r ++ c))
+        values_after_rule (map plain_rule rules.now) ws r ≡ Some xs →
+        Chooses (a ++ (step_bits (ranges_of now.now) (map plain_rule rules.now) ws r ++ c))
         (cnf.old.vars + 1) (length rules.now) r) }
 
     // For each rule at most two variables and four clauses, and one clause more in all. For each
@@ -64,17 +65,18 @@ pub fn add_step(
     // each literal of a copy.
     ensures vars { OnOk result
         (cnf.new.vars
-        ≤ cnf.old.vars + 2 * length rules.now + guards_size (map rule_tree rules.now)) }
+        ≤ cnf.old.vars + 2 * length rules.now + guards_and_settings_size
+        (map plain_rule rules.now)) }
     ensures clauses { OnOk result
         (length cnf.new.clauses
         ≤ length cnf.old.clauses +
-        (4 * length rules.now + 1 + 2 * guards_size (map rule_tree rules.now) +
-        settings_count (map rule_tree rules.now) + 2 * literals_count now.now)) }
+        (4 * length rules.now + 1 + 2 * guards_and_settings_size (map plain_rule rules.now) +
+        settings_count (map plain_rule rules.now) + 2 * copy_literals_count now.now)) }
 {
     let first = cnf.vars() + 1;
     add_choice(alloc, cnf, rules.len())?;
     add_rules(alloc, cnf, now, next, first, rules.as_slice())?;
-    add_frames(alloc, cnf, now, next, rules.as_slice(), first)?;
+    add_frame_axioms(alloc, cnf, now, next, rules.as_slice(), first)?;
     Ok(Choice {
         first,
         rules: rules.len() as u32,

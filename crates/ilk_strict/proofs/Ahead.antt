@@ -26,9 +26,9 @@ use Rattle.ilk_plant.specs.declared.table.Listed.{Listed}
 use Rattle.ilk_plant.proofs.Sides.{back-opposite}
 use Rattle.ilk_plant.proofs.InLists.{only-one}
 use Rattle.ilk_plant.proofs.Alike.{one_direction}
-use Rattle.ilk_motion.specs.Ahead.{ahead, section_led_to, leg_by_lie}
+use Rattle.ilk_motion.specs.Ahead.{ahead, section_led_to, detected_leg}
 use Rattle.ilk_routes.specs.Lies.{lie_from_position, is_detected_as_listed, is_lie_at_position}
-use Rattle.ilk_model.specs.Hazard.{are_adjacent_in, is_wrong_under_body}
+use Rattle.ilk_model.specs.Hazard.{are_adjacent_in_body, is_wrong_under_body}
 use Rattle.ilk_model.proofs.Alike.{one_lie}
 
 only-value : (o : Option ℕ) (a b : ℕ) → has_section a (option_to_list o) ≡ true → has_section b (option_to_list o) ≡ true → a ≡ b
@@ -56,11 +56,11 @@ abbrev pub other_leg : ℕ → ℕ → Position → ℕ
 other_leg plus minus Plus = minus
 other_leg plus minus Minus = plus
 
-pub leg_by_lie-lie_from_position : (plus minus : ℕ) (at : Position) → leg_by_lie plus minus (lie_from_position at) ≡ Some (leg plus minus at)
-leg_by_lie-lie_from_position plus minus Plus = refl
-leg_by_lie-lie_from_position plus minus Minus = refl
+pub detected_leg-lie_from_position : (plus minus : ℕ) (at : Position) → detected_leg plus minus (lie_from_position at) ≡ Some (leg plus minus at)
+detected_leg-lie_from_position plus minus Plus = refl
+detected_leg-lie_from_position plus minus Minus = refl
 
-pub is_wrong_under_body-lie_from_position : (x plus minus : ℕ) (at : Position) (body : List ℕ) → is_wrong_under_body x plus minus (Some (lie_from_position at)) body ≡ are_adjacent_in x (other_leg plus minus at) body
+pub is_wrong_under_body-lie_from_position : (x plus minus : ℕ) (at : Position) (body : List ℕ) → is_wrong_under_body x plus minus (Some (lie_from_position at)) body ≡ are_adjacent_in_body x (other_leg plus minus at) body
 is_wrong_under_body-lie_from_position x plus minus Plus body = refl
 is_wrong_under_body-lie_from_position x plus minus Minus body = refl
 
@@ -127,7 +127,7 @@ pub record LeadsToLeg (p : PlantLists) (s : State) (x : ℕ) (d : Dir) (y : ℕ)
   pub same : faces ≡ d
   pub lie : Lie
   pub lies : detected_position p s x ≡ Some lie
-  pub to_leg : leg_by_lie plus minus lie ≡ Some y
+  pub to_leg : detected_leg plus minus lie ≡ Some y
 
 pub ahead-cases : (p : PlantLists) (s : State) (x y z : ℕ) (d : Dir) → ahead p s x d ≡ Some y → has_section z (next_to p x d) ≡ true → (y ≡ z) ⊎ LeadsToLeg p s x d y
 ahead-cases p s x y z d e h =
@@ -142,8 +142,8 @@ ahead-cases p s x y z d e h =
         let one : has_section z (y ∷ []) ≡ true = rw leads at h in inl (only-one z y one)
     of_section (Point stem plus minus faces) d at leads h = elim (cases_Bool (same_direction faces d)) [
       | inl same ↦
-          (let by_lie : (detected_position p s x >>= leg_by_lie plus minus) ≡ Some y = rw same at leads in
-          let lie = bind_some (detected_position p s x) (leg_by_lie plus minus) y by_lie in
+          (let by_lie : (detected_position p s x >>= detected_leg plus minus) ≡ Some y = rw same at leads in
+          let lie = bind_some (detected_position p s x) (detected_leg plus minus) y by_lie in
           inr (record {
             stem = stem;
             plus = plus;

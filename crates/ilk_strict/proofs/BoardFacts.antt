@@ -18,10 +18,10 @@ use Rattle.ilk_routes.specs.Boards.{has_aspect}
 use Rattle.ilk_routes.specs.Lies.{is_detected_as_listed}
 use Rattle.ilk_routes.specs.Modes.{same_mode}
 use Rattle.ilk_model.specs.Commanded.{is_commanded_as_listed}
-use Rattle.ilk_model.specs.Families.{is_commanded_for, keeps_v5, keeps_v6, keeps_v9, is_detected_for}
+use Rattle.ilk_model.specs.Families.{is_commanded_if_allocating, keeps_v5, keeps_v6, keeps_v9, is_set_if_locked_or_occupied}
 use Rattle.ilk_model.specs.Holding.{is_unreleased_on_path, is_locked_or_occupied, is_vacant}
 use Rattle.ilk_model.proofs.Alike.{one_mode}
-use Rattle.ilk_strict.proofs.Reading.{RouteIn, all_below-at, all_below-from, all_routes_pass-at, all_routes_pass-from, has_aspect-at, has_aspect-from, any_route_passes-at, any_route_passes-from}
+use Rattle.ilk_strict.proofs.Reading.{RouteIn, all_below-at, all_below-from, all_routes_pass_test-at, all_routes_pass_test-from, has_aspect-at, has_aspect-from, any_route_passes_test-at, any_route_passes_test-from}
 use Rattle.ilk_strict.proofs.RouteFacts.{all_vacant-at, all_vacant-from}
 
 -- V5: the route for which a board is open.
@@ -40,7 +40,7 @@ module _ (p : PlantLists) (s : State) where
 
   pub open-at : keeps_v5 p s ≡ true → (m : ℕ) → m < length p.boards → slice_get s.boards m ≡ Some Open → IsOpenFor p s m
   open-at kept m within shown =
-      let found = any_route_passes-at p s (opens m) (if-passes (has_aspect s m Open) _ (all_below-at (length p.boards) _ kept m within) (has_aspect-from s m Open shown)) in
+      let found = any_route_passes_test-at p s (opens m) (if-passes (has_aspect s m Open) _ (all_below-at (length p.boards) _ kept m within) (has_aspect-from s m Open shown)) in
       let parts = and_parts ((found.1.source == m) && same_mode found.2.mode Locked) (list_all (is_vacant s) found.1.path) found.4 in
       let both = and_parts (found.1.source == m) (same_mode found.2.mode Locked) parts.0 in
       record {
@@ -58,7 +58,7 @@ module _ (p : PlantLists) (s : State) where
       all_below-from (length p.boards) _ (λ m within. passes-if (has_aspect s m Open) _ (λ shown.
       let one = each m within (has_aspect-at s m Open shown) in
       let mode : same_mode one.now.mode Locked ≡ true = rw one.mode refl in
-      any_route_passes-from p s (opens m) one.r one.route one.now one.it
+      any_route_passes_test-from p s (opens m) one.r one.route one.now one.it
       (and_from ((one.route.source == m) && same_mode one.now.mode Locked)
       (list_all (is_vacant s) one.route.path)
       (and_from (one.route.source == m) (same_mode one.now.mode Locked)
@@ -66,17 +66,17 @@ module _ (p : PlantLists) (s : State) where
       (all_vacant-from s one.route.path one.vacant))))
 
   abbrev points_fit : Route → RouteState → Bool
-  points_fit route now = list_all (λ listed. is_commanded_for p s route now listed && is_detected_for p s route now listed) route.points
+  points_fit route now = list_all (λ listed. is_commanded_if_allocating p s route now listed && is_set_if_locked_or_occupied p s route now listed) route.points
 
   pub commanded-at : keeps_v6 p s ≡ true → (r : ℕ) (route : Route) (now : RouteState) →
       RouteIn p s r route now → (k : ℕ) (listed : Listed) → slice_get route.points k ≡ Some listed →
       now.mode ≡ Allocating → has_section listed.point route.path ≡ true →
       is_commanded_as_listed p s listed ≡ true
   commanded-at kept r route now it k listed at mode on =
-      let both = and_parts (is_commanded_for p s route now listed) (is_detected_for p s route now listed)
+      let both = and_parts (is_commanded_if_allocating p s route now listed) (is_set_if_locked_or_occupied p s route now listed)
       (list_all-slice_get
-      (λ listed. is_commanded_for p s route now listed && is_detected_for p s route now listed) route.points
-      k listed (all_routes_pass-at p s points_fit kept r route now it) at) in
+      (λ listed. is_commanded_if_allocating p s route now listed && is_set_if_locked_or_occupied p s route now listed) route.points
+      k listed (all_routes_pass_test-at p s points_fit kept r route now it) at) in
       if-passes (same_mode now.mode Allocating && has_section listed.point route.path) (is_commanded_as_listed p s listed) both.0 (and_from (same_mode now.mode Allocating) (has_section listed.point route.path) (rw mode refl) on)
 
   pub lies-at : keeps_v6 p s ≡ true → (r : ℕ) (route : Route) (now : RouteState) → RouteIn p s r route now →
@@ -84,10 +84,10 @@ module _ (p : PlantLists) (s : State) where
       is_unreleased_on_path route now listed.point ≡ true →
       (is_commanded_as_listed p s listed ≡ true) × (is_detected_as_listed p s listed ≡ true)
   lies-at kept r route now it k listed at mode on =
-      let both = and_parts (is_commanded_for p s route now listed) (is_detected_for p s route now listed)
+      let both = and_parts (is_commanded_if_allocating p s route now listed) (is_set_if_locked_or_occupied p s route now listed)
       (list_all-slice_get
-      (λ listed. is_commanded_for p s route now listed && is_detected_for p s route now listed) route.points
-      k listed (all_routes_pass-at p s points_fit kept r route now it) at) in
+      (λ listed. is_commanded_if_allocating p s route now listed && is_set_if_locked_or_occupied p s route now listed) route.points
+      k listed (all_routes_pass_test-at p s points_fit kept r route now it) at) in
       and_parts (is_commanded_as_listed p s listed) (is_detected_as_listed p s listed)
       (if-passes (is_locked_or_occupied now && is_unreleased_on_path route now listed.point)
       (is_commanded_as_listed p s listed && is_detected_as_listed p s listed) both.1
@@ -102,10 +102,10 @@ module _ (p : PlantLists) (s : State) where
       (is_commanded_as_listed p s listed ≡ true) × (is_detected_as_listed p s listed ≡ true))) →
       keeps_v6 p s ≡ true
   points-from count each =
-      all_routes_pass-from p s points_fit count (λ r route now it.
-      all-pass (λ listed. is_commanded_for p s route now listed && is_detected_for p s route now listed) route.points (λ k listed at.
+      all_routes_pass_test-from p s points_fit count (λ r route now it.
+      all-pass (λ listed. is_commanded_if_allocating p s route now listed && is_set_if_locked_or_occupied p s route now listed) route.points (λ k listed at.
       let both = each r route now it k listed at in
-      and_from (is_commanded_for p s route now listed) (is_detected_for p s route now listed)
+      and_from (is_commanded_if_allocating p s route now listed) (is_set_if_locked_or_occupied p s route now listed)
       (passes-if (same_mode now.mode Allocating && has_section listed.point route.path) (is_commanded_as_listed p s listed) (λ h.
       let parts = and_parts (same_mode now.mode Allocating) (has_section listed.point route.path) h in
       both.0 (one_mode now.mode Allocating parts.0) parts.1))
@@ -123,13 +123,13 @@ module _ (p : PlantLists) (s : State) where
       (list_all-slice_get (λ m. has_aspect s m Closed) route.protecting_boards k m
       (if-passes (same_mode now.mode Locked)
       (list_all (λ m. has_aspect s m Closed) route.protecting_boards)
-      (all_routes_pass-at p s is_protected kept r route now it) (rw mode refl)) at)
+      (all_routes_pass_test-at p s is_protected kept r route now it) (rw mode refl)) at)
 
   pub protected-from : length s.routes ≡ length p.routes →
       ((r : ℕ) (route : Route) (now : RouteState) → RouteIn p s r route now → now.mode ≡ Locked → (k m : ℕ) →
       slice_get route.protecting_boards k ≡ Some m → slice_get s.boards m ≡ Some Closed) →
       keeps_v9 p s ≡ true
   protected-from count each =
-      all_routes_pass-from p s is_protected count (λ r route now it.
+      all_routes_pass_test-from p s is_protected count (λ r route now it.
       passes-if (same_mode now.mode Locked) (list_all (λ m. has_aspect s m Closed) route.protecting_boards) (λ mode.
       all-pass (λ m. has_aspect s m Closed) route.protecting_boards (λ k m at. has_aspect-from s m Closed (each r route now it (one_mode now.mode Locked mode) k m at))))

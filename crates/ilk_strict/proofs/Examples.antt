@@ -19,14 +19,14 @@ use Rattle.ilk_plant.specs.declared.state.State.{State}
 use Rattle.ilk_plant.specs.declared.table.Route.{Route}
 use Rattle.ilk_model.specs.Event.{next}
 use Rattle.ilk_model.specs.Hazard.{hazard}
-use Rattle.ilk_model.specs.Meets.{least_broken_family}
+use Rattle.ilk_model.specs.Meets.{first_broken_family}
 use Rattle.ilk_model.specs.Run.{run}
 use Rattle.ilk_model.specs.declared.event.Event.{Event}
 use Rattle.ilk_model.specs.declared.event.Event.TheVariants.{Mark, Allocate, Lock, Enter, Head}
 use Rattle.ilk_model.specs.declared.hazards.HazardAt.{HazardAt}
 use Rattle.ilk_model.specs.declared.hazards.HazardAt.TheVariants.{Two, Wrong}
 use Rattle.ilk_model.proofs.Examples.{station}
-use Rattle.ilk_strict.specs.IsStrict.{IsStrict, ends_at_board_or_limit, path_points_are_listed}
+use Rattle.ilk_strict.specs.IsStrict.{IsStrict, ends_at_board_or_border, path_points_are_listed}
 use Rattle.ilk_strict.proofs.Reading.{all_below-at}
 use Rattle.ilk_strict.proofs.Strict.{strict_from_list, strict_from_rules}
 
@@ -46,7 +46,7 @@ kept-below n test h i less = fails (test i) (all_below-at n (λ j. not (test j))
 without_conflicts_is_strict : IsStrict without_conflicts
 without_conflicts_is_strict = strict_from_rules without_conflicts (record {
   c1 = kept-below 8 (breaks_columns without_conflicts C1) refl;
-  c2 = kept-below 8 (route_fails without_conflicts (ends_at_board_or_limit without_conflicts)) refl;
+  c2 = kept-below 8 (route_fails without_conflicts (ends_at_board_or_border without_conflicts)) refl;
   c3 = kept-below 8 (route_fails without_conflicts (path_points_are_listed without_conflicts)) refl;
   c7 = kept-below 6 (breaks_columns without_conflicts C7) refl;
 })
@@ -61,7 +61,7 @@ first_breaks_c2 = refl
 without_destinations_is_strict : IsStrict without_destinations
 without_destinations_is_strict = strict_from_rules without_destinations (record {
   c1 = kept-below 8 (breaks_columns without_destinations C1) refl;
-  c2 = kept-below 8 (route_fails without_destinations (ends_at_board_or_limit without_destinations)) refl;
+  c2 = kept-below 8 (route_fails without_destinations (ends_at_board_or_border without_destinations)) refl;
   c3 = kept-below 8 (route_fails without_destinations (path_points_are_listed without_destinations)) refl;
   c7 = kept-below 6 (breaks_columns without_destinations C7) refl;
 })
@@ -123,7 +123,7 @@ leaves_out = record {
 leaves_out_breaks_c1 : column_rules_broken leaves_out ≡ broken_alone C1 0
 leaves_out_breaks_c1 = refl
 
-leaves_out_breaks_v7 : option_map (least_broken_family leaves_out) (run leaves_out (start leaves_out) (Mark 0 ∷ Allocate 0 ∷ Lock 0 ∷ Enter 0 ∷ Head 0 ∷ [])) ≡ Some (Some 7)
+leaves_out_breaks_v7 : option_map (first_broken_family leaves_out) (run leaves_out (start leaves_out) (Mark 0 ∷ Allocate 0 ∷ Lock 0 ∷ Enter 0 ∷ Head 0 ∷ [])) ≡ Some (Some 7)
 leaves_out_breaks_v7 = refl
 
 -- C1: on two lines of two sections, the route from the first section of one leads to the end of the

@@ -25,19 +25,19 @@ use Rattle.ilk_plant.specs.declared.state.State.{State}
 use Rattle.ilk_plant.specs.declared.state.Train.{Train}
 use Rattle.ilk_plant.specs.declared.table.Route.{Route}
 use Rattle.ilk_plant.proofs.Alike.{one_direction}
-use Rattle.ilk_motion.specs.Ahead.{ahead, leg_by_lie}
+use Rattle.ilk_motion.specs.Ahead.{ahead, detected_leg}
 use Rattle.ilk_motion.specs.Trains.{is_open, may_pass}
 use Rattle.ilk_motion.proofs.Shape.{ahead-next_to}
 use Rattle.ilk_routes.specs.Lies.{lie_from_position}
-use Rattle.ilk_model.specs.Holding.{is_locked_or_occupied, is_plain_for_direction}
+use Rattle.ilk_model.specs.Holding.{is_locked_or_occupied, continues_without_board}
 use Rattle.ilk_strict.specs.IsStrict.{IsRouteFromBoard, IsStrict}
-use Rattle.ilk_strict.proofs.Ahead.{LeadsToLeg, LegsDiffer, ahead-cases, board-one, leg, leg-no_other, leg_by_lie-lie_from_position, legs-differ, other_leg, stem-before, stem-no_leg, stem-no_other, stem-side}
+use Rattle.ilk_strict.proofs.Ahead.{LeadsToLeg, LegsDiffer, ahead-cases, board-one, leg, leg-no_other, detected_leg-lie_from_position, legs-differ, other_leg, stem-before, stem-no_leg, stem-no_other, stem-side}
 use Rattle.ilk_strict.proofs.HeldPoints.{IsSet, held-point, set-leg}
 use Rattle.ilk_strict.proofs.Reading.{RouteIn}
 use Rattle.ilk_strict.proofs.BoardFacts.{IsOpenFor, open-at}
 use Rattle.ilk_strict.proofs.RouteFacts.{idle, locked-is, rel-led}
 use Rattle.ilk_strict.proofs.Table.{route-source}
-use Rattle.ilk_strict.proofs.TrainFacts.{IsLedBy, Keeps, head-led, led-locked_or_occupied, runs-source}
+use Rattle.ilk_strict.proofs.TrainFacts.{IsLedBy, Keeps, head-led, led-route_locked_or_occupied, runs-source}
 
 -- The route on whose path y follows x in direction d.
 pub record GoesOn (p : PlantLists) (s : State) (x : ℕ) (d : Dir) (y : ℕ) : Type 0 where
@@ -77,10 +77,10 @@ some-length : (x : ℕ) (xs : List ℕ) → has_section x xs ≡ true → 0 < le
 some-length x [] h = cc
 some-length x (y ∷ xs) h = omega arith
 
-leg-ahead : (plus minus : ℕ) (lie : Lie) (to : Position) (y : ℕ) (o : Option Lie) → o ≡ Some lie → o ≡ Some (lie_from_position to) → leg_by_lie plus minus lie ≡ Some y → leg plus minus to ≡ y
+leg-ahead : (plus minus : ℕ) (lie : Lie) (to : Position) (y : ℕ) (o : Option Lie) → o ≡ Some lie → o ≡ Some (lie_from_position to) → detected_leg plus minus lie ≡ Some y → leg plus minus to ≡ y
 leg-ahead plus minus lie to y o lies set_to goes =
     let same : lie ≡ lie_from_position to = same_Some lie (lie_from_position to) (sym lies ∙ set_to) in
-    same_Some (leg plus minus to) y (sym (leg_by_lie-lie_from_position plus minus to) ∙ (rw same at goes))
+    same_Some (leg plus minus to) y (sym (detected_leg-lie_from_position plus minus to) ∙ (rw same at goes))
 
 module _ (p : PlantLists) (plant : IsPlant p) (strict : IsStrict p) (s : State) (keeps : Keeps p s) where
   -- With a board that is Open for a route.
@@ -145,18 +145,18 @@ module _ (p : PlantLists) (plant : IsPlant p) (strict : IsStrict p) (s : State) 
       facing-set r route source from earlier.0 i x y z earlier.1 at next to_leg (held-point p strict s keeps.v6 r route now it mode source from earlier.0 i x least earlier.1 at (rw to_leg.section refl))
 
   -- Without a board, if a route leads the train.
-  without-board : (x y : ℕ) (d : Dir) → board_of p x d ≡ None → is_plain_for_direction p d x ≡ true → ahead p s x d ≡ Some y → IsLedBy p s d x → GoesOn p s x d y
+  without-board : (x y : ℕ) (d : Dir) → board_of p x d ≡ None → continues_without_board p d x ≡ true → ahead p s x d ≡ Some y → IsLedBy p s d x → GoesOn p s x d y
   without-board x y d none plain leads led =
       let route = led.route in
       let source = route-source p route (plant.routes_known led.r route led.it.known) in
       let from : IsRouteFromBoard p led.r route source.0 = record { known = led.it.known; begins = source.1 } in
       let same : source.0.dir ≡ d = runs-source p d route source.0 led.runs source.1 in
       let within = slice_get_within route.path led.i x led.at in
-      let not_last : led.i + 1 ≡ length route.path → ⊥ = λ last. both_ways (is_plain_for_direction p d x) (subst (λ (e : Dir). is_plain_for_direction p e x ≡ false) same (strict.ends led.r route source.0 from led.i x led.at last)) plain in
+      let not_last : led.i + 1 ≡ length route.path → ⊥ = λ last. both_ways (continues_without_board p d x) (subst (λ (e : Dir). continues_without_board p e x ≡ false) same (strict.ends led.r route source.0 from led.i x led.at last)) plain in
       let next = item_at route.path (suc led.i) (omega (arith, within, not_last)) in
       let beside = strict.leads led.r route source.0 from (suc led.i) x next.0 led.at next.1 in
       let ahead_of : ahead p s x source.0.dir ≡ Some y = subst (λ (e : Dir). ahead p s x e ≡ Some y) (sym same) leads in
-      let mode = led-locked_or_occupied s route led.now led.mode in
+      let mode = led-route_locked_or_occupied s route led.now led.mode in
       let least = rel-led p s keeps.v1 led.r route led.now led.it led.i led.seen in
       let few = led.seen in
       let is : y ≡ next.0 = elim (ahead-cases p s x y next.0 source.0.dir ahead_of beside) [
@@ -190,7 +190,7 @@ goes-on p plant strict s keeps i train x y at last leads passes = by_board (boar
     by_board : (o : Option ℕ) → board_of p x train.dir ≡ o → GoesOn p s x train.dir y
     by_board (Some m) board = from-board p plant strict s keeps x y m train.dir board passes leads
     by_board None board =
-        let plain : is_plain_for_direction p train.dir x ≡ true = and_from (has_no_board p train.dir x)
+        let plain : continues_without_board p train.dir x ≡ true = and_from (has_no_board p train.dir x)
         (nat_lt 0 (length (next_to p x train.dir))) (rw board refl)
         (more-than_none (length (next_to p x train.dir))
         (some-length y (next_to p x train.dir) (ahead-next_to p s x y train.dir leads))) in

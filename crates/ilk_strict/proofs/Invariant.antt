@@ -15,14 +15,14 @@ use Rattle.ilk_plant.proofs.Shapes.{start-shape}
 use Rattle.ilk_plant.proofs.Steps.{after_step}
 use Rattle.ilk_model.specs.Event.{next}
 use Rattle.ilk_model.specs.Hazard.{hazard}
-use Rattle.ilk_model.specs.Holding.{holds_sections}
+use Rattle.ilk_model.specs.Holding.{is_holding_state}
 use Rattle.ilk_model.specs.Meets.{Meets}
-use Rattle.ilk_model.specs.Run.{run, next_if_no_hazard}
+use Rattle.ilk_model.specs.Run.{run, next_from_hazard_free}
 use Rattle.ilk_model.specs.declared.event.Event.{Event}
 use Rattle.ilk_strict.specs.IsStrict.{IsStrict}
 use Rattle.ilk_strict.proofs.BoardFacts.{open-from, points-from, protected-from}
 use Rattle.ilk_strict.proofs.RouteFacts.{alone-from, counts_right, holds-cases, locked-holds, locks-from, vacant-from}
-use Rattle.ilk_strict.proofs.Reading.{RouteIn, all_routes_pass-from}
+use Rattle.ilk_strict.proofs.Reading.{RouteIn, all_routes_pass_test-from}
 use Rattle.ilk_strict.proofs.TrainFacts.{keeps-of, meets-from, wrong-from}
 use Rattle.ilk_strict.proofs.EventsKeep.{keeps-next}
 
@@ -32,7 +32,7 @@ meets-next p plant strict s t event meets e = meets-from p t (keeps-next p plant
 pub meets-run : (p : PlantLists) → IsPlant p → IsStrict p → (events : List Event) (s t : State) → Meets p s → run p s events ≡ Some t → Meets p t
 meets-run p plant strict [] s t meets e = subst (Meets p) (same_Some s t e) meets
 meets-run p plant strict (event ∷ rest) s t meets e =
-    option_and_then_some (λ u. run p u rest) (next_if_no_hazard p s event) t e (λ u first later.
+    option_and_then_some (λ u. run p u rest) (next_from_hazard_free p s event) t e (λ u first later.
     option_and_then_some (λ safe. next p safe event) _ u first (λ safe is_safe after.
     let same : s ≡ safe = (cond_some (is_none (hazard p s)) s safe is_safe).1 in
     let leads : next p s event ≡ Some u = ap (λ (v : State). next p v event) same ∙ after in
@@ -44,14 +44,14 @@ start-free p r route now it = copied (length p.routes) r free_route now it.state
 start-mode : (p : PlantLists) (r : ℕ) (route : Route) (now : RouteState) → RouteIn p (start p) r route now → now.mode ≡ Free
 start-mode p r route now it = ap (λ (v : RouteState). v.mode) (sym (start-free p r route now it))
 
-start-holds_none : (p : PlantLists) (r : ℕ) (route : Route) (now : RouteState) → RouteIn p (start p) r route now → holds_sections now ≡ true → ⊥
+start-holds_none : (p : PlantLists) (r : ℕ) (route : Route) (now : RouteState) → RouteIn p (start p) r route now → is_holding_state now ≡ true → ⊥
 start-holds_none p r route now it holds =
-    let none : holds_sections free_route ≡ true = subst (λ (v : RouteState). holds_sections v ≡ true) (sym (start-free p r route now it)) holds in cc
+    let none : is_holding_state free_route ≡ true = subst (λ (v : RouteState). is_holding_state v ≡ true) (sym (start-free p r route now it)) holds in cc
 
 pub start-meets : (p : PlantLists) → Meets p (start p)
 start-meets p = meets-from p (start p) (record {
   shape = start-shape p;
-  v1 = all_routes_pass-from p (start p) counts_right (start-shape p).routes (λ r route now it. subst (λ (v : RouteState). counts_right route v ≡ true) (start-free p r route now it) refl);
+  v1 = all_routes_pass_test-from p (start p) counts_right (start-shape p).routes (λ r route now it. subst (λ (v : RouteState). counts_right route v ≡ true) (start-free p r route now it) refl);
   v2 = alone-from p (start p) (λ r route now it q other its that x within first second. absurd (start-holds_none p r route now it (holds-cases route now x first).0));
   v3 = locks-from p (start p) (start-shape p).routes (λ r route now it holds. absurd (start-holds_none p r route now it holds));
   v4 = vacant-from p (start p) (start-shape p).routes (λ r route now it mode i x at. refl);

@@ -22,8 +22,8 @@ use Rattle.ilk_plant.specs.declared.table.Route.{Route}
 use Rattle.ilk_motion.specs.Ahead.{ahead}
 use Rattle.ilk_routes.specs.Claims.{required_points}
 use Rattle.ilk_routes.specs.Lies.{lie_from_position, is_lie_at_position}
-use Rattle.ilk_model.specs.Hazard.{are_adjacent_in, is_wrong_under_body}
-use Rattle.ilk_model.specs.Holding.{is_plain_for_direction}
+use Rattle.ilk_model.specs.Hazard.{are_adjacent_in_body, is_wrong_under_body}
+use Rattle.ilk_model.specs.Holding.{continues_without_board}
 use Rattle.ilk_strict.specs.IsStrict.{IsRouteFromBoard, IsStrict}
 use Rattle.ilk_strict.proofs.After.{wrong-reads}
 use Rattle.ilk_strict.proofs.Ahead.{other_leg, is_wrong_under_body-lie_from_position}
@@ -116,7 +116,7 @@ module _ (p : PlantLists) (plant : IsPlant p) (strict : IsStrict p) (s t : State
       let plain = of_section numbered.0 train.dir numbered.1 numbered.2 in
       lies-kept x m point number at (rw numbered.1 numbered.2) train.dir (body-kept p s keeps.v8 i train there found.0 x found.1 plain)
     where
-      of_section : (section : Section) (d : Dir) → slice_get p.sections x ≡ Some section → is_point section ≡ true → is_plain_for_direction p d x ≡ true
+      of_section : (section : Section) (d : Dir) → slice_get p.sections x ≡ Some section → is_point section ≡ true → continues_without_board p d x ≡ true
       of_section (Linear down up board_down board_up) d section h = cc
       of_section (Point stem plus minus faces) d section h = point-plain p x stem plus minus faces d section
 
@@ -171,12 +171,12 @@ module _ (p : PlantLists) (plant : IsPlant p) (strict : IsStrict p) (s t : State
       head-at = last-is n it.train.body it.heads None
 
       at_position : (z stem plus minus : ℕ) (faces : Dir) → slice_get p.sections z ≡ Some (Point stem plus minus faces) → (to : Position) → detected_position p s z ≡ Some (lie_from_position to)
-          → are_adjacent_in z (other_leg plus minus to) (it.train.body ++ it.y ∷ []) ≡ true → ⊥
+          → are_adjacent_in_body z (other_leg plus minus to) (it.train.body ++ it.y ∷ []) ≡ true → ⊥
       at_position z stem plus minus faces section to lie h = elim (pair-pushed z (other_leg plus minus to) n it.y it.train.body head-at h) [
         | inl old ↦
             (let none = no-is_wrong_under_body z stem plus minus faces section it.i it.train it.at in
-            let was : are_adjacent_in z (other_leg plus minus to) it.train.body ≡ false = sym (is_wrong_under_body-lie_from_position z plus minus to it.train.body) ∙ (rw lie at none) in
-            both_ways (are_adjacent_in z (other_leg plus minus to) it.train.body) was old)
+            let was : are_adjacent_in_body z (other_leg plus minus to) it.train.body ≡ false = sym (is_wrong_under_body-lie_from_position z plus minus to it.train.body) ∙ (rw lie at none) in
+            both_ways (are_adjacent_in_body z (other_leg plus minus to) it.train.body) was old)
         | inr new ↦ elim new [
           | inl from ↦ ahead-no_other p plant s z it.y stem plus minus faces it.train.dir to section lie (ap (λ (v : ℕ). ahead p s v it.train.dir) from.0 ∙ it.leads) (sym from.1)
           | inr onto ↦

@@ -17,16 +17,16 @@ use Rattle.ilk_model.proofs.Alike.{one_mode}
 use Rattle.ilk_model.proofs.PointFrames.{IsSettled, IsThrown}
 use Rattle.ilk_model.proofs.RouteFrames.{ChangesRoute, IsAllocated, IsCancelled, IsFinished, IsLocked, IsMarked, IsReleased, IsSensed}
 use Rattle.ilk_model.proofs.TrainFrames.{IsEntered, IsHeaded, IsLeft, IsTailed}
-use Rattle.ilk_strict.proofs.Reading.{all_routes_pass-at, all_routes_pass-from}
+use Rattle.ilk_strict.proofs.Reading.{all_routes_pass_test-at, all_routes_pass_test-from}
 use Rattle.ilk_strict.proofs.RouteFacts.{counts-idle, counts-in_use, counts_right, idle, in_use, rel-seen}
 use Rattle.ilk_strict.proofs.TrainFacts.{Keeps}
 
 module _ (p : PlantLists) (s t : State) (keeps : Keeps p s) (shape : HasShape p t) (n : ℕ) where
   changed : (route : Route) (now new : RouteState) → ChangesRoute p s t n route now new → counts_right route new ≡ true → keeps_v1 p t ≡ true
   changed route now new changes right =
-      all_routes_pass-from p t counts_right shape.routes (λ q one its it. elim (after-cases p s t n route now new changes q one its it) [
+      all_routes_pass_test-from p t counts_right shape.routes (λ q one its it. elim (after-cases p s t n route now new changes q one its it) [
         | inl here ↦ same-here (λ u v. counts_right u v ≡ true) one route its new here.1 here.2 right
-        | inr other ↦ all_routes_pass-at p s counts_right keeps.v1 q one its other.1
+        | inr other ↦ all_routes_pass_test-at p s counts_right keeps.v1 q one its other.1
       ])
 
   still-idle : (route : Route) (now : RouteState) (mode : Mode) → ChangesRoute p s t n route now (record now { mode = mode }) → same_mode now.mode Occupied ≡ false → same_mode mode Occupied ≡ false → keeps_v1 p t ≡ true

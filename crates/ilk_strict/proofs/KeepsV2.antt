@@ -7,7 +7,7 @@ use Rattle.ilk_base.proofs.Tested.{list_all-slice_get}
 use Rattle.ilk_base.proofs.Truth.{fails}
 use Rattle.ilk_plant.specs.Network.{has_section}
 use Rattle.ilk_plant.specs.Plant.{PlantLists}
-use Rattle.ilk_plant.specs.State.{has_lock, is_clear, is_occupied}
+use Rattle.ilk_plant.specs.State.{has_lock_state, is_unlocked_and_vacant, is_occupied}
 use Rattle.ilk_plant.specs.TableRules.{sections_locked_for}
 use Rattle.ilk_plant.specs.declared.state.Hold.TheVariants.{Free as FreeLock}
 use Rattle.ilk_plant.specs.declared.state.Mode.TheVariants.{Free, Marked, Allocating, Locked, Occupied}
@@ -16,22 +16,22 @@ use Rattle.ilk_plant.specs.declared.state.State.{State}
 use Rattle.ilk_plant.specs.declared.table.Route.{Route}
 use Rattle.ilk_plant.proofs.InLists.{section-at}
 use Rattle.ilk_model.specs.Families.{keeps_v2}
-use Rattle.ilk_model.specs.Holding.{holds_section, holds_sections}
+use Rattle.ilk_model.specs.Holding.{holds_section, is_holding_state}
 use Rattle.ilk_strict.proofs.After.{after-cases, v2-reads}
 use Rattle.ilk_model.proofs.PointFrames.{IsSettled, IsThrown}
 use Rattle.ilk_model.proofs.RouteFrames.{ChangesRoute, IsAllocated, IsCancelled, IsFinished, IsLocked, IsMarked, IsReleased, IsSensed}
 use Rattle.ilk_model.proofs.TrainFrames.{IsEntered, IsHeaded, IsLeft, IsTailed}
-use Rattle.ilk_strict.proofs.Reading.{RouteIn, has_lock-at}
+use Rattle.ilk_strict.proofs.Reading.{RouteIn, has_lock_state-at}
 use Rattle.ilk_strict.proofs.RouteFacts.{allocating-holds, alone, alone-from, held-not_free, holds-beside, holds-cases, holds-path, locked-holds}
 use Rattle.ilk_strict.proofs.Table.{beside-locked_for, path-locked_for}
 use Rattle.ilk_strict.proofs.TrainFacts.{Keeps}
 
 -- An allocated section had lock Free and was vacant.
-pub cleared : (s : State) (route : Route) → list_all (is_clear s) (sections_locked_for route) ≡ true → (x : ℕ) → has_section x (sections_locked_for route) ≡ true → (slice_get s.locks x ≡ Some FreeLock) × (is_occupied s x ≡ false)
+pub cleared : (s : State) (route : Route) → list_all (is_unlocked_and_vacant s) (sections_locked_for route) ≡ true → (x : ℕ) → has_section x (sections_locked_for route) ≡ true → (slice_get s.locks x ≡ Some FreeLock) × (is_occupied s x ≡ false)
 cleared s route clear x among =
     let found = section-at x (sections_locked_for route) among in
-    let both = and_parts (has_lock s x FreeLock) _ (list_all-slice_get (is_clear s) (sections_locked_for route) found.0 x clear found.1) in
-    (has_lock-at s x FreeLock both.0, fails (is_occupied s x) both.1)
+    let both = and_parts (has_lock_state s x FreeLock) _ (list_all-slice_get (is_unlocked_and_vacant s) (sections_locked_for route) found.0 x clear found.1) in
+    (has_lock_state-at s x FreeLock both.0, fails (is_occupied s x) both.1)
 
 pub held-locked_for : (route : Route) (now : RouteState) (x : ℕ) → holds_section x route now ≡ true → has_section x (sections_locked_for route) ≡ true
 held-locked_for route now x held = elim (holds-cases route now x held).1 [
@@ -56,11 +56,11 @@ module _ (p : PlantLists) (s t : State) (keeps : Keeps p s) (n : ℕ) where
         | inr other ↦ (its, other.1, h)
       ]
 
-  drops : (route : Route) (now new : RouteState) → ChangesRoute p s t n route now new → holds_sections new ≡ false → keeps_v2 p t ≡ true
+  drops : (route : Route) (now new : RouteState) → ChangesRoute p s t n route now new → is_holding_state new ≡ false → keeps_v2 p t ≡ true
   drops route now new changes none =
-      shrinks route now new changes (λ x held. let holds = (holds-cases route new x held).0 in absurd (both_ways (holds_sections new) none holds))
+      shrinks route now new changes (λ x held. let holds = (holds-cases route new x held).0 in absurd (both_ways (is_holding_state new) none holds))
 
-  goes-on_holding : (route : Route) (now new : RouteState) → ChangesRoute p s t n route now new → holds_sections now ≡ true → now.rel ≤ new.rel → keeps_v2 p t ≡ true
+  goes-on_holding : (route : Route) (now new : RouteState) → ChangesRoute p s t n route now new → is_holding_state now ≡ true → now.rel ≤ new.rel → keeps_v2 p t ≡ true
   goes-on_holding route now new changes holds more =
       shrinks route now new changes (λ x held. elim (holds-cases route new x held).1 [
         | inl beside ↦ holds-beside route now x holds beside

@@ -8,7 +8,7 @@ use Rattle.std.proofs.lemmas.Bool.Decides.{nat_tests}
 use Rattle.std.proofs.lemmas.Option.{same_Some}
 use Rattle.ilk_base.proofs.Lists.{slice_get-set_other, slice_get-set_same}
 use Rattle.ilk_plant.specs.Network.{has_section}
-use Rattle.ilk_plant.specs.Plant.{IsPlant, IsRouteOf, PlantLists}
+use Rattle.ilk_plant.specs.Plant.{IsPlant, IsValidRouteOf, PlantLists}
 use Rattle.ilk_plant.specs.Shape.{HasShape}
 use Rattle.ilk_plant.specs.TableRules.{sections_locked_for}
 use Rattle.ilk_plant.specs.declared.state.Hold.{Hold}
@@ -19,11 +19,11 @@ use Rattle.ilk_plant.specs.declared.state.State.{State}
 use Rattle.ilk_plant.specs.declared.table.Route.{Route}
 use Rattle.ilk_plant.proofs.InLists.{section-at}
 use Rattle.ilk_routes.proofs.Shape.{beside-known}
-use Rattle.ilk_routes.specs.Claims.{sections_beside_path}
+use Rattle.ilk_routes.specs.Claims.{sections_outside_path}
 use Rattle.ilk_routes.specs.Locks.{with_locks}
 use Rattle.ilk_routes.specs.Modes.{same_mode}
 use Rattle.ilk_model.specs.Families.{keeps_v3, path_section_lock}
-use Rattle.ilk_model.specs.Holding.{holds_section, holds_sections}
+use Rattle.ilk_model.specs.Holding.{holds_section, is_holding_state}
 use Rattle.ilk_strict.proofs.After.{after-cases, before-change, given-lock, other-lock, same-here, v3-reads}
 use Rattle.ilk_model.proofs.Alike.{one_mode}
 use Rattle.ilk_model.proofs.PointFrames.{IsSettled, IsThrown}
@@ -38,21 +38,21 @@ use Rattle.ilk_strict.proofs.TrainFacts.{Keeps}
 -- The locks of the sections that a route holds.
 pub record HasItsLocks (t : State) (route : Route) (new : RouteState) : Type 0 where
   pub on_path : (i x : ℕ) → new.rel ≤ i → slice_get route.path i ≡ Some x → slice_get t.locks x ≡ Some (path_section_lock new i)
-  pub beside : (x : ℕ) → has_section x (sections_beside_path route) ≡ true → slice_get t.locks x ≡ Some LockedLock
+  pub beside : (x : ℕ) → has_section x (sections_outside_path route) ≡ true → slice_get t.locks x ≡ Some LockedLock
 
 module _ (p : PlantLists) (plant : IsPlant p) (s t : State) (keeps : Keeps p s) (shape : HasShape p t) (n : ℕ) where
   changed : (route : Route) (now new : RouteState) → ChangesRoute p s t n route now new →
       (Touched : ℕ → Type 0) → ((x : ℕ) → (Touched x → ⊥) → slice_get t.locks x ≡ slice_get s.locks x) →
       ((q : ℕ) (one : Route) (its : RouteState) → (q ≡ n → ⊥) → RouteIn p s q one its → (x : ℕ) →
       holds_section x one its ≡ true → Touched x → ⊥) →
-      (holds_sections new ≡ true → HasItsLocks t route new) → keeps_v3 p t ≡ true
+      (is_holding_state new ≡ true → HasItsLocks t route new) → keeps_v3 p t ≡ true
   changed route now new changes Touched same apart mine =
       locks-from p t shape.routes (λ q one its it holds. elim (after-cases p s t n route now new changes q one its it) [
         | inl here ↦ same-here
-            (λ u v. holds_sections v ≡ true →
+            (λ u v. is_holding_state v ≡ true →
             ((i x : ℕ) → v.rel ≤ i → slice_get u.path i ≡ Some x →
             slice_get t.locks x ≡ Some (path_section_lock v i)) ×
-            ((x : ℕ) → has_section x (sections_beside_path u) ≡ true →
+            ((x : ℕ) → has_section x (sections_outside_path u) ≡ true →
             slice_get t.locks x ≡ Some LockedLock)) one route its new here.1 here.2
             (λ h. let all = mine h in (all.on_path, all.beside)) holds
         | inr other ↦ (
@@ -61,7 +61,7 @@ module _ (p : PlantLists) (plant : IsPlant p) (s t : State) (keeps : Keeps p s) 
         )
       ])
 
-  unlocked : (route : Route) (now new : RouteState) → ChangesRoute p s t n route now new → t.locks ≡ s.locks → (holds_sections new ≡ true → HasItsLocks t route new) → keeps_v3 p t ≡ true
+  unlocked : (route : Route) (now new : RouteState) → ChangesRoute p s t n route now new → t.locks ≡ s.locks → (is_holding_state new ≡ true → HasItsLocks t route new) → keeps_v3 p t ≡ true
   unlocked route now new changes locks mine =
       changed route now new changes (λ x. ⊥) (λ x none. ap (λ (l : List Hold). slice_get l x) locks) (λ q one its apart it x held none. none) mine
 
@@ -81,13 +81,13 @@ module _ (p : PlantLists) (plant : IsPlant p) (s t : State) (keeps : Keeps p s) 
       (λ q one its apart that x held taken. held-not_free p s keeps.v3 q one its that x held (cleared s it.route it.clear x taken).0)
       (λ holds. record {
         on_path = λ i x least at. given x (path-locked_for it.route i x at) (path-section p it.route of i x at) ∙ ap Some (sym (unseen i));
-        beside = λ x beside. (let found = section-at x (sections_beside_path it.route) beside in given x (beside-locked_for it.route x beside) (beside-known p it.route of found.0 x found.1));
+        beside = λ x beside. (let found = section-at x (sections_outside_path it.route) beside in given x (beside-locked_for it.route x beside) (beside-known p it.route of found.0 x found.1));
       })
     where
       new : RouteState
       new = let now = it.now in record now { mode = Allocating }
 
-      of : IsRouteOf p it.route
+      of : IsValidRouteOf p it.route
       of = plant.routes_known n it.route it.changes.known
 
       given : (x : ℕ) → has_section x (sections_locked_for it.route) ≡ true → x < length p.sections → slice_get t.locks x ≡ Some LockedLock
@@ -122,14 +122,14 @@ module _ (p : PlantLists) (plant : IsPlant p) (s t : State) (keeps : Keeps p s) 
         beside =
             λ y beside. away y
             (λ is. path-apart p it.route of it.now.seen it.x it.next
-            (subst (λ z. has_section z (sections_beside_path it.route) ≡ true) is beside))
+            (subst (λ z. has_section z (sections_outside_path it.route) ≡ true) is beside))
             ∙ lock-beside p s keeps.v3 n it.route it.now was (locked-holds it.now it.was) y beside;
       })
     where
       new : RouteState
       new = let now = it.now in record now { mode = Occupied; seen = now.seen + 1 }
 
-      of : IsRouteOf p it.route
+      of : IsValidRouteOf p it.route
       of = plant.routes_known n it.route it.changes.known
 
       was : RouteIn p s n it.route it.now
@@ -174,19 +174,19 @@ module _ (p : PlantLists) (plant : IsPlant p) (s t : State) (keeps : Keeps p s) 
         on_path = λ i y least at.
             away y (λ is. let here = path-once p it.route of i it.now.rel y at (it.first ∙ ap Some (sym is)) in absurd (omega (arith, here, least)))
             ∙ lock-path p s keeps.v3 n it.route it.now was holds_now i y (omega (arith, least)) at;
-        beside = λ y beside. away y (λ is. path-apart p it.route of it.now.rel it.x it.first (subst (λ z. has_section z (sections_beside_path it.route) ≡ true) is beside)) ∙ lock-beside p s keeps.v3 n it.route it.now was holds_now y beside;
+        beside = λ y beside. away y (λ is. path-apart p it.route of it.now.rel it.x it.first (subst (λ z. has_section z (sections_outside_path it.route) ≡ true) is beside)) ∙ lock-beside p s keeps.v3 n it.route it.now was holds_now y beside;
       })
     where
       new : RouteState
       new = let now = it.now in record now { rel = now.rel + 1 }
 
-      of : IsRouteOf p it.route
+      of : IsValidRouteOf p it.route
       of = plant.routes_known n it.route it.changes.known
 
       was : RouteIn p s n it.route it.now
       was = before-change p s t n it.route it.now new it.changes
 
-      holds_now : holds_sections it.now ≡ true
+      holds_now : is_holding_state it.now ≡ true
       holds_now = rw it.was refl
 
       away : (y : ℕ) → (y ≡ it.x → ⊥) → slice_get t.locks y ≡ slice_get s.locks y
@@ -194,31 +194,31 @@ module _ (p : PlantLists) (plant : IsPlant p) (s t : State) (keeps : Keeps p s) 
 
   pub finish-keeps_v3 : IsFinished p s t n → keeps_v3 p t ≡ true
   finish-keeps_v3 it =
-      changed it.route it.now new it.changes (λ y. (y ≡ it.x) ⊎ (has_section y (sections_beside_path it.route) ≡ true)) away others (λ holds. cc)
+      changed it.route it.now new it.changes (λ y. (y ≡ it.x) ⊎ (has_section y (sections_outside_path it.route) ≡ true)) away others (λ holds. cc)
     where
       new : RouteState
       new = record { mode = Free; seen = 0; rel = 0 }
 
-      of : IsRouteOf p it.route
+      of : IsValidRouteOf p it.route
       of = plant.routes_known n it.route it.changes.known
 
       was : RouteIn p s n it.route it.now
       was = before-change p s t n it.route it.now new it.changes
 
-      holds_now : holds_sections it.now ≡ true
+      holds_now : is_holding_state it.now ≡ true
       holds_now = rw it.was refl
 
-      away : (y : ℕ) → ((y ≡ it.x) ⊎ (has_section y (sections_beside_path it.route) ≡ true) → ⊥) → slice_get t.locks y ≡ slice_get s.locks y
+      away : (y : ℕ) → ((y ≡ it.x) ⊎ (has_section y (sections_outside_path it.route) ≡ true) → ⊥) → slice_get t.locks y ≡ slice_get s.locks y
       away y apart =
           ap (λ (l : List Hold). slice_get l y) it.locks
-          ∙ other-lock (set s.locks it.x FreeLock) (sections_beside_path it.route) FreeLock y (false_from_ne_true (has_section y (sections_beside_path it.route)) (λ beside. apart (inr beside)))
+          ∙ other-lock (set s.locks it.x FreeLock) (sections_outside_path it.route) FreeLock y (false_from_ne_true (has_section y (sections_outside_path it.route)) (λ beside. apart (inr beside)))
           ∙ slice_get-set_other s.locks it.x y FreeLock (λ e. apart (inl (sym e)))
 
-      others : (q : ℕ) (one : Route) (its : RouteState) → (q ≡ n → ⊥) → RouteIn p s q one its → (y : ℕ) → holds_section y one its ≡ true → (y ≡ it.x) ⊎ (has_section y (sections_beside_path it.route) ≡ true) → ⊥
+      others : (q : ℕ) (one : Route) (its : RouteState) → (q ≡ n → ⊥) → RouteIn p s q one its → (y : ℕ) → holds_section y one its ≡ true → (y ≡ it.x) ⊎ (has_section y (sections_outside_path it.route) ≡ true) → ⊥
       others q one its apart that y held (inl is) =
           not-others it.route it.now was it.x (path-section p it.route of it.now.rel it.x it.last) (holds-path it.route it.now it.now.rel it.x holds_now (omega arith) it.last) q one its apart that (subst (λ z. holds_section z one its ≡ true) is held)
       others q one its apart that y held (inr beside) =
-          let found = section-at y (sections_beside_path it.route) beside in
+          let found = section-at y (sections_outside_path it.route) beside in
           not-others it.route it.now was y (beside-known p it.route of found.0 y found.1) (holds-beside it.route it.now y holds_now beside) q one its apart that held
 
   pub throw-keeps_v3 : IsThrown p s t n → keeps_v3 p t ≡ true
@@ -252,7 +252,7 @@ module _ (p : PlantLists) (plant : IsPlant p) (s t : State) (keeps : Keeps p s) 
       new : RouteState
       new = let now = it.now in record now { mode = Free }
 
-      of : IsRouteOf p it.route
+      of : IsValidRouteOf p it.route
       of = plant.routes_known n it.route it.changes.known
 
       was : RouteIn p s n it.route it.now
@@ -265,6 +265,6 @@ module _ (p : PlantLists) (plant : IsPlant p) (s t : State) (keeps : Keeps p s) 
             let none = counts.1 in
             not-others it.route it.now was y (path-section p it.route of place.0 y place.1) (holds-path it.route it.now place.0 y (allocating-holds it.now mode) (omega (arith, none)) place.1) q one its apart that held)
         | inr beside ↦
-            (let found = section-at y (sections_beside_path it.route) beside in
+            (let found = section-at y (sections_outside_path it.route) beside in
             not-others it.route it.now was y (beside-known p it.route of found.0 y found.1) (holds-beside it.route it.now y (allocating-holds it.now mode) beside) q one its apart that held)
       ]

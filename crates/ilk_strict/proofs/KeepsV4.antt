@@ -18,7 +18,7 @@ use Rattle.ilk_model.proofs.RouteFrames.{ChangesRoute, IsAllocated, IsCancelled,
 use Rattle.ilk_model.proofs.TrainFrames.{IsEntered, IsHeaded, IsLeft, IsTailed}
 use Rattle.ilk_strict.proofs.Heads.{GoesOn, goes-on}
 use Rattle.ilk_strict.proofs.KeepsV2.{cleared}
-use Rattle.ilk_strict.proofs.Reading.{RouteIn, has_lock-at}
+use Rattle.ilk_strict.proofs.Reading.{RouteIn, has_lock_state-at}
 use Rattle.ilk_strict.proofs.RouteFacts.{allocating-holds, alone, held-not_free, holds-path, idle, locked-holds, locked-or_occupied, vacant-from, vacant-path}
 use Rattle.ilk_strict.proofs.Table.{path-locked_for, path-section}
 use Rattle.ilk_strict.proofs.TrainFacts.{Keeps}
@@ -77,7 +77,7 @@ module _ (p : PlantLists) (plant : IsPlant p) (strict : IsStrict p) (s t : State
   pub enter-keeps_v4 : IsEntered p s t n → keeps_v4 p t ≡ true
   enter-keeps_v4 it =
       trains-come it.routes (λ q one its that mode i x least at vacant. enter-vacant p s t n it x vacant (λ same.
-      held-not_free p s keeps.v3 q one its that x (holds-path one its i x (allocating-holds its mode) least at) (ap (slice_get s.locks) same ∙ has_lock-at s n FreeLock it.free)))
+      held-not_free p s keeps.v3 q one its that x (holds-path one its i x (allocating-holds its mode) least at) (ap (slice_get s.locks) same ∙ has_lock_state-at s n FreeLock it.free)))
 
   pub head-keeps_v4 : IsHeaded p s t n → keeps_v4 p t ≡ true
   head-keeps_v4 it =

@@ -22,7 +22,7 @@ use Rattle.ilk_model.proofs.PointFrames.{IsSettled, IsThrown}
 use Rattle.ilk_model.proofs.RouteFrames.{ChangesRoute, IsAllocated, IsCancelled, IsFinished, IsLocked, IsMarked, IsReleased, IsSensed}
 use Rattle.ilk_model.proofs.TrainFrames.{IsEntered, IsHeaded, IsLeft, IsTailed}
 use Rattle.ilk_strict.proofs.KeepsV4.{headed-goes_on}
-use Rattle.ilk_strict.proofs.Reading.{has_lock-at}
+use Rattle.ilk_strict.proofs.Reading.{has_lock_state-at}
 use Rattle.ilk_strict.proofs.BoardFacts.{IsOpenFor, open-at, open-from}
 use Rattle.ilk_strict.proofs.RouteFacts.{alone, held-not_free, holds-path, idle, locked-holds, locked-is, vacant-path}
 use Rattle.ilk_strict.proofs.Table.{path-section}
@@ -128,7 +128,7 @@ module _ (p : PlantLists) (plant : IsPlant p) (strict : IsStrict p) (s t : State
       open-from p t (λ m within shown.
       let open_for = open-at p s keeps.v5 m within (sym (ap (λ (l : List Aspect). slice_get l m) it.boards) ∙ shown) in
       still-open it.routes m open_for (λ i x at vacant. enter-vacant p s t n it x vacant (λ same.
-      held-not_free p s keeps.v3 open_for.r open_for.route open_for.now open_for.it x (holds-whole m open_for i x at) (ap (slice_get s.locks) same ∙ has_lock-at s n FreeLock it.free))))
+      held-not_free p s keeps.v3 open_for.r open_for.route open_for.now open_for.it x (holds-whole m open_for i x at) (ap (slice_get s.locks) same ∙ has_lock_state-at s n FreeLock it.free))))
 
   pub head-keeps_v5 : IsHeaded p s t n → keeps_v5 p t ≡ true
   head-keeps_v5 it =

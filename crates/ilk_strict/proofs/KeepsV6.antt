@@ -10,7 +10,7 @@ use Rattle.ilk_base.proofs.ListTests.{all-at}
 use Rattle.ilk_base.proofs.Options.{some-is}
 use Rattle.ilk_base.proofs.Tested.{list_all-slice_get}
 use Rattle.ilk_plant.specs.Network.{has_section}
-use Rattle.ilk_plant.specs.Plant.{IsPlant, IsRouteOf, PlantLists, point_number}
+use Rattle.ilk_plant.specs.Plant.{IsPlant, IsValidRouteOf, PlantLists, point_number}
 use Rattle.ilk_plant.specs.Shape.{HasShape}
 use Rattle.ilk_plant.specs.State.{detected_position}
 use Rattle.ilk_plant.specs.declared.network.Position.{Position}
@@ -26,7 +26,7 @@ use Rattle.ilk_plant.proofs.Once.{numbers_differ-places}
 use Rattle.ilk_plant.proofs.PointNumbers.{point_number-below}
 use Rattle.ilk_plant.proofs.InLists.{section-at}
 use Rattle.ilk_routes.specs.Claims.{required_points}
-use Rattle.ilk_routes.specs.Lies.{is_moving, lie_from_position, is_detected_as_listed, is_lie_at_position, lists_point}
+use Rattle.ilk_routes.specs.Lies.{is_detected_moving, lie_from_position, is_detected_as_listed, is_lie_at_position, is_entry_for_point}
 use Rattle.ilk_model.specs.Commanded.{commanded_position, is_commanded_as_listed}
 use Rattle.ilk_model.specs.Families.{keeps_v6}
 use Rattle.ilk_model.specs.Holding.{holds_section, is_unreleased_on_path, is_locked_or_occupied}
@@ -125,17 +125,17 @@ module _ (p : PlantLists) (plant : IsPlant p) (s t : State) (keeps : Keeps p s) 
       new : RouteState
       new = let now = it.now in record now { mode = Allocating }
 
-      of : IsRouteOf p it.route
+      of : IsValidRouteOf p it.route
       of = plant.routes_known n it.route it.changes.known
 
-      numbered : (route : Route) → IsRouteOf p route → (k : ℕ) (listed : Listed) → slice_get route.points k ≡ Some listed → (m : ℕ) × (point_number p listed.point ≡ Some m)
+      numbered : (route : Route) → IsValidRouteOf p route → (k : ℕ) (listed : Listed) → slice_get route.points k ≡ Some listed → (m : ℕ) × (point_number p listed.point ≡ Some m)
       numbered route of_plant k listed at =
           some-is (point_number p listed.point) (all-at (λ one. IsSome (point_number p one.point)) route.points k listed of_plant.points_are_points at)
 
       -- All entries of the route for one point have the same position.
       alike : (k : ℕ) (listed : Listed) → slice_get it.route.points k ≡ Some listed → (m : ℕ) →
           point_number p listed.point ≡ Some m → (j : ℕ) (one : Listed) →
-          slice_get (required_points it.route) j ≡ Some one → lists_point p m one ≡ true → one.at ≡ listed.at
+          slice_get (required_points it.route) j ≡ Some one → is_entry_for_point p m one ≡ true → one.at ≡ listed.at
       alike k listed at m number j one there lists =
           let same = lists-named p one listed.point m number lists in
           elim (at-either it.route.points it.route.protecting_points j one there) [
@@ -238,9 +238,9 @@ module _ (p : PlantLists) (plant : IsPlant p) (s t : State) (keeps : Keeps p s) 
   settle-keeps_v6 it =
       let point = it.point in
       point-changes n it.n point (record point { at = lie_from_position point.to }) it.number it.state it.points it.routes refl (λ at to lie.
-      let still : is_moving point.at ≡ false = rw lie (still_in at) in both_ways (is_moving point.at) still it.moved)
+      let still : is_detected_moving point.at ≡ false = rw lie (still_in at) in both_ways (is_detected_moving point.at) still it.moved)
     where
-      still_in : (at : Position) → is_moving (lie_from_position at) ≡ false
+      still_in : (at : Position) → is_detected_moving (lie_from_position at) ≡ false
       still_in Plus = refl
       still_in Minus = refl
 

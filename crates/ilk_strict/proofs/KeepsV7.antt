@@ -9,7 +9,7 @@ use Rattle.ilk_base.proofs.Lists.{item_at}
 use Rattle.ilk_base.proofs.Truth.{either}
 use Rattle.ilk_base.proofs.Ranges.{below_or_past}
 use Rattle.ilk_plant.specs.Network.{has_section}
-use Rattle.ilk_plant.specs.Plant.{IsPlant, IsRouteOf, PlantLists, board_of}
+use Rattle.ilk_plant.specs.Plant.{IsPlant, IsValidRouteOf, PlantLists, board_of}
 use Rattle.ilk_plant.specs.Shape.{HasShape}
 use Rattle.ilk_plant.specs.State.{is_occupied}
 use Rattle.ilk_plant.specs.declared.network.Dir.{Dir}
@@ -23,7 +23,7 @@ use Rattle.ilk_plant.specs.declared.state.Train.{Train}
 use Rattle.ilk_plant.specs.declared.table.Route.{Route}
 use Rattle.ilk_routes.specs.Modes.{same_mode}
 use Rattle.ilk_model.specs.Families.{keeps_v7}
-use Rattle.ilk_model.specs.Holding.{holds_section, is_plain_for_direction, route_runs_in}
+use Rattle.ilk_model.specs.Holding.{holds_section, continues_without_board, route_runs_in_direction}
 use Rattle.ilk_strict.specs.IsStrict.{IsStrict}
 use Rattle.ilk_strict.proofs.After.{after-change, before-change, one-state, route-stays, same-occupied, v7-reads}
 use Rattle.ilk_strict.proofs.Ahead.{board-one}
@@ -34,10 +34,10 @@ use Rattle.ilk_model.proofs.RouteFrames.{IsAllocated, IsCancelled, IsFinished, I
 use Rattle.ilk_model.proofs.TrainFrames.{IsEntered, IsHeaded, IsLeft, IsTailed}
 use Rattle.ilk_strict.proofs.Heads.{GoesOn}
 use Rattle.ilk_strict.proofs.KeepsV4.{headed-goes_on}
-use Rattle.ilk_strict.proofs.Reading.{RouteIn, has_lock-at, occupied-from}
+use Rattle.ilk_strict.proofs.Reading.{RouteIn, has_lock_state-at, occupied-from}
 use Rattle.ilk_strict.proofs.RouteFacts.{allocating-holds, alone, held-not_free, holds-path, idle, locked-holds, locked-is, rel-led}
 use Rattle.ilk_strict.proofs.Table.{path-once, path-section, route-source}
-use Rattle.ilk_strict.proofs.TrainFacts.{IsLedBy, Keeps, head-led, heads-from, led-locked_or_occupied, runs-from, runs-source, two-at}
+use Rattle.ilk_strict.proofs.TrainFacts.{IsLedBy, Keeps, head-led, heads-from, led-route_locked_or_occupied, runs-from, runs-source, two-at}
 use Rattle.ilk_strict.proofs.Trains.{enter-trains, enter-vacant, head-trains, head-vacant, last-is, last-pushed, last-shorter, leave-trains, leave-vacant, tail-trains, tail-vacant}
 use Rattle.ilk_strict.proofs.Leading.{board-not_plain, changed, head-within, idle-changed, not-leading}
 
@@ -103,7 +103,7 @@ module _ (p : PlantLists) (plant : IsPlant p) (strict : IsStrict p) (s t : State
             it = after-change p s t n it.route it.now new it.changes;
             i = led.i;
             at = ap (λ (route : Route). slice_get route.path led.i) (sym is.0) ∙ led.at;
-            runs = subst (λ (route : Route). route_runs_in p d route ≡ true) is.0 led.runs;
+            runs = subst (λ (route : Route). route_runs_in_direction p d route ≡ true) is.0 led.runs;
             mode = inl refl;
             seen = omega (arith, few);
             later = λ j y less at. same-occupied s t it.trains y ∙ led.later j y less (ap (λ (route : Route). slice_get route.path j) is.0 ∙ at);
@@ -126,7 +126,7 @@ module _ (p : PlantLists) (plant : IsPlant p) (strict : IsStrict p) (s t : State
             it = after-change p s t n it.route it.now new it.changes;
             i = led.i;
             at = ap (λ (route : Route). slice_get route.path led.i) (sym is.0) ∙ led.at;
-            runs = subst (λ (route : Route). route_runs_in p d route ≡ true) is.0 led.runs;
+            runs = subst (λ (route : Route). route_runs_in_direction p d route ≡ true) is.0 led.runs;
             mode = inl it.was;
             seen = subst (λ (v : RouteState). v.seen ≤ led.i + 1) is.1 led.seen;
             later = λ j y less at. same-occupied s t it.trains y ∙ led.later j y less (ap (λ (route : Route). slice_get route.path j) is.0 ∙ at);
@@ -143,7 +143,7 @@ module _ (p : PlantLists) (plant : IsPlant p) (strict : IsStrict p) (s t : State
       new = record { mode = Free; seen = 0; rel = 0 }
 
       -- The head would be at the end of the path, which isn't plain.
-      at-end : (d : Dir) (x : ℕ) → is_plain_for_direction p d x ≡ true → (led : IsLedBy p s d x) → led.r ≡ n → ⊥
+      at-end : (d : Dir) (x : ℕ) → continues_without_board p d x ≡ true → (led : IsLedBy p s d x) → led.r ≡ n → ⊥
       at-end d x plain led same =
           let is = one-state p s led.r n led.route it.route led.now it.now led.it (before-change p s t n it.route it.now new it.changes) same in
           let at : slice_get it.route.path led.i ≡ Some x = ap (λ (route : Route). slice_get route.path led.i) (sym is.0) ∙ led.at in
@@ -152,9 +152,9 @@ module _ (p : PlantLists) (plant : IsPlant p) (strict : IsStrict p) (s t : State
           let all_seen = it.all_seen in
           let last : led.i + 1 ≡ length it.route.path = omega (arith, seen, within, all_seen) in
           let source = route-source p it.route (plant.routes_known n it.route it.changes.known) in
-          let dir : source.0.dir ≡ d = runs-source p d it.route source.0 (subst (λ (route : Route). route_runs_in p d route ≡ true) is.0 led.runs) source.1 in
+          let dir : source.0.dir ≡ d = runs-source p d it.route source.0 (subst (λ (route : Route). route_runs_in_direction p d route ≡ true) is.0 led.runs) source.1 in
           let ends = strict.ends n it.route source.0 (record { known = it.changes.known; begins = source.1 }) led.i x at last in
-          both_ways (is_plain_for_direction p d x) (subst (λ (e : Dir). is_plain_for_direction p e x ≡ false) dir ends) plain
+          both_ways (continues_without_board p d x) (subst (λ (e : Dir). continues_without_board p e x ≡ false) dir ends) plain
 
   pub throw-keeps_v7 : IsThrown p s t n → keeps_v7 p t ≡ true
   throw-keeps_v7 it = v7-reads p s t it.routes it.boards it.trains keeps.v7
@@ -183,7 +183,7 @@ module _ (p : PlantLists) (plant : IsPlant p) (strict : IsStrict p) (s t : State
   holds-later : (d : Dir) (x : ℕ) → (led : IsLedBy p s d x) → (j y : ℕ) → led.i < j → slice_get led.route.path j ≡ Some y → holds_section y led.route led.now ≡ true
   holds-later d x led j y less at =
       let least = rel-led p s keeps.v1 led.r led.route led.now led.it led.i led.seen in
-      holds-path led.route led.now j y (locked-holds led.now (led-locked_or_occupied s led.route led.now led.mode)) (omega (arith, least, less)) at
+      holds-path led.route led.now j y (locked-holds led.now (led-route_locked_or_occupied s led.route led.now led.mode)) (omega (arith, least, less)) at
 
   pub enter-keeps_v7 : IsEntered p s t n → keeps_v7 p t ≡ true
   enter-keeps_v7 it =
@@ -191,12 +191,12 @@ module _ (p : PlantLists) (plant : IsPlant p) (strict : IsStrict p) (s t : State
         | inl old ↦
             (let led = head-led p s keeps.v7 i train x old last plain in
             still-led it.routes (λ m closed. ap (λ (l : List Aspect). slice_get l m) it.boards ∙ closed) train.dir x led (λ j y less there vacant. enter-vacant p s t n it y vacant (λ same.
-            held-not_free p s keeps.v3 led.r led.route led.now led.it y (holds-later train.dir x led j y less there) (ap (slice_get s.locks) same ∙ has_lock-at s n FreeLock it.free))))
+            held-not_free p s keeps.v3 led.r led.route led.now led.it y (holds-later train.dir x led j y less there) (ap (slice_get s.locks) same ∙ has_lock_state-at s n FreeLock it.free))))
         | inr new ↦
             (let dir : train.dir ≡ it.inward = ap (λ (one : Train). one.dir) new.1 in
             let here : n ≡ x = same_Some n x (sym (ap (λ (one : Train). last_or None one.body) new.1) ∙ last) in
             let ends = board-not_plain p it.inward n (strict.borders n it.inward it.borders) in
-            absurd (both_ways (is_plain_for_direction p train.dir x) (rw (dir, ← here) ends) plain))
+            absurd (both_ways (continues_without_board p train.dir x) (rw (dir, ← here) ends) plain))
       ])
 
   pub head-keeps_v7 : IsHeaded p s t n → keeps_v7 p t ≡ true
@@ -214,7 +214,7 @@ module _ (p : PlantLists) (plant : IsPlant p) (strict : IsStrict p) (s t : State
       on : GoesOn p s n it.train.dir it.y
       on = headed-goes_on p plant strict s t keeps n it
 
-      of : IsRouteOf p on.route
+      of : IsValidRouteOf p on.route
       of = plant.routes_known on.r on.route on.it.known
 
       head-at : last_or None it.train.body ≡ Some n
@@ -271,11 +271,11 @@ module _ (p : PlantLists) (plant : IsPlant p) (strict : IsStrict p) (s t : State
         | inl moved ↦
             (let dir : it.train.dir ≡ train.dir = ap (λ (one : Train). one.dir) (sym moved.1) in
             let head : last_or None it.train.body ≡ Some x = sym (last-shorter n it.train.body it.several) ∙ sym (ap (λ (one : Train). last_or None one.body) moved.1) ∙ last in
-            subst (λ (e : Dir). IsLedBy p t e x) dir (on it.i it.train x it.at head (subst (λ (e : Dir). is_plain_for_direction p e x ≡ true) (sym dir) plain)))
+            subst (λ (e : Dir). IsLedBy p t e x) dir (on it.i it.train x it.at head (subst (λ (e : Dir). continues_without_board p e x ≡ true) (sym dir) plain)))
         | inr other ↦ on i train x other.1 last plain
       ])
     where
-      on : (i : ℕ) (train : Train) (x : ℕ) → slice_get s.trains i ≡ Some train → last_or None train.body ≡ Some x → is_plain_for_direction p train.dir x ≡ true → IsLedBy p t train.dir x
+      on : (i : ℕ) (train : Train) (x : ℕ) → slice_get s.trains i ≡ Some train → last_or None train.body ≡ Some x → continues_without_board p train.dir x ≡ true → IsLedBy p t train.dir x
       on i train x at last plain =
           let led = head-led p s keeps.v7 i train x at last plain in
           still-led it.routes (λ m closed. ap (λ (l : List Aspect). slice_get l m) it.boards ∙ closed) train.dir x led (λ j y less there vacant. tail-vacant p s t n it y vacant)

@@ -18,7 +18,7 @@ use Rattle.ilk_plant.specs.declared.table.Route.{Route}
 use Rattle.ilk_plant.proofs.InLists.{section-from, only-one}
 use Rattle.ilk_routes.specs.Modes.{same_mode}
 use Rattle.ilk_model.specs.Families.{keeps_v8}
-use Rattle.ilk_model.specs.Holding.{is_locked_or_occupied, is_plain_for_direction, route_runs_in}
+use Rattle.ilk_model.specs.Holding.{is_locked_or_occupied, continues_without_board, route_runs_in_direction}
 use Rattle.ilk_strict.specs.IsStrict.{IsStrict}
 use Rattle.ilk_strict.proofs.After.{after-change, before-change, one-state, other-stays, route-stays, v8-reads}
 use Rattle.ilk_model.proofs.Alike.{one_mode}
@@ -35,7 +35,7 @@ use Rattle.ilk_strict.proofs.Trains.{enter-trains, head-trains, leave-trains, sh
 module _ (p : PlantLists) (plant : IsPlant p) (strict : IsStrict p) (s t : State) (keeps : Keeps p s) (n : ℕ) where
   changed : (route : Route) (now new : RouteState) → ChangesRoute p s t n route now new →
       t.trains ≡ s.trains →
-      ((d : Dir) (x : ℕ) → is_plain_for_direction p d x ≡ true → is_occupied s x ≡ true → (kept : IsKeptBy p s d x) →
+      ((d : Dir) (x : ℕ) → continues_without_board p d x ≡ true → is_occupied s x ≡ true → (kept : IsKeptBy p s d x) →
       kept.r ≡ n → IsKeptBy p t d x) →
       keeps_v8 p t ≡ true
   changed route now new changes trains mine =
@@ -75,7 +75,7 @@ module _ (p : PlantLists) (plant : IsPlant p) (strict : IsStrict p) (s t : State
         it = after-change p s t n route now new changes;
         i = kept.i;
         at = ap (λ (one : Route). slice_get one.path kept.i) (sym is.0) ∙ kept.at;
-        runs = subst (λ (one : Route). route_runs_in p d one ≡ true) is.0 kept.runs;
+        runs = subst (λ (one : Route). route_runs_in_direction p d one ≡ true) is.0 kept.runs;
         mode = mode;
         least = least is.1 is.0;
       }
@@ -121,7 +121,7 @@ module _ (p : PlantLists) (plant : IsPlant p) (strict : IsStrict p) (s t : State
       new = record { mode = Free; seen = 0; rel = 0 }
 
       -- The route held only the end of its path, which isn't plain.
-      at-end : (d : Dir) (x : ℕ) → is_plain_for_direction p d x ≡ true → (kept : IsKeptBy p s d x) → kept.r ≡ n → ⊥
+      at-end : (d : Dir) (x : ℕ) → continues_without_board p d x ≡ true → (kept : IsKeptBy p s d x) → kept.r ≡ n → ⊥
       at-end d x plain kept same =
           let is = one-state p s kept.r n kept.route it.route kept.now it.now kept.it (before-change p s t n it.route it.now new it.changes) same in
           let at : slice_get it.route.path kept.i ≡ Some x = ap (λ (one : Route). slice_get one.path kept.i) (sym is.0) ∙ kept.at in
@@ -130,9 +130,9 @@ module _ (p : PlantLists) (plant : IsPlant p) (strict : IsStrict p) (s t : State
           let rest = it.rest in
           let last : kept.i + 1 ≡ length it.route.path = omega (arith, least, within, rest) in
           let source = route-source p it.route (plant.routes_known n it.route it.changes.known) in
-          let dir : source.0.dir ≡ d = runs-source p d it.route source.0 (subst (λ (one : Route). route_runs_in p d one ≡ true) is.0 kept.runs) source.1 in
+          let dir : source.0.dir ≡ d = runs-source p d it.route source.0 (subst (λ (one : Route). route_runs_in_direction p d one ≡ true) is.0 kept.runs) source.1 in
           let ends = strict.ends n it.route source.0 (record { known = it.changes.known; begins = source.1 }) kept.i x at last in
-          both_ways (is_plain_for_direction p d x) (subst (λ (e : Dir). is_plain_for_direction p e x ≡ false) dir ends) plain
+          both_ways (continues_without_board p d x) (subst (λ (e : Dir). continues_without_board p e x ≡ false) dir ends) plain
 
   pub throw-keeps_v8 : IsThrown p s t n → keeps_v8 p t ≡ true
   throw-keeps_v8 it = v8-reads p s t it.routes it.trains keeps.v8
@@ -161,7 +161,7 @@ module _ (p : PlantLists) (plant : IsPlant p) (strict : IsStrict p) (s t : State
             (let dir : train.dir ≡ it.inward = ap (λ (one : Train). one.dir) new.1 in
             let here : n ≡ x = only-one x n (subst (λ (one : Train). has_section x one.body ≡ true) new.1 (section-from train.body k x place)) in
             let ends = board-not_plain p it.inward n (strict.borders n it.inward it.borders) in
-            absurd (both_ways (is_plain_for_direction p train.dir x) (rw (dir, ← here) ends) plain))
+            absurd (both_ways (continues_without_board p train.dir x) (rw (dir, ← here) ends) plain))
       ])
 
   pub head-keeps_v8 : IsHeaded p s t n → keeps_v8 p t ≡ true
@@ -170,7 +170,7 @@ module _ (p : PlantLists) (plant : IsPlant p) (strict : IsStrict p) (s t : State
         | inl moved ↦
             (let dir : it.train.dir ≡ train.dir = ap (λ (one : Train). one.dir) (sym moved.1) in
             let there : slice_get (it.train.body ++ it.y ∷ []) k ≡ Some x = ap (λ (one : Train). slice_get one.body k) (sym moved.1) ∙ place in
-            let as_before : is_plain_for_direction p it.train.dir x ≡ true = subst (λ (e : Dir). is_plain_for_direction p e x ≡ true) (sym dir) plain in
+            let as_before : continues_without_board p it.train.dir x ≡ true = subst (λ (e : Dir). continues_without_board p e x ≡ true) (sym dir) plain in
             subst (λ (e : Dir). IsKeptBy p t e x) dir (elim (slice_get-push_cases it.train.body it.y x k there) [
               | inl old ↦ still-kept it.routes it.train.dir x (body-kept p s keeps.v8 it.i it.train it.at k x old as_before)
               | inr new ↦ subst (λ (y : ℕ). IsKeptBy p t it.train.dir y) new.1 kept-on
@@ -200,7 +200,7 @@ module _ (p : PlantLists) (plant : IsPlant p) (strict : IsStrict p) (s t : State
             (let dir : it.train.dir ≡ train.dir = ap (λ (one : Train). one.dir) (sym moved.1) in
             let there : slice_get (remove it.train.body 0) k ≡ Some x = ap (λ (one : Train). slice_get one.body k) (sym moved.1) ∙ place in
             subst (λ (e : Dir). IsKeptBy p t e x) dir (still-kept it.routes it.train.dir x (body-kept p s keeps.v8 it.i it.train it.at (suc k) x (shorter-at it.train.body k x there)
-            (subst (λ (e : Dir). is_plain_for_direction p e x ≡ true) (sym dir) plain))))
+            (subst (λ (e : Dir). continues_without_board p e x ≡ true) (sym dir) plain))))
         | inr other ↦ still-kept it.routes train.dir x (body-kept p s keeps.v8 i train other.1 k x place plain)
       ])
 

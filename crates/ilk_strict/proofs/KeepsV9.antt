@@ -14,7 +14,7 @@ use Rattle.ilk_plant.specs.declared.state.Mode.TheVariants.{Free, Marked, Alloca
 use Rattle.ilk_plant.specs.declared.state.RouteState.{RouteState}
 use Rattle.ilk_plant.specs.declared.state.State.{State}
 use Rattle.ilk_plant.specs.declared.table.Route.{Route}
-use Rattle.ilk_routes.specs.Boards.{has_aspect, is_held_closed, has_protecting_board}
+use Rattle.ilk_routes.specs.Boards.{has_aspect, is_held_closed, is_protecting_board}
 use Rattle.ilk_routes.specs.Modes.{has_mode}
 use Rattle.ilk_model.specs.Families.{keeps_v9}
 use Rattle.ilk_strict.proofs.After.{after-cases, same-here, same-route, v9-reads}
@@ -70,10 +70,10 @@ module _ (p : PlantLists) (plant : IsPlant p) (s t : State) (keeps : Keeps p s) 
       unprotected q one its that mode k m at same =
           let is_locked : has_mode s q Locked ≡ true = rw (that.state, mode) refl in
           let among : list_any (λ b. b == it.route.source) one.protecting_boards ≡ true = list_any-from (λ b. b == it.route.source) one.protecting_boards k m at (eq-eqb m it.route.source same) in
-          let protects : has_protecting_board p q it.route.source ≡ true = rw that.known among in
+          let protects : is_protecting_board p q it.route.source ≡ true = rw that.known among in
           both_ways (is_held_closed p s it.route.source) it.unprotecting
-          (any_below-from (length p.routes) (λ q. has_mode s q Locked && has_protecting_board p q it.route.source) q (slice_get_within p.routes q one that.known)
-          (and_from (has_mode s q Locked) (has_protecting_board p q it.route.source) is_locked protects))
+          (any_below-from (length p.routes) (λ q. has_mode s q Locked && is_protecting_board p q it.route.source) q (slice_get_within p.routes q one that.known)
+          (and_from (has_mode s q Locked) (is_protecting_board p q it.route.source) is_locked protects))
 
   pub sense-keeps_v9 : IsSensed p s t n → keeps_v9 p t ≡ true
   sense-keeps_v9 it =

@@ -17,14 +17,14 @@ use Rattle.ilk_plant.specs.declared.state.Train.{Train}
 use Rattle.ilk_plant.specs.declared.table.Route.{Route}
 use Rattle.ilk_plant.proofs.InLists.{section-from}
 use Rattle.ilk_model.specs.Families.{keeps_v7}
-use Rattle.ilk_model.specs.Holding.{is_locked_or_occupied, is_plain_for_direction}
+use Rattle.ilk_model.specs.Holding.{is_locked_or_occupied, continues_without_board}
 use Rattle.ilk_strict.specs.IsStrict.{IsStrict}
 use Rattle.ilk_strict.proofs.After.{before-change, one-state, other-stays, same-occupied}
 use Rattle.ilk_model.proofs.RouteFrames.{ChangesRoute}
 use Rattle.ilk_strict.proofs.RouteFacts.{idle}
-use Rattle.ilk_strict.proofs.TrainFacts.{IsLedBy, Keeps, head-led, heads-from, led-locked_or_occupied}
+use Rattle.ilk_strict.proofs.TrainFacts.{IsLedBy, Keeps, head-led, heads-from, led-route_locked_or_occupied}
 
-pub board-not_plain : (p : PlantLists) (d : Dir) (x : ℕ) → has_no_board p d x ≡ false → is_plain_for_direction p d x ≡ false
+pub board-not_plain : (p : PlantLists) (d : Dir) (x : ℕ) → has_no_board p d x ≡ false → continues_without_board p d x ≡ false
 board-not_plain p d x board = and_left (has_no_board p d x) (nat_lt 0 (length (next_to p x d))) board
 
 last-within : (xs : List ℕ) (x : ℕ) (o : Option ℕ) → last_or o xs ≡ Some x → (o ≡ Some x) ⊎ (has_section x xs ≡ true)
@@ -37,7 +37,7 @@ module _ (p : PlantLists) (plant : IsPlant p) (strict : IsStrict p) (s t : State
   pub not-leading : (route : Route) (now new : RouteState) → ChangesRoute p s t n route now new → is_locked_or_occupied now ≡ false → (d : Dir) (x : ℕ) → (led : IsLedBy p s d x) → led.r ≡ n → ⊥
   not-leading route now new changes idle d x led same =
       let is = one-state p s led.r n led.route route led.now now led.it (before-change p s t n route now new changes) same in
-      let leading = led-locked_or_occupied s led.route led.now led.mode in
+      let leading = led-route_locked_or_occupied s led.route led.now led.mode in
       both_ways (is_locked_or_occupied now) idle (subst (λ (v : RouteState). is_locked_or_occupied v ≡ true) is.1 leading)
 
   other-leads : (route : Route) (now new : RouteState) → ChangesRoute p s t n route now new →
@@ -62,7 +62,7 @@ module _ (p : PlantLists) (plant : IsPlant p) (strict : IsStrict p) (s t : State
       ((d : Dir) (x : ℕ) → (led : IsLedBy p s d x) → (led.r ≡ n → ⊥) → led.now.mode ≡ Locked →
       slice_get s.boards led.route.source ≡ Some Closed →
       slice_get t.boards led.route.source ≡ Some Closed) →
-      ((d : Dir) (x : ℕ) → is_plain_for_direction p d x ≡ true → (led : IsLedBy p s d x) → led.r ≡ n → IsLedBy p t d x) →
+      ((d : Dir) (x : ℕ) → continues_without_board p d x ≡ true → (led : IsLedBy p s d x) → led.r ≡ n → IsLedBy p t d x) →
       keeps_v7 p t ≡ true
   changed route now new changes trains stay mine =
       heads-from p t shape (λ i train x at last plain.

@@ -8,7 +8,7 @@ use Rattle.ilk_base.specs.Option.{◌>>=◌}
 use Rattle.ilk_base.proofs.Options.{bind_some}
 use Rattle.ilk_base.proofs.Truth.{either}
 use Rattle.ilk_plant.specs.Network.{same_direction}
-use Rattle.ilk_plant.specs.Plant.{IsPlant, PlantLists, border}
+use Rattle.ilk_plant.specs.Plant.{IsPlant, PlantLists, section_inward_if_border}
 use Rattle.ilk_plant.specs.State.{detected_position}
 use Rattle.ilk_plant.specs.declared.network.Dir.{Dir}
 use Rattle.ilk_plant.specs.declared.network.Position.{Position}
@@ -17,16 +17,16 @@ use Rattle.ilk_plant.specs.declared.network.Section.TheVariants.{Point}
 use Rattle.ilk_plant.specs.declared.state.Lie.{Lie}
 use Rattle.ilk_plant.specs.declared.state.Lie.TheVariants.{Plus as LiesPlus, Minus as LiesMinus, Moving}
 use Rattle.ilk_plant.specs.declared.state.State.{State}
-use Rattle.ilk_motion.specs.Ahead.{ahead, section_led_to, leg_by_lie}
-use Rattle.ilk_routes.specs.Lies.{is_moving, lie_from_position}
-use Rattle.ilk_model.specs.Hazard.{are_adjacent_in, is_wrong_under_train}
-use Rattle.ilk_model.specs.Holding.{is_plain_for_direction}
-use Rattle.ilk_strict.proofs.Ahead.{leg, legs-differ, other_leg, stem-no_other, leg-no_other, leg_by_lie-lie_from_position}
+use Rattle.ilk_motion.specs.Ahead.{ahead, section_led_to, detected_leg}
+use Rattle.ilk_routes.specs.Lies.{is_detected_moving, lie_from_position}
+use Rattle.ilk_model.specs.Hazard.{are_adjacent_in_body, is_wrong_under_train}
+use Rattle.ilk_model.specs.Holding.{continues_without_board}
+use Rattle.ilk_strict.proofs.Ahead.{leg, legs-differ, other_leg, stem-no_other, leg-no_other, detected_leg-lie_from_position}
 
 abbrev pub AreRight : PlantLists → State → Type 0
 AreRight p s = (x : ℕ) → x < length p.sections → is_wrong_under_train p s x ≡ false
 
-pub pair-pushed : (a b x y : ℕ) (body : List ℕ) → last_or None body ≡ Some x → are_adjacent_in a b (body ++ y ∷ []) ≡ true → (are_adjacent_in a b body ≡ true) ⊎ ((a ≡ x) × (b ≡ y)) ⊎ ((b ≡ x) × (a ≡ y))
+pub pair-pushed : (a b x y : ℕ) (body : List ℕ) → last_or None body ≡ Some x → are_adjacent_in_body a b (body ++ y ∷ []) ≡ true → (are_adjacent_in_body a b body ≡ true) ⊎ ((a ≡ x) × (b ≡ y)) ⊎ ((b ≡ x) × (a ≡ y))
 pair-pushed a b x y [] last h = cc
 pair-pushed a b x y (c ∷ []) last h =
     let same : c ≡ x = same_Some c x last in
@@ -40,18 +40,18 @@ pair-pushed a b x y (c ∷ []) last h =
     first true h = refl
     first false h = h
 pair-pushed a b x y (c ∷ d ∷ rest) last h =
-    elim (either ((c == a && d == b) || (c == b && d == a)) (are_adjacent_in a b (d ∷ rest ++ y ∷ [])) h) [
-      | inl here ↦ inl (or_left ((c == a && d == b) || (c == b && d == a)) (are_adjacent_in a b (d ∷ rest)) here)
+    elim (either ((c == a && d == b) || (c == b && d == a)) (are_adjacent_in_body a b (d ∷ rest ++ y ∷ [])) h) [
+      | inl here ↦ inl (or_left ((c == a && d == b) || (c == b && d == a)) (are_adjacent_in_body a b (d ∷ rest)) here)
       | inr later ↦ elim (pair-pushed a b x y (d ∷ rest) last later) [
-        | inl old ↦ inl (or_right ((c == a && d == b) || (c == b && d == a)) (are_adjacent_in a b (d ∷ rest)) old)
+        | inl old ↦ inl (or_right ((c == a && d == b) || (c == b && d == a)) (are_adjacent_in_body a b (d ∷ rest)) old)
         | inr new ↦ inr new
       ]
     ]
 
-pub point-no_border : (p : PlantLists) (x stem plus minus : ℕ) (faces d : Dir) → slice_get p.sections x ≡ Some (Point stem plus minus faces) → border p x ≡ Some d → ⊥
+pub point-no_border : (p : PlantLists) (x stem plus minus : ℕ) (faces d : Dir) → slice_get p.sections x ≡ Some (Point stem plus minus faces) → section_inward_if_border p x ≡ Some d → ⊥
 point-no_border p x stem plus minus faces d section at = let bad : None ≡ Some d = rw section at at in cc
 
-pub point-plain : (p : PlantLists) (x stem plus minus : ℕ) (faces d : Dir) → slice_get p.sections x ≡ Some (Point stem plus minus faces) → is_plain_for_direction p d x ≡ true
+pub point-plain : (p : PlantLists) (x stem plus minus : ℕ) (faces d : Dir) → slice_get p.sections x ≡ Some (Point stem plus minus faces) → continues_without_board p d x ≡ true
 point-plain p x stem plus minus faces d section = rw section (by_side (same_direction faces d))
   where
     by_side : (b : Bool) → nat_lt 0 (length (if b then plus ∷ minus ∷ [] else stem ∷ [])) ≡ true
@@ -65,13 +65,13 @@ pub ahead-no_other : (p : PlantLists) → IsPlant p → (s : State) →
 ahead-no_other p plant s x y stem plus minus faces d to section lie leads other =
     let here = bind_some (slice_get p.sections x) (λ it. section_led_to it d (detected_position p s x)) y leads in
     let same : here.0 ≡ Point stem plus minus faces = same_Some here.0 (Point stem plus minus faces) (sym here.1 ∙ section) in
-    let by_side : (if same_direction faces d then detected_position p s x >>= leg_by_lie plus minus else Some stem) ≡ Some y = subst (λ it. section_led_to it d (detected_position p s x) ≡ Some y) same here.2 in
+    let by_side : (if same_direction faces d then detected_position p s x >>= detected_leg plus minus else Some stem) ≡ Some y = subst (λ it. section_led_to it d (detected_position p s x) ≡ Some y) same here.2 in
     let differ = legs-differ p plant x stem plus minus faces section in
     elim (cases_Bool (same_direction faces d)) [
       | inl facing ↦
-          (let to_leg : (detected_position p s x >>= leg_by_lie plus minus) ≡ Some y = rw facing at by_side in
-          let at_leg : leg_by_lie plus minus (lie_from_position to) ≡ Some y = rw lie at to_leg in
-          leg-no_other stem plus minus to differ (same_Some (leg plus minus to) y (sym (leg_by_lie-lie_from_position plus minus to) ∙ at_leg) ∙ other))
+          (let to_leg : (detected_position p s x >>= detected_leg plus minus) ≡ Some y = rw facing at by_side in
+          let at_leg : detected_leg plus minus (lie_from_position to) ≡ Some y = rw lie at to_leg in
+          leg-no_other stem plus minus to differ (same_Some (leg plus minus to) y (sym (detected_leg-lie_from_position plus minus to) ∙ at_leg) ∙ other))
       | inr turned ↦
           (let to_stem : Some stem ≡ Some y = rw turned at by_side in
           stem-no_other stem plus minus to differ (same_Some stem y to_stem ∙ other))
@@ -82,7 +82,7 @@ moves-or_lies LiesPlus = inr (Plus, refl)
 moves-or_lies LiesMinus = inr (Minus, refl)
 moves-or_lies Moving = inl refl
 
-pub moving-is : (lie : Lie) → is_moving lie ≡ true → lie ≡ Moving
+pub moving-is : (lie : Lie) → is_detected_moving lie ≡ true → lie ≡ Moving
 moving-is LiesPlus h = cc
 moving-is LiesMinus h = cc
 moving-is Moving h = refl

@@ -12,7 +12,7 @@ use Rattle.ilk_plant.specs.declared.network.Position.{Position}
 use Rattle.ilk_plant.specs.declared.state.PointState.{PointState}
 use Rattle.ilk_plant.specs.declared.state.State.{State}
 use Rattle.ilk_plant.specs.declared.table.Listed.{Listed}
-use Rattle.ilk_routes.specs.Lies.{lie_from_position, is_detected_as_listed, listed_position, lists_point, with_commands}
+use Rattle.ilk_routes.specs.Lies.{lie_from_position, is_detected_as_listed, listed_position, is_entry_for_point, with_commands}
 use Rattle.ilk_model.specs.Commanded.{commanded_position, is_commanded_as_listed, same_position}
 use Rattle.ilk_model.proofs.Alike.{one_position, own_lie, own_position}
 use Rattle.ilk_plant.proofs.PointNumbers.{number-once}
@@ -102,10 +102,10 @@ module _ (p : PlantLists) (s t : State) (entries : List Listed) (points : t.poin
   commanded-new x n point to number at lists =
       commanded-is p t x n (commanded n point) number (state-after n ∙ ap (option_map (commanded n)) at) ∙ ap (λ o. Some (unwrap_or o point.to)) lists
 
-pub lists-own : (p : PlantLists) (listed : Listed) (n : ℕ) → point_number p listed.point ≡ Some n → lists_point p n listed ≡ true
+pub lists-own : (p : PlantLists) (listed : Listed) (n : ℕ) → point_number p listed.point ≡ Some n → is_entry_for_point p n listed ≡ true
 lists-own p listed n number = rw number (eq-eqb n n refl)
 
-pub lists-named : (p : PlantLists) (one : Listed) (x n : ℕ) → point_number p x ≡ Some n → lists_point p n one ≡ true → one.point ≡ x
+pub lists-named : (p : PlantLists) (one : Listed) (x n : ℕ) → point_number p x ≡ Some n → is_entry_for_point p n one ≡ true → one.point ≡ x
 lists-named p one x n number lists =
     let found = some-and (point_number p one.point) (λ m. m == n) lists in
     number-once p one.point x n (found.1 ∙ ap Some (eqb-true found.0 n found.2)) number

@@ -10,19 +10,19 @@ use Rattle.ilk_base.proofs.Tested.{all-pass, list_all-slice_get}
 use Rattle.ilk_base.proofs.Truth.{either, fails, if-passes, passes-if}
 use Rattle.ilk_plant.specs.Network.{has_section}
 use Rattle.ilk_plant.specs.Plant.{PlantLists}
-use Rattle.ilk_plant.specs.State.{has_lock, is_occupied}
+use Rattle.ilk_plant.specs.State.{has_lock_state, is_occupied}
 use Rattle.ilk_plant.specs.declared.state.Hold.TheVariants.{Free as FreeLock, Locked as LockedLock, Used as UsedLock}
 use Rattle.ilk_plant.specs.declared.state.Mode.TheVariants.{Allocating, Locked, Occupied}
 use Rattle.ilk_plant.specs.declared.state.RouteState.{RouteState}
 use Rattle.ilk_plant.specs.declared.state.State.{State}
 use Rattle.ilk_plant.specs.declared.table.Route.{Route}
 use Rattle.ilk_plant.proofs.InLists.{section-at, section-from}
-use Rattle.ilk_routes.specs.Claims.{sections_beside_path}
+use Rattle.ilk_routes.specs.Claims.{sections_outside_path}
 use Rattle.ilk_routes.specs.Modes.{same_mode}
 use Rattle.ilk_model.specs.Families.{has_required_locks, keeps_v1, keeps_v2, keeps_v3, keeps_v4, path_section_lock}
-use Rattle.ilk_model.specs.Holding.{all_path_indices_pass, holds_section, holds_sections, is_unreleased_on_path, is_locked_or_occupied, is_vacant, route_holds}
+use Rattle.ilk_model.specs.Holding.{all_path_indices_pass_test, holds_section, is_holding_state, is_unreleased_on_path, is_locked_or_occupied, is_vacant, route_holds}
 use Rattle.ilk_model.proofs.Alike.{one_mode}
-use Rattle.ilk_strict.proofs.Reading.{RouteIn, all_below-at, all_below-from, all_path_indices_pass-at, all_path_indices_pass-from, all_routes_pass-at, all_routes_pass-from, has_lock-at, has_lock-from, kept-at, kept-from, passes-at, passes-from}
+use Rattle.ilk_strict.proofs.Reading.{RouteIn, all_below-at, all_below-from, all_path_indices_pass_test-at, all_path_indices_pass_test-from, all_routes_pass_test-at, all_routes_pass_test-from, has_lock_state-at, has_lock_state-from, kept-at, kept-from, passes-at, passes-from}
 
 pub all_vacant-at : (s : State) (xs : List ℕ) → list_all (is_vacant s) xs ≡ true → (i x : ℕ) → slice_get xs i ≡ Some x → is_occupied s x ≡ false
 all_vacant-at s xs h i x at = fails (is_occupied s x) (list_all-slice_get (is_vacant s) xs i x h at)
@@ -43,25 +43,26 @@ locked-is now e = rw e refl
 pub occupied-is : (now : RouteState) → now.mode ≡ Occupied → is_locked_or_occupied now ≡ true
 occupied-is now e = rw e refl
 
-pub allocating-holds : (now : RouteState) → now.mode ≡ Allocating → holds_sections now ≡ true
+pub allocating-holds : (now : RouteState) → now.mode ≡ Allocating → is_holding_state now ≡ true
 allocating-holds now e = rw e refl
 
-pub locked-holds : (now : RouteState) → is_locked_or_occupied now ≡ true → holds_sections now ≡ true
+pub locked-holds : (now : RouteState) → is_locked_or_occupied now ≡ true → is_holding_state now ≡ true
 locked-holds now h = or_right (same_mode now.mode Allocating) (is_locked_or_occupied now) h
 
-pub holds-path : (route : Route) (now : RouteState) (i x : ℕ) → holds_sections now ≡ true → now.rel ≤ i → slice_get route.path i ≡ Some x → holds_section x route now ≡ true
+pub holds-path : (route : Route) (now : RouteState) (i x : ℕ) → is_holding_state now ≡ true → now.rel ≤ i → slice_get route.path i ≡ Some x → holds_section x route now ≡ true
 holds-path route now i x holds least at =
-    and_from (holds_sections now) (has_section x (sections_beside_path route) || is_unreleased_on_path route now x) holds (or_right (has_section x (sections_beside_path route)) (is_unreleased_on_path route now x) (kept-from route now i x least at))
+    and_from (is_holding_state now) (has_section x (sections_outside_path route) || is_unreleased_on_path route now x) holds
+    (or_right (has_section x (sections_outside_path route)) (is_unreleased_on_path route now x) (kept-from route now i x least at))
 
-pub holds-beside : (route : Route) (now : RouteState) (x : ℕ) → holds_sections now ≡ true → has_section x (sections_beside_path route) ≡ true → holds_section x route now ≡ true
+pub holds-beside : (route : Route) (now : RouteState) (x : ℕ) → is_holding_state now ≡ true → has_section x (sections_outside_path route) ≡ true → holds_section x route now ≡ true
 holds-beside route now x holds beside =
-    and_from (holds_sections now) (has_section x (sections_beside_path route) || is_unreleased_on_path route now x) holds (or_left (has_section x (sections_beside_path route)) (is_unreleased_on_path route now x) beside)
+    and_from (is_holding_state now) (has_section x (sections_outside_path route) || is_unreleased_on_path route now x) holds (or_left (has_section x (sections_outside_path route)) (is_unreleased_on_path route now x) beside)
 
-pub holds-cases : (route : Route) (now : RouteState) (x : ℕ) → holds_section x route now ≡ true → (holds_sections now ≡ true) × ((has_section x (sections_beside_path route) ≡ true) ⊎ ((i : ℕ) × (now.rel ≤ i) × (slice_get route.path i ≡ Some x)))
+pub holds-cases : (route : Route) (now : RouteState) (x : ℕ) → holds_section x route now ≡ true → (is_holding_state now ≡ true) × ((has_section x (sections_outside_path route) ≡ true) ⊎ ((i : ℕ) × (now.rel ≤ i) × (slice_get route.path i ≡ Some x)))
 holds-cases route now x h =
-    let parts = and_parts (holds_sections now) (has_section x (sections_beside_path route) || is_unreleased_on_path route now x) h in (
+    let parts = and_parts (is_holding_state now) (has_section x (sections_outside_path route) || is_unreleased_on_path route now x) h in (
       parts.0,
-      elim (either (has_section x (sections_beside_path route)) (is_unreleased_on_path route now x) parts.1) [
+      elim (either (has_section x (sections_outside_path route)) (is_unreleased_on_path route now x) parts.1) [
         | inl beside ↦ inl beside
         | inr kept ↦ inr (kept-at route now x kept)
       ],
@@ -86,13 +87,13 @@ counts-in_use route now busy behind within =
 module _ (p : PlantLists) (s : State) where
   pub idle : keeps_v1 p s ≡ true → (r : ℕ) (route : Route) (now : RouteState) → RouteIn p s r route now → same_mode now.mode Occupied ≡ false → (now.seen ≡ 0) × (now.rel ≡ 0)
   idle kept r route now it mode =
-      let here : (now.seen == 0 && now.rel == 0) ≡ true = rw mode at (all_routes_pass-at p s counts_right kept r route now it) in
+      let here : (now.seen == 0 && now.rel == 0) ≡ true = rw mode at (all_routes_pass_test-at p s counts_right kept r route now it) in
       let parts = and_parts (now.seen == 0) (now.rel == 0) here in
       (eqb-true now.seen 0 parts.0, eqb-true now.rel 0 parts.1)
 
   pub in_use : keeps_v1 p s ≡ true → (r : ℕ) (route : Route) (now : RouteState) → RouteIn p s r route now → same_mode now.mode Occupied ≡ true → (now.rel < now.seen) × (now.seen ≤ length route.path)
   in_use kept r route now it mode =
-      let here : (nat_lt now.rel now.seen && nat_le now.seen (length route.path)) ≡ true = rw mode at (all_routes_pass-at p s counts_right kept r route now it) in
+      let here : (nat_lt now.rel now.seen && nat_le now.seen (length route.path)) ≡ true = rw mode at (all_routes_pass_test-at p s counts_right kept r route now it) in
       let parts = and_parts (nat_lt now.rel now.seen) (nat_le now.seen (length route.path)) here in
       let first : nat_lt now.rel now.seen ≡ true = parts.0 in
       let second : nat_le now.seen (length route.path) ≡ true = parts.1 in
@@ -151,41 +152,44 @@ module _ (p : PlantLists) (s : State) where
             both_ways (r == q) differ (eq-eqb r q same))))
       ]
 
-  pub lock-path : keeps_v3 p s ≡ true → (r : ℕ) (route : Route) (now : RouteState) → RouteIn p s r route now → holds_sections now ≡ true → (i x : ℕ) → now.rel ≤ i → slice_get route.path i ≡ Some x
+  pub lock-path : keeps_v3 p s ≡ true → (r : ℕ) (route : Route) (now : RouteState) → RouteIn p s r route now → is_holding_state now ≡ true → (i x : ℕ) → now.rel ≤ i → slice_get route.path i ≡ Some x
       → slice_get s.locks x ≡ Some (path_section_lock now i)
   lock-path kept r route now it holds i x least at =
-      let locks : has_required_locks s route now ≡ true = if-passes (holds_sections now) (has_required_locks s route now) (all_routes_pass-at p s (λ route now. if holds_sections now then has_required_locks s route now else true) kept r route now it)
+      let locks : has_required_locks s route now
+      ≡ true = if-passes (is_holding_state now) (has_required_locks s route now) (all_routes_pass_test-at p s (λ route now. if is_holding_state now then has_required_locks s route now else true) kept r route now it)
       holds in
-      let places = (and_parts (all_path_indices_pass route (λ i x. not (nat_le now.rel i) || has_lock s x (path_section_lock now i))) (list_all (λ x. has_lock s x LockedLock) (sections_beside_path route)) locks).0 in
+      let places = (and_parts (all_path_indices_pass_test route (λ i x. not (nat_le now.rel i) || has_lock_state s x (path_section_lock now i))) (list_all (λ x. has_lock_state s x LockedLock) (sections_outside_path route)) locks).0 in
       let test : nat_le now.rel i ≡ true = grind (arith, nat_tests) in
-      has_lock-at s x (path_section_lock now i) (counted (nat_le now.rel i) (has_lock s x (path_section_lock now i)) test (all_path_indices_pass-at route (λ i x. not (nat_le now.rel i) || has_lock s x (path_section_lock now i)) places i x at))
+      has_lock_state-at s x (path_section_lock now i)
+      (counted (nat_le now.rel i) (has_lock_state s x (path_section_lock now i)) test (all_path_indices_pass_test-at route (λ i x. not (nat_le now.rel i) || has_lock_state s x (path_section_lock now i)) places i x at))
     where
       counted : (a b : Bool) → a ≡ true → (not a || b) ≡ true → b ≡ true
       counted a b e h = rw e at h
 
-  pub lock-beside : keeps_v3 p s ≡ true → (r : ℕ) (route : Route) (now : RouteState) → RouteIn p s r route now → holds_sections now ≡ true → (x : ℕ) → has_section x (sections_beside_path route) ≡ true → slice_get s.locks x ≡ Some LockedLock
+  pub lock-beside : keeps_v3 p s ≡ true → (r : ℕ) (route : Route) (now : RouteState) → RouteIn p s r route now → is_holding_state now ≡ true → (x : ℕ) → has_section x (sections_outside_path route) ≡ true → slice_get s.locks x ≡ Some LockedLock
   lock-beside kept r route now it holds x beside =
-      let locks : has_required_locks s route now ≡ true = if-passes (holds_sections now) (has_required_locks s route now) (all_routes_pass-at p s (λ route now. if holds_sections now then has_required_locks s route now else true) kept r route now it)
+      let locks : has_required_locks s route now
+      ≡ true = if-passes (is_holding_state now) (has_required_locks s route now) (all_routes_pass_test-at p s (λ route now. if is_holding_state now then has_required_locks s route now else true) kept r route now it)
       holds in
-      let others = (and_parts (all_path_indices_pass route (λ i x. not (nat_le now.rel i) || has_lock s x (path_section_lock now i))) (list_all (λ x. has_lock s x LockedLock) (sections_beside_path route)) locks).1 in
-      let found = section-at x (sections_beside_path route) beside in
-      has_lock-at s x LockedLock (list_all-slice_get (λ x. has_lock s x LockedLock) (sections_beside_path route) found.0 x others found.1)
+      let others = (and_parts (all_path_indices_pass_test route (λ i x. not (nat_le now.rel i) || has_lock_state s x (path_section_lock now i))) (list_all (λ x. has_lock_state s x LockedLock) (sections_outside_path route)) locks).1 in
+      let found = section-at x (sections_outside_path route) beside in
+      has_lock_state-at s x LockedLock (list_all-slice_get (λ x. has_lock_state s x LockedLock) (sections_outside_path route) found.0 x others found.1)
 
   pub locks-from : length s.routes ≡ length p.routes →
-      ((r : ℕ) (route : Route) (now : RouteState) → RouteIn p s r route now → holds_sections now ≡ true →
+      ((r : ℕ) (route : Route) (now : RouteState) → RouteIn p s r route now → is_holding_state now ≡ true →
       ((i x : ℕ) → now.rel ≤ i → slice_get route.path i ≡ Some x →
       slice_get s.locks x ≡ Some (path_section_lock now i)) ×
-      ((x : ℕ) → has_section x (sections_beside_path route) ≡ true →
+      ((x : ℕ) → has_section x (sections_outside_path route) ≡ true →
       slice_get s.locks x ≡ Some LockedLock)) →
       keeps_v3 p s ≡ true
   locks-from count each =
-      all_routes_pass-from p s (λ route now. if holds_sections now then has_required_locks s route now else true) count (λ r route now it.
-      passes-if (holds_sections now) (has_required_locks s route now) (λ holds.
+      all_routes_pass_test-from p s (λ route now. if is_holding_state now then has_required_locks s route now else true) count (λ r route now it.
+      passes-if (is_holding_state now) (has_required_locks s route now) (λ holds.
       let both = each r route now it holds in
-      and_from (all_path_indices_pass route (λ i x. not (nat_le now.rel i) || has_lock s x (path_section_lock now i))) (list_all (λ x. has_lock s x LockedLock) (sections_beside_path route))
-      (all_path_indices_pass-from route (λ i x. not (nat_le now.rel i) || has_lock s x (path_section_lock now i))
-      (λ i x at. at_place now.rel i (has_lock s x (path_section_lock now i)) (λ least. has_lock-from s x (path_section_lock now i) (both.0 i x least at))))
-      (all-pass (λ x. has_lock s x LockedLock) (sections_beside_path route) (λ k x at. has_lock-from s x LockedLock (both.1 x (section-from (sections_beside_path route) k x at))))))
+      and_from (all_path_indices_pass_test route (λ i x. not (nat_le now.rel i) || has_lock_state s x (path_section_lock now i))) (list_all (λ x. has_lock_state s x LockedLock) (sections_outside_path route))
+      (all_path_indices_pass_test-from route (λ i x. not (nat_le now.rel i) || has_lock_state s x (path_section_lock now i))
+      (λ i x at. at_place now.rel i (has_lock_state s x (path_section_lock now i)) (λ least. has_lock_state-from s x (path_section_lock now i) (both.0 i x least at))))
+      (all-pass (λ x. has_lock_state s x LockedLock) (sections_outside_path route) (λ k x at. has_lock_state-from s x LockedLock (both.1 x (section-from (sections_outside_path route) k x at))))))
     where
       at_place : (rel i : ℕ) (b : Bool) → (rel ≤ i → b ≡ true) → (not (nat_le rel i) || b) ≡ true
       at_place rel i b f = elim (cases_Bool (nat_le rel i)) [
@@ -209,11 +213,11 @@ module _ (p : PlantLists) (s : State) where
   vacant-path kept r route now it mode i x at =
       all_vacant-at s route.path
       (if-passes (same_mode now.mode Allocating) (list_all (is_vacant s) route.path)
-      (all_routes_pass-at p s
+      (all_routes_pass_test-at p s
       (λ route now. if same_mode now.mode Allocating then list_all (is_vacant s) route.path
       else true) kept r route now it) (rw mode refl)) i x at
 
   pub vacant-from : length s.routes ≡ length p.routes → ((r : ℕ) (route : Route) (now : RouteState) → RouteIn p s r route now → now.mode ≡ Allocating → (i x : ℕ) → slice_get route.path i ≡ Some x → is_occupied s x ≡ false) → keeps_v4 p s ≡ true
   vacant-from count each =
-      all_routes_pass-from p s (λ route now. if same_mode now.mode Allocating then list_all (is_vacant s) route.path else true) count (λ r route now it.
+      all_routes_pass_test-from p s (λ route now. if same_mode now.mode Allocating then list_all (is_vacant s) route.path else true) count (λ r route now it.
       passes-if (same_mode now.mode Allocating) (list_all (is_vacant s) route.path) (λ mode. all_vacant-from s route.path (each r route now it (one_mode now.mode Allocating mode))))

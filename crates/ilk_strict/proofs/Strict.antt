@@ -7,10 +7,10 @@ use Rattle.ilk_base.specs.Option.{is_some_and}
 use Rattle.ilk_base.proofs.FlatMaps.{flat_map-none}
 use Rattle.ilk_base.proofs.Lists.{last_or-at}
 use Rattle.ilk_base.proofs.Options.{some-and}
-use Rattle.ilk_plant.specs.ColumnRules.{breaks_columns, column_rule_broken, column_rules, column_rules_broken, ends_at_destination, has_no_board, is_between_boards, is_border_without_board, is_listed_towards, path_ends_at_board, path_is_connected, points_are_listed, points_lead_along, source_passes}
+use Rattle.ilk_plant.specs.ColumnRules.{breaks_columns, broken_for_column_rule, column_rules, column_rules_broken, ends_at_destination, has_no_board, ends_at_first_board, is_border_without_board, is_listed_towards, path_ends_at_first_board, path_is_connected, route_points_are_listed, points_lead_along, source_satisfies}
 use Rattle.ilk_plant.specs.Network.{has_section, last_of}
-use Rattle.ilk_plant.specs.Plant.{PlantLists, border, board_of, is_point_section, next_to}
-use Rattle.ilk_plant.specs.Shape.{is_connected}
+use Rattle.ilk_plant.specs.Plant.{PlantLists, section_inward_if_border, board_of, is_point_section, next_to}
+use Rattle.ilk_plant.specs.Shape.{is_connected_chain}
 use Rattle.ilk_plant.specs.TableRules.{route_fails}
 use Rattle.ilk_plant.specs.declared.broken.Rule.{Rule}
 use Rattle.ilk_plant.specs.declared.broken.Rule.TheVariants.{C1, C2, C3, C7}
@@ -20,21 +20,21 @@ use Rattle.ilk_plant.specs.declared.table.Listed.{Listed}
 use Rattle.ilk_plant.specs.declared.table.Route.{Route}
 use Rattle.ilk_plant.proofs.RoutesOf.{route-passes}
 use Rattle.ilk_plant.proofs.Rules.{rule-kept}
-use Rattle.ilk_motion.proofs.Shape.{border-known}
-use Rattle.ilk_model.specs.Holding.{is_plain_for_direction}
-use Rattle.ilk_strict.specs.IsStrict.{IsRouteFromBoard, IsStrict, KeepsPathRules, ends_at_board_or_limit, path_points_are_listed}
+use Rattle.ilk_motion.proofs.Shape.{section_inward_if_border-known}
+use Rattle.ilk_model.specs.Holding.{continues_without_board}
+use Rattle.ilk_strict.specs.IsStrict.{IsRouteFromBoard, IsStrict, KeepsPathRules, ends_at_board_or_border, path_points_are_listed}
 
-source-passes : (p : PlantLists) (r : ℕ) (route : Route) (source : Board) (test : Board → Bool) → IsRouteFromBoard p r route source → source_passes p route test ≡ true → test source ≡ true
+source-passes : (p : PlantLists) (r : ℕ) (route : Route) (source : Board) (test : Board → Bool) → IsRouteFromBoard p r route source → source_satisfies p route test ≡ true → test source ≡ true
 source-passes p r route source test it h = rw it.begins at h
 
-leads-at : (p : PlantLists) (d : Dir) (x : ℕ) (rest : List ℕ) → is_connected p d x rest ≡ true → (k y z : ℕ) → slice_get (x ∷ rest) k ≡ Some y → slice_get rest k ≡ Some z → has_section z (next_to p y d) ≡ true
+leads-at : (p : PlantLists) (d : Dir) (x : ℕ) (rest : List ℕ) → is_connected_chain p d x rest ≡ true → (k y z : ℕ) → slice_get (x ∷ rest) k ≡ Some y → slice_get rest k ≡ Some z → has_section z (next_to p y d) ≡ true
 leads-at p d x [] h k y z at also = cc
 leads-at p d x (w ∷ rest) h zero y z at also =
     let here : x ≡ y = same_Some x y at in
     let there : w ≡ z = same_Some w z also in
-    rw (here, there) at (and_parts (has_section w (next_to p x d)) (is_connected p d w rest) h).0
+    rw (here, there) at (and_parts (has_section w (next_to p x d)) (is_connected_chain p d w rest) h).0
 leads-at p d x (w ∷ rest) h (suc k) y z at also =
-    leads-at p d w rest (and_parts (has_section w (next_to p x d)) (is_connected p d w rest) h).1 k y z at also
+    leads-at p d w rest (and_parts (has_section w (next_to p x d)) (is_connected_chain p d w rest) h).1 k y z at also
 
 listed_if : (a b : Bool) → a ≡ true → (not a || b) ≡ true → b ≡ true
 listed_if a b e h = rw e at h
@@ -54,7 +54,7 @@ points-at p points before (y ∷ path) h zero b x at also is_point =
 points-at p points before (y ∷ path) h (suc k) b x at also is_point =
     points-at p points y path (and_parts (not (is_point_section p y) || is_listed_towards p points (before ∷ take 1 path) y) (points_lead_along p points y path) h).1 k b x at also is_point
 
-end-not_plain : (p : PlantLists) (d : Dir) (destination : Option ℕ) (x : ℕ) → ends_at_destination p d destination x ≡ true → is_plain_for_direction p d x ≡ false
+end-not_plain : (p : PlantLists) (d : Dir) (destination : Option ℕ) (x : ℕ) → ends_at_destination p d destination x ≡ true → continues_without_board p d x ≡ false
 end-not_plain p d (Some m) x h =
     let board = some-and (board_of p x d) (λ n. n == m) h in rw board.1 refl
 end-not_plain p d None x h =
@@ -65,31 +65,31 @@ end-not_plain p d None x h =
     nothing true n e = rw e refl
     nothing false n e = refl
 
-last-not_plain : (p : PlantLists) (d : Dir) (path : List ℕ) → is_some_and (last_of path) (λ y. not (is_plain_for_direction p d y)) ≡ true → (k x : ℕ) → slice_get path k ≡ Some x → k + 1 ≡ length path → is_plain_for_direction p d x ≡ false
+last-not_plain : (p : PlantLists) (d : Dir) (path : List ℕ) → is_some_and (last_of path) (λ y. not (continues_without_board p d y)) ≡ true → (k x : ℕ) → slice_get path k ≡ Some x → k + 1 ≡ length path → continues_without_board p d x ≡ false
 last-not_plain p d path h k x at last =
-    let ending = some-and (last_of path) (λ y. not (is_plain_for_direction p d y)) h in
+    let ending = some-and (last_of path) (λ y. not (continues_without_board p d y)) h in
     let same : ending.0 ≡ x = same_Some ending.0 x (sym ending.1 ∙ last_or-at None path k x last at) in
-    isnt (is_plain_for_direction p d x) (rw same at ending.2)
+    isnt (continues_without_board p d x) (rw same at ending.2)
   where
     isnt : (b : Bool) → not b ≡ true → b ≡ false
     isnt true h = sym h
     isnt false h = refl
 
-border-has_board : (p : PlantLists) (x : ℕ) (d : Dir) → is_border_without_board p x ≡ false → border p x ≡ Some d → has_no_board p d x ≡ false
-border-has_board p x d h at = rw at at h
+section_inward_if_border-has_board : (p : PlantLists) (x : ℕ) (d : Dir) → is_border_without_board p x ≡ false → section_inward_if_border p x ≡ Some d → has_no_board p d x ≡ false
+section_inward_if_border-has_board p x d h at = rw at at h
 
 pub strict_from_rules : (p : PlantLists) → KeepsPathRules p → IsStrict p
 strict_from_rules p rules = record {
   leads = λ r route source it k x y at also.
       leads-at p source.dir source.section route.path
-      (source-passes p r route source (λ b. is_connected p b.dir b.section route.path) it
+      (source-passes p r route source (λ b. is_connected_chain p b.dir b.section route.path) it
       (route-passes p (path_is_connected p) r route
       (rules.c1 r (slice_get_within p.routes r route it.known)) it.known)) k x y at also;
   ends = λ r route source it k x at last.
       last-not_plain p source.dir route.path
       (source-passes p r route source
-      (λ b. is_some_and (last_of route.path) (λ y. not (is_plain_for_direction p b.dir y))) it
-      (route-passes p (ends_at_board_or_limit p) r route
+      (λ b. is_some_and (last_of route.path) (λ y. not (continues_without_board p b.dir y))) it
+      (route-passes p (ends_at_board_or_border p) r route
       (rules.c2 r (slice_get_within p.routes r route it.known)) it.known)) k x at last;
   points = λ r route source it k before x at also is_point.
       let Next : ℕ → Type 0 = λ n. is_listed_towards p route.points (before ∷ take 1 (drop n route.path)) x ≡ true in
@@ -101,31 +101,31 @@ strict_from_rules p rules = record {
       (route-passes p (path_points_are_listed p) r route
       (rules.c3 r (slice_get_within p.routes r route it.known)) it.known)) k before x at
       also is_point);
-  borders = λ x d at. border-has_board p x d (rules.c7 x (border-known p x d at)) at;
+  borders = λ x d at. section_inward_if_border-has_board p x d (rules.c7 x (section_inward_if_border-known p x d at)) at;
 }
 
 -- C3 implies its part about the path.
-part-fails : (p : PlantLists) (i : ℕ) → route_fails p (points_are_listed p) i ≡ false → route_fails p (path_points_are_listed p) i ≡ false
+part-fails : (p : PlantLists) (i : ℕ) → route_fails p (route_points_are_listed p) i ≡ false → route_fails p (path_points_are_listed p) i ≡ false
 part-fails p i h = of_route (slice_get p.routes i) h
   where
     first : (a b : Bool) → not (a && b) ≡ false → not a ≡ false
     first true b h = refl
     first false b h = h
 
-    of_route : (o : Option Route) → is_some_and o (λ route. not (points_are_listed p route)) ≡ false → is_some_and o (λ route. not (path_points_are_listed p route)) ≡ false
+    of_route : (o : Option Route) → is_some_and o (λ route. not (route_points_are_listed p route)) ≡ false → is_some_and o (λ route. not (path_points_are_listed p route)) ≡ false
     of_route None h = refl
     of_route (Some route) h = first (path_points_are_listed p route) _ h
 
 -- C2 implies its part about the end.
-end-fails : (p : PlantLists) (i : ℕ) → route_fails p (path_ends_at_board p) i ≡ false → route_fails p (ends_at_board_or_limit p) i ≡ false
+end-fails : (p : PlantLists) (i : ℕ) → route_fails p (path_ends_at_first_board p) i ≡ false → route_fails p (ends_at_board_or_border p) i ≡ false
 end-fails p i h = of_route (slice_get p.routes i) h
   where
-    of_last : (d : Dir) (destination : Option ℕ) (o : Option ℕ) → is_some_and o (ends_at_destination p d destination) ≡ true → is_some_and o (λ y. not (is_plain_for_direction p d y)) ≡ true
+    of_last : (d : Dir) (destination : Option ℕ) (o : Option ℕ) → is_some_and o (ends_at_destination p d destination) ≡ true → is_some_and o (λ y. not (continues_without_board p d y)) ≡ true
     of_last d destination None h = h
     of_last d destination (Some x) h = ap not (end-not_plain p d destination x h)
 
-    of_source : (destination : Option ℕ) (path : List ℕ) (o : Option Board) → is_some_and o (λ b. is_between_boards p b.dir destination path) ≡ true
-        → is_some_and o (λ b. is_some_and (last_of path) (λ y. not (is_plain_for_direction p b.dir y))) ≡ true
+    of_source : (destination : Option ℕ) (path : List ℕ) (o : Option Board) → is_some_and o (λ b. ends_at_first_board p b.dir destination path) ≡ true
+        → is_some_and o (λ b. is_some_and (last_of path) (λ y. not (continues_without_board p b.dir y))) ≡ true
     of_source destination path None h = h
     of_source destination path (Some b) h = of_last b.dir destination (last_of path) (and_parts _ (is_some_and (last_of path) (ends_at_destination p b.dir destination)) h).1
 
@@ -133,9 +133,9 @@ end-fails p i h = of_route (slice_get p.routes i) h
     passes true b leads h = ap not (leads refl)
     passes false b leads h = cc
 
-    of_route : (o : Option Route) → is_some_and o (λ route. not (path_ends_at_board p route)) ≡ false → is_some_and o (λ route. not (ends_at_board_or_limit p route)) ≡ false
+    of_route : (o : Option Route) → is_some_and o (λ route. not (path_ends_at_first_board p route)) ≡ false → is_some_and o (λ route. not (ends_at_board_or_border p route)) ≡ false
     of_route None h = refl
-    of_route (Some route) h = passes (path_ends_at_board p route) (ends_at_board_or_limit p route) (of_source route.destination route.path (slice_get p.boards route.source)) h
+    of_route (Some route) h = passes (path_ends_at_first_board p route) (ends_at_board_or_border p route) (of_source route.destination route.path (slice_get p.boards route.source)) h
 
 pub rules-from_list : (p : PlantLists) → column_rules_broken p ≡ [] → KeepsPathRules p
 rules-from_list p e = record {
@@ -145,8 +145,8 @@ rules-from_list p e = record {
   c7 = rule-kept C7 (length p.sections) (breaks_columns p C7) (of_rule 6 C7 refl);
 }
   where
-    of_rule : (k : ℕ) (rule : Rule) → slice_get column_rules k ≡ Some rule → column_rule_broken p rule ≡ []
-    of_rule k rule at = flat_map-none (column_rule_broken p) column_rules k rule e at
+    of_rule : (k : ℕ) (rule : Rule) → slice_get column_rules k ≡ Some rule → broken_for_column_rule p rule ≡ []
+    of_rule k rule at = flat_map-none (broken_for_column_rule p) column_rules k rule e at
 
 pub strict_from_list : (p : PlantLists) → column_rules_broken p ≡ [] → IsStrict p
 strict_from_list p e = strict_from_rules p (rules-from_list p e)

@@ -13,7 +13,7 @@ use Rattle.ilk_base.proofs.Truth.{either, if-passes, passes-if}
 use Rattle.ilk_base.proofs.Options.{mapped-None}
 use Rattle.ilk_plant.specs.Network.{has_section}
 use Rattle.ilk_plant.specs.Plant.{PlantLists}
-use Rattle.ilk_plant.specs.Shape.{HasShape, has_valid_body}
+use Rattle.ilk_plant.specs.Shape.{HasShape, train_body_is_valid}
 use Rattle.ilk_plant.specs.State.{is_occupied, detected_position}
 use Rattle.ilk_plant.specs.declared.network.Board.{Board}
 use Rattle.ilk_plant.specs.declared.network.Dir.{Dir}
@@ -29,18 +29,18 @@ use Rattle.ilk_plant.proofs.Alike.{one_direction, own_direction}
 use Rattle.ilk_plant.proofs.Shapes.{body-last}
 use Rattle.ilk_routes.specs.Boards.{has_aspect}
 use Rattle.ilk_routes.specs.Modes.{same_mode}
-use Rattle.ilk_model.specs.Families.{section_is_kept_by_route, head_is_led_by_route, keeps_v1, keeps_v2, keeps_v3, keeps_v4, keeps_v5, keeps_v6, keeps_v7, keeps_v8, keeps_v9}
-use Rattle.ilk_model.specs.Hazard.{is_hazardous, has_two_trains, is_wrong_under_train, is_wrong_under_body}
-use Rattle.ilk_model.specs.Holding.{is_unreleased_on_path, is_locked_or_occupied, is_plain_for_direction, is_vacant, route_runs_in, any_path_index_passes}
+use Rattle.ilk_model.specs.Families.{is_unreleased_on_some_route, head_is_led_by_route, keeps_v1, keeps_v2, keeps_v3, keeps_v4, keeps_v5, keeps_v6, keeps_v7, keeps_v8, keeps_v9}
+use Rattle.ilk_model.specs.Hazard.{is_section_hazardous, has_two_trains, is_wrong_under_train, is_wrong_under_body}
+use Rattle.ilk_model.specs.Holding.{is_unreleased_on_path, is_locked_or_occupied, continues_without_board, is_vacant, route_runs_in_direction, any_path_index_passes_test}
 use Rattle.ilk_model.specs.Meets.{Meets}
 use Rattle.ilk_model.proofs.Alike.{one_mode}
-use Rattle.ilk_strict.proofs.Reading.{RouteIn, has_aspect-at, has_aspect-from, kept-at, kept-from, any_path_index_passes-at, any_path_index_passes-from, any_route_passes-at, any_route_passes-from}
+use Rattle.ilk_strict.proofs.Reading.{RouteIn, has_aspect-at, has_aspect-from, kept-at, kept-from, any_path_index_passes_test-at, any_path_index_passes_test-from, any_route_passes_test-at, any_route_passes_test-from}
 use Rattle.ilk_strict.proofs.RouteFacts.{all_vacant-at, all_vacant-from, locked-is, occupied-is}
 
-pub runs-source : (p : PlantLists) (d : Dir) (route : Route) (source : Board) → route_runs_in p d route ≡ true → slice_get p.boards route.source ≡ Some source → source.dir ≡ d
+pub runs-source : (p : PlantLists) (d : Dir) (route : Route) (source : Board) → route_runs_in_direction p d route ≡ true → slice_get p.boards route.source ≡ Some source → source.dir ≡ d
 runs-source p d route source h at = one_direction source.dir d (rw at at h)
 
-pub runs-from : (p : PlantLists) (d : Dir) (route : Route) (source : Board) → slice_get p.boards route.source ≡ Some source → source.dir ≡ d → route_runs_in p d route ≡ true
+pub runs-from : (p : PlantLists) (d : Dir) (route : Route) (source : Board) → slice_get p.boards route.source ≡ Some source → source.dir ≡ d → route_runs_in_direction p d route ≡ true
 runs-from p d route source at same = rw (at, same) (own_direction d)
 
 -- The route that leads a train's head at x = path[i] in direction d.
@@ -51,14 +51,14 @@ pub record IsLedBy (p : PlantLists) (s : State) (d : Dir) (x : ℕ) : Type 0 whe
   pub it : RouteIn p s r route now
   pub i : ℕ
   pub at : slice_get route.path i ≡ Some x
-  pub runs : route_runs_in p d route ≡ true
+  pub runs : route_runs_in_direction p d route ≡ true
   pub mode : (now.mode ≡ Occupied) ⊎ ((now.mode ≡ Locked) × (slice_get s.boards route.source ≡ Some Closed))
   pub seen : now.seen ≤ i + 1
   pub later : (j y : ℕ) → i < j → slice_get route.path j ≡ Some y → is_occupied s y ≡ false
 
-pub led-locked_or_occupied : (s : State) (route : Route) (now : RouteState) → (now.mode ≡ Occupied) ⊎ ((now.mode ≡ Locked) × (slice_get s.boards route.source ≡ Some Closed)) → is_locked_or_occupied now ≡ true
-led-locked_or_occupied s route now (inl e) = occupied-is now e
-led-locked_or_occupied s route now (inr e) = locked-is now e.0
+pub led-route_locked_or_occupied : (s : State) (route : Route) (now : RouteState) → (now.mode ≡ Occupied) ⊎ ((now.mode ≡ Locked) × (slice_get s.boards route.source ≡ Some Closed)) → is_locked_or_occupied now ≡ true
+led-route_locked_or_occupied s route now (inl e) = occupied-is now e
+led-route_locked_or_occupied s route now (inr e) = locked-is now e.0
 
 -- The route that keeps x = path[i] for trains in direction d.
 pub record IsKeptBy (p : PlantLists) (s : State) (d : Dir) (x : ℕ) : Type 0 where
@@ -68,7 +68,7 @@ pub record IsKeptBy (p : PlantLists) (s : State) (d : Dir) (x : ℕ) : Type 0 wh
   pub it : RouteIn p s r route now
   pub i : ℕ
   pub at : slice_get route.path i ≡ Some x
-  pub runs : route_runs_in p d route ≡ true
+  pub runs : route_runs_in_direction p d route ≡ true
   pub mode : is_locked_or_occupied now ≡ true
   pub least : now.rel ≤ i
 
@@ -78,16 +78,16 @@ module _ (p : PlantLists) (s : State) where
 
   abbrev leads : Dir → ℕ → Route → RouteState → ℕ → ℕ → Bool
   leads d x route now i y =
-      (y == x) && route_runs_in p d route && may_lead route now && nat_le now.seen (i + 1) && list_all (is_vacant s) (drop (i + 1) route.path)
+      (y == x) && route_runs_in_direction p d route && may_lead route now && nat_le now.seen (i + 1) && list_all (is_vacant s) (drop (i + 1) route.path)
 
   led-at : (d : Dir) (x : ℕ) → head_is_led_by_route p s d x ≡ true → IsLedBy p s d x
   led-at d x h =
-      let found = any_route_passes-at p s (λ route now. any_path_index_passes route (leads d x route now)) h in
-      let place = any_path_index_passes-at found.1 (leads d x found.1 found.2) found.4 in
-      let four = and_parts ((place.1 == x) && route_runs_in p d found.1 && may_lead found.1 found.2 && nat_le found.2.seen (place.0 + 1)) (list_all (is_vacant s) (drop (place.0 + 1) found.1.path)) place.3 in
-      let three = and_parts ((place.1 == x) && route_runs_in p d found.1 && may_lead found.1 found.2) (nat_le found.2.seen (place.0 + 1)) four.0 in
-      let two = and_parts ((place.1 == x) && route_runs_in p d found.1) (may_lead found.1 found.2) three.0 in
-      let one = and_parts (place.1 == x) (route_runs_in p d found.1) two.0 in
+      let found = any_route_passes_test-at p s (λ route now. any_path_index_passes_test route (leads d x route now)) h in
+      let place = any_path_index_passes_test-at found.1 (leads d x found.1 found.2) found.4 in
+      let four = and_parts ((place.1 == x) && route_runs_in_direction p d found.1 && may_lead found.1 found.2 && nat_le found.2.seen (place.0 + 1)) (list_all (is_vacant s) (drop (place.0 + 1) found.1.path)) place.3 in
+      let three = and_parts ((place.1 == x) && route_runs_in_direction p d found.1 && may_lead found.1 found.2) (nat_le found.2.seen (place.0 + 1)) four.0 in
+      let two = and_parts ((place.1 == x) && route_runs_in_direction p d found.1) (may_lead found.1 found.2) three.0 in
+      let one = and_parts (place.1 == x) (route_runs_in_direction p d found.1) two.0 in
       record {
         r = found.0;
         route = found.1;
@@ -117,8 +117,8 @@ module _ (p : PlantLists) (s : State) where
 
   led-from : (d : Dir) (x : ℕ) → IsLedBy p s d x → head_is_led_by_route p s d x ≡ true
   led-from d x led =
-      any_route_passes-from p s (λ route now. any_path_index_passes route (leads d x route now)) led.r led.route led.now led.it
-      (any_path_index_passes-from led.route (leads d x led.route led.now) led.i x led.at
+      any_route_passes_test-from p s (λ route now. any_path_index_passes_test route (leads d x route now)) led.r led.route led.now led.it
+      (any_path_index_passes_test-from led.route (leads d x led.route led.now) led.i x led.at
       (all_of (may led.mode) (at_most led.now.seen (led.i + 1) led.seen) later))
     where
       at_most : (n m : ℕ) → n ≤ m → nat_le n m ≡ true
@@ -134,29 +134,29 @@ module _ (p : PlantLists) (s : State) where
       all_of : may_lead led.route led.now ≡ true → nat_le led.now.seen (led.i + 1) ≡ true → list_all (is_vacant s) (drop (led.i + 1) led.route.path) ≡ true → leads d x led.route led.now led.i x ≡ true
       all_of mode seen vacant = and_from _ _ (and_from _ _ (and_from _ _ (and_from _ _ (eq-eqb x x refl) led.runs) mode) seen) vacant
 
-  pub head-led : keeps_v7 p s ≡ true → (i : ℕ) (train : Train) (x : ℕ) → slice_get s.trains i ≡ Some train → last_or None train.body ≡ Some x → is_plain_for_direction p train.dir x ≡ true → IsLedBy p s train.dir x
+  pub head-led : keeps_v7 p s ≡ true → (i : ℕ) (train : Train) (x : ℕ) → slice_get s.trains i ≡ Some train → last_or None train.body ≡ Some x → continues_without_board p train.dir x ≡ true → IsLedBy p s train.dir x
   head-led kept i train x at last plain =
-      let here : (if is_plain_for_direction p train.dir x then head_is_led_by_route p s train.dir x else true) ≡ true = rw last at
+      let here : (if continues_without_board p train.dir x then head_is_led_by_route p s train.dir x else true) ≡ true = rw last at
       (list_all-slice_get
       (λ train. is_some_and (last_or None train.body)
-      (λ x. if is_plain_for_direction p train.dir x then head_is_led_by_route p s train.dir x else true)) s.trains i train
+      (λ x. if continues_without_board p train.dir x then head_is_led_by_route p s train.dir x else true)) s.trains i train
       kept at) in
-      led-at train.dir x (if-passes (is_plain_for_direction p train.dir x) (head_is_led_by_route p s train.dir x) here plain)
+      led-at train.dir x (if-passes (continues_without_board p train.dir x) (head_is_led_by_route p s train.dir x) here plain)
 
-  pub heads-from : HasShape p s → ((i : ℕ) (train : Train) (x : ℕ) → slice_get s.trains i ≡ Some train → last_or None train.body ≡ Some x → is_plain_for_direction p train.dir x ≡ true → IsLedBy p s train.dir x) → keeps_v7 p s ≡ true
+  pub heads-from : HasShape p s → ((i : ℕ) (train : Train) (x : ℕ) → slice_get s.trains i ≡ Some train → last_or None train.body ≡ Some x → continues_without_board p train.dir x ≡ true → IsLedBy p s train.dir x) → keeps_v7 p s ≡ true
   heads-from shape each =
-      all-pass (λ train. is_some_and (last_or None train.body) (λ x. if is_plain_for_direction p train.dir x then head_is_led_by_route p s train.dir x else true)) s.trains (λ i train at.
-      let last = body-last p train (list_all-slice_get (has_valid_body p) s.trains i train shape.bodies at) in
-      rw last.1 (passes-if (is_plain_for_direction p train.dir last.0) (head_is_led_by_route p s train.dir last.0) (λ plain. led-from train.dir last.0 (each i train last.0 at last.1 plain))))
+      all-pass (λ train. is_some_and (last_or None train.body) (λ x. if continues_without_board p train.dir x then head_is_led_by_route p s train.dir x else true)) s.trains (λ i train at.
+      let last = body-last p train (list_all-slice_get (train_body_is_valid p) s.trains i train shape.bodies at) in
+      rw last.1 (passes-if (continues_without_board p train.dir last.0) (head_is_led_by_route p s train.dir last.0) (λ plain. led-from train.dir last.0 (each i train last.0 at last.1 plain))))
 
   abbrev keeps_for : Dir → ℕ → Route → RouteState → Bool
-  keeps_for d x route now = route_runs_in p d route && is_locked_or_occupied now && is_unreleased_on_path route now x
+  keeps_for d x route now = route_runs_in_direction p d route && is_locked_or_occupied now && is_unreleased_on_path route now x
 
-  kept_for-at : (d : Dir) (x : ℕ) → section_is_kept_by_route p s d x ≡ true → IsKeptBy p s d x
+  kept_for-at : (d : Dir) (x : ℕ) → is_unreleased_on_some_route p s d x ≡ true → IsKeptBy p s d x
   kept_for-at d x h =
-      let found = any_route_passes-at p s (keeps_for d x) h in
-      let two = and_parts (route_runs_in p d found.1 && is_locked_or_occupied found.2) (is_unreleased_on_path found.1 found.2 x) found.4 in
-      let one = and_parts (route_runs_in p d found.1) (is_locked_or_occupied found.2) two.0 in
+      let found = any_route_passes_test-at p s (keeps_for d x) h in
+      let two = and_parts (route_runs_in_direction p d found.1 && is_locked_or_occupied found.2) (is_unreleased_on_path found.1 found.2 x) found.4 in
+      let one = and_parts (route_runs_in_direction p d found.1) (is_locked_or_occupied found.2) two.0 in
       let place = kept-at found.1 found.2 x two.1 in
       record {
         r = found.0;
@@ -170,27 +170,27 @@ module _ (p : PlantLists) (s : State) where
         least = place.1;
       }
 
-  kept_for-from : (d : Dir) (x : ℕ) → IsKeptBy p s d x → section_is_kept_by_route p s d x ≡ true
+  kept_for-from : (d : Dir) (x : ℕ) → IsKeptBy p s d x → is_unreleased_on_some_route p s d x ≡ true
   kept_for-from d x kept =
-      any_route_passes-from p s (keeps_for d x) kept.r kept.route kept.now kept.it
-      (and_from (route_runs_in p d kept.route && is_locked_or_occupied kept.now)
+      any_route_passes_test-from p s (keeps_for d x) kept.r kept.route kept.now kept.it
+      (and_from (route_runs_in_direction p d kept.route && is_locked_or_occupied kept.now)
       (is_unreleased_on_path kept.route kept.now x)
-      (and_from (route_runs_in p d kept.route) (is_locked_or_occupied kept.now) kept.runs kept.mode)
+      (and_from (route_runs_in_direction p d kept.route) (is_locked_or_occupied kept.now) kept.runs kept.mode)
       (kept-from kept.route kept.now kept.i x kept.least kept.at))
 
   abbrev is_kept_if_plain : Dir → ℕ → Bool
-  is_kept_if_plain d x = if is_plain_for_direction p d x then section_is_kept_by_route p s d x else true
+  is_kept_if_plain d x = if continues_without_board p d x then is_unreleased_on_some_route p s d x else true
 
-  pub body-kept : keeps_v8 p s ≡ true → (i : ℕ) (train : Train) → slice_get s.trains i ≡ Some train → (k x : ℕ) → slice_get train.body k ≡ Some x → is_plain_for_direction p train.dir x ≡ true → IsKeptBy p s train.dir x
+  pub body-kept : keeps_v8 p s ≡ true → (i : ℕ) (train : Train) → slice_get s.trains i ≡ Some train → (k x : ℕ) → slice_get train.body k ≡ Some x → continues_without_board p train.dir x ≡ true → IsKeptBy p s train.dir x
   body-kept kept i train at k x place plain =
       let body = list_all-slice_get (λ train. list_all (is_kept_if_plain train.dir) train.body) s.trains i train kept at in
-      kept_for-at train.dir x (if-passes (is_plain_for_direction p train.dir x) (section_is_kept_by_route p s train.dir x) (list_all-slice_get (is_kept_if_plain train.dir) train.body k x body place) plain)
+      kept_for-at train.dir x (if-passes (continues_without_board p train.dir x) (is_unreleased_on_some_route p s train.dir x) (list_all-slice_get (is_kept_if_plain train.dir) train.body k x body place) plain)
 
-  pub bodies-from : ((i : ℕ) (train : Train) → slice_get s.trains i ≡ Some train → (k x : ℕ) → slice_get train.body k ≡ Some x → is_plain_for_direction p train.dir x ≡ true → IsKeptBy p s train.dir x) → keeps_v8 p s ≡ true
+  pub bodies-from : ((i : ℕ) (train : Train) → slice_get s.trains i ≡ Some train → (k x : ℕ) → slice_get train.body k ≡ Some x → continues_without_board p train.dir x ≡ true → IsKeptBy p s train.dir x) → keeps_v8 p s ≡ true
   bodies-from each =
       all-pass (λ train. list_all (is_kept_if_plain train.dir) train.body) s.trains (λ i train at.
       all-pass (is_kept_if_plain train.dir) train.body (λ k x place.
-      passes-if (is_plain_for_direction p train.dir x) (section_is_kept_by_route p s train.dir x) (λ plain. kept_for-from train.dir x (each i train at k x place plain))))
+      passes-if (continues_without_board p train.dir x) (is_unreleased_on_some_route p s train.dir x) (λ plain. kept_for-from train.dir x (each i train at k x place plain))))
 
   pub two-at : (x : ℕ) → has_two_trains s x ≡ false → (i j : ℕ) (one other : Train) → slice_get s.trains i ≡ Some one → slice_get s.trains j ≡ Some other → has_section x one.body ≡ true → has_section x other.body ≡ true → i ≡ j
   two-at x none i j one other at also first second =
@@ -242,8 +242,8 @@ pub record Keeps (p : PlantLists) (s : State) : Type 0 where
 
 pub keeps-of : (p : PlantLists) (s : State) → Meets p s → Keeps p s
 keeps-of p s meets =
-    let none = mapped-None _ (find (is_hazardous p s) (range_with_len 0 (length p.sections))) meets.no_hazard in
-    let calm : (x : ℕ) → x < length p.sections → is_hazardous p s x ≡ false = λ x within. find-none-at (is_hazardous p s) (range_with_len 0 (length p.sections)) x x none (range-at (length p.sections) x within) in
+    let none = mapped-None _ (find (is_section_hazardous p s) (range_with_len 0 (length p.sections))) meets.no_hazard in
+    let calm : (x : ℕ) → x < length p.sections → is_section_hazardous p s x ≡ false = λ x within. find-none-at (is_section_hazardous p s) (range_with_len 0 (length p.sections)) x x none (range-at (length p.sections) x within) in
     let one = and_parts (keeps_v1 p s) _ meets.families_kept in
     let two = and_parts (keeps_v2 p s) _ one.1 in
     let three = and_parts (keeps_v3 p s) _ two.1 in
@@ -272,7 +272,7 @@ pub meets-from : (p : PlantLists) (s : State) → Keeps p s → Meets p s
 meets-from p s keeps = record {
   shape = keeps.shape;
   no_hazard = ap (option_map _)
-      (find-none-from (is_hazardous p s) (range_with_len 0 (length p.sections))
+      (find-none-from (is_section_hazardous p s) (range_with_len 0 (length p.sections))
       (λ i x at. let within = range_within (length p.sections) i x at in
       or_from (has_two_trains s x) (is_wrong_under_train p s x) (keeps.one_train x within.1)
       (keeps.right_point x within.1)));

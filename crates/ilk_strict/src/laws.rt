@@ -38,7 +38,7 @@ pub fn strict_is_safe(plant: &Plant)
     ensures runs { (events : List Event) (t : State) →
         run plant.now (start plant.now) events ≡ Some t → Meets plant.now t }
 {
-    plant.is_sound();
+    plant.prove_is_plant();
 }
 
 /// A table that keeps C1, C7 and these parts of C2 and C3 is safe. Every run from the start, of any

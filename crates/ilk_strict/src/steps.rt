@@ -29,6 +29,6 @@ pub fn advance(alloc: Global, plant: &Plant, s: &mut State, e: Event) -> Result<
     ensures err { OnErr result (s.new ≡ s.old) }
     ensures meets { Meets plant.now s.new }
 {
-    plant.is_sound();
+    plant.prove_is_plant();
     apply(alloc, plant, s, e)
 }

@@ -9,13 +9,13 @@ use Rattle.std.proofs.lemmas.List.FromFn.{fill_by_all, get_or-map-range_with_len
 use Rattle.std.proofs.lemmas.Option.{slice_get-map}
 use Rattle.ilk_base.proofs.Ranges.{range-at}
 use Rattle.ilk_base.specs.Option.{is_some_and}
-use Rattle.ilk_plant.specs.ColumnRules.{lists_conflict}
+use Rattle.ilk_plant.specs.ColumnRules.{lists_as_conflict}
 use Rattle.ilk_plant.specs.Network.{has_section}
 use Rattle.ilk_plant.specs.Plant.{PlantLists}
 use Rattle.ilk_plant.specs.TableRules.{protecting_points_of, sections_locked_for}
 use Rattle.ilk_plant.specs.declared.table.Listed.{Listed}
 use Rattle.ilk_plant.specs.declared.table.Route.{Route}
-use Rattle.ilk_table_check.specs.Columns.{all_conflict_flags, conflict_flags, lists_by_flags, locked_flags}
+use Rattle.ilk_table_check.specs.Columns.{all_conflict_flags, conflict_flags, is_conflict_flagged, locked_flags}
 
 pub flag_past : (flags : List Bool) (x y : ℕ) → length flags ≤ x → y < length flags → get_or flags y false ≡ (get_or flags y false || (x == y))
 flag_past flags x y past below =
@@ -45,8 +45,8 @@ pub listed-row : (p : PlantLists) (i n : ℕ) (route : Route) (flags : List Bool
     n ≡ length p.routes → length flags ≡ n → numbers ≡ route.conflicts → slice_get p.routes i ≡ Some route →
     ((y : ℕ) → y < n → get_or flags y false ≡ has_section y numbers) → flags ≡ conflict_flags p i
 listed-row p i n route flags numbers whole count own at tell =
-    fill_by_all (lists_conflict p i) flags n false count (λ y below. tell y below ∙ ap (has_section y) own ∙ rw at refl)
-    ∙ ap (λ m. map (lists_conflict p i) (range_with_len 0 m)) whole
+    fill_by_all (lists_as_conflict p i) flags n false count (λ y below. tell y below ∙ ap (has_section y) own ∙ rw at refl)
+    ∙ ap (λ m. map (lists_as_conflict p i) (range_with_len 0 m)) whole
 
 pub locked-row :
     (p : PlantLists) (i n : ℕ) (route : Route) (first second third : List Bool) (path overlap : List ℕ)
@@ -81,6 +81,6 @@ pub row-flagged : (p : PlantLists) (listed : List (List Bool)) (i : ℕ) → lis
 row-flagged p listed i is first =
     ap (λ l. slice_get l i) is ∙ slice_get-map (conflict_flags p) (range_with_len 0 (length p.routes)) i ∙ ap (option_map (conflict_flags p)) (range-at (length p.routes) i first)
 
-pub lists_conflict-flagged : (p : PlantLists) (listed : List (List Bool)) (i j : ℕ) → listed ≡ all_conflict_flags p → i < length p.routes → j < length p.routes → lists_by_flags listed i j ≡ lists_conflict p i j
-lists_conflict-flagged p listed i j is first second =
-    rw (row-flagged p listed i is first) (get_or-map-range_with_len (lists_conflict p i) 0 (length p.routes) j j false second (omega arith))
+pub lists_as_conflict-flagged : (p : PlantLists) (listed : List (List Bool)) (i j : ℕ) → listed ≡ all_conflict_flags p → i < length p.routes → j < length p.routes → is_conflict_flagged listed i j ≡ lists_as_conflict p i j
+lists_as_conflict-flagged p listed i j is first second =
+    rw (row-flagged p listed i is first) (get_or-map-range_with_len (lists_as_conflict p i) 0 (length p.routes) j j false second (omega arith))

@@ -5,9 +5,9 @@ use Rattle.std.proofs.lemmas.List.Elements.{All-map, recursion_from_All}
 use Rattle.std.proofs.lemmas.List.Folds.{list_any-append}
 use Rattle.std.proofs.lemmas.List.FromFn.{get_or-map-range_with_len}
 use Rattle.ilk_base.proofs.Lists.{item_at}
-use Rattle.ilk_plant.specs.ColumnRules.{share_section}
+use Rattle.ilk_plant.specs.ColumnRules.{share_locked_section}
 use Rattle.ilk_plant.specs.Network.{has_section}
-use Rattle.ilk_plant.specs.Plant.{IsRouteOf, PlantLists}
+use Rattle.ilk_plant.specs.Plant.{IsValidRouteOf, PlantLists}
 use Rattle.ilk_plant.specs.TableRules.{protecting_points_of, sections_locked_for}
 use Rattle.ilk_plant.specs.declared.table.Route.{Route}
 use Rattle.ilk_table_check.specs.Columns.{locked_flags}
@@ -21,10 +21,10 @@ flags-own p i x route at below =
     get_or-map-range_with_len _ 0 (length p.sections) x x false below (omega arith) ∙ rw at refl
 
 pub share-flagged : (p : PlantLists) (flags : List Bool) (i j : ℕ) (other : Route) →
-    flags ≡ locked_flags p i → i < length p.routes → slice_get p.routes j ≡ Some other → IsRouteOf p other →
+    flags ≡ locked_flags p i → i < length p.routes → slice_get p.routes j ≡ Some other → IsValidRouteOf p other →
     ((list_any (λ x. get_or flags x false) other.path || list_any (λ x. get_or flags x false) other.overlap)
     || list_any (λ x. get_or flags x false) (protecting_points_of other))
-    ≡ share_section p i j
+    ≡ share_locked_section p i j
 share-flagged p flags i j other own within at known =
     let found : (route : Route) × (slice_get p.routes i ≡ Some route) = item_at p.routes i within in
     let test : ℕ → Bool = λ x. has_section x (sections_locked_for found.0) in

@@ -3,7 +3,7 @@
 use Rattle.std.specs.Prelude.{ℕ, ◌+◌, ◌||◌, Bool, false, List, Some, drop, map, filter, length, not, slice_get, slice_index_or, take}
 use Rattle.std.specs.List.{list_any, range_with_len}
 use Rattle.ilk_base.specs.Option.{is_some_and}
-use Rattle.ilk_plant.specs.ColumnRules.{lists_conflict}
+use Rattle.ilk_plant.specs.ColumnRules.{lists_as_conflict}
 use Rattle.ilk_plant.specs.Network.{has_section}
 use Rattle.ilk_plant.specs.Plant.{PlantLists}
 use Rattle.ilk_plant.specs.TableRules.{sections_locked_for}
@@ -17,15 +17,15 @@ broken_pairs_with_first rule n i is_broken =
 
 -- For each route, whether route i lists it as a conflict.
 abbrev pub conflict_flags : PlantLists → ℕ → List Bool
-conflict_flags p i = map (lists_conflict p i) (range_with_len 0 (length p.routes))
+conflict_flags p i = map (lists_as_conflict p i) (range_with_len 0 (length p.routes))
 
 -- For each pair of routes, whether the first lists the second as a conflict.
 abbrev pub all_conflict_flags : PlantLists → List (List Bool)
 all_conflict_flags p = map (conflict_flags p) (range_with_len 0 (length p.routes))
 
 -- Returns whether route i lists route j, by these flags.
-abbrev pub lists_by_flags : List (List Bool) → ℕ → ℕ → Bool
-lists_by_flags listed i j = is_some_and (slice_get listed i) (λ flags. slice_index_or flags j false)
+abbrev pub is_conflict_flagged : List (List Bool) → ℕ → ℕ → Bool
+is_conflict_flagged listed i j = is_some_and (slice_get listed i) (λ flags. slice_index_or flags j false)
 
 -- Returns whether route i leaves a later route unlisted.
 abbrev pub any_later_unlisted : List (List Bool) → ℕ → Bool

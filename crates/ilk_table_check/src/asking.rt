@@ -1,18 +1,20 @@
 ghost use Rattle.std.specs.Prelude.{ℕ, ◌≡◌, ◌&&◌, ◌||◌, ◌+◌, ◌<◌, drop, false, length, nat_lt, not, take};
 ghost use Rattle.std.specs.List.{list_any};
 ghost use Rattle.ilk_plant.specs.ColumnRules.{breaks_columns_at_pair};
-ghost use Rattle.ilk_table_check.specs.Columns.{all_conflict_flags, any_later_unlisted, any_other_unlisted, lists_by_flags};
+ghost use Rattle.ilk_table_check.specs.Columns.{all_conflict_flags, any_later_unlisted, any_other_unlisted, is_conflict_flagged};
 ghost use Rattle.ilk_base.specs.Numbers.{has_number};
 
-use crate::conflicts::lists_by_flags;
+use crate::conflicts::is_conflict_flagged;
 use crate::flags::Flags;
-use crate::pairs::has_protecting_board;
+use crate::pairs::is_protecting_board;
 use ilk_plant::{Plant, Route, Row, Rule};
 
 fn any_alone(listed: &Row<Flags>, conflicts: &[u32], i: u32) -> bool
-    ensures { result ≡ list_any (λ j. not (lists_by_flags listed.now j i)) conflicts.now }
+    ensures { result ≡ list_any (λ j. not (is_conflict_flagged listed.now j i)) conflicts.now }
 {
-    conflicts.iter().any(|j| !lists_by_flags(listed, *j, i))
+    conflicts
+        .iter()
+        .any(|j| !is_conflict_flagged(listed, *j, i))
 }
 
 fn any_unset_after(flags: &Flags, i: u32) -> bool
@@ -63,7 +65,7 @@ fn may_protect_unlisted(listed: &Row<Flags>, route: &Route, i: u32) -> bool
     ensures { result ≡ (has_number route.now.source route.now.protecting_boards
         || (nat_lt 0 (length route.now.protecting_boards) && any_other_unlisted listed.now i)) }
 {
-    has_protecting_board(route, route.source)
+    is_protecting_board(route, route.source)
         || (route.protecting_boards.len() > 0 && any_other_unlisted(listed, i))
 }
 

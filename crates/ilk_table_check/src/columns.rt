@@ -1,7 +1,7 @@
 ghost use Rattle.std.specs.Prelude.{◌≡◌, ◌<◌, ◌++◌, IfOk, OnOk, length};
-ghost use Rattle.ilk_plant.specs.Broken.{broken_at, broken_at_pairs, places_of};
+ghost use Rattle.ilk_plant.specs.Broken.{broken_below, broken_at_pairs, place_kind_of};
 ghost use Rattle.ilk_plant.specs.TableRules.{count_in_plant};
-ghost use Rattle.ilk_plant.specs.ColumnRules.{breaks_columns, breaks_columns_at_pair, column_rule_broken, column_rules_broken, is_border_without_board};
+ghost use Rattle.ilk_plant.specs.ColumnRules.{breaks_columns, breaks_columns_at_pair, broken_for_column_rule, column_rules_broken, is_border_without_board};
 ghost use Rattle.ilk_plant.specs.declared.broken.Rule.TheVariants.{C7};
 ghost use Rattle.ilk_table_check.specs.Columns.{all_conflict_flags, broken_pairs_with_first};
 
@@ -9,7 +9,9 @@ use crate::asking::needs_pair_check;
 use crate::conflicts::all_conflict_flags;
 use crate::flags::Flags;
 use crate::pairs::{breaks_at_pair, locked_flags_if_needed};
-use crate::ways::{overlap_is_connected, path_ends_at_board, path_is_connected, points_are_listed};
+use crate::ways::{
+    overlap_is_connected, path_ends_at_first_board, path_is_connected, route_points_are_listed,
+};
 use ilk_plant::{Broken, PlaceKind, Plant, Row, Rule, push_broken_if};
 use std::alloc::{AllocError, Global};
 
@@ -28,7 +30,7 @@ fn is_border_without_board(plant: &Plant, x: u32) -> bool
     requires { x < length plant.now.sections }
     ensures { result ≡ is_border_without_board plant.now x }
 {
-    match plant.border(x) {
+    match plant.section_inward_if_border(x) {
         Some(inward) => plant.board_of(x, inward).is_none(),
         None => false,
     }
@@ -46,13 +48,13 @@ fn count(plant: &Plant, places: PlaceKind) -> u32
 }
 
 fn breaks(plant: &Plant, rule: Rule, i: u32) -> bool
-    requires { i < count_in_plant plant.now (places_of rule) }
+    requires { i < count_in_plant plant.now (place_kind_of rule) }
     ensures { result ≡ breaks_columns plant.now rule i }
 {
     match rule {
         Rule::C1 => !path_is_connected(plant, plant.route(i)),
-        Rule::C2 => !path_ends_at_board(plant, plant.route(i)),
-        Rule::C3 => !points_are_listed(plant, plant.route(i)),
+        Rule::C2 => !path_ends_at_first_board(plant, plant.route(i)),
+        Rule::C3 => !route_points_are_listed(plant, plant.route(i)),
         Rule::C4 => !overlap_is_connected(plant, plant.route(i)),
         Rule::C7 => is_border_without_board(plant, i),
         _ => false,
@@ -61,7 +63,7 @@ fn breaks(plant: &Plant, rule: Rule, i: u32) -> bool
 
 fn push_places(found: &mut Row<Broken>, plant: &Plant, rule: Rule) -> Result<(), AllocError>
     ensures { OnOk result (found.new ≡ found.old
-        ++ broken_at rule (count_in_plant plant.now (places_of rule))
+        ++ broken_below rule (count_in_plant plant.now (place_kind_of rule))
         (breaks_columns plant.now rule)) }
 {
     for i in 0..count(plant, rule.places()) {
@@ -139,7 +141,7 @@ fn push_rule(
     rule: Rule,
 ) -> Result<(), AllocError>
     requires { listed.now ≡ all_conflict_flags plant.now }
-    ensures { OnOk result (found.new ≡ found.old ++ column_rule_broken plant.now rule) }
+    ensures { OnOk result (found.new ≡ found.old ++ broken_for_column_rule plant.now rule) }
 {
     match rule.places() {
         PlaceKind::RoutePairs => push_pairs(alloc, found, plant, listed, rule),
@@ -164,7 +166,7 @@ pub fn check_columns(alloc: Global, plant: &Plant) -> Result<Row<Broken>, AllocE
 /// sections. This is the only rule of the columns that depends on the network alone. Fails only if
 /// memory runs out.
 pub fn check_borders(alloc: Global, plant: &Plant) -> Result<Row<Broken>, AllocError>
-    ensures { IfOk result (λ found. found ≡ column_rule_broken plant.now C7) }
+    ensures { IfOk result (λ found. found ≡ broken_for_column_rule plant.now C7) }
 {
     let mut found = Row::new(alloc);
     push_places(&mut found, plant, Rule::C7)?;

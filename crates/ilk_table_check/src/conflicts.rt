@@ -1,6 +1,6 @@
 ghost use Rattle.std.specs.Prelude.{◌≡◌, ◌<◌, IfOk, length};
-ghost use Rattle.ilk_plant.specs.ColumnRules.{lists_conflict};
-ghost use Rattle.ilk_table_check.specs.Columns.{all_conflict_flags, conflict_flags, lists_by_flags};
+ghost use Rattle.ilk_plant.specs.ColumnRules.{lists_as_conflict};
+ghost use Rattle.ilk_table_check.specs.Columns.{all_conflict_flags, conflict_flags, is_conflict_flagged};
 
 use crate::flags::Flags;
 use ilk_plant::{Plant, Row};
@@ -26,8 +26,8 @@ pub fn all_conflict_flags(alloc: Global, plant: &Plant) -> Result<Row<Flags>, Al
 }
 
 /// Returns flag `j` of row `i`, `false` if there is none.
-pub fn lists_by_flags(listed: &Row<Flags>, i: u32, j: u32) -> bool
-    ensures { result ≡ lists_by_flags listed.now i j }
+pub fn is_conflict_flagged(listed: &Row<Flags>, i: u32, j: u32) -> bool
+    ensures { result ≡ is_conflict_flagged listed.now i j }
 {
     match listed.as_slice().get(i as usize) {
         Some(flags) => flags.at(j),
@@ -37,11 +37,11 @@ pub fn lists_by_flags(listed: &Row<Flags>, i: u32, j: u32) -> bool
 
 /// Returns whether route `i` lists route `j` as a conflict. `listed` has the conflicts of all
 /// routes; only the contract uses `_plant`.
-pub fn lists_conflict(_plant: &Plant, listed: &Row<Flags>, i: u32, j: u32) -> bool
+pub fn lists_as_conflict(_plant: &Plant, listed: &Row<Flags>, i: u32, j: u32) -> bool
     requires first { i < length _plant.now.routes }
     requires second { j < length _plant.now.routes }
     requires listed { listed.now ≡ all_conflict_flags _plant.now }
-    ensures { result ≡ lists_conflict _plant.now i j }
+    ensures { result ≡ lists_as_conflict _plant.now i j }
 {
-    lists_by_flags(listed, i, j)
+    is_conflict_flagged(listed, i, j)
 }

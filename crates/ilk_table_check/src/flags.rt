@@ -40,7 +40,7 @@ impl Flags {
             slice_index_or flags y false ≡ has_number y numbers.now) }
     {
         let mut flags = Flags::new(alloc, count)?;
-        flags.set_all(numbers);
+        flags.set_numbers(numbers);
         Ok(flags)
     }
 
@@ -72,7 +72,7 @@ impl Flags {
     }
 
     /// Sets the flags of these numbers.
-    pub fn set_all(&mut self, numbers: &[u32])
+    pub fn set_numbers(&mut self, numbers: &[u32])
         ensures count { length self.new ≡ length self.old }
         ensures flags { (y : ℕ) → y < length self.old →
             slice_index_or self.new y false

@@ -1,12 +1,12 @@
 ghost use Rattle.std.specs.Prelude.{◌≡◌, ◌||◌, ◌<◌, IfOk, false, length, map, slice_index_or};
 ghost use Rattle.std.specs.List.{list_any};
 ghost use Rattle.ilk_plant.specs.TableRules.{protecting_points_of};
-ghost use Rattle.ilk_plant.specs.ColumnRules.{breaks_columns_at_pair, is_kept_closed_by, share_section};
+ghost use Rattle.ilk_plant.specs.ColumnRules.{breaks_columns_at_pair, closes_source_of, share_locked_section};
 ghost use Rattle.ilk_plant.specs.declared.broken.Rule.TheVariants.{C6};
 ghost use Rattle.ilk_table_check.specs.Columns.{all_conflict_flags, locked_flags};
 ghost use Rattle.ilk_base.specs.Numbers.{has_number};
 
-use crate::conflicts::lists_conflict;
+use crate::conflicts::lists_as_conflict;
 use crate::flags::Flags;
 use ilk_base::has_number;
 use ilk_plant::{Listed, Plant, Route, Row, Rule};
@@ -19,7 +19,7 @@ fn locked_flags(alloc: Global, plant: &Plant, i: u32) -> Result<Flags, AllocErro
 {
     let route = plant.route(i);
     let mut locked = Flags::from_numbers(alloc, plant.sections(), route.path.as_slice())?;
-    locked.set_all(route.overlap.as_slice());
+    locked.set_numbers(route.overlap.as_slice());
     locked.set_points(route.protecting_points.as_slice());
     Ok(locked)
 }
@@ -54,30 +54,30 @@ fn any_of_route_flagged(flags: &Flags, route: &Route) -> bool
 
 // Returns whether routes `i` and `j` share a section of path, overlap or protecting points.
 // `locked` has those of route `i`.
-fn share_section(plant: &Plant, locked: &Flags, i: u32, j: u32) -> bool
+fn share_locked_section(plant: &Plant, locked: &Flags, i: u32, j: u32) -> bool
     requires first { i < length plant.now.routes }
     requires second { j < length plant.now.routes }
     requires locked { locked.now ≡ locked_flags plant.now i }
-    ensures { result ≡ share_section plant.now i j }
+    ensures { result ≡ share_locked_section plant.now i j }
 {
     let other = plant.route(j);
     any_of_route_flagged(locked, other)
 }
 
 /// Returns whether board `m` is a protecting board of the route.
-pub fn has_protecting_board(route: &Route, m: u32) -> bool
+pub fn is_protecting_board(route: &Route, m: u32) -> bool
     ensures { result ≡ has_number m route.now.protecting_boards }
 {
     has_number(route.protecting_boards.as_slice(), m)
 }
 
 // Returns whether the source of route `j` is a protecting board of route `i`.
-fn is_kept_closed_by(plant: &Plant, i: u32, j: u32) -> bool
+fn closes_source_of(plant: &Plant, i: u32, j: u32) -> bool
     requires first { i < length plant.now.routes }
     requires second { j < length plant.now.routes }
-    ensures { result ≡ is_kept_closed_by plant.now i j }
+    ensures { result ≡ closes_source_of plant.now i j }
 {
-    has_protecting_board(plant.route(i), plant.route(j).source)
+    is_protecting_board(plant.route(i), plant.route(j).source)
 }
 
 /// Returns whether a rule is violated at the pair of routes `i` and `j`. `listed` has the conflicts
@@ -97,11 +97,12 @@ pub fn breaks_at_pair(
     ensures { result ≡ breaks_columns_at_pair plant.now rule i j }
 {
     match rule {
-        Rule::C5 => lists_conflict(plant, listed, i, j) && !lists_conflict(plant, listed, j, i),
+        Rule::C5 => lists_as_conflict(plant, listed, i, j)
+            && !lists_as_conflict(plant, listed, j, i),
         Rule::C6 => i < j
-            && !lists_conflict(plant, listed, i, j)
-            && share_section(plant, locked, i, j),
-        Rule::C8 => !lists_conflict(plant, listed, i, j) && is_kept_closed_by(plant, i, j),
+            && !lists_as_conflict(plant, listed, i, j)
+            && share_locked_section(plant, locked, i, j),
+        Rule::C8 => !lists_as_conflict(plant, listed, i, j) && closes_source_of(plant, i, j),
         _ => false,
     }
 }

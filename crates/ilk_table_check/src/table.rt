@@ -1,15 +1,17 @@
 ghost use Rattle.std.specs.Prelude.{◌≡◌, ◌==◌, ◌&&◌, ◌<◌, ◌++◌, IfOk, OnOk, not};
 ghost use Rattle.std.specs.List.{list_all};
-ghost use Rattle.ilk_plant.specs.Broken.{broken_at, places_of};
+ghost use Rattle.ilk_plant.specs.Broken.{broken_below, place_kind_of};
 ghost use Rattle.ilk_plant.specs.Network.{has_section};
-ghost use Rattle.ilk_plant.specs.Limits.{HasLimits};
+ghost use Rattle.ilk_plant.specs.Limits.{WithinLimits};
 ghost use Rattle.ilk_plant.specs.Plant.{is_point_section};
-ghost use Rattle.ilk_plant.specs.TableRules.{breaks_table, count_in_plant, has_conflicts_once, has_destination_or_none, has_points_once, has_protecting_boards_once, has_protecting_points_once, has_sections_once, is_board, is_other_route, is_section, points_of, protecting_points_of, numbered_rules_broken, sections_of, table_rules_broken};
+ghost use Rattle.ilk_plant.specs.TableRules.{breaks_table, count_in_plant, has_conflicts_once, has_destination_or_none, has_points_once, has_protecting_boards_once, has_protecting_points_once, has_sections_once, is_board, is_other_route, is_section, points_of, protecting_points_of, plant_table_rules_broken, sections_of, table_rules_broken};
 ghost use Rattle.ilk_base.specs.Numbers.{has_number};
 
 use crate::twice::none_twice;
 use ilk_base::has_number;
-use ilk_plant::{Broken, NetDraft, NumberedDrafts, Route, Row, Rule, TableDraft, push_broken_if};
+use ilk_plant::{
+    Broken, NetDraft, NumberedNetAndTable, Route, Row, Rule, TableDraft, push_broken_if,
+};
 use std::alloc::{AllocError, Global};
 
 const TABLE_RULES: [Rule; 8] = [
@@ -35,13 +37,13 @@ fn share_none(first: &[u32], second: &[u32]) -> bool
     first.iter().all(|x| !has_number(second, *x))
 }
 
-fn are_sections(plant: &NumberedDrafts, sections: &[u32]) -> bool
+fn are_sections(plant: &NumberedNetAndTable, sections: &[u32]) -> bool
     ensures { result ≡ list_all (is_section plant.now) sections.now }
 {
     sections.iter().all(|x| plant.is_section(*x))
 }
 
-fn both_are_sections(plant: &NumberedDrafts, first: &[u32], second: &[u32]) -> bool
+fn both_are_sections(plant: &NumberedNetAndTable, first: &[u32], second: &[u32]) -> bool
     ensures { result ≡ list_all (is_section plant.now) (first.now ++ second.now) }
 {
     are_sections(plant, first) && are_sections(plant, second)
@@ -49,7 +51,7 @@ fn both_are_sections(plant: &NumberedDrafts, first: &[u32], second: &[u32]) -> b
 
 // Returns whether path and overlap are sections without duplicates.
 #[tactic(auto, using(crate::proofs::Once::differ_in_both))]
-fn has_sections_once(plant: &NumberedDrafts, route: &Route) -> bool
+fn has_sections_once(plant: &NumberedNetAndTable, route: &Route) -> bool
     ensures { result ≡ has_sections_once plant.now route.now }
 {
     let path = route.path.as_slice();
@@ -60,13 +62,13 @@ fn has_sections_once(plant: &NumberedDrafts, route: &Route) -> bool
         && share_none(path, overlap)
 }
 
-fn is_point_of(plant: &NumberedDrafts, route: &Route, x: u32) -> bool
+fn is_point_of(plant: &NumberedNetAndTable, route: &Route, x: u32) -> bool
     ensures { result ≡ (is_point_section plant.now x && has_section x (sections_of route.now)) }
 {
     plant.is_point_section(x) && is_among_both(x, route.path.as_slice(), route.overlap.as_slice())
 }
 
-fn are_points_of(plant: &NumberedDrafts, route: &Route) -> bool
+fn are_points_of(plant: &NumberedNetAndTable, route: &Route) -> bool
     ensures { result
         ≡ list_all (λ x. is_point_section plant.now x && has_section x (sections_of route.now))
         (points_of route.now) }
@@ -79,13 +81,13 @@ fn are_points_of(plant: &NumberedDrafts, route: &Route) -> bool
 }
 
 // Returns whether each listed point is a point section of path or overlap, and is listed once.
-fn has_points_once(plant: &NumberedDrafts, route: &Route) -> bool
+fn has_points_once(plant: &NumberedNetAndTable, route: &Route) -> bool
     ensures { result ≡ has_points_once plant.now route.now }
 {
     are_points_of(plant, route) && none_twice(route.points.as_slice())
 }
 
-fn has_destination_or_none(plant: &NumberedDrafts, destination: Option<u32>) -> bool
+fn has_destination_or_none(plant: &NumberedNetAndTable, destination: Option<u32>) -> bool
     ensures { result ≡ has_destination_or_none plant.now destination }
 {
     match destination {
@@ -94,7 +96,7 @@ fn has_destination_or_none(plant: &NumberedDrafts, destination: Option<u32>) -> 
     }
 }
 
-fn are_other_routes(plant: &NumberedDrafts, i: u32, routes: &Row<u32>) -> bool
+fn are_other_routes(plant: &NumberedNetAndTable, i: u32, routes: &Row<u32>) -> bool
     ensures { result ≡ list_all (is_other_route plant.now i) routes.now }
 {
     routes
@@ -105,20 +107,20 @@ fn are_other_routes(plant: &NumberedDrafts, i: u32, routes: &Row<u32>) -> bool
 
 // Returns whether each conflict of route `i` is another route, and is listed once.
 #[tactic(auto, using(crate::proofs::Once::differ_by_number))]
-fn has_conflicts_once(plant: &NumberedDrafts, i: u32, route: &Route) -> bool
+fn has_conflicts_once(plant: &NumberedNetAndTable, i: u32, route: &Route) -> bool
     ensures { result ≡ has_conflicts_once plant.now i route.now }
 {
     are_other_routes(plant, i, &route.conflicts) && none_twice(route.conflicts.as_slice())
 }
 
-fn is_point_apart(plant: &NumberedDrafts, route: &Route, x: u32) -> bool
+fn is_point_apart(plant: &NumberedNetAndTable, route: &Route, x: u32) -> bool
     ensures { result
         ≡ (is_point_section plant.now x && not (has_section x (sections_of route.now))) }
 {
     plant.is_point_section(x) && !is_among_both(x, route.path.as_slice(), route.overlap.as_slice())
 }
 
-fn are_points_apart(plant: &NumberedDrafts, route: &Route) -> bool
+fn are_points_apart(plant: &NumberedNetAndTable, route: &Route) -> bool
     ensures { result
         ≡ list_all
         (λ x. is_point_section plant.now x && not (has_section x (sections_of route.now)))
@@ -133,19 +135,19 @@ fn are_points_apart(plant: &NumberedDrafts, route: &Route) -> bool
 
 // Returns whether each protecting point is a point section in neither path nor overlap, and is
 // listed once.
-fn has_protecting_points_once(plant: &NumberedDrafts, route: &Route) -> bool
+fn has_protecting_points_once(plant: &NumberedNetAndTable, route: &Route) -> bool
     ensures { result ≡ has_protecting_points_once plant.now route.now }
 {
     are_points_apart(plant, route) && none_twice(route.protecting_points.as_slice())
 }
 
-fn is_other_board(plant: &NumberedDrafts, source: u32, m: u32) -> bool
+fn is_other_board(plant: &NumberedNetAndTable, source: u32, m: u32) -> bool
     ensures { result ≡ (is_board plant.now m && not (m == source)) }
 {
     plant.is_board(m) && m != source
 }
 
-fn are_other_boards(plant: &NumberedDrafts, route: &Route) -> bool
+fn are_other_boards(plant: &NumberedNetAndTable, route: &Route) -> bool
     ensures { result
         ≡ list_all (λ m. is_board plant.now m && not (m == route.now.source))
         route.now.protecting_boards }
@@ -158,18 +160,18 @@ fn are_other_boards(plant: &NumberedDrafts, route: &Route) -> bool
 
 // Returns whether each protecting board is a board other than the source, and is listed once.
 #[tactic(auto, using(crate::proofs::Once::differ_by_number))]
-fn has_protecting_boards_once(plant: &NumberedDrafts, route: &Route) -> bool
+fn has_protecting_boards_once(plant: &NumberedNetAndTable, route: &Route) -> bool
     ensures { result ≡ has_protecting_boards_once plant.now route.now }
 {
     are_other_boards(plant, route) && none_twice(route.protecting_boards.as_slice())
 }
 
-fn breaks_table(plant: &NumberedDrafts, rule: Rule, i: u32) -> bool
-    requires { i < count_in_plant plant.now (places_of rule) }
+fn breaks_table(plant: &NumberedNetAndTable, rule: Rule, i: u32) -> bool
+    requires { i < count_in_plant plant.now (place_kind_of rule) }
     ensures { result ≡ breaks_table plant.now rule i }
 {
     match rule {
-        Rule::R1 => plant.is_duplicate(i),
+        Rule::R1 => plant.repeats_earlier_name(i),
         Rule::R2 => !plant.is_board(plant.route(i).source),
         Rule::R3 => !has_sections_once(plant, plant.route(i)),
         Rule::R4 => !has_points_once(plant, plant.route(i)),
@@ -181,9 +183,13 @@ fn breaks_table(plant: &NumberedDrafts, rule: Rule, i: u32) -> bool
     }
 }
 
-fn push_rule(found: &mut Row<Broken>, plant: &NumberedDrafts, rule: Rule) -> Result<(), AllocError>
+fn push_rule(
+    found: &mut Row<Broken>,
+    plant: &NumberedNetAndTable,
+    rule: Rule,
+) -> Result<(), AllocError>
     ensures { OnOk result (found.new ≡ found.old
-        ++ broken_at rule (count_in_plant plant.now (places_of rule))
+        ++ broken_below rule (count_in_plant plant.now (place_kind_of rule))
         (breaks_table plant.now rule)) }
 {
     for i in 0..plant.count(rule.places()) {
@@ -205,19 +211,19 @@ pub fn check_table(
     net: &NetDraft,
     table: &TableDraft,
 ) -> Result<Row<Broken>, AllocError>
-    requires { HasLimits net.now table.now }
+    requires { WithinLimits net.now table.now }
     ensures { IfOk result (λ found. found ≡ table_rules_broken net.now table.now) }
 {
-    let plant = NumberedDrafts::from_drafts(alloc, net, table)?;
+    let plant = NumberedNetAndTable::from_drafts(alloc, net, table)?;
     check_numbered_table(alloc, &plant)
 }
 
 /// Returns the same as `check_table`, for drafts that are numbered already.
 pub fn check_numbered_table(
     alloc: Global,
-    plant: &NumberedDrafts,
+    plant: &NumberedNetAndTable,
 ) -> Result<Row<Broken>, AllocError>
-    ensures { IfOk result (λ found. found ≡ numbered_rules_broken plant.now) }
+    ensures { IfOk result (λ found. found ≡ plant_table_rules_broken plant.now) }
 {
     let mut found = Row::new(alloc);
     for rule in &TABLE_RULES {

@@ -5,7 +5,7 @@ ghost use Rattle.ilk_plant.specs.Network.{has_section, last_of};
 ghost use Rattle.ilk_base.specs.Option.{is_some_and};
 ghost use Rattle.ilk_plant.specs.TableRules.{points_of};
 ghost use Rattle.ilk_plant.specs.Plant.{is_point_section};
-ghost use Rattle.ilk_plant.specs.ColumnRules.{has_no_board, is_between_boards, is_leg, is_listed_towards, overlap_is_connected, path_ends_at_board, path_is_connected, points_are_listed, points_lead_along, ends_at_destination};
+ghost use Rattle.ilk_plant.specs.ColumnRules.{has_no_board, ends_at_first_board, is_leg, is_listed_towards, overlap_is_connected, path_ends_at_first_board, path_is_connected, route_points_are_listed, points_lead_along, ends_at_destination};
 
 use crate::twice::any_names;
 use ilk_plant::{Board, Dir, Listed, Plant, Position, Route, Row, Section, is_leg};
@@ -35,7 +35,7 @@ pub fn path_is_connected(plant: &Plant, route: &Route) -> bool
     ensures { result ≡ path_is_connected plant.now route.now }
 {
     match source_of(plant, route) {
-        Some(source) => plant.is_connected(source.dir, source.section, route.path.as_slice()),
+        Some(source) => plant.is_connected_chain(source.dir, source.section, route.path.as_slice()),
         None => false,
     }
 }
@@ -56,7 +56,7 @@ fn ends_path(plant: &Plant, d: Dir, destination: Option<u32>, x: u32) -> bool
     match (destination, section_at(plant, x)) {
         (Some(m), Some(section)) => section.board_on(d) == Some(m),
         (Some(_), None) => false,
-        (None, Some(section)) => section.neighbour_on(d, 0).is_none(),
+        (None, Some(section)) => section.nth_neighbour_on(d, 0).is_none(),
         (None, None) => true,
     }
 }
@@ -69,8 +69,8 @@ fn have_no_board(plant: &Plant, d: Dir, sections: &[u32]) -> bool
 
 // Returns whether a path in direction `d` has no board before its last section, and ends at the
 // destination.
-fn is_between_boards(plant: &Plant, d: Dir, destination: Option<u32>, path: &Row<u32>) -> bool
-    ensures { result ≡ is_between_boards plant.now d destination path.now }
+fn ends_at_first_board(plant: &Plant, d: Dir, destination: Option<u32>, path: &Row<u32>) -> bool
+    ensures { result ≡ ends_at_first_board plant.now d destination path.now }
 {
     match path.as_slice() {
         [before @ .., last] => {
@@ -82,11 +82,11 @@ fn is_between_boards(plant: &Plant, d: Dir, destination: Option<u32>, path: &Row
 
 /// Returns whether only the last path section may have a board in the route's direction, and the
 /// path ends at the destination.
-pub fn path_ends_at_board(plant: &Plant, route: &Route) -> bool
-    ensures { result ≡ path_ends_at_board plant.now route.now }
+pub fn path_ends_at_first_board(plant: &Plant, route: &Route) -> bool
+    ensures { result ≡ path_ends_at_first_board plant.now route.now }
 {
     match source_of(plant, route) {
-        Some(source) => is_between_boards(plant, source.dir, route.destination, &route.path),
+        Some(source) => ends_at_first_board(plant, source.dir, route.destination, &route.path),
         None => false,
     }
 }
@@ -164,8 +164,8 @@ fn overlap_points_are_listed(plant: &Plant, route: &Route) -> bool
 
 /// Returns whether each point of the path is listed towards the section before it or the one after
 /// it, and each point of the overlap is listed.
-pub fn points_are_listed(plant: &Plant, route: &Route) -> bool
-    ensures { result ≡ points_are_listed plant.now route.now }
+pub fn route_points_are_listed(plant: &Plant, route: &Route) -> bool
+    ensures { result ≡ route_points_are_listed plant.now route.now }
 {
     match source_of(plant, route) {
         Some(source) => {
@@ -191,7 +191,7 @@ pub fn overlap_is_connected(plant: &Plant, route: &Route) -> bool
     ensures { result ≡ overlap_is_connected plant.now route.now }
 {
     match (source_of(plant, route), last_of(route.path.as_slice())) {
-        (Some(source), Some(last)) => plant.is_connected(
+        (Some(source), Some(last)) => plant.is_connected_chain(
             source.dir,
             last,
             route.overlap.as_slice(),

@@ -1,6 +1,6 @@
 //! Reads the interlocking table of a configuration, and reports the first violated rule of its
-//! form. `read_table` reads the document and its routes. `read_drafts` reads a whole configuration:
-//! the document once, then its network and its routes.
+//! form. `read_table` reads the document and its routes. `read_net_and_table_drafts` reads a whole
+//! configuration: the document once, then its network and its routes.
 #![tactic(auto)]
 
 mod drafts;
@@ -9,6 +9,6 @@ mod listed;
 mod route;
 mod table;
 
-pub use drafts::read_drafts;
-pub use examples::{bare_line_is_read, boarded_line_is_read, first_faults};
+pub use drafts::read_net_and_table_drafts;
+pub use examples::{bad_texts_are_refused, bare_line_is_read, boarded_line_is_read};
 pub use table::read_table;

@@ -2,11 +2,11 @@
 
 ghost use Rattle.std.specs.Prelude.{◌≡◌};
 ghost use Rattle.serde_json.specs.View.{view, items_view};
-ghost use Rattle.ilk_net_read.specs.Fault.{IsKindRead};
+ghost use Rattle.ilk_net_read.specs.Fault.{IsReadIfKindMatches};
 ghost use Rattle.ilk_net_read.specs.Member.{all_entries_as};
 ghost use Rattle.ilk_table_read.specs.Route as route;
 
-use ilk_net_read::{KindError, array_member, has_members, string_member, text_member};
+use ilk_net_read::{ValueReadError, array_member, has_member_count, string_member, text_member};
 use ilk_plant::{ListedDraft, Position, Row};
 use serde_json::Value;
 use std::alloc::Global;
@@ -17,21 +17,22 @@ fn position(value: &Value) -> Option<Position>
     Position::from_word(string_member(value, "position")?.as_bytes())
 }
 
-fn listed(alloc: Global, value: &Value) -> Result<ListedDraft, KindError>
-    ensures { IsKindRead result (route.as_listed (view value.now)) }
+fn listed(alloc: Global, value: &Value) -> Result<ListedDraft, ValueReadError>
+    ensures { IsReadIfKindMatches result (route.as_listed_point (view value.now)) }
 {
     let point = text_member(alloc, value, "point")?;
     let Some(at) = position(value) else {
-        return Err(KindError::WrongKind);
+        return Err(ValueReadError::WrongKind);
     };
-    if !has_members(value, 2) {
-        return Err(KindError::WrongKind);
+    if !has_member_count(value, 2) {
+        return Err(ValueReadError::WrongKind);
     }
     Ok(ListedDraft { point, at })
 }
 
-fn all_listed(alloc: Global, values: &[Value]) -> Result<Row<ListedDraft>, KindError>
-    ensures { IsKindRead result (all_entries_as route.as_listed (items_view values.now)) }
+fn all_listed(alloc: Global, values: &[Value]) -> Result<Row<ListedDraft>, ValueReadError>
+    ensures { IsReadIfKindMatches result
+        (all_entries_as route.as_listed_point (items_view values.now)) }
 {
     let mut points = Row::with_capacity(alloc, values.len() as u64)?;
     for value in values {
@@ -46,11 +47,11 @@ pub(crate) fn points_at(
     alloc: Global,
     value: &Value,
     name: &str,
-) -> Result<Row<ListedDraft>, KindError>
-    ensures { IsKindRead result (route.points_member name.now (view value.now)) }
+) -> Result<Row<ListedDraft>, ValueReadError>
+    ensures { IsReadIfKindMatches result (route.member_as_listed_points name.now (view value.now)) }
 {
     match array_member(value, name) {
         Some(values) => all_listed(alloc, values),
-        None => Err(KindError::WrongKind),
+        None => Err(ValueReadError::WrongKind),
     }
 }

@@ -3,21 +3,21 @@
 ghost use Rattle.std.specs.Prelude.{◌≡◌, ◌&&◌, codes, true, IfOk};
 ghost use Rattle.std.specs.List.{list_all};
 ghost use Rattle.serde_json.specs.View.{view};
-ghost use Rattle.ilk_plant.specs.Limits.{route_has_limits, route_has_names};
+ghost use Rattle.ilk_plant.specs.Limits.{route_within_limits, route_names_valid};
 ghost use Rattle.ilk_plant.specs.Name as name;
-ghost use Rattle.ilk_net_read.specs.Fault.{IsReadResult, IsKindRead};
+ghost use Rattle.ilk_net_read.specs.Fault.{MatchesUnlessOutOfMemory, IsReadIfKindMatches};
 ghost use Rattle.ilk_net_read.specs.Member as member;
 ghost use Rattle.ilk_table_read.specs.Route as spec;
 ghost use Rattle.ilk_table_read.specs.Table as table;
 
 use crate::listed::points_at;
 use ilk_net_read::{
-    Form, FormError, KindError, Place, Version, form_error, has_members, is_between, is_name,
-    is_name_if_given, optional_text_member, text_member, texts_member,
+    Form, FormError, Place, ValueReadError, Version, error_for_rule, has_member_count, is_between,
+    is_name, is_name_if_given, text_member, text_or_null_member, texts_member,
 };
 use ilk_plant::{
-    ListedDraft, MAX_CONFLICTS, MAX_OVERLAP, MAX_PATH, MAX_POINTS, MAX_PROTECTING_BOARDS,
-    MAX_PROTECTING_POINTS, RouteDraft, Row, Text,
+    ListedDraft, MAX_OVERLAP, MAX_PATH, MAX_PROTECTING_BOARDS, MAX_PROTECTING_POINTS,
+    MAX_ROUTE_CONFLICTS, MAX_ROUTE_POINTS, RouteDraft, Row, Text,
 };
 use serde_json::Value;
 use std::alloc::Global;
@@ -28,8 +28,8 @@ pub(crate) const MEMBERS_IN_FIRST: usize = 7;
 /// The number of members of a route in version 2.
 pub(crate) const MEMBERS_IN_SECOND: usize = 9;
 
-fn route_members(version: Version) -> usize
-    ensures { result ≡ spec.route_members version }
+fn route_member_count(version: Version) -> usize
+    ensures { result ≡ spec.route_member_count version }
 {
     match version {
         Version::First => MEMBERS_IN_FIRST,
@@ -41,9 +41,10 @@ fn protecting_points(
     alloc: Global,
     version: Version,
     value: &Value,
-) -> Result<Row<ListedDraft>, KindError>
-    ensures { IsKindRead result
-        (spec.since_version_2 version (spec.points_member (codes "protecting_points")
+) -> Result<Row<ListedDraft>, ValueReadError>
+    ensures { IsReadIfKindMatches result
+        (spec.list_or_empty_in_version_1 version
+        (spec.member_as_listed_points (codes "protecting_points")
         (view value.now))) }
 {
     match version {
@@ -52,9 +53,13 @@ fn protecting_points(
     }
 }
 
-fn protecting_boards(alloc: Global, version: Version, value: &Value) -> Result<Row<Text>, KindError>
-    ensures { IsKindRead result
-        (spec.since_version_2 version (member.texts_member (codes "protecting_boards")
+fn protecting_boards(
+    alloc: Global,
+    version: Version,
+    value: &Value,
+) -> Result<Row<Text>, ValueReadError>
+    ensures { IsReadIfKindMatches result
+        (spec.list_or_empty_in_version_1 version (member.texts_member (codes "protecting_boards")
         (view value.now))) }
 {
     match version {
@@ -63,20 +68,20 @@ fn protecting_boards(alloc: Global, version: Version, value: &Value) -> Result<R
     }
 }
 
-fn route(alloc: Global, version: Version, value: &Value) -> Result<RouteDraft, KindError>
-    ensures { IsKindRead result (spec.as_route version (view value.now)) }
+fn route(alloc: Global, version: Version, value: &Value) -> Result<RouteDraft, ValueReadError>
+    ensures { IsReadIfKindMatches result (spec.as_route version (view value.now)) }
 {
     let name = text_member(alloc, value, "name")?;
     let source = text_member(alloc, value, "source")?;
-    let destination = optional_text_member(alloc, value, "destination")?;
+    let destination = text_or_null_member(alloc, value, "destination")?;
     let path = texts_member(alloc, value, "path")?;
     let overlap = texts_member(alloc, value, "overlap")?;
     let points = points_at(alloc, value, "points")?;
     let conflicts = texts_member(alloc, value, "conflicts")?;
     let protecting_points = protecting_points(alloc, version, value)?;
     let protecting_boards = protecting_boards(alloc, version, value)?;
-    if !has_members(value, route_members(version)) {
-        return Err(KindError::WrongKind);
+    if !has_member_count(value, route_member_count(version)) {
+        return Err(ValueReadError::WrongKind);
     }
     Ok(RouteDraft {
         name,
@@ -104,7 +109,7 @@ fn points_are_names(points: &[ListedDraft]) -> bool
 }
 
 fn has_names(route: &RouteDraft) -> bool
-    ensures { result ≡ route_has_names route.now }
+    ensures { result ≡ route_names_valid route.now }
 {
     is_name(&route.name)
         && is_name(&route.source)
@@ -118,37 +123,38 @@ fn has_names(route: &RouteDraft) -> bool
 }
 
 fn has_limits(route: &RouteDraft) -> bool
-    ensures { result ≡ route_has_limits route.now }
+    ensures { result ≡ route_within_limits route.now }
 {
     is_between(1, MAX_PATH as usize, route.path.len() as usize)
         && route.overlap.len() <= MAX_OVERLAP
-        && route.points.len() <= MAX_POINTS
-        && route.conflicts.len() <= MAX_CONFLICTS
+        && route.points.len() <= MAX_ROUTE_POINTS
+        && route.conflicts.len() <= MAX_ROUTE_CONFLICTS
         && route.protecting_points.len() <= MAX_PROTECTING_POINTS
         && route.protecting_boards.len() <= MAX_PROTECTING_BOARDS
 }
 
 /// Returns route `number`, from its value in a document of this version.
-pub(crate) fn route_of(
+pub(crate) fn route_draft_from_value(
     alloc: Global,
     version: Version,
     number: u32,
     value: &Value,
 ) -> Result<RouteDraft, FormError>
-    ensures exact { IsReadResult result (table.route_of version number (view value.now)) }
-    ensures limits { IfOk result (λ draft. route_has_limits draft ≡ true) }
-    ensures named { IfOk result (λ draft. route_has_names draft ≡ true) }
+    ensures exact { MatchesUnlessOutOfMemory result
+        (table.route_draft_from_value version number (view value.now)) }
+    ensures limits { IfOk result (λ draft. route_within_limits draft ≡ true) }
+    ensures named { IfOk result (λ draft. route_names_valid draft ≡ true) }
 {
     let place = Place::Route(number);
     let draft = match route(alloc, version, value) {
         Ok(draft) => draft,
-        Err(error) => return Err(error.at_place(place)),
+        Err(error) => return Err(error.into_form_error(place)),
     };
     if !has_names(&draft) {
-        return Err(form_error(Form::F5, place));
+        return Err(error_for_rule(Form::F5, place));
     }
     if !has_limits(&draft) {
-        return Err(form_error(Form::F6, place));
+        return Err(error_for_rule(Form::F6, place));
     }
     Ok(draft)
 }

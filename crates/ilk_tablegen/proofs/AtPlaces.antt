@@ -10,8 +10,8 @@ use Rattle.ilk_base.proofs.ListTests.{all-at, made-at}
 use Rattle.ilk_base.proofs.Ranges.{range_within}
 use Rattle.ilk_base.proofs.Truth.{same_truth}
 use Rattle.ilk_base.specs.Option.{is_some_and}
-use Rattle.ilk_plant.specs.Broken.{broken_at, broken_at_pairs}
-use Rattle.ilk_plant.specs.ColumnRules.{locks_one_of, is_kept_closed_by, lists_conflict, lists_conflict_one_way, protects_unlisted, share_section as both_lock, share_unlisted}
+use Rattle.ilk_plant.specs.Broken.{broken_below, broken_at_pairs}
+use Rattle.ilk_plant.specs.ColumnRules.{locks_one_of, closes_source_of, lists_as_conflict, lists_conflict_one_way, protects_without_conflict, share_locked_section as both_lock, shares_without_conflict}
 use Rattle.ilk_plant.specs.Network.{has_section}
 use Rattle.ilk_plant.specs.Plant.{PlantLists}
 use Rattle.ilk_plant.specs.TableRules.{route_fails, sections_locked_for}
@@ -54,7 +54,7 @@ filter-nothing test [] none = refl
 filter-nothing test (x ∷ xs) none =
     ap (λ b. cond b (x ∷ filter test xs) (filter test xs)) (none 0 x refl) ∙ filter-nothing test xs (λ i y at. none (suc i) y at)
 
-pub broken-none : (rule : Rule) (n : ℕ) (test : ℕ → Bool) → ((i : ℕ) → i < n → test i ≡ false) → broken_at rule n test ≡ []
+pub broken-none : (rule : Rule) (n : ℕ) (test : ℕ → Bool) → ((i : ℕ) → i < n → test i ≡ false) → broken_below rule n test ≡ []
 broken-none rule n test none =
     ap (map (λ i. record { rule = rule; first = i; second = None })) (filter-nothing test (range_with_len 0 n) (λ k x at. none x (range_within n k x at).1))
 
@@ -80,8 +80,8 @@ module _ (p : PlantLists) (names : List (List ℕ)) where
           let found : (at : At p i) × (route_of_way p (all_paths p) i at.way ≡ route) = route-at p i route e in
           ap (λ r. not (test r)) (sym found.1) ∙ ap not (passes found.0)
 
-  lists_conflict-is : (i j : ℕ) (at : At p i) (other : At p j) → j < length (network_routes p) → lists_conflict q i j ≡ (not (j == i) && paths_share_section at.way.path other.way.path)
-  lists_conflict-is i j at other less =
+  lists_as_conflict-is : (i j : ℕ) (at : At p i) (other : At p j) → j < length (network_routes p) → lists_as_conflict q i j ≡ (not (j == i) && paths_share_section at.way.path other.way.path)
+  lists_as_conflict-is i j at other less =
       ap (λ o. is_some_and o (λ route. has_section j route.conflicts)) at.here
       ∙ same_truth (has_section j (filter (conflicts_with (all_paths p) i at.way.path) (range_with_len 0 (length (all_paths p))))) (conflicts_with (all_paths p) i at.way.path j)
       (λ h. (in-passing (conflicts_with (all_paths p) i at.way.path) (length (all_paths p)) j h).1)
@@ -100,8 +100,8 @@ module _ (p : PlantLists) (names : List (List ℕ)) where
   none-alone i j less other_less =
       let at = at-route p i less in
       let other = at-route p j other_less in
-      ap (λ b. b && not (lists_conflict q j i)) (lists_conflict-is i j at other other_less)
-      ∙ ap (λ b. (not (j == i) && paths_share_section at.way.path other.way.path) && not b) (lists_conflict-is j i other at less)
+      ap (λ b. b && not (lists_as_conflict q j i)) (lists_as_conflict-is i j at other other_less)
+      ∙ ap (λ b. (not (j == i) && paths_share_section at.way.path other.way.path) && not b) (lists_as_conflict-is j i other at less)
       ∙ ap (λ b. (not (j == i) && paths_share_section at.way.path other.way.path) && not (not (i == j) && b)) (shared-either other.way.path at.way.path)
       ∙ turned (paths_share_section at.way.path other.way.path)
     where
@@ -112,7 +112,7 @@ module _ (p : PlantLists) (names : List (List ℕ)) where
   locked-path : (i : ℕ) (way : Way) → sections_locked_for (route_of_way p (all_paths p) i way) ≡ way.path
   locked-path i way = append-nil (way.path ++ []) ∙ append-nil way.path
 
-  pub none-unlisted : (i j : ℕ) → i < length (network_routes p) → j < length (network_routes p) → share_unlisted q i j ≡ false
+  pub none-unlisted : (i j : ℕ) → i < length (network_routes p) → j < length (network_routes p) → shares_without_conflict q i j ≡ false
   none-unlisted i j less other_less =
       let at = at-route p i less in
       let other = at-route p j other_less in
@@ -122,22 +122,22 @@ module _ (p : PlantLists) (names : List (List ℕ)) where
       ∙ ap (λ o. is_some_and o (λ route. list_any (λ x. has_section x (sections_locked_for route)) other.way.path)) at.here
       ∙ ap (λ l. list_any (λ x. has_section x l) other.way.path) (locked-path i at.way)
       ∙ shared-either other.way.path at.way.path in
-      ap (λ b. nat_lt i j && b && not (lists_conflict q i j)) shared
-      ∙ ap (λ b. nat_lt i j && paths_share_section at.way.path other.way.path && not b) (lists_conflict-is i j at other other_less)
+      ap (λ b. nat_lt i j && b && not (lists_as_conflict q i j)) shared
+      ∙ ap (λ b. nat_lt i j && paths_share_section at.way.path other.way.path && not b) (lists_as_conflict-is i j at other other_less)
       ∙ apart (paths_share_section at.way.path other.way.path)
     where
       apart : (s : Bool) → (nat_lt i j && s && not (not (j == i) && s)) ≡ false
       apart true = grind (arith, nat_tests)
       apart false = grind (arith, nat_tests)
 
-  pub none-unprotected : (i j : ℕ) → i < length (network_routes p) → j < length (network_routes p) → protects_unlisted q i j ≡ false
+  pub none-unprotected : (i j : ℕ) → i < length (network_routes p) → j < length (network_routes p) → protects_without_conflict q i j ≡ false
   none-unprotected i j less other_less =
       let at = at-route p i less in
       let other = at-route p j other_less in
-      let open_ : is_kept_closed_by q i j ≡ false =
+      let open_ : closes_source_of q i j ≡ false =
       ap
       (λ o. is_some_and o
       (λ route. is_some_and (slice_get (network_routes p) j)
       (λ r. list_any (λ m. m == r.source) route.protecting_boards))) at.here
       ∙ ap (λ o. is_some_and o (λ (r : Route). false)) other.here in
-      ap (λ b. b && not (lists_conflict q i j)) open_
+      ap (λ b. b && not (lists_as_conflict q i j)) open_

@@ -12,7 +12,7 @@ use Rattle.ilk_plant.specs.declared.network.Section.TheVariants.{Linear, Point}
 use Rattle.ilk_plant.specs.declared.table.Listed.{Listed}
 use Rattle.ilk_plant.specs.declared.table.Route.{Route}
 use Rattle.ilk_tablegen.specs.Routes.{network_routes}
-use Rattle.ilk_tablegen.specs.Table.{walks}
+use Rattle.ilk_tablegen.specs.Table.{generation_result}
 use Rattle.ilk_tablegen.specs.declared.walks.Walks.TheVariants.{Routes, TooLong}
 
 abbrev board : ℕ → Dir → Board
@@ -76,7 +76,7 @@ bare_line = record {
   route_names = [];
 }
 
-bare_line_routes : walks bare_line ≡ Routes (record { routes = [] })
+bare_line_routes : generation_result bare_line ≡ Routes (record { routes = [] })
 bare_line_routes = refl
 
 -- A line of n sections, with a board at each end, without names.
@@ -94,5 +94,5 @@ line n = record {
 line_of_33 : map (λ (r : Route). length r.path) (network_routes (line 33)) ≡ 32 ∷ 32 ∷ []
 line_of_33 = refl
 
-line_of_34 : walks (line 34) ≡ TooLong 0
+line_of_34 : generation_result (line 34) ≡ TooLong 0
 line_of_34 = refl

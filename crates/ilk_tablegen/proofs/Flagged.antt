@@ -12,7 +12,7 @@ use Rattle.ilk_base.proofs.Lists.{list-ext}
 use Rattle.ilk_base.proofs.Ranges.{filter_one, range-more}
 use Rattle.ilk_base.proofs.Truth.{or-true}
 use Rattle.ilk_plant.specs.Network.{has_section}
-use Rattle.ilk_tablegen.specs.Flags.{any_flagged, conflicts_flagged, flags_of}
+use Rattle.ilk_tablegen.specs.Flags.{any_section_flagged, conflicts_flagged, flags_of}
 use Rattle.ilk_tablegen.specs.Routes.{conflicts_of, paths_share_section}
 
 pub flags-none : (count n : ℕ) → n ≡ count → replicate n false ≡ flags_of count []
@@ -76,7 +76,7 @@ passing-more test k b made next tested before after =
     ∙ sym (filter-append test (range_with_len 0 k) (k ∷ []))
     ∙ ap (filter test) (sym (range-more k))
 
-told : (count : ℕ) (path sections : List ℕ) → All (λ x. x < count) sections → any_flagged (flags_of count path) sections ≡ paths_share_section sections path
+told : (count : ℕ) (path sections : List ℕ) → All (λ x. x < count) sections → any_section_flagged (flags_of count path) sections ≡ paths_share_section sections path
 told count path sections within =
     list_any-alike (λ x. get_or (flags_of count path) x false) (λ x. has_section x path) sections (λ i x at.
     get_or-map-range_with_len (λ z. has_section z path) 0 count x x false (all-at (λ z. z < count) sections i x within at) (omega arith))
@@ -86,14 +86,14 @@ conflicts-told count n paths path within =
     ap (λ m. filter by_flags (range_with_len 0 m)) (length-map paths (flags_of count)) ∙ filter-alike by_flags by_paths (length paths) each
   where
     by_flags : ℕ → Bool
-    by_flags k = not (k == n) && any_flagged (get_or (map (flags_of count) paths) k []) path
+    by_flags k = not (k == n) && any_section_flagged (get_or (map (flags_of count) paths) k []) path
 
     by_paths : ℕ → Bool
     by_paths k = not (k == n) && paths_share_section path (get_or paths k [])
 
     each : (k : ℕ) → k < length paths → by_flags k ≡ by_paths k
     each k less =
-        ap (λ b. not (k == n) && b) (ap (λ l. any_flagged l path) (get_or-map (flags_of count) paths k [] [] less) ∙ told count (get_or paths k []) path within)
+        ap (λ b. not (k == n) && b) (ap (λ l. any_section_flagged l path) (get_or-map (flags_of count) paths k [] [] less) ∙ told count (get_or paths k []) path within)
 
     filter-alike : (f g : ℕ → Bool) (m : ℕ) → ((k : ℕ) → k < m → f k ≡ g k) → filter f (range_with_len 0 m) ≡ filter g (range_with_len 0 m)
     filter-alike f g zero same = refl

@@ -3,12 +3,12 @@
 use Rattle.std.proofs.Common.{◌≡◌, ◌+◌, All, Some, [], slice_get, refl, sym, ◌∙◌, ap, subst, arith}
 use Rattle.ilk_base.proofs.ListTests.{made-at}
 use Rattle.ilk_plant.proofs.Rules.{network_rules-kept}
-use Rattle.ilk_plant.specs.ColumnRules.{column_rule_broken, column_rules_broken}
+use Rattle.ilk_plant.specs.ColumnRules.{broken_for_column_rule, column_rules_broken}
 use Rattle.ilk_plant.specs.Draft.{plant_from_drafts}
-use Rattle.ilk_plant.specs.Limits.{NetworkHasLimits}
+use Rattle.ilk_plant.specs.Limits.{NetworkWithinLimits}
 use Rattle.ilk_plant.specs.NetworkRules.{network_rules_broken}
 use Rattle.ilk_plant.specs.Plant.{IsPlant, PlantLists}
-use Rattle.ilk_plant.specs.Sound.{AreSound, IsFromDrafts, NoWalkReturns}
+use Rattle.ilk_plant.specs.Sound.{AreSoundDrafts, IsFromSoundDrafts, IsAcyclic}
 use Rattle.ilk_plant.specs.declared.broken.Rule.TheVariants.{C7}
 use Rattle.ilk_plant.specs.declared.draft.NetDraft.{NetDraft}
 use Rattle.ilk_plant.specs.declared.draft.RouteDraft.{RouteDraft}
@@ -20,14 +20,14 @@ use Rattle.ilk_tablegen.proofs.KeepsRules.{found-few, found-kept}
 use Rattle.ilk_tablegen.proofs.NetworkBack.{network-back}
 use Rattle.ilk_tablegen.specs.NetworkDraft.{network_draft}
 use Rattle.ilk_tablegen.specs.Routes.{network_routes, route_of_way}
-use Rattle.ilk_tablegen.specs.Rules.{IsSoundWithPlant, BreaksAtMostC7, no_routes}
-use Rattle.ilk_tablegen.specs.Table.{named_route, network_table, walks}
+use Rattle.ilk_tablegen.specs.Rules.{KeepsRulesButC7, BreaksAtMostC7, no_routes}
+use Rattle.ilk_tablegen.specs.Table.{route_draft, network_table, generation_result}
 use Rattle.ilk_tablegen.specs.declared.walks.Walks.TheVariants.{Routes}
 
 pub drafted-back : (net : NetDraft) (table : TableDraft) → network_rules_broken net ≡ [] → network_draft (plant_from_drafts net table) ≡ net
 drafted-back net table kept = network-back net table (network_rules-kept net kept)
 
-pub bare-sound : (net : NetDraft) → NetworkHasLimits net → network_rules_broken net ≡ [] → AreSound net no_routes
+pub bare-sound : (net : NetDraft) → NetworkWithinLimits net → network_rules_broken net ≡ [] → AreSoundDrafts net no_routes
 bare-sound net limits kept = record {
   limits = record { of_network = limits; of_table = record { few = omega arith; each = refl; named = refl } };
   network = kept;
@@ -40,18 +40,18 @@ IsUnprotected route = (route.protecting_points ≡ []) × (route.protecting_boar
 none-protected : (p : PlantLists) → All IsUnprotected (network_table p).routes
 none-protected p =
     All-from_places IsUnprotected (network_table p).routes (λ i draft at.
-    let made : (route : Route) × (slice_get (network_routes p) i ≡ Some route) × (named_route p (0 + i) route ≡ draft) = made-at (named_route p) 0 (network_routes p) i draft at in
+    let made : (route : Route) × (slice_get (network_routes p) i ≡ Some route) × (route_draft p (0 + i) route ≡ draft) = made-at (route_draft p) 0 (network_routes p) i draft at in
     let of : (at : At p i) × (route_of_way p (all_paths p) i at.way ≡ made.0) = route-at p i made.0 made.1 in
-    subst IsUnprotected made.2 (subst (λ route. IsUnprotected (named_route p (0 + i) route)) of.1 (refl, refl)))
+    subst IsUnprotected made.2 (subst (λ route. IsUnprotected (route_draft p (0 + i) route)) of.1 (refl, refl)))
 
-pub found-sound : (p : PlantLists) → IsPlant p → NoWalkReturns p → IsFromDrafts p → (table : TableDraft) → walks p ≡ Routes table → IsSoundWithPlant p table
+pub found-sound : (p : PlantLists) → IsPlant p → IsAcyclic p → IsFromSoundDrafts p → (table : TableDraft) → generation_result p ≡ Routes table → KeepsRulesButC7 p table
 found-sound p plant never drafts table found =
-    let sound : AreSound drafts.net drafts.table = drafts.sound in
+    let sound : AreSoundDrafts drafts.net drafts.table = drafts.sound in
     let limits = sound.limits in
     let back : drafts.net ≡ network_draft p = sym (ap network_draft drafts.same ∙ drafted-back drafts.net drafts.table sound.network) in
     let kept : BreaksAtMostC7 p drafts.net table = found-kept p plant never drafts.net drafts.table table drafts.same found in
     record {
-      sound = subst (λ net. AreSound net table) back (record { limits = record { of_network = limits.of_network; of_table = kept.limits }; network = sound.network; routes = kept.table });
-      columns = subst (λ net. column_rules_broken (plant_from_drafts net table) ≡ column_rule_broken p C7) back kept.columns;
+      sound = subst (λ net. AreSoundDrafts net table) back (record { limits = record { of_network = limits.of_network; of_table = kept.limits }; network = sound.network; routes = kept.table });
+      columns = subst (λ net. column_rules_broken (plant_from_drafts net table) ≡ broken_for_column_rule p C7) back kept.columns;
       unprotected = subst (λ (t : TableDraft). All IsUnprotected t.routes) (found-few p table found).0 (none-protected p);
     }

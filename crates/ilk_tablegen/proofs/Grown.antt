@@ -17,8 +17,8 @@ use Rattle.ilk_plant.specs.declared.limits.TheConstants.{MAX_PATH, MAX_ROUTES}
 use Rattle.ilk_plant.specs.declared.network.Board.{Board}
 use Rattle.ilk_plant.specs.declared.network.Dir.{Dir}
 use Rattle.ilk_tablegen.proofs.Rounds.{board-within}
-use Rattle.ilk_tablegen.specs.Rounds.{initial_ways, ways_within_limit, last_section_reached, is_finished_way, extended_ways, extended_way}
-use Rattle.ilk_tablegen.specs.Ways.{all_ways, way_ends_at, first_overlong_board, continues_without_end, has_overlong_way, ways}
+use Rattle.ilk_tablegen.specs.Rounds.{initial_ways, ways_within_route_limit, last_section_or_start, is_finished_way, extended_or_finished_ways, extended_way}
+use Rattle.ilk_tablegen.specs.Ways.{all_ways, way_ends_at_section, board_with_overlong_way, has_unended_path_from, has_overlong_way, ways}
 use Rattle.ilk_tablegen.specs.declared.ways.Way.{Way}
 use Rattle.ilk_plant.specs.Network.{last_of}
 
@@ -27,26 +27,26 @@ extended way rest = record { source = way.source; from = way.from; path = way.pa
 
 -- The ways that a way becomes in n more rounds.
 abbrev pub completed : PlantLists → ℕ → Way → List Way
-completed p n way = if is_finished_way p way then way ∷ [] else map (extended way) (ways p way.from.dir n (last_section_reached way))
+completed p n way = if is_finished_way p way then way ∷ [] else map (extended way) (ways p way.from.dir n (last_section_or_start way))
 
 -- Facts about a way with n more rounds to go.
 pub record Goes (p : PlantLists) (n : ℕ) (way : Way) : Type 0 where
-  pub within : last_section_reached way < length p.sections
-  pub on : is_finished_way p way ≡ false → 0 < length (next_to p (last_section_reached way) way.from.dir)
-  pub ends : is_finished_way p way ≡ false → continues_without_end p way.from.dir n (last_section_reached way) ≡ false
+  pub within : last_section_or_start way < length p.sections
+  pub on : is_finished_way p way ≡ false → 0 < length (next_to p (last_section_or_start way) way.from.dir)
+  pub ends : is_finished_way p way ≡ false → has_unended_path_from p way.from.dir n (last_section_or_start way) ≡ false
 
 pub last_of-push : (path : List ℕ) (y : ℕ) → last_of (path ++ y ∷ []) ≡ Some y
 last_of-push path y =
     let place : length path + 0 + 1 ≡ length (path ++ y ∷ []) = omega (arith, length-append path (y ∷ [])) in
     last_or-at None (path ++ y ∷ []) (length path + 0) y place (at-past path (y ∷ []) 0 y refl)
 
-head-over : (way : Way) (y : ℕ) → last_section_reached (extended_way way y) ≡ y
+head-over : (way : Way) (y : ℕ) → last_section_or_start (extended_way way y) ≡ y
 head-over way y = ap (λ o. unwrap_or o way.from.section) (last_of-push way.path y)
 
-ended-over : (p : PlantLists) (way : Way) (y : ℕ) → is_finished_way p (extended_way way y) ≡ way_ends_at p way.from.dir y
+ended-over : (p : PlantLists) (way : Way) (y : ℕ) → is_finished_way p (extended_way way y) ≡ way_ends_at_section p way.from.dir y
 ended-over p way y =
     let long : not (length (way.path ++ y ∷ []) == 0) ≡ true = grind (arith, nat_tests, length-append way.path (y ∷ [])) in
-    ap (λ b. b && way_ends_at p way.from.dir (last_section_reached (extended_way way y))) long ∙ ap (way_ends_at p way.from.dir) (head-over way y)
+    ap (λ b. b && way_ends_at_section p way.from.dir (last_section_or_start (extended_way way y))) long ∙ ap (way_ends_at_section p way.from.dir) (head-over way y)
 
 extended-over : (way : Way) (y : ℕ) (rests : List (List ℕ)) → map (extended (extended_way way y)) rests ≡ map (extended way) (map (λ rest. y ∷ rest) rests)
 extended-over way y [] = refl
@@ -67,15 +67,15 @@ not-empty xs h = grind (arith, nat_tests)
 
 module _ (p : PlantLists) (n : ℕ) where
   abbrev over : Dir → ℕ → List (List ℕ)
-  over d y = if way_ends_at p d y then (y ∷ []) ∷ [] else map (λ rest. y ∷ rest) (ways p d n y)
+  over d y = if way_ends_at_section p d y then (y ∷ []) ∷ [] else map (λ rest. y ∷ rest) (ways p d n y)
 
   completed-over : (way : Way) (y : ℕ) → completed p n (extended_way way y) ≡ map (extended way) (over way.from.dir y)
-  completed-over way y = by_test (way_ends_at p way.from.dir y) refl
+  completed-over way y = by_test (way_ends_at_section p way.from.dir y) refl
     where
-      by_test : (b : Bool) → way_ends_at p way.from.dir y ≡ b → completed p n (extended_way way y) ≡ map (extended way) (if b then (y ∷ []) ∷ [] else map (λ rest. y ∷ rest) (ways p way.from.dir n y))
-      by_test true e = ap (λ b. if b then extended_way way y ∷ [] else map (extended (extended_way way y)) (ways p way.from.dir n (last_section_reached (extended_way way y)))) (ended-over p way y ∙ e)
+      by_test : (b : Bool) → way_ends_at_section p way.from.dir y ≡ b → completed p n (extended_way way y) ≡ map (extended way) (if b then (y ∷ []) ∷ [] else map (λ rest. y ∷ rest) (ways p way.from.dir n y))
+      by_test true e = ap (λ b. if b then extended_way way y ∷ [] else map (extended (extended_way way y)) (ways p way.from.dir n (last_section_or_start (extended_way way y)))) (ended-over p way y ∙ e)
       by_test false e =
-          ap (λ b. if b then extended_way way y ∷ [] else map (extended (extended_way way y)) (ways p way.from.dir n (last_section_reached (extended_way way y)))) (ended-over p way y ∙ e)
+          ap (λ b. if b then extended_way way y ∷ [] else map (extended (extended_way way y)) (ways p way.from.dir n (last_section_or_start (extended_way way y)))) (ended-over p way y ∙ e)
           ∙ ap (λ x. map (extended (extended_way way y)) (ways p way.from.dir n x)) (head-over way y)
           ∙ extended-over way y (ways p way.from.dir n y)
 
@@ -87,75 +87,76 @@ module _ (p : PlantLists) (n : ℕ) where
       ∙ sym (map-append (extended way) (over way.from.dir y) (flat_map (over way.from.dir) ys))
 
   -- One more round turns a way into that which its longer ways become.
-  round-one : (way : Way) → flat_map (completed p n) (extended_ways p way) ≡ completed p (suc n) way
+  round-one : (way : Way) → flat_map (completed p n) (extended_or_finished_ways p way) ≡ completed p (suc n) way
   round-one way = by_test (is_finished_way p way) refl
     where
-      by_test : (b : Bool) → is_finished_way p way ≡ b → flat_map (completed p n) (if b then way ∷ [] else map (extended_way way) (next_to p (last_section_reached way) way.from.dir))
-          ≡ (if b then way ∷ [] else map (extended way) (ways p way.from.dir (suc n) (last_section_reached way)))
-      by_test true e = ap (λ b. (if b then way ∷ [] else map (extended way) (ways p way.from.dir n (last_section_reached way))) ++ []) e
+      by_test : (b : Bool) → is_finished_way p way ≡ b → flat_map (completed p n) (if b then way ∷ [] else map (extended_way way) (next_to p (last_section_or_start way) way.from.dir))
+          ≡ (if b then way ∷ [] else map (extended way) (ways p way.from.dir (suc n) (last_section_or_start way)))
+      by_test true e = ap (λ b. (if b then way ∷ [] else map (extended way) (ways p way.from.dir n (last_section_or_start way))) ++ []) e
       by_test false e =
-          flat_map-map (completed p n) (extended_way way) (next_to p (last_section_reached way) way.from.dir)
-          ∙ completed-over_all way (next_to p (last_section_reached way) way.from.dir)
+          flat_map-map (completed p n) (extended_way way) (next_to p (last_section_or_start way) way.from.dir)
+          ∙ completed-over_all way (next_to p (last_section_or_start way) way.from.dir)
 
-  pub round-all : (found : List Way) → flat_map (completed p n) (flat_map (extended_ways p) found) ≡ flat_map (completed p (suc n)) found
+  pub round-all : (found : List Way) → flat_map (completed p n) (flat_map (extended_or_finished_ways p) found) ≡ flat_map (completed p (suc n)) found
   round-all [] = refl
   round-all (way ∷ found) =
-      flat_map-append (completed p n) (extended_ways p way) (flat_map (extended_ways p) found)
-      ∙ ap (λ l. l ++ flat_map (completed p n) (flat_map (extended_ways p) found)) (round-one way)
+      flat_map-append (completed p n) (extended_or_finished_ways p way) (flat_map (extended_or_finished_ways p) found)
+      ∙ ap (λ l. l ++ flat_map (completed p n) (flat_map (extended_or_finished_ways p) found)) (round-one way)
       ∙ ap (λ l. completed p (suc n) way ++ l) (round-all found)
 
-  goes-one : IsPlant p → (way : Way) → Goes p (suc n) way → All (Goes p n) (extended_ways p way)
+  goes-one : IsPlant p → (way : Way) → Goes p (suc n) way → All (Goes p n) (extended_or_finished_ways p way)
   goes-one plant way goes = by_test (is_finished_way p way) refl
     where
       d : Dir
       d = way.from.dir
 
-      over-goes : is_finished_way p way ≡ false → (y : ℕ) (i : ℕ) → slice_get (next_to p (last_section_reached way) d) i ≡ Some y → Goes p n (extended_way way y)
+      over-goes : is_finished_way p way ≡ false → (y : ℕ) (i : ℕ) → slice_get (next_to p (last_section_or_start way) d) i ≡ Some y → Goes p n (extended_way way y)
       over-goes e y i at = record {
-        within = let is = head-over way y in omega (arith, is, plant.neighbours (last_section_reached way) y d (has_section-at (next_to p (last_section_reached way) d) i y at));
-        on = λ ended. not-empty (next_to p (last_section_reached (extended_way way y)) d) (nothing (ends-not ended));
-        ends = λ ended. ap (continues_without_end p d n) (head-over way y) ∙ stops ended;
+        within = let is = head-over way y in omega (arith, is, plant.neighbours (last_section_or_start way) y d (has_section-at (next_to p (last_section_or_start way) d) i y at));
+        on = λ ended. not-empty (next_to p (last_section_or_start (extended_way way y)) d) (nothing (ends-not ended));
+        ends = λ ended. ap (has_unended_path_from p d n) (head-over way y) ∙ stops ended;
       }
         where
-          ends-not : is_finished_way p (extended_way way y) ≡ false → way_ends_at p d y ≡ false
+          ends-not : is_finished_way p (extended_way way y) ≡ false → way_ends_at_section p d y ≡ false
           ends-not ended = sym (ended-over p way y) ∙ ended
 
-          nothing : way_ends_at p d y ≡ false → (length (next_to p (last_section_reached (extended_way way y)) d) == 0) ≡ false
+          nothing : way_ends_at_section p d y ≡ false → (length (next_to p (last_section_or_start (extended_way way y)) d) == 0) ≡ false
           nothing h = ap (λ x. length (next_to p x d) == 0) (head-over way y) ∙ right-false (is_some (board_of p y d)) (length (next_to p y d) == 0) h
 
-          stops : is_finished_way p (extended_way way y) ≡ false → continues_without_end p d n y ≡ false
+          stops : is_finished_way p (extended_way way y) ≡ false → has_unended_path_from p d n y ≡ false
           stops ended =
-              let fails : (not (way_ends_at p d y) && continues_without_end p d n y) ≡ false = list_any-none (λ z. not (way_ends_at p d z) && continues_without_end p d n z) (next_to p (last_section_reached way) d) i y (goes.ends e) at in
-              sym (ap (λ b. not b && continues_without_end p d n y) (ends-not ended)) ∙ fails
+              let fails : (not (way_ends_at_section p d y) && has_unended_path_from p d n y)
+              ≡ false = list_any-none (λ z. not (way_ends_at_section p d z) && has_unended_path_from p d n z) (next_to p (last_section_or_start way) d) i y (goes.ends e) at in
+              sym (ap (λ b. not b && has_unended_path_from p d n y) (ends-not ended)) ∙ fails
 
-      by_test : (b : Bool) → is_finished_way p way ≡ b → All (Goes p n) (if b then way ∷ [] else map (extended_way way) (next_to p (last_section_reached way) d))
+      by_test : (b : Bool) → is_finished_way p way ≡ b → All (Goes p n) (if b then way ∷ [] else map (extended_way way) (next_to p (last_section_or_start way) d))
       by_test true e = All-cons (Goes p n) way [] (record { within = goes.within; on = goes.on; ends = λ f. absurd (cc) }) (All-nil (Goes p n))
       by_test false e =
-          All-map (Goes p n) (extended_way way) (next_to p (last_section_reached way) d) (All-from_slice_get (λ y. Goes p n (extended_way way y)) (next_to p (last_section_reached way) d) (λ i y at. over-goes e y i at))
+          All-map (Goes p n) (extended_way way) (next_to p (last_section_or_start way) d) (All-from_slice_get (λ y. Goes p n (extended_way way y)) (next_to p (last_section_or_start way) d) (λ i y at. over-goes e y i at))
         where
           All-from_slice_get : {X : Type 0} (P : X → Type 0) (xs : List X) → ((i : ℕ) (x : X) → slice_get xs i ≡ Some x → P x) → All P xs
           All-from_slice_get P [] each = All-nil P
           All-from_slice_get P (x ∷ xs) each = All-cons P x xs (each 0 x refl) (All-from_slice_get P xs (λ i z at. each (suc i) z at))
 
-  pub goes-all : IsPlant p → (found : List Way) → All (Goes p (suc n)) found → All (Goes p n) (flat_map (extended_ways p) found)
+  pub goes-all : IsPlant p → (found : List Way) → All (Goes p (suc n)) found → All (Goes p n) (flat_map (extended_or_finished_ways p) found)
   goes-all plant [] go = All-nil (Goes p n)
   goes-all plant (way ∷ found) go =
-      All-append (Goes p n) (extended_ways p way) (flat_map (extended_ways p) found) (goes-one plant way (All-head (Goes p (suc n)) way found go)) (goes-all plant found (All-tail (Goes p (suc n)) way found go))
+      All-append (Goes p n) (extended_or_finished_ways p way) (flat_map (extended_or_finished_ways p) found) (goes-one plant way (All-head (Goes p (suc n)) way found go)) (goes-all plant found (All-tail (Goes p (suc n)) way found go))
 
 -- Some way leads on from a section that has a next one, if none goes on without end.
-some-way : (p : PlantLists) (d : Dir) (n x : ℕ) → 0 < length (next_to p x d) → continues_without_end p d n x ≡ false → 0 < length (ways p d n x)
+some-way : (p : PlantLists) (d : Dir) (n x : ℕ) → 0 < length (next_to p x d) → has_unended_path_from p d n x ≡ false → 0 < length (ways p d n x)
 some-way p d zero x some ends = absurd (cc)
 some-way p d (suc n) x some ends = first (λ y. some-way p d n y) (next_to p x d) some ends
   where
-    first : ((y : ℕ) → 0 < length (next_to p y d) → continues_without_end p d n y ≡ false → 0 < length (ways p d n y)) → (ys : List ℕ) → 0 < length ys → list_any (λ y. not (way_ends_at p d y) && continues_without_end p d n y) ys ≡ false
+    first : ((y : ℕ) → 0 < length (next_to p y d) → has_unended_path_from p d n y ≡ false → 0 < length (ways p d n y)) → (ys : List ℕ) → 0 < length ys → list_any (λ y. not (way_ends_at_section p d y) && has_unended_path_from p d n y) ys ≡ false
         → 0 < length (flat_map (over p n d) ys)
     first onward [] less f = absurd (omega arith)
-    first onward (y ∷ ys) less f = by_test (way_ends_at p d y) refl
+    first onward (y ∷ ys) less f = by_test (way_ends_at_section p d y) refl
       where
-        here : way_ends_at p d y ≡ false → continues_without_end p d n y ≡ false
-        here e = sym (ap (λ b. not b && continues_without_end p d n y) e) ∙ left-false (not (way_ends_at p d y) && continues_without_end p d n y) (list_any (λ z. not (way_ends_at p d z) && continues_without_end p d n z) ys) f
+        here : way_ends_at_section p d y ≡ false → has_unended_path_from p d n y ≡ false
+        here e = sym (ap (λ b. not b && has_unended_path_from p d n y) e) ∙ left-false (not (way_ends_at_section p d y) && has_unended_path_from p d n y) (list_any (λ z. not (way_ends_at_section p d z) && has_unended_path_from p d n z) ys) f
 
-        by_test : (b : Bool) → way_ends_at p d y ≡ b → 0 < length ((if b then (y ∷ []) ∷ [] else map (λ rest. y ∷ rest) (ways p d n y)) ++ flat_map (over p n d) ys)
+        by_test : (b : Bool) → way_ends_at_section p d y ≡ b → 0 < length ((if b then (y ∷ []) ∷ [] else map (λ rest. y ∷ rest) (ways p d n y)) ++ flat_map (over p n d) ys)
         by_test true e = omega arith
         by_test false e =
             let next : 0 < length (next_to p y d) = not-empty (next_to p y d) (right-false (is_some (board_of p y d)) (length (next_to p y d) == 0) e) in
@@ -172,11 +173,11 @@ no-fewer p n (way ∷ found) go =
     becomes-some : Goes p n way → 0 < length (completed p n way)
     becomes-some goes = by_test (is_finished_way p way) refl
       where
-        by_test : (b : Bool) → is_finished_way p way ≡ b → 0 < length (if b then way ∷ [] else map (extended way) (ways p way.from.dir n (last_section_reached way)))
+        by_test : (b : Bool) → is_finished_way p way ≡ b → 0 < length (if b then way ∷ [] else map (extended way) (ways p way.from.dir n (last_section_or_start way)))
         by_test true e = omega arith
         by_test false e =
-            let some = some-way p way.from.dir n (last_section_reached way) (goes.on e) (goes.ends e) in
-            omega (arith, some, length-map (ways p way.from.dir n (last_section_reached way)) (extended way))
+            let some = some-way p way.from.dir n (last_section_or_start way) (goes.on e) (goes.ends e) in
+            omega (arith, some, length-map (ways p way.from.dir n (last_section_or_start way)) (extended way))
 
 pub all-ended : (p : PlantLists) (found : List Way) → All (Goes p 0) found → flat_map (completed p 0) found ≡ found
 all-ended p [] go = refl
@@ -184,7 +185,7 @@ all-ended p (way ∷ found) go =
     ap (λ l. l ++ flat_map (completed p 0) found) (by_test (is_finished_way p way) refl (All-head (Goes p 0) way found go))
     ∙ ap (λ l. way ∷ l) (all-ended p found (All-tail (Goes p 0) way found go))
   where
-    by_test : (b : Bool) → is_finished_way p way ≡ b → Goes p 0 way → (if b then way ∷ [] else map (extended way) (ways p way.from.dir 0 (last_section_reached way))) ≡ way ∷ []
+    by_test : (b : Bool) → is_finished_way p way ≡ b → Goes p 0 way → (if b then way ∷ [] else map (extended way) (ways p way.from.dir 0 (last_section_or_start way))) ≡ way ∷ []
     by_test true e goes = refl
     by_test false e goes = let ends : true ≡ false = goes.ends e in absurd (cc)
 
@@ -202,7 +203,7 @@ begun-become p n = flat_map-map (completed p n) begun (enumerate_from 0 p.boards
 begun-whole : (p : PlantLists) → flat_map (completed p MAX_PATH) (initial_ways p) ≡ all_ways p
 begun-whole p = begun-become p MAX_PATH
 
-begun-go : (p : PlantLists) → IsPlant p → first_overlong_board p ≡ None → All (Goes p MAX_PATH) (initial_ways p)
+begun-go : (p : PlantLists) → IsPlant p → board_with_overlong_way p ≡ None → All (Goes p MAX_PATH) (initial_ways p)
 begun-go p plant none = All-map (Goes p MAX_PATH) begun (enumerate_from 0 p.boards) (each 0 p.boards (λ i board at. at-board i board at))
   where
     all-end : list_any (has_overlong_way p) p.boards ≡ false
@@ -225,16 +226,16 @@ pub record AreGrown (p : PlantLists) (n : ℕ) (found : List Way) : Type 0 where
   pub go : All (Goes p n) found
   pub whole : flat_map (completed p n) found ≡ all_ways p
 
-pub begun-grown : (p : PlantLists) → IsPlant p → first_overlong_board p ≡ None → AreGrown p MAX_PATH (initial_ways p)
+pub begun-grown : (p : PlantLists) → IsPlant p → board_with_overlong_way p ≡ None → AreGrown p MAX_PATH (initial_ways p)
 begun-grown p plant none = record { go = begun-go p plant none; whole = begun-whole p }
 
-pub grown-more : (p : PlantLists) → IsPlant p → (n m : ℕ) (found next : List Way) → n ≡ suc m → AreGrown p n found → next ≡ flat_map (extended_ways p) found → AreGrown p m next
+pub grown-more : (p : PlantLists) → IsPlant p → (n m : ℕ) (found next : List Way) → n ≡ suc m → AreGrown p n found → next ≡ flat_map (extended_or_finished_ways p) found → AreGrown p m next
 grown-more p plant n m found next count grown after =
     let before : AreGrown p (suc m) found = subst (λ k. AreGrown p k found) count grown in
     subst (AreGrown p m) (sym after) (record { go = goes-all p m plant found before.go; whole = round-all p m found ∙ before.whole })
 
 -- Too many ways are the beginnings of too many.
-pub too-many : (p : PlantLists) (n : ℕ) (found : List Way) → AreGrown p n found → nat_lt MAX_ROUTES (length found) ≡ true → None ≡ ways_within_limit p
+pub too-many : (p : PlantLists) (n : ℕ) (found : List Way) → AreGrown p n found → nat_lt MAX_ROUTES (length found) ≡ true → None ≡ ways_within_route_limit p
 too-many p n found grown tested =
     let many = below MAX_ROUTES (length found) tested in
     let fewer = no-fewer p n found grown.go in
@@ -245,7 +246,7 @@ too-many p n found grown tested =
     above : (a b : ℕ) → a < b → nat_lt a b ≡ true
     above a b less = grind (arith, nat_tests)
 
-pub few-enough : (p : PlantLists) (found : List Way) → AreGrown p 0 found → length found ≤ MAX_ROUTES → Some found ≡ ways_within_limit p
+pub few-enough : (p : PlantLists) (found : List Way) → AreGrown p 0 found → length found ≤ MAX_ROUTES → Some found ≡ ways_within_route_limit p
 few-enough p found grown few =
     let whole : found ≡ all_ways p = sym (all-ended p found grown.go) ∙ grown.whole in
     let same = ap length whole in

@@ -15,15 +15,15 @@ use Rattle.ilk_base.proofs.Options.{bind_some}
 use Rattle.ilk_base.proofs.Ranges.{below, passing_within}
 use Rattle.ilk_base.proofs.Tested.{All-tested, all-pass, list_any-at}
 use Rattle.ilk_plant.proofs.Once.{names_differ-places}
-use Rattle.ilk_plant.specs.Broken.{broken_at}
-use Rattle.ilk_plant.specs.ColumnRules.{column_rule_broken, column_rules_broken, lists_conflict_one_way, overlap_is_connected, path_ends_at_board, path_is_connected, points_are_listed, protects_unlisted, share_unlisted}
+use Rattle.ilk_plant.specs.Broken.{broken_below}
+use Rattle.ilk_plant.specs.ColumnRules.{broken_for_column_rule, column_rules_broken, lists_conflict_one_way, overlap_is_connected, path_ends_at_first_board, path_is_connected, route_points_are_listed, protects_without_conflict, shares_without_conflict}
 use Rattle.ilk_plant.specs.Draft.{plant_from_drafts, numbered_route}
-use Rattle.ilk_plant.specs.Limits.{TableHasLimits, route_has_limits, route_has_names}
+use Rattle.ilk_plant.specs.Limits.{TableWithinLimits, route_within_limits, route_names_valid}
 use Rattle.ilk_plant.specs.Name.{IsName, Name, is_name, is_name_if_given, is_between}
 use Rattle.ilk_plant.specs.Network.{has_section, last_of}
 use Rattle.ilk_plant.specs.Plant.{IsPlant, PlantLists, board_of}
-use Rattle.ilk_plant.specs.Sound.{NoWalkReturns}
-use Rattle.ilk_plant.specs.TableRules.{breaks_table, has_conflicts_once, has_destination_or_none, has_points_once, has_protecting_boards_once, has_protecting_points_once, has_sections_once, has_source, route_fails, numbered_rules_broken}
+use Rattle.ilk_plant.specs.Sound.{IsAcyclic}
+use Rattle.ilk_plant.specs.TableRules.{breaks_table, has_conflicts_once, has_destination_or_none, has_points_once, has_protecting_boards_once, has_protecting_points_once, has_sections_once, has_source, route_fails, plant_table_rules_broken}
 use Rattle.ilk_plant.specs.declared.broken.Broken.{Broken}
 use Rattle.ilk_plant.specs.declared.broken.Rule.{Rule}
 use Rattle.ilk_plant.specs.declared.broken.Rule.TheVariants.{R1, R2, R3, R4, R5, R6, R7, R8, C1, C2, C3, C4, C5, C6, C7, C8}
@@ -44,8 +44,8 @@ use Rattle.ilk_tablegen.proofs.WayFacts.{way-begins}
 use Rattle.ilk_tablegen.proofs.WayRules.{keeps-conflicts, keeps-destination, keeps-ends, keeps-lead, keeps-overlap, keeps-points, keeps-positions, keeps-protecting_boards, keeps-protecting_points, keeps-sections, keeps-source, with_routes}
 use Rattle.ilk_tablegen.specs.Routes.{destination_of, network_routes, points_along, route_of_way}
 use Rattle.ilk_tablegen.specs.Rules.{BreaksAtMostC7}
-use Rattle.ilk_tablegen.specs.Table.{name_of, named_point, named_route, network_table, route_name, walks}
-use Rattle.ilk_tablegen.specs.Ways.{all_ways, first_overlong_board}
+use Rattle.ilk_tablegen.specs.Table.{name_of, listed_point_draft, route_draft, network_table, route_name, generation_result}
+use Rattle.ilk_tablegen.specs.Ways.{all_ways, board_with_overlong_way}
 use Rattle.ilk_tablegen.specs.declared.walks.Walks.TheVariants.{Routes, TooLong, TooMany}
 use Rattle.ilk_tablegen.specs.declared.ways.Way.{Way}
 
@@ -106,9 +106,9 @@ module _ (p : PlantLists) (plant : IsPlant p) (n : ℕ) (way : Way) (of : IsWayO
       ap is_name (get_or_from_slice_get p.section_names x item.0 [] item.1) ∙ all-at IsName p.section_names x item.0 plant.section_names_allowed item.1
 
   abbrev draft : RouteDraft
-  draft = named_route p n (route_of_way p (all_paths p) n way)
+  draft = route_draft p n (route_of_way p (all_paths p) n way)
 
-  pub limits-way : length (all_paths p) ≤ MAX_ROUTES → route_has_limits draft ≡ true
+  pub limits-way : length (all_paths p) ≤ MAX_ROUTES → route_within_limits draft ≡ true
   limits-way few =
       both_true (both_true (both_true (both_true (both_true path refl) points) conflicts) refl) refl
     where
@@ -120,13 +120,13 @@ module _ (p : PlantLists) (plant : IsPlant p) (n : ℕ) (way : Way) (of : IsWayO
           let short = walk.short in
           both_true (le-leb 1 (length (map (name_of p.section_names) way.path)) (omega (arith, count, some))) (le-leb (length (map (name_of p.section_names) way.path)) 32 (omega (arith, count, short)))
 
-      points : nat_le (length (map (named_point p) (points_along p way.from.section way.path))) 40 ≡ true
+      points : nat_le (length (map (listed_point_draft p) (points_along p way.from.section way.path))) 40 ≡ true
       points =
-          let count = length-map (points_along p way.from.section way.path) (named_point p) in
+          let count = length-map (points_along p way.from.section way.path) (listed_point_draft p) in
           let fewer = listed-few p way.from.section way.path in
           let walk = of.walk in
           let short = walk.short in
-          le-leb (length (map (named_point p) (points_along p way.from.section way.path))) 40 (omega (arith, count, fewer, short))
+          le-leb (length (map (listed_point_draft p) (points_along p way.from.section way.path))) 40 (omega (arith, count, fewer, short))
 
       conflicts : nat_le (length (map route_name (route_of_way p (all_paths p) n way).conflicts)) 256 ≡ true
       conflicts =
@@ -134,7 +134,7 @@ module _ (p : PlantLists) (plant : IsPlant p) (n : ℕ) (way : Way) (of : IsWayO
           let fewer = conflicts-few (all_paths p) n way.path in
           le-leb (length (map route_name (route_of_way p (all_paths p) n way).conflicts)) 256 (omega (arith, count, fewer, few))
 
-  pub names-way : length (all_paths p) ≤ MAX_ROUTES → n < length (all_paths p) → route_has_names draft ≡ true
+  pub names-way : length (all_paths p) ≤ MAX_ROUTES → n < length (all_paths p) → route_names_valid draft ≡ true
   names-way few less =
       both_true (both_true (both_true (both_true (both_true (both_true (both_true (both_true (route_name-is n (omega (arith, few, less))) source) destination) path) refl) points) conflicts) refl) refl
     where
@@ -153,9 +153,9 @@ module _ (p : PlantLists) (plant : IsPlant p) (n : ℕ) (way : Way) (of : IsWayO
           list_all-map is_name (name_of p.section_names) way.path
           ∙ all-pass (λ x. is_name (name_of p.section_names x)) way.path (λ i x at. section-named x (all-at (λ y. y < length p.section_names) way.path i x known-way.path at))
 
-      points : list_all (λ (listed : ListedDraft). is_name listed.point) (map (named_point p) (points_along p way.from.section way.path)) ≡ true
+      points : list_all (λ (listed : ListedDraft). is_name listed.point) (map (listed_point_draft p) (points_along p way.from.section way.path)) ≡ true
       points =
-          list_all-map (λ (listed : ListedDraft). is_name listed.point) (named_point p) (points_along p way.from.section way.path)
+          list_all-map (λ (listed : ListedDraft). is_name listed.point) (listed_point_draft p) (points_along p way.from.section way.path)
           ∙ all-pass (λ (listed : Listed). is_name (name_of p.section_names listed.point))
           (points_along p way.from.section way.path)
           (λ i listed at. section-named listed.point
@@ -172,7 +172,7 @@ module _ (p : PlantLists) (plant : IsPlant p) (n : ℕ) (way : Way) (of : IsWayO
           omega (arith, low, few)))
 
 -- Rules of the table and of the columns.
-module _ (p : PlantLists) (plant : IsPlant p) (never : NoWalkReturns p) (few : length (network_routes p) ≤ MAX_ROUTES) where
+module _ (p : PlantLists) (plant : IsPlant p) (never : IsAcyclic p) (few : length (network_routes p) ≤ MAX_ROUTES) where
   abbrev names : List Name
   names = names_in p (network_routes p)
 
@@ -202,16 +202,16 @@ module _ (p : PlantLists) (plant : IsPlant p) (never : NoWalkReturns p) (few : l
       ap (λ v. with_routes v (map (numbered_route v.section_names v.board_names names) (network_table p).routes) names) (sym e)
       ∙ ap (λ routes. with_routes p routes names) (back-routes p names names-are 0 (network_routes p) known-all)
 
-  kept : (test : Route → Bool) → ((i : ℕ) (at : At p i) → test (route_of_way p (all_paths p) i at.way) ≡ true) → (rule : Rule) → broken_at rule (length (network_routes p)) (route_fails q test) ≡ []
+  kept : (test : Route → Bool) → ((i : ℕ) (at : At p i) → test (route_of_way p (all_paths p) i at.way) ≡ true) → (rule : Rule) → broken_below rule (length (network_routes p)) (route_fails q test) ≡ []
   kept test passes rule = broken-none rule (length (network_routes p)) (route_fails q test) (λ i less. none-fails p names test i (passes i))
 
-  r1 : broken_at R1 (length (network_routes p)) (breaks_table q R1) ≡ []
+  r1 : broken_below R1 (length (network_routes p)) (breaks_table q R1) ≡ []
   r1 = broken-none R1 (length (network_routes p)) (breaks_table q R1) (λ i less. let are = names-are in none-before names are.routes i)
 
-  r6 : broken_at R6 (length (network_routes p)) (breaks_table q R6) ≡ []
+  r6 : broken_below R6 (length (network_routes p)) (breaks_table q R6) ≡ []
   r6 = broken-none R6 (length (network_routes p)) (breaks_table q R6) (λ i less. none-fails p names (has_conflicts_once q i) i (λ at. keeps-conflicts p plant never (network_routes p) names (all_paths p) i at.way at.of (count-paths p)))
 
-  pub no-table : numbered_rules_broken q ≡ []
+  pub no-table : plant_table_rules_broken q ≡ []
   no-table =
       nothing r1
       (nothing (kept (has_source q) (λ i at. keeps-source p plant never (network_routes p) names (all_paths p) i at.way at.of) R2)
@@ -225,27 +225,27 @@ module _ (p : PlantLists) (plant : IsPlant p) (never : NoWalkReturns p) (few : l
       nothing : {xs ys : List Broken} → xs ≡ [] → ys ≡ [] → xs ++ ys ≡ []
       nothing {ys = ys} first later = ap (λ l. l ++ ys) first ∙ later
 
-  pub only-c7 : column_rules_broken q ≡ column_rule_broken p C7
+  pub only-c7 : column_rules_broken q ≡ broken_for_column_rule p C7
   only-c7 =
       skipped (kept (path_is_connected q) (λ i at. keeps-lead p plant never (network_routes p) names (all_paths p) i at.way at.of) C1)
-      (skipped (kept (path_ends_at_board q) (λ i at. keeps-ends p plant never (network_routes p) names (all_paths p) i at.way at.of) C2)
-      (skipped (kept (points_are_listed q) (λ i at. keeps-positions p plant never (network_routes p) names (all_paths p) i at.way at.of) C3)
+      (skipped (kept (path_ends_at_first_board q) (λ i at. keeps-ends p plant never (network_routes p) names (all_paths p) i at.way at.of) C2)
+      (skipped (kept (route_points_are_listed q) (λ i at. keeps-positions p plant never (network_routes p) names (all_paths p) i at.way at.of) C3)
       (skipped (kept (overlap_is_connected q) (λ i at. keeps-overlap p plant never (network_routes p) names (all_paths p) i at.way at.of) C4)
       (skipped (broken-no_pair C5 (length (network_routes p)) (lists_conflict_one_way q) (none-alone p names))
-      (skipped (broken-no_pair C6 (length (network_routes p)) (share_unlisted q) (none-unlisted p names))
-      (ap (λ l. column_rule_broken p C7 ++ (l ++ [])) (broken-no_pair C8 (length (network_routes p)) (protects_unlisted q) (none-unprotected p names))
-      ∙ append-nil (column_rule_broken p C7)))))))
+      (skipped (broken-no_pair C6 (length (network_routes p)) (shares_without_conflict q) (none-unlisted p names))
+      (ap (λ l. broken_for_column_rule p C7 ++ (l ++ [])) (broken-no_pair C8 (length (network_routes p)) (protects_without_conflict q) (none-unprotected p names))
+      ∙ append-nil (broken_for_column_rule p C7)))))))
     where
       skipped : {xs ys zs : List Broken} → xs ≡ [] → ys ≡ zs → xs ++ ys ≡ zs
       skipped {ys = ys} first later = ap (λ l. l ++ ys) first ∙ later
 
-  pub table-limits : TableHasLimits (network_table p)
+  pub table-limits : TableWithinLimits (network_table p)
   table-limits = record {
-    few = let count = length-map (enumerate_from 0 (network_routes p)) (λ numbered. named_route p numbered.0 numbered.1) in omega (arith, few, count, length-enumerate_from 0 (network_routes p));
-    each = all-pass route_has_limits (network_table p).routes (λ i draft e. let found = draft-at i draft e in let at = found.0 in ap route_has_limits (sym found.1) ∙ limits-way p plant i at.way at.of (omega (arith, few, count-paths p)));
-    named = all-pass route_has_names (network_table p).routes
+    few = let count = length-map (enumerate_from 0 (network_routes p)) (λ numbered. route_draft p numbered.0 numbered.1) in omega (arith, few, count, length-enumerate_from 0 (network_routes p));
+    each = all-pass route_within_limits (network_table p).routes (λ i draft e. let found = draft-at i draft e in let at = found.0 in ap route_within_limits (sym found.1) ∙ limits-way p plant i at.way at.of (omega (arith, few, count-paths p)));
+    named = all-pass route_names_valid (network_table p).routes
         (λ i draft e. let found = draft-at i draft e in let at = found.0 in
-        ap route_has_names (sym found.1)
+        ap route_names_valid (sym found.1)
         ∙ names-way p plant i at.way at.of (omega (arith, few, count-paths p))
         (omega (
           arith,
@@ -255,22 +255,22 @@ module _ (p : PlantLists) (plant : IsPlant p) (never : NoWalkReturns p) (few : l
         )));
   }
     where
-      draft-at : (i : ℕ) (draft : RouteDraft) → slice_get (network_table p).routes i ≡ Some draft → (at : At p i) × (named_route p i (route_of_way p (all_paths p) i at.way) ≡ draft)
+      draft-at : (i : ℕ) (draft : RouteDraft) → slice_get (network_table p).routes i ≡ Some draft → (at : At p i) × (route_draft p i (route_of_way p (all_paths p) i at.way) ≡ draft)
       draft-at i draft e =
-          let made : (route : Route) × (slice_get (network_routes p) i ≡ Some route) × (named_route p (0 + i) route ≡ draft) = made-at (named_route p) 0 (network_routes p) i draft e in
+          let made : (route : Route) × (slice_get (network_routes p) i ≡ Some route) × (route_draft p (0 + i) route ≡ draft) = made-at (route_draft p) 0 (network_routes p) i draft e in
           let found : (at : At p i) × (route_of_way p (all_paths p) i at.way ≡ made.0) = route-at p i made.0 made.1 in
           let place : i ≡ 0 + i = omega arith in
-          (found.0, ap (named_route p i) found.1 ∙ ap (λ k. named_route p k made.0) place ∙ made.2)
+          (found.0, ap (route_draft p i) found.1 ∙ ap (λ k. route_draft p k made.0) place ∙ made.2)
 
   pub all-kept : (net : NetDraft) (other : TableDraft) → p ≡ plant_from_drafts net other → BreaksAtMostC7 p net (network_table p)
   all-kept net other e = record {
     limits = table-limits;
-    table = ap numbered_rules_broken (plant_from_drafts-back net other e) ∙ no-table;
+    table = ap plant_table_rules_broken (plant_from_drafts-back net other e) ∙ no-table;
     columns = ap column_rules_broken (plant_from_drafts-back net other e) ∙ only-c7;
   }
 
-pub found-few : (p : PlantLists) (table : TableDraft) → walks p ≡ Routes table → (network_table p ≡ table) × (length (network_routes p) ≤ MAX_ROUTES)
-found-few p table found = by_end (first_overlong_board p) refl
+pub found-few : (p : PlantLists) (table : TableDraft) → generation_result p ≡ Routes table → (network_table p ≡ table) × (length (network_routes p) ≤ MAX_ROUTES)
+found-few p table found = by_end (board_with_overlong_way p) refl
   where
     by_count : (b : Bool) → nat_lt MAX_ROUTES (length (all_ways p)) ≡ b → (if b then TooMany else Routes (network_table p)) ≡ Routes table → (network_table p ≡ table) × (length (network_routes p) ≤ MAX_ROUTES)
     by_count true more f = absurd (cc)
@@ -278,11 +278,11 @@ found-few p table found = by_end (first_overlong_board p) refl
         let count : length (network_routes p) ≡ length (all_ways p) = count-paths p ∙ length-map (all_ways p) (λ (way : Way). way.path) in
         (cc, grind (arith, nat_tests, more, count))
 
-    by_end : (o : Option ℕ) → first_overlong_board p ≡ o → (network_table p ≡ table) × (length (network_routes p) ≤ MAX_ROUTES)
+    by_end : (o : Option ℕ) → board_with_overlong_way p ≡ o → (network_table p ≡ table) × (length (network_routes p) ≤ MAX_ROUTES)
     by_end None is = by_count (nat_lt MAX_ROUTES (length (all_ways p))) refl (rw is at found)
     by_end (Some m) is = let bad : TooLong m ≡ Routes table = rw is at found in absurd (cc)
 
-pub found-kept : (p : PlantLists) → IsPlant p → NoWalkReturns p → (net : NetDraft) (other table : TableDraft) → p ≡ plant_from_drafts net other → walks p ≡ Routes table → BreaksAtMostC7 p net table
+pub found-kept : (p : PlantLists) → IsPlant p → IsAcyclic p → (net : NetDraft) (other table : TableDraft) → p ≡ plant_from_drafts net other → generation_result p ≡ Routes table → BreaksAtMostC7 p net table
 found-kept p plant never net other table e found =
     let few = found-few p table found in
     subst (BreaksAtMostC7 p net) few.0 (all-kept p plant never few.1 net other e)

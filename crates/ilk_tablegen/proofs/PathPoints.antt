@@ -25,7 +25,7 @@ use Rattle.ilk_plant.specs.declared.table.Listed.{Listed}
 use Rattle.ilk_tablegen.proofs.IsWay.{is_way}
 use Rattle.ilk_tablegen.proofs.WayFacts.{first-next, goes-on}
 use Rattle.ilk_tablegen.specs.Routes.{point_listed_between, points_along, position_towards}
-use Rattle.ilk_tablegen.specs.Ways.{way_ends_at}
+use Rattle.ilk_tablegen.specs.Ways.{way_ends_at_section}
 
 -- Returns whether the leg of section x at a position is one of these sections.
 abbrev towards : PlantLists → List ℕ → ℕ → Position → Bool
@@ -138,7 +138,7 @@ leg-ahead : (p : PlantLists) (d : Dir) (before x stem plus minus : ℕ) (faces :
     same_direction faces d ≡ true →
     (towards p (before ∷ take 1 rest) x Plus || towards p (before ∷ take 1 rest) x Minus) ≡ true
 leg-ahead p d before x stem plus minus faces [] way is e =
-    let ends : way_ends_at p d x ≡ true = (and_parts (has_section x (next_to p before d)) (way_ends_at p d x) way).1 in
+    let ends : way_ends_at_section p d x ≡ true = (and_parts (has_section x (next_to p before d)) (way_ends_at_section p d x) way).1 in
     let none : (length (neighbours_on (Point stem plus minus faces) d) == 0) ≡ true = rw is at ends in
     let wrong : (length (plus ∷ minus ∷ []) == 0) ≡ true = ap (λ c. length (if c then plus ∷ minus ∷ [] else stem ∷ []) == 0) (sym e) ∙ none in
     absurd (cc)

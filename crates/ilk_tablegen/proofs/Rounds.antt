@@ -16,19 +16,19 @@ use Rattle.ilk_plant.specs.declared.network.Dir.{Dir}
 use Rattle.ilk_plant.specs.declared.network.Section.{Section}
 use Rattle.ilk_plant.specs.declared.limits.TheConstants.{MAX_PATH}
 use Rattle.ilk_tablegen.specs.Rounds.{continuing_flags, leads_to_flagged}
-use Rattle.ilk_tablegen.specs.Ways.{way_ends_at, continues_without_end, has_overlong_way}
+use Rattle.ilk_tablegen.specs.Ways.{way_ends_at_section, has_unended_path_from, has_overlong_way}
 
 pub one-more : (p : PlantLists) → IsPlant p → (d : Dir) (n : ℕ) → map (leads_to_flagged p d (continuing_flags p d n)) (range_with_len 0 (length p.sections)) ≡ continuing_flags p d (suc n)
 one-more p plant d n =
-    map-range-congr (leads_to_flagged p d (continuing_flags p d n)) (continues_without_end p d (suc n)) 0 (length p.sections) (λ x low high. flags-tell x)
+    map-range-congr (leads_to_flagged p d (continuing_flags p d n)) (has_unended_path_from p d (suc n)) 0 (length p.sections) (λ x low high. flags-tell x)
   where
-    flag-tells : (x i y : ℕ) → slice_get (next_to p x d) i ≡ Some y → (not (way_ends_at p d y) && get_or (continuing_flags p d n) y false) ≡ (not (way_ends_at p d y) && continues_without_end p d n y)
+    flag-tells : (x i y : ℕ) → slice_get (next_to p x d) i ≡ Some y → (not (way_ends_at_section p d y) && get_or (continuing_flags p d n) y false) ≡ (not (way_ends_at_section p d y) && has_unended_path_from p d n y)
     flag-tells x i y at =
-        ap (λ b. not (way_ends_at p d y) && b) (get_or-map-range_with_len (continues_without_end p d n) 0 (length p.sections) y y false (plant.neighbours x y d (has_section-at (next_to p x d) i y at)) (omega arith))
+        ap (λ b. not (way_ends_at_section p d y) && b) (get_or-map-range_with_len (has_unended_path_from p d n) 0 (length p.sections) y y false (plant.neighbours x y d (has_section-at (next_to p x d) i y at)) (omega arith))
 
-    flags-tell : (x : ℕ) → leads_to_flagged p d (continuing_flags p d n) x ≡ continues_without_end p d (suc n) x
+    flags-tell : (x : ℕ) → leads_to_flagged p d (continuing_flags p d n) x ≡ has_unended_path_from p d (suc n) x
     flags-tell x =
-        list_any-alike (λ y. not (way_ends_at p d y) && get_or (continuing_flags p d n) y false) (λ y. not (way_ends_at p d y) && continues_without_end p d n y) (next_to p x d) (flag-tells x)
+        list_any-alike (λ y. not (way_ends_at_section p d y) && get_or (continuing_flags p d n) y false) (λ y. not (way_ends_at_section p d y) && has_unended_path_from p d n y) (next_to p x d) (flag-tells x)
 
 pub round-more : (p : PlantLists) → IsPlant p → (d : Dir) (n : ℕ) (flags made : List Bool) → flags ≡ continuing_flags p d n → made ≡ map (leads_to_flagged p d flags) (range_with_len 0 (length p.sections)) → made ≡ continuing_flags p d (n + 1)
 round-more p plant d n flags made before after =
@@ -36,9 +36,9 @@ round-more p plant d n flags made before after =
     after ∙ ap (λ l. map (leads_to_flagged p d l) (range_with_len 0 (length p.sections))) before ∙ one-more p plant d n ∙ ap (continuing_flags p d) next
 
 pub none-yet : (n : ℕ) (p : PlantLists) (d : Dir) → n ≡ length p.sections → replicate n true ≡ continuing_flags p d 0
-none-yet n p d e = alike n 0 ∙ ap (λ m. map (continues_without_end p d 0) (range_with_len 0 m)) e
+none-yet n p d e = alike n 0 ∙ ap (λ m. map (has_unended_path_from p d 0) (range_with_len 0 m)) e
   where
-    alike : (m a : ℕ) → replicate m true ≡ map (continues_without_end p d 0) (range_with_len a m)
+    alike : (m a : ℕ) → replicate m true ≡ map (has_unended_path_from p d 0) (range_with_len a m)
     alike zero a = refl
     alike (suc m) a = ap (λ l. true ∷ l) (alike m (a + 1))
 
@@ -55,8 +55,8 @@ pub flag-of_board : (p : PlantLists) → IsPlant p →
 flag-of_board p plant m board d flags b at towards are tells =
     tells
     ∙ ap (λ l. get_or l board.section false) are
-    ∙ get_or-map-range_with_len (continues_without_end p d MAX_PATH) 0 (length p.sections) board.section board.section false (board-within p plant m board at) (omega arith)
-    ∙ ap (λ e. continues_without_end p e MAX_PATH board.section) (sym towards)
+    ∙ get_or-map-range_with_len (has_unended_path_from p d MAX_PATH) 0 (length p.sections) board.section board.section false (board-within p plant m board at) (omega arith)
+    ∙ ap (λ e. has_unended_path_from p e MAX_PATH board.section) (sym towards)
     ∙ ap (λ o. is_some_and o (has_overlong_way p)) (sym at)
 
 module _ {X : Type 0} (p : X → Bool) where

@@ -14,7 +14,7 @@ use Rattle.ilk_base.specs.Option.{is_some_and}
 use Rattle.ilk_base.proofs.Once.{EachOnce}
 use Rattle.ilk_base.proofs.Tested.{none-pass}
 use Rattle.ilk_base.proofs.Lists.{taken-before}
-use Rattle.ilk_plant.specs.Draft.{is_duplicate}
+use Rattle.ilk_plant.specs.Draft.{repeats_earlier_name}
 use Rattle.ilk_plant.specs.Name.{Name, is_name, is_name_character}
 use Rattle.ilk_tablegen.specs.Table.{route_name}
 
@@ -53,7 +53,7 @@ pub names-once : (names : List Name) → length names < 1000 → ((k : ℕ) (nam
 names-once names few each i j name at also =
     route_name-tells i j (omega (arith, few, slice_get_within names i name at)) (omega (arith, few, slice_get_within names j name also)) (each i name at ∙ sym (each j name also))
 
-pub none-before : (names : List Name) → EachOnce names → (i : ℕ) → is_duplicate names i ≡ false
+pub none-before : (names : List Name) → EachOnce names → (i : ℕ) → repeats_earlier_name names i ≡ false
 none-before names once i = by_name (slice_get names i) refl
   where
     by_name : (o : Option Name) → slice_get names i ≡ o → is_some_and o (λ name. list_any (bytes_eq name) (take i names)) ≡ false

@@ -8,12 +8,12 @@ use Rattle.ilk_base.proofs.ListTests.{all-at}
 use Rattle.ilk_base.proofs.Options.{bind_some}
 use Rattle.ilk_base.proofs.Tested.{all-pass}
 use Rattle.ilk_base.specs.Option.{is_some_and}
-use Rattle.ilk_plant.specs.ColumnRules.{overlap_is_connected, path_ends_at_board, path_is_connected, points_are_listed, is_between_boards, points_lead_along}
+use Rattle.ilk_plant.specs.ColumnRules.{overlap_is_connected, path_ends_at_first_board, path_is_connected, route_points_are_listed, ends_at_first_board, points_lead_along}
 use Rattle.ilk_plant.specs.Network.{has_section, last_of}
 use Rattle.ilk_plant.specs.Once.{numbers_differ}
 use Rattle.ilk_plant.specs.Plant.{IsPlant, PlantLists, board_of, is_point_section}
-use Rattle.ilk_plant.specs.Shape.{is_connected}
-use Rattle.ilk_plant.specs.Sound.{NoWalkReturns}
+use Rattle.ilk_plant.specs.Shape.{is_connected_chain}
+use Rattle.ilk_plant.specs.Sound.{IsAcyclic}
 use Rattle.ilk_plant.specs.TableRules.{has_conflicts_once, has_destination_or_none, has_points_once, has_protecting_boards_once, has_protecting_points_once, has_sections_once, has_source, is_section}
 use Rattle.ilk_plant.specs.declared.network.Board.{Board}
 use Rattle.ilk_plant.specs.declared.table.Route.{Route}
@@ -22,7 +22,7 @@ use Rattle.ilk_tablegen.proofs.IsWay.{IsWayOf, is_way, way-within}
 use Rattle.ilk_tablegen.proofs.PathPoints.{listed-once, listed-pass, points-set}
 use Rattle.ilk_tablegen.proofs.WayFacts.{way-between, way-ends, way-leads}
 use Rattle.ilk_tablegen.specs.Routes.{destination_of, route_of_way}
-use Rattle.ilk_tablegen.specs.Ways.{way_ends_at}
+use Rattle.ilk_tablegen.specs.Ways.{way_ends_at_section}
 use Rattle.ilk_tablegen.specs.declared.ways.Way.{Way}
 
 abbrev pub with_routes : PlantLists → List Route → List (List ℕ) → PlantLists
@@ -35,7 +35,7 @@ with_routes p routes names = record {
   route_names = names;
 }
 
-module _ (p : PlantLists) (plant : IsPlant p) (walks : NoWalkReturns p) (routes : List Route) (names : List (List ℕ)) (paths : List (List ℕ)) (n : ℕ) (way : Way) (of : IsWayOf p way) where
+module _ (p : PlantLists) (plant : IsPlant p) (walks : IsAcyclic p) (routes : List Route) (names : List (List ℕ)) (paths : List (List ℕ)) (n : ℕ) (way : Way) (of : IsWayOf p way) where
   abbrev q : PlantLists
   q = with_routes p routes names
 
@@ -84,23 +84,23 @@ module _ (p : PlantLists) (plant : IsPlant p) (walks : NoWalkReturns p) (routes 
 
   pub keeps-lead : path_is_connected q made ≡ true
   keeps-lead =
-      ap (λ o. is_some_and o (λ (source : Board). is_connected q source.dir source.section way.path)) of.board
+      ap (λ o. is_some_and o (λ (source : Board). is_connected_chain q source.dir source.section way.path)) of.board
       ∙ way-leads p way.from.dir way.from.section way.path leads
 
-  pub keeps-ends : path_ends_at_board q made ≡ true
+  pub keeps-ends : path_ends_at_first_board q made ≡ true
   keeps-ends =
-      let end : (z : ℕ) × (last_of way.path ≡ Some z) × (way_ends_at p way.from.dir z ≡ true) = way-ends p way.from.dir way.from.section way.path leads in
+      let end : (z : ℕ) × (last_of way.path ≡ Some z) × (way_ends_at_section p way.from.dir z ≡ true) = way-ends p way.from.dir way.from.section way.path leads in
       let is : destination_of p way ≡ board_of p end.0 way.from.dir = rw end.1 refl in
-      ap (λ o. is_some_and o (λ (source : Board). is_between_boards q source.dir (destination_of p way) way.path)) of.board
+      ap (λ o. is_some_and o (λ (source : Board). ends_at_first_board q source.dir (destination_of p way) way.path)) of.board
       ∙ way-between p way.from.dir way.from.section way.path (destination_of p way) end.0 leads end.1 end.2 is
 
-  pub keeps-positions : points_are_listed q made ≡ true
+  pub keeps-positions : route_points_are_listed q made ≡ true
   keeps-positions =
       both_true (ap (λ o. is_some_and o (λ (source : Board). points_lead_along q made.points source.section way.path)) of.board
       ∙ points-set p plant way.from.dir way.from.section way.path leads) refl
 
   pub keeps-overlap : overlap_is_connected q made ≡ true
   keeps-overlap =
-      let end : (z : ℕ) × (last_of way.path ≡ Some z) × (way_ends_at p way.from.dir z ≡ true) = way-ends p way.from.dir way.from.section way.path leads in
-      ap (λ o. is_some_and o (λ (source : Board). is_some_and (last_of way.path) (λ x. is_connected q source.dir x []))) of.board
+      let end : (z : ℕ) × (last_of way.path ≡ Some z) × (way_ends_at_section p way.from.dir z ≡ true) = way-ends p way.from.dir way.from.section way.path leads in
+      ap (λ o. is_some_and o (λ (source : Board). is_some_and (last_of way.path) (λ x. is_connected_chain q source.dir x []))) of.board
       ∙ ap (λ o. is_some_and o (λ x. true)) end.1

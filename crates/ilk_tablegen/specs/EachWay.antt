@@ -4,26 +4,26 @@ use Rattle.std.specs.List.{list_all}
 use Rattle.ilk_base.specs.Option.{is_some_and}
 use Rattle.ilk_plant.specs.ColumnRules.{all_but_last}
 use Rattle.ilk_plant.specs.Plant.{PlantLists, next_to}
-use Rattle.ilk_plant.specs.Shape.{is_connected}
+use Rattle.ilk_plant.specs.Shape.{is_connected_chain}
 use Rattle.ilk_plant.specs.declared.network.Dir.{Dir}
-use Rattle.ilk_tablegen.specs.Ways.{way_ends_at}
+use Rattle.ilk_tablegen.specs.Ways.{way_ends_at_section}
 use Rattle.ilk_plant.specs.Network.{last_of}
 
 -- Holds if the path is a way: its sections lead on from section x in direction d, each next to the
 -- one before. A way ends at the last of them, and at none before.
 pub record IsWayFrom (p : PlantLists) (d : Dir) (x : ℕ) (path : List ℕ) : Type 0 where
-  pub leads : IsTrue (is_connected p d x path)
-  pub between : IsTrue (list_all (λ y. not (way_ends_at p d y)) (all_but_last path))
-  pub ends : IsTrue (is_some_and (last_of path) (way_ends_at p d))
+  pub leads : IsTrue (is_connected_chain p d x path)
+  pub between : IsTrue (list_all (λ y. not (way_ends_at_section p d y)) (all_but_last path))
+  pub ends : IsTrue (is_some_and (last_of path) (way_ends_at_section p d))
 
 -- Holds if the path leads on from section x in direction d, and no way ends at any of its sections.
-pub record ContinuesOver (p : PlantLists) (d : Dir) (x : ℕ) (path : List ℕ) : Type 0 where
-  pub leads : IsTrue (is_connected p d x path)
-  pub between : IsTrue (list_all (λ y. not (way_ends_at p d y)) path)
+pub record IsUnendedPathFrom (p : PlantLists) (d : Dir) (x : ℕ) (path : List ℕ) : Type 0 where
+  pub leads : IsTrue (is_connected_chain p d x path)
+  pub between : IsTrue (list_all (λ y. not (way_ends_at_section p d y)) path)
 
 -- Holds if two ways from section x part at a point, the first over its plus leg and the second over
 -- its minus leg.
-abbrev pub PartsWithPlusFirst : PlantLists → Dir → ℕ → List ℕ → List ℕ → Type 0
-PartsWithPlusFirst p d x [] others = ⊥
-PartsWithPlusFirst p d x (y ∷ rest) [] = ⊥
-PartsWithPlusFirst p d x (y ∷ rest) (z ∷ others) = (next_to p x d ≡ y ∷ z ∷ []) ⊎ ((y ≡ z) × PartsWithPlusFirst p d y rest others)
+abbrev pub DivergesPlusFirst : PlantLists → Dir → ℕ → List ℕ → List ℕ → Type 0
+DivergesPlusFirst p d x [] others = ⊥
+DivergesPlusFirst p d x (y ∷ rest) [] = ⊥
+DivergesPlusFirst p d x (y ∷ rest) (z ∷ others) = (next_to p x d ≡ y ∷ z ∷ []) ⊎ ((y ≡ z) × DivergesPlusFirst p d y rest others)

@@ -17,13 +17,13 @@ abbrev pub flags_of : ℕ → List ℕ → List Bool
 flags_of count path = map (λ x. has_section x path) (range_with_len 0 count)
 
 -- Returns whether one of these sections has its flag.
-abbrev pub any_flagged : List Bool → List ℕ → Bool
-any_flagged flags sections = list_any (λ x. slice_index_or flags x false) sections
+abbrev pub any_section_flagged : List Bool → List ℕ → Bool
+any_section_flagged flags sections = list_any (λ x. slice_index_or flags x false) sections
 
 -- The numbers of the other lists that flag one of these sections.
 abbrev pub conflicts_flagged : List (List Bool) → ℕ → List ℕ → List ℕ
 conflicts_flagged flags n path =
-    filter (λ k. not (k == n) && any_flagged (slice_index_or flags k []) path) (range_with_len 0 (length flags))
+    filter (λ k. not (k == n) && any_section_flagged (slice_index_or flags k []) path) (range_with_len 0 (length flags))
 
 -- The route of way n, with its conflicts by flags.
 abbrev pub route_by_flags : PlantLists → List (List Bool) → ℕ → Way → Route

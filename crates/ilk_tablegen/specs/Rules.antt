@@ -1,10 +1,10 @@
 -- Rules that a generated table satisfies.
 use Rattle.std.specs.Prelude.{◌≡◌, All, []}
-use Rattle.ilk_plant.specs.ColumnRules.{column_rule_broken, column_rules_broken}
+use Rattle.ilk_plant.specs.ColumnRules.{broken_for_column_rule, column_rules_broken}
 use Rattle.ilk_plant.specs.Draft.{plant_from_drafts}
-use Rattle.ilk_plant.specs.Limits.{TableHasLimits}
+use Rattle.ilk_plant.specs.Limits.{TableWithinLimits}
 use Rattle.ilk_plant.specs.Plant.{PlantLists}
-use Rattle.ilk_plant.specs.Sound.{AreSound}
+use Rattle.ilk_plant.specs.Sound.{AreSoundDrafts}
 use Rattle.ilk_plant.specs.TableRules.{table_rules_broken}
 use Rattle.ilk_plant.specs.declared.broken.Rule.TheVariants.{C7}
 use Rattle.ilk_plant.specs.declared.draft.NetDraft.{NetDraft}
@@ -15,16 +15,16 @@ use Rattle.ilk_tablegen.specs.NetworkDraft.{network_draft}
 -- columns that it violates is C7, at the sections at which the network violates it without the
 -- table.
 pub record BreaksAtMostC7 (p : PlantLists) (net : NetDraft) (routes : TableDraft) : Type 0 where
-  pub limits : TableHasLimits routes
+  pub limits : TableWithinLimits routes
   pub table : table_rules_broken net routes ≡ []
-  pub columns : column_rules_broken (plant_from_drafts net routes) ≡ column_rule_broken p C7
+  pub columns : column_rules_broken (plant_from_drafts net routes) ≡ broken_for_column_rule p C7
 
 -- Holds if the network of a plant and a table are drafts within the limits that violate no rule of
 -- the network or table. The only rule of the columns that they violate is C7, at the sections at
 -- which the plant does. No route lists protecting points or boards.
-pub record IsSoundWithPlant (p : PlantLists) (routes : TableDraft) : Type 0 where
-  pub sound : AreSound (network_draft p) routes
-  pub columns : column_rules_broken (plant_from_drafts (network_draft p) routes) ≡ column_rule_broken p C7
+pub record KeepsRulesButC7 (p : PlantLists) (routes : TableDraft) : Type 0 where
+  pub sound : AreSoundDrafts (network_draft p) routes
+  pub columns : column_rules_broken (plant_from_drafts (network_draft p) routes) ≡ broken_for_column_rule p C7
   pub unprotected : All (λ route. (route.protecting_points ≡ []) × (route.protecting_boards ≡ [])) routes.routes
 
 -- The table without routes.

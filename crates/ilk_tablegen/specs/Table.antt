@@ -10,7 +10,7 @@ use Rattle.ilk_plant.specs.declared.limits.TheConstants.{MAX_ROUTES}
 use Rattle.ilk_plant.specs.declared.table.Listed.{Listed}
 use Rattle.ilk_plant.specs.declared.table.Route.{Route}
 use Rattle.ilk_tablegen.specs.Routes.{network_routes}
-use Rattle.ilk_tablegen.specs.Ways.{all_ways, first_overlong_board}
+use Rattle.ilk_tablegen.specs.Ways.{all_ways, board_with_overlong_way}
 use Rattle.ilk_tablegen.specs.declared.walks.Walks.{Walks}
 use Rattle.ilk_tablegen.specs.declared.walks.Walks.TheVariants.{Routes, TooLong, TooMany}
 
@@ -23,35 +23,35 @@ abbrev pub route_name : ℕ → Name
 route_name n = codes "g" ++ decimal n
 
 -- A listed point, with its name for its number.
-abbrev pub named_point : PlantLists → Listed → ListedDraft
-named_point p listed = record { point = name_of p.section_names listed.point; at = listed.at }
+abbrev pub listed_point_draft : PlantLists → Listed → ListedDraft
+listed_point_draft p listed = record { point = name_of p.section_names listed.point; at = listed.at }
 
 -- Route n, with names for its numbers.
-abbrev pub named_route : PlantLists → ℕ → Route → RouteDraft
-named_route p n route = record {
+abbrev pub route_draft : PlantLists → ℕ → Route → RouteDraft
+route_draft p n route = record {
   name = route_name n;
   source = name_of p.board_names route.source;
   destination = option_map (name_of p.board_names) route.destination;
   path = map (name_of p.section_names) route.path;
   overlap = map (name_of p.section_names) route.overlap;
-  points = map (named_point p) route.points;
+  points = map (listed_point_draft p) route.points;
   conflicts = map route_name route.conflicts;
-  protecting_points = map (named_point p) route.protecting_points;
+  protecting_points = map (listed_point_draft p) route.protecting_points;
   protecting_boards = map (name_of p.board_names) route.protecting_boards;
 }
 
 -- The table of these routes.
-abbrev pub named_table : PlantLists → List Route → TableDraft
-named_table p routes = record { routes = map (λ numbered. named_route p numbered.0 numbered.1) (enumerate_from 0 routes) }
+abbrev pub table_draft : PlantLists → List Route → TableDraft
+table_draft p routes = record { routes = map (λ numbered. route_draft p numbered.0 numbered.1) (enumerate_from 0 routes) }
 
 -- The table of the network's routes.
 abbrev pub network_table : PlantLists → TableDraft
-network_table p = named_table p (network_routes p)
+network_table p = table_draft p (network_routes p)
 
 -- The result for a network. If from some board a way doesn't end within MAX_PATH sections, it is
 -- the first such board. Otherwise it is the table, unless there are more than MAX_ROUTES ways.
-abbrev pub walks : PlantLists → Walks
-walks p = unless_endless (first_overlong_board p)
+abbrev pub generation_result : PlantLists → Walks
+generation_result p = unless_endless (board_with_overlong_way p)
   where
     unless_endless : Option ℕ → Walks
     unless_endless (Some m) = TooLong m

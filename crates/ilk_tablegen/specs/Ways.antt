@@ -10,8 +10,8 @@ use Rattle.ilk_tablegen.specs.declared.ways.Way.{Way}
 
 -- Returns whether a way in direction d ends at section x: it has a board for d, or no section is
 -- next to it on side d.
-abbrev pub way_ends_at : PlantLists → Dir → ℕ → Bool
-way_ends_at p d x = is_some (board_of p x d) || length (next_to p x d) == 0
+abbrev pub way_ends_at_section : PlantLists → Dir → ℕ → Bool
+way_ends_at_section p d x = is_some (board_of p x d) || length (next_to p x d) == 0
 
 -- The ways of at most n sections from section x in direction d. Each goes over a section y next to
 -- x; at a point that faces d the plus leg comes first. If a way ends at y, y is the whole way;
@@ -19,26 +19,26 @@ way_ends_at p d x = is_some (board_of p x d) || length (next_to p x d) == 0
 abbrev pub ways : PlantLists → Dir → ℕ → ℕ → List (List ℕ)
 ways p d zero x = []
 ways p d (suc n) x =
-    flat_map (λ y. if way_ends_at p d y then (y ∷ []) ∷ [] else map (λ way. y ∷ way) (ways p d n y)) (next_to p x d)
+    flat_map (λ y. if way_ends_at_section p d y then (y ∷ []) ∷ [] else map (λ way. y ∷ way) (ways p d n y)) (next_to p x d)
 
 -- Returns whether some n sections lead on from section x in direction d, each next to the one
 -- before, without the end of a way.
-abbrev pub continues_without_end : PlantLists → Dir → ℕ → ℕ → Bool
-continues_without_end p d zero x = true
-continues_without_end p d (suc n) x = list_any (λ y. not (way_ends_at p d y) && continues_without_end p d n y) (next_to p x d)
+abbrev pub has_unended_path_from : PlantLists → Dir → ℕ → ℕ → Bool
+has_unended_path_from p d zero x = true
+has_unended_path_from p d (suc n) x = list_any (λ y. not (way_ends_at_section p d y) && has_unended_path_from p d n y) (next_to p x d)
 
 -- Returns whether from a board some MAX_PATH sections lead on without the end of a way.
 abbrev pub has_overlong_way : PlantLists → Board → Bool
-has_overlong_way p board = continues_without_end p board.dir MAX_PATH board.section
+has_overlong_way p board = has_unended_path_from p board.dir MAX_PATH board.section
 
 -- The number of the first board with an overlong way.
-abbrev pub first_overlong_board : PlantLists → Option ℕ
-first_overlong_board p = position (has_overlong_way p) p.boards
+abbrev pub board_with_overlong_way : PlantLists → Option ℕ
+board_with_overlong_way p = position (has_overlong_way p) p.boards
 
 -- The ways from board m, in order.
-abbrev pub ways_from : PlantLists → ℕ → Board → List Way
-ways_from p m board = map (λ path. record { source = m; from = board; path = path }) (ways p board.dir MAX_PATH board.section)
+abbrev pub ways_from_board : PlantLists → ℕ → Board → List Way
+ways_from_board p m board = map (λ path. record { source = m; from = board; path = path }) (ways p board.dir MAX_PATH board.section)
 
 -- The ways of the network, in the order of their boards.
 abbrev pub all_ways : PlantLists → List Way
-all_ways p = flat_map (λ numbered. ways_from p numbered.0 numbered.1) (enumerate_from 0 p.boards)
+all_ways p = flat_map (λ numbered. ways_from_board p numbered.0 numbered.1) (enumerate_from 0 p.boards)

@@ -2,23 +2,23 @@ ghost use Rattle.std.specs.Prelude.{◌≡◌, ◌<◌, ◌&&◌, IfOk, IfSome, 
 ghost use Rattle.std.specs.List.{range_with_len};
 ghost use Rattle.ilk_base.specs.Option.{is_some_and};
 ghost use Rattle.ilk_tablegen.specs.Rounds.{continuing_flags, leads_to_flagged};
-ghost use Rattle.ilk_tablegen.specs.Ways.{way_ends_at, first_overlong_board, has_overlong_way};
+ghost use Rattle.ilk_tablegen.specs.Ways.{way_ends_at_section, board_with_overlong_way, has_overlong_way};
 ghost use Rattle.ilk_plant.specs.declared.network.Dir.TheVariants.{Down, Up};
 ghost use Rattle.ilk_plant.specs.declared.limits.TheConstants.{MAX_PATH};
 
-use crate::ends::way_ends_at;
-use crate::flags::{equal_flags, flag_at};
+use crate::ends::way_ends_at_section;
+use crate::flags::{flag_at, uniform_flags};
 use ilk_plant::{Dir, MAX_PATH, Plant, Row};
 use std::alloc::{AllocError, Global};
 
 fn is_flagged(plant: &Plant, d: Dir, flags: &[bool], next: Option<u32>) -> bool
     requires { IfSome next (λ y. y < length plant.now.sections) }
     ensures { result
-        ≡ is_some_and next (λ y. not (way_ends_at plant.now d y)
+        ≡ is_some_and next (λ y. not (way_ends_at_section plant.now d y)
         && slice_index_or flags.now y false) }
 {
     match next {
-        Some(y) => !way_ends_at(plant, d, y) && flag_at(flags, y),
+        Some(y) => !way_ends_at_section(plant, d, y) && flag_at(flags, y),
         None => false,
     }
 }
@@ -56,8 +56,8 @@ fn one_longer(
 fn going_on(alloc: Global, plant: &Plant, d: Dir, n: u64) -> Result<Row<bool>, AllocError>
     ensures { IfOk result (λ flags. flags ≡ continuing_flags plant.now d n) }
 {
-    plant.is_sound();
-    let mut flags = equal_flags(alloc, plant.sections(), true)?;
+    plant.prove_is_plant();
+    let mut flags = uniform_flags(alloc, plant.sections(), true)?;
     for _i in 0..n {
         flags = one_longer(alloc, plant, d, &flags)?;
     }
@@ -72,7 +72,7 @@ fn has_no_end(plant: &Plant, down: &[bool], up: &[bool], m: u32) -> bool
     requires up { up.now ≡ continuing_flags plant.now Up MAX_PATH }
     ensures { result ≡ is_some_and (slice_get plant.now.boards m) (has_overlong_way plant.now) }
 {
-    plant.is_sound();
+    plant.prove_is_plant();
     let board = plant.board(m);
     match board.dir {
         Dir::Down => flag_at(down, board.section),
@@ -82,8 +82,8 @@ fn has_no_end(plant: &Plant, down: &[bool], up: &[bool], m: u32) -> bool
 
 /// Returns the first board from which some `MAX_PATH` sections lead on without the end of a way.
 /// Returns `None` if there is no such board.
-pub fn first_overlong_board(alloc: Global, plant: &Plant) -> Result<Option<u32>, AllocError>
-    ensures { IfOk result (λ m. m ≡ first_overlong_board plant.now) }
+pub fn board_with_overlong_way(alloc: Global, plant: &Plant) -> Result<Option<u32>, AllocError>
+    ensures { IfOk result (λ m. m ≡ board_with_overlong_way plant.now) }
 {
     let down = going_on(alloc, plant, Dir::Down, MAX_PATH)?;
     let up = going_on(alloc, plant, Dir::Up, MAX_PATH)?;

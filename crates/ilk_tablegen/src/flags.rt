@@ -1,5 +1,5 @@
 ghost use Rattle.std.specs.Prelude.{◌≡◌, ◌<◌, IfOk, false, replicate, set, slice_index_or, true};
-ghost use Rattle.ilk_tablegen.specs.Flags.{any_flagged, flags_of};
+ghost use Rattle.ilk_tablegen.specs.Flags.{any_section_flagged, flags_of};
 
 use ilk_plant::Row;
 use std::alloc::{AllocError, Global};
@@ -15,14 +15,14 @@ pub fn flag_at(flags: &[bool], x: u32) -> bool
 }
 
 /// Returns whether one of these sections has its flag.
-pub fn any_flagged(flags: &[bool], sections: &[u32]) -> bool
-    ensures { result ≡ any_flagged flags.now sections.now }
+pub fn any_section_flagged(flags: &[bool], sections: &[u32]) -> bool
+    ensures { result ≡ any_section_flagged flags.now sections.now }
 {
     sections.iter().any(|x| flag_at(flags, *x))
 }
 
 /// Creates `count` flags, each equal to `flag`.
-pub fn equal_flags(alloc: Global, count: u32, flag: bool) -> Result<Row<bool>, AllocError>
+pub fn uniform_flags(alloc: Global, count: u32, flag: bool) -> Result<Row<bool>, AllocError>
     ensures { IfOk result (λ flags. flags ≡ replicate count flag) }
 {
     let mut flags = Row::new(alloc);
@@ -44,7 +44,7 @@ fn set_flag(flags: &mut Row<bool>, x: u32)
 pub fn flags_of(alloc: Global, count: u32, path: &[u32]) -> Result<Row<bool>, AllocError>
     ensures { IfOk result (λ flags. flags ≡ flags_of count path.now) }
 {
-    let mut flags = equal_flags(alloc, count, false)?;
+    let mut flags = uniform_flags(alloc, count, false)?;
     for x in path {
         set_flag(&mut flags, *x);
     }

@@ -1,19 +1,19 @@
 //! Theorems about generated tables. Each function is proof only, without run-time effect.
 ghost use Rattle.std.specs.Prelude.{ℕ, [], ◌≡◌, ◌↔◌, ◌<◌, ◌≤◌, Contains, IsTrue, List, Some, length, slice_get};
-ghost use Rattle.ilk_plant.specs.ColumnRules.{column_rule_broken, column_rules_broken};
+ghost use Rattle.ilk_plant.specs.ColumnRules.{broken_for_column_rule, column_rules_broken};
 ghost use Rattle.ilk_plant.specs.Draft.{plant_from_drafts};
-ghost use Rattle.ilk_plant.specs.Limits.{NetworkHasLimits};
+ghost use Rattle.ilk_plant.specs.Limits.{NetworkWithinLimits};
 ghost use Rattle.ilk_plant.specs.NetworkRules.{network_rules_broken};
-ghost use Rattle.ilk_plant.specs.Sound.{AreSound};
+ghost use Rattle.ilk_plant.specs.Sound.{AreSoundDrafts};
 ghost use Rattle.ilk_plant.specs.declared.broken.Rule.TheVariants.{C7};
 ghost use Rattle.ilk_plant.specs.declared.draft.NetDraft.{NetDraft};
 ghost use Rattle.ilk_plant.specs.declared.draft.TableDraft.{TableDraft};
 ghost use Rattle.ilk_plant.specs.declared.network.Dir.{Dir};
-ghost use Rattle.ilk_tablegen.specs.EachWay.{ContinuesOver, IsWayFrom, PartsWithPlusFirst};
+ghost use Rattle.ilk_tablegen.specs.EachWay.{IsUnendedPathFrom, IsWayFrom, DivergesPlusFirst};
 ghost use Rattle.ilk_tablegen.specs.NetworkDraft.{network_draft};
-ghost use Rattle.ilk_tablegen.specs.Rules.{IsSoundWithPlant, BreaksAtMostC7, no_routes};
-ghost use Rattle.ilk_tablegen.specs.Ways.{continues_without_end, ways};
-ghost use Rattle.ilk_tablegen.specs.Table.{walks};
+ghost use Rattle.ilk_tablegen.specs.Rules.{KeepsRulesButC7, BreaksAtMostC7, no_routes};
+ghost use Rattle.ilk_tablegen.specs.Ways.{has_unended_path_from, ways};
+ghost use Rattle.ilk_tablegen.specs.Table.{generation_result};
 ghost use Rattle.ilk_tablegen.specs.declared.walks.Walks.TheVariants.{Routes};
 
 use ilk_plant::Plant;
@@ -24,17 +24,17 @@ use ilk_plant::Plant;
 pub fn table_keeps_rules(plant: &Plant)
     ensures { (net : NetDraft) (other table : TableDraft) → plant.now ≡ plant_from_drafts net other
         →
-        walks plant.now ≡ Routes table → BreaksAtMostC7 plant.now net table }
+        generation_result plant.now ≡ Routes table → BreaksAtMostC7 plant.now net table }
 {
-    plant.is_sound();
-    plant.is_from_drafts();
+    plant.prove_is_plant();
+    plant.prove_from_drafts();
 }
 
 /// A network that is within the limits and violates no rule is sound with an empty table, so a
 /// plant of it exists. Proof only; no run-time effect.
 pub fn bare_network_is_sound()
-    ensures { (net : NetDraft) → NetworkHasLimits net → network_rules_broken net ≡ [] →
-        AreSound net no_routes }
+    ensures { (net : NetDraft) → NetworkWithinLimits net → network_rules_broken net ≡ [] →
+        AreSoundDrafts net no_routes }
 {}
 
 /// If a network violates no rule, the draft of its plant is the network from which the plant was
@@ -49,14 +49,14 @@ pub fn network_round_trips()
 /// rule of the columns that they violate is C7, at the sections at which the plant does. If every
 /// border has its board, they violate no rule. Proof only; no run-time effect.
 pub fn network_and_table_keep_rules(plant: &Plant)
-    ensures drafts { (table : TableDraft) → walks plant.now ≡ Routes table
-        → IsSoundWithPlant plant.now table }
-    ensures no_rule { (table : TableDraft) → walks plant.now ≡ Routes table
-        → column_rule_broken plant.now C7 ≡ []
+    ensures drafts { (table : TableDraft) → generation_result plant.now ≡ Routes table
+        → KeepsRulesButC7 plant.now table }
+    ensures no_rule { (table : TableDraft) → generation_result plant.now ≡ Routes table
+        → broken_for_column_rule plant.now C7 ≡ []
         → column_rules_broken (plant_from_drafts (network_draft plant.now) table) ≡ [] }
 {
-    plant.is_sound();
-    plant.is_from_drafts();
+    plant.prove_is_plant();
+    plant.prove_from_drafts();
 }
 
 /// The list of ways from a section has exactly the ways of at most n sections. If two of them part
@@ -70,15 +70,15 @@ pub fn ways_are_complete(_plant: &Plant)
     ensures order { (d : Dir) (n x i j : ℕ) (first second : List ℕ) → i < j →
         slice_get (ways _plant.now d n x) i ≡ Some first →
         slice_get (ways _plant.now d n x) j ≡ Some second →
-        PartsWithPlusFirst _plant.now d x first second }
+        DivergesPlusFirst _plant.now d x first second }
     ensures on { (d : Dir) (n x : ℕ) →
-        IsTrue (continues_without_end _plant.now d n x) ↔
-        ((path : List ℕ) × (length path ≡ n) × ContinuesOver _plant.now d x path) }
+        IsTrue (has_unended_path_from _plant.now d n x) ↔
+        ((path : List ℕ) × (length path ≡ n) × IsUnendedPathFrom _plant.now d x path) }
 {}
 
 /// A plant without routes can violate only C7 of the rules of the columns. Proof only; no run-time
 /// effect.
 pub fn bare_plant_breaks_c7_alone(_plant: &Plant)
     requires { _plant.now.routes ≡ [] }
-    ensures { column_rules_broken _plant.now ≡ column_rule_broken _plant.now C7 }
+    ensures { column_rules_broken _plant.now ≡ broken_for_column_rule _plant.now C7 }
 {}

@@ -8,7 +8,7 @@ use std::alloc::{AllocError, Global};
 pub fn section_name(alloc: Global, plant: &Plant, x: u32) -> Result<Text, AllocError>
     ensures { IfOk result (λ name. name ≡ name_of plant.now.section_names x) }
 {
-    plant.is_sound();
+    plant.prove_is_plant();
     if x >= plant.sections() {
         return Ok(Text::of(String::new(alloc)));
     }
@@ -19,7 +19,7 @@ pub fn section_name(alloc: Global, plant: &Plant, x: u32) -> Result<Text, AllocE
 pub fn board_name(alloc: Global, plant: &Plant, m: u32) -> Result<Text, AllocError>
     ensures { IfOk result (λ name. name ≡ name_of plant.now.board_names m) }
 {
-    plant.is_sound();
+    plant.prove_is_plant();
     if m >= plant.boards() {
         return Ok(Text::of(String::new(alloc)));
     }
@@ -27,7 +27,7 @@ pub fn board_name(alloc: Global, plant: &Plant, m: u32) -> Result<Text, AllocErr
 }
 
 /// Returns the name of section `x`, if one is given.
-pub fn name_if_section(
+pub fn optional_section_name(
     alloc: Global,
     plant: &Plant,
     x: Option<u32>,
@@ -41,7 +41,7 @@ pub fn name_if_section(
 }
 
 /// Returns the name of board `m`, if one is given.
-pub fn name_if_board(
+pub fn optional_board_name(
     alloc: Global,
     plant: &Plant,
     m: Option<u32>,

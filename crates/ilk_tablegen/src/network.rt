@@ -1,12 +1,12 @@
 ghost use Rattle.std.specs.Prelude.{◌≡◌, IfOk};
-ghost use Rattle.ilk_tablegen.specs.NetworkDraft.{named_kind, named_section, network_draft};
+ghost use Rattle.ilk_tablegen.specs.NetworkDraft.{kind_draft, section_draft, network_draft};
 
-use crate::names::{name_if_board, name_if_section, section_name};
+use crate::names::{optional_board_name, optional_section_name, section_name};
 use ilk_plant::{KindDraft, NetDraft, Plant, Row, Section, SectionDraft};
 use std::alloc::{AllocError, Global};
 
-fn named_kind(alloc: Global, plant: &Plant, section: &Section) -> Result<KindDraft, AllocError>
-    ensures { IfOk result (λ kind. kind ≡ named_kind plant.now section.now) }
+fn kind_draft(alloc: Global, plant: &Plant, section: &Section) -> Result<KindDraft, AllocError>
+    ensures { IfOk result (λ kind. kind ≡ kind_draft plant.now section.now) }
 {
     match section {
         Section::Linear {
@@ -15,10 +15,10 @@ fn named_kind(alloc: Global, plant: &Plant, section: &Section) -> Result<KindDra
             board_down,
             board_up,
         } => Ok(KindDraft::Linear {
-            down: name_if_section(alloc, plant, *down)?,
-            up: name_if_section(alloc, plant, *up)?,
-            board_down: name_if_board(alloc, plant, *board_down)?,
-            board_up: name_if_board(alloc, plant, *board_up)?,
+            down: optional_section_name(alloc, plant, *down)?,
+            up: optional_section_name(alloc, plant, *up)?,
+            board_down: optional_board_name(alloc, plant, *board_down)?,
+            board_up: optional_board_name(alloc, plant, *board_up)?,
         }),
         Section::Point {
             stem,
@@ -34,17 +34,17 @@ fn named_kind(alloc: Global, plant: &Plant, section: &Section) -> Result<KindDra
     }
 }
 
-fn named_section(
+fn section_draft(
     alloc: Global,
     plant: &Plant,
     x: u32,
     section: &Section,
 ) -> Result<SectionDraft, AllocError>
-    ensures { IfOk result (λ draft. draft ≡ named_section plant.now x section.now) }
+    ensures { IfOk result (λ draft. draft ≡ section_draft plant.now x section.now) }
 {
     Ok(SectionDraft {
         name: section_name(alloc, plant, x)?,
-        kind: named_kind(alloc, plant, section)?,
+        kind: kind_draft(alloc, plant, section)?,
     })
 }
 
@@ -56,7 +56,7 @@ pub fn network_draft(alloc: Global, plant: &Plant) -> Result<NetDraft, AllocErro
 {
     let mut sections = Row::new(alloc);
     for x in 0..plant.sections() {
-        sections.push(named_section(alloc, plant, x, plant.section(x))?)?;
+        sections.push(section_draft(alloc, plant, x, plant.section(x))?)?;
     }
     Ok(NetDraft { sections })
 }

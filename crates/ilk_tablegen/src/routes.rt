@@ -1,10 +1,10 @@
 ghost use Rattle.std.specs.Prelude.{◌≡◌, ◌==◌, ◌&&◌, ◌≤◌, IfOk, length, map, not};
 ghost use Rattle.ilk_plant.specs.declared.limits.TheConstants.{MAX_ROUTES};
-ghost use Rattle.ilk_tablegen.specs.Flags.{any_flagged, conflicts_flagged, flags_of, paths_of, route_by_flags};
+ghost use Rattle.ilk_tablegen.specs.Flags.{any_section_flagged, conflicts_flagged, flags_of, paths_of, route_by_flags};
 ghost use Rattle.ilk_tablegen.specs.Routes.{destination_of, network_routes};
 ghost use Rattle.ilk_tablegen.specs.Ways.{all_ways};
 
-use crate::flags::{any_flagged, flags_of};
+use crate::flags::{any_section_flagged, flags_of};
 use crate::points::points_along;
 use crate::ways::{Way, last_section};
 use ilk_plant::{Plant, Route, Row};
@@ -22,9 +22,9 @@ fn path_flags(alloc: Global, count: u32, ways: &Row<Way>) -> Result<Row<Row<bool
 
 // Returns whether list `k` is not list `n`, and flags one of these sections.
 fn is_conflict(n: u32, k: u32, other: &Row<bool>, path: &[u32]) -> bool
-    ensures { result ≡ (not (k == n) && any_flagged other.now path.now) }
+    ensures { result ≡ (not (k == n) && any_section_flagged other.now path.now) }
 {
-    k != n && any_flagged(other.as_slice(), path)
+    k != n && any_section_flagged(other.as_slice(), path)
 }
 
 fn conflicts_flagged(
@@ -89,7 +89,7 @@ pub fn routes_of_ways(
     ensures exact { IfOk result (λ routes. routes ≡ network_routes plant.now) }
     ensures few { IfOk result (λ routes. length routes ≤ MAX_ROUTES) }
 {
-    plant.is_sound();
+    plant.prove_is_plant();
     let flags = path_flags(alloc, plant.sections(), ways)?;
     let mut routes = Row::new(alloc);
     for (n, way) in ways.as_slice().iter().enumerate() {

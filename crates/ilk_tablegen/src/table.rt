@@ -1,12 +1,12 @@
 ghost use Rattle.std.specs.Prelude.{◌≡◌, ◌≤◌, IfOk, length, map};
 ghost use Rattle.ilk_plant.specs.declared.limits.TheConstants.{MAX_ROUTES};
-ghost use Rattle.ilk_tablegen.specs.Table.{name_of, named_point, named_route, named_table, route_name, walks};
+ghost use Rattle.ilk_tablegen.specs.Table.{name_of, listed_point_draft, route_draft, table_draft, route_name, generation_result};
 
-use crate::endless::first_overlong_board;
-use crate::names::{board_name, name_if_board, section_name};
+use crate::endless::board_with_overlong_way;
+use crate::names::{board_name, optional_board_name, section_name};
 use crate::routes::routes_of_ways;
 use crate::walks::Walks;
-use crate::ways::ways_within_limit;
+use crate::ways::ways_within_route_limit;
 use ilk_plant::{Listed, ListedDraft, Plant, Route, RouteDraft, Row, TableDraft, Text};
 use std::alloc::{AllocError, Global};
 
@@ -51,7 +51,7 @@ fn named_points(
     plant: &Plant,
     points: &[Listed],
 ) -> Result<Row<ListedDraft>, AllocError>
-    ensures { IfOk result (λ drafts. drafts ≡ map (named_point plant.now) points.now) }
+    ensures { IfOk result (λ drafts. drafts ≡ map (listed_point_draft plant.now) points.now) }
 {
     let mut drafts = Row::new(alloc);
     for listed in points {
@@ -63,18 +63,18 @@ fn named_points(
     Ok(drafts)
 }
 
-fn named_route(
+fn route_draft(
     alloc: Global,
     plant: &Plant,
     n: u32,
     route: &Route,
 ) -> Result<RouteDraft, AllocError>
-    ensures { IfOk result (λ draft. draft ≡ named_route plant.now n route.now) }
+    ensures { IfOk result (λ draft. draft ≡ route_draft plant.now n route.now) }
 {
     Ok(RouteDraft {
         name: route_name(alloc, n)?,
         source: board_name(alloc, plant, route.source)?,
-        destination: name_if_board(alloc, plant, route.destination)?,
+        destination: optional_board_name(alloc, plant, route.destination)?,
         path: section_names(alloc, plant, route.path.as_slice())?,
         overlap: section_names(alloc, plant, route.overlap.as_slice())?,
         points: named_points(alloc, plant, route.points.as_slice())?,
@@ -84,13 +84,13 @@ fn named_route(
     })
 }
 
-fn named_table(alloc: Global, plant: &Plant, routes: &Row<Route>) -> Result<TableDraft, AllocError>
+fn table_draft(alloc: Global, plant: &Plant, routes: &Row<Route>) -> Result<TableDraft, AllocError>
     requires { length routes.now ≤ MAX_ROUTES }
-    ensures { IfOk result (λ table. table ≡ named_table plant.now routes.now) }
+    ensures { IfOk result (λ table. table ≡ table_draft plant.now routes.now) }
 {
     let mut drafts = Row::new(alloc);
     for (n, route) in routes.as_slice().iter().enumerate() {
-        drafts.push(named_route(alloc, plant, n as u32, route)?)?;
+        drafts.push(route_draft(alloc, plant, n as u32, route)?)?;
     }
     Ok(TableDraft { routes: drafts })
 }
@@ -108,15 +108,15 @@ fn named_table(alloc: Global, plant: &Plant, routes: &Row<Route>) -> Result<Tabl
 /// without the end of a way. Otherwise it returns `TooMany` if there are more than `MAX_ROUTES`
 /// ways. Fails only if memory runs out.
 pub fn routes_of(alloc: Global, plant: &Plant) -> Result<Walks, AllocError>
-    ensures { IfOk result (λ found. found ≡ walks plant.now) }
+    ensures { IfOk result (λ found. found ≡ generation_result plant.now) }
 {
-    if let Some(board) = first_overlong_board(alloc, plant)? {
+    if let Some(board) = board_with_overlong_way(alloc, plant)? {
         return Ok(Walks::TooLong { board });
     }
-    match ways_within_limit(alloc, plant)? {
+    match ways_within_route_limit(alloc, plant)? {
         Some(ways) => {
             let routes = routes_of_ways(alloc, plant, &ways)?;
-            Ok(Walks::Routes(named_table(alloc, plant, &routes)?))
+            Ok(Walks::Routes(table_draft(alloc, plant, &routes)?))
         }
         None => Ok(Walks::TooMany),
     }

@@ -1,10 +1,10 @@
 ghost use Rattle.std.specs.Prelude.{◌≡◌, ◌++◌, ◌<◌, All, IfOk, OnOk, None, flat_map, length, map, nat_lt, option_to_list};
 ghost use Rattle.ilk_plant.specs.Network.{last_of};
-ghost use Rattle.ilk_tablegen.specs.Rounds.{initial_ways, ways_within_limit, last_section_reached, is_finished_way, extended_ways, extended_way};
-ghost use Rattle.ilk_tablegen.specs.Ways.{first_overlong_board};
+ghost use Rattle.ilk_tablegen.specs.Rounds.{initial_ways, ways_within_route_limit, last_section_or_start, is_finished_way, extended_or_finished_ways, extended_way};
+ghost use Rattle.ilk_tablegen.specs.Ways.{board_with_overlong_way};
 ghost use Rattle.ilk_plant.specs.declared.limits.TheConstants.{MAX_ROUTES};
 
-use crate::ends::way_ends_at;
+use crate::ends::way_ends_at_section;
 use ilk_plant::{Board, MAX_PATH, MAX_ROUTES, Plant, Row};
 use std::alloc::{AllocError, Global};
 
@@ -26,7 +26,7 @@ pub fn last_section(way: &Way) -> Option<u32>
 
 // Returns the section that a way has reached, at first that of its board.
 fn head_of(way: &Way) -> u32
-    ensures { result ≡ last_section_reached way.now }
+    ensures { result ≡ last_section_or_start way.now }
 {
     match last_section(way) {
         Some(x) => x,
@@ -35,10 +35,10 @@ fn head_of(way: &Way) -> u32
 }
 
 fn is_ended(plant: &Plant, way: &Way) -> bool
-    requires { last_section_reached way.now < length plant.now.sections }
+    requires { last_section_or_start way.now < length plant.now.sections }
     ensures { result ≡ is_finished_way plant.now way.now }
 {
-    way.path.len() != 0 && way_ends_at(plant, way.from.dir, head_of(way))
+    way.path.len() != 0 && way_ends_at_section(plant, way.from.dir, head_of(way))
 }
 
 fn way_over(alloc: Global, way: &Way, y: u32) -> Result<Way, AllocError>
@@ -75,8 +75,8 @@ fn push_longer(
     made: &mut Row<Way>,
     way: &Way,
 ) -> Result<(), AllocError>
-    requires { last_section_reached way.now < length plant.now.sections }
-    ensures { OnOk result (made.new ≡ made.old ++ extended_ways plant.now way.now) }
+    requires { last_section_or_start way.now < length plant.now.sections }
+    ensures { OnOk result (made.new ≡ made.old ++ extended_or_finished_ways plant.now way.now) }
 {
     if is_ended(plant, way) {
         made.push(Way {
@@ -93,8 +93,8 @@ fn push_longer(
 
 // Lengthens each way that hasn't ended by one section, over all legs that it can take.
 fn all_longer(alloc: Global, plant: &Plant, ways: &Row<Way>) -> Result<Row<Way>, AllocError>
-    requires { All (λ way. last_section_reached way < length plant.now.sections) ways.now }
-    ensures { IfOk result (λ made. made ≡ flat_map (extended_ways plant.now) ways.now) }
+    requires { All (λ way. last_section_or_start way < length plant.now.sections) ways.now }
+    ensures { IfOk result (λ made. made ≡ flat_map (extended_or_finished_ways plant.now) ways.now) }
 {
     let mut made = Row::new(alloc);
     for way in ways.as_slice() {
@@ -126,11 +126,11 @@ fn are_too_many(ways: &Row<Way>) -> bool
 
 /// Returns the ways of the network, each of which ends within `MAX_PATH` sections. Returns `None`
 /// if there are more than `MAX_ROUTES`.
-pub fn ways_within_limit(alloc: Global, plant: &Plant) -> Result<Option<Row<Way>>, AllocError>
-    requires { first_overlong_board plant.now ≡ None }
-    ensures { IfOk result (λ ways. ways ≡ ways_within_limit plant.now) }
+pub fn ways_within_route_limit(alloc: Global, plant: &Plant) -> Result<Option<Row<Way>>, AllocError>
+    requires { board_with_overlong_way plant.now ≡ None }
+    ensures { IfOk result (λ ways. ways ≡ ways_within_route_limit plant.now) }
 {
-    plant.is_sound();
+    plant.prove_is_plant();
     let mut ways = begun_ways(alloc, plant)?;
     for _i in 0..MAX_PATH {
         ways = all_longer(alloc, plant, &ways)?;

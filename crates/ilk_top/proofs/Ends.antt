@@ -3,10 +3,10 @@ use Rattle.std.proofs.Common.{ℕ, Option, Some, None, List, [], append-nil, ref
 use Rattle.ilk_answers.specs.Answer.{IsAnswerTo}
 use Rattle.ilk_answers.specs.Report.{reply}
 use Rattle.ilk_answers.specs.declared.status.Status.TheVariants.{Usage}
-use Rattle.ilk_io.specs.Sink.{Adds}
+use Rattle.ilk_io.specs.Sink.{Appends}
 use Rattle.ilk_top.specs.Outside.{WritesAnswer}
 
-adds-nothing : (written : Option (List ℕ)) → Adds written written []
+adds-nothing : (written : Option (List ℕ)) → Appends written written []
 adds-nothing None = refl
 adds-nothing (Some all) = ap Some (sym (append-nil all))
 

@@ -2,16 +2,16 @@
 use Rattle.std.proofs.Common.{◌≡◌, ℕ, false, Option, Result, Ok, Err, OnOk, List, ◌++◌, take, drop, sym, ap, ◌∙◌, append_assoc, is_err}
 use Rattle.std.proofs.lemmas.List.{take-append-drop}
 use Rattle.ilk_io.proofs.Added.{Adds-then, Written, Written-prefix}
-use Rattle.ilk_io.specs.Sink.{Adds, AddsPrefix}
+use Rattle.ilk_io.specs.Sink.{Appends, AppendsPrefix}
 
-pub Written-front : (old new after : Option (List ℕ)) (text rest piece left : List ℕ) → Written old new text rest → rest ≡ piece ++ left → Adds new after piece → Written old after text left
+pub Written-front : (old new after : Option (List ℕ)) (text rest piece left : List ℕ) → Written old new text rest → rest ≡ piece ++ left → Appends new after piece → Written old after text left
 Written-front old new after text rest piece left w front adds = record {
   done = w.done ++ piece;
   split = w.split ∙ ap (λ tail. w.done ++ tail) front ∙ sym (append_assoc w.done piece left);
   adds = Adds-then old new after w.done piece w.adds adds;
 }
 
-pub Written-cut : (old new after : Option (List ℕ)) (text rest piece left : List ℕ) → Written old new text rest → rest ≡ piece ++ left → AddsPrefix new after piece → AddsPrefix old after text
+pub Written-cut : (old new after : Option (List ℕ)) (text rest piece left : List ℕ) → Written old new text rest → rest ≡ piece ++ left → AppendsPrefix new after piece → AppendsPrefix old after text
 Written-cut old new after text rest piece left w front cut =
     let part : List ℕ = take cut.0 piece in
     let more : Written old after text (drop cut.0 piece ++ left) = Written-front old new after text rest part

@@ -4,14 +4,14 @@ use Rattle.std.specs.List.{list_all}
 use Rattle.std.proofs.lemmas.List.{append_cancel_left}
 use Rattle.std.proofs.lemmas.Option.{same_Some}
 use Rattle.ilk_plant.specs.Plant.{PlantLists}
-use Rattle.ilk_answers.specs.Status.{is_answer}
-use Rattle.ilk_answers.specs.Strict.{HasOnlyLines, HasSafePlant, HasTableOf, IsCleanAndSafe, IsCleanFor, HasStrictGuarantees, SaysSafeAtOneOrSpent, ReportsNoHazard, has_beginning, deviation_beginnings}
+use Rattle.ilk_answers.specs.Status.{is_answer_status}
+use Rattle.ilk_answers.specs.Strict.{HasOnlyLines, HasSafePlant, HasTableOf, IsCleanAndSafe, IsCleanConfOfPlant, ReplyHasStrictGuarantees, SaysSafeAtOneOrSpent, ReportsNoHazard, has_beginning, harmless_refusal_beginnings}
 use Rattle.ilk_answers.proofs.FirstLines.{lines-narrower}
 use Rattle.ilk_answers.specs.declared.reply.Reply.{Reply}
 use Rattle.ilk_answers.specs.declared.status.Status.{Status}
 use Rattle.ilk_answers.specs.declared.status.Status.TheVariants.{Good, Refused}
-use Rattle.ilk_words.specs.declared.command.Columns.{Columns}
-use Rattle.ilk_words.specs.declared.command.Columns.TheVariants.{Strict}
+use Rattle.ilk_words.specs.declared.command.ColumnRuleMode.{ColumnRuleMode}
+use Rattle.ilk_words.specs.declared.command.ColumnRuleMode.TheVariants.{Strict}
 use Rattle.ilk_words.specs.declared.command.Command.{Command}
 use Rattle.ilk_words.specs.declared.command.Command.TheVariants.{Check, Verify, Table, Drive}
 use Rattle.ilk_top.specs.Outside.{WritesAnswer}
@@ -26,52 +26,52 @@ module _ {L O : Type 0} (cert_written : L → Option (List ℕ)) (cert_faults : 
   }
 
   pub check-told : (asked : Option Command) (conf extra : Option (List ℕ)) →
-      WritesAnswer (HasStrictGuarantees asked conf extra) cert_written cert_faults out_written out_faults status cert_old
+      WritesAnswer (ReplyHasStrictGuarantees asked conf extra) cert_written cert_faults out_written out_faults status cert_old
       cert_new out_old out_new →
       asked ≡ Some (Check Strict) → status ≡ Good → IfSome conf IsCleanAndSafe
   check-told asked conf extra told is good =
-      let t = told.whole (subst (λ s. is_answer s ≡ true) (sym good) refl) in t.1.check is (sym t.2 ∙ good)
+      let t = told.whole (subst (λ s. is_answer_status s ≡ true) (sym good) refl) in t.1.check is (sym t.2 ∙ good)
 
   -- The allowed beginnings may be any, if each of them begins in a harmless way.
   pub deviations-told : (asked : Option Command) (conf extra : Option (List ℕ)) →
-      WritesAnswer (HasStrictGuarantees asked conf extra) cert_written cert_faults out_written out_faults status cert_old
+      WritesAnswer (ReplyHasStrictGuarantees asked conf extra) cert_written cert_faults out_written out_faults status cert_old
       cert_new out_old out_new →
-      (allowed : List (List ℕ)) → list_all (has_beginning deviation_beginnings) allowed ≡ true →
+      (allowed : List (List ℕ)) → list_all (has_beginning harmless_refusal_beginnings) allowed ≡ true →
       (before report : List ℕ) → asked ≡ Some (Check Strict) → status ≡ Refused →
       out_written out_old ≡ Some before → out_written out_new ≡ Some (before ++ report) →
       HasOnlyLines allowed report → IfSome conf HasSafePlant
   deviations-told asked conf extra told allowed harmless before report is refused old new lines =
-      let t = told.whole (subst (λ s. is_answer s ≡ true) (sym refused) refl) in
+      let t = told.whole (subst (λ s. is_answer_status s ≡ true) (sym refused) refl) in
       let added : Some (before ++ report) ≡ Some (before ++ t.0.report) =
       sym new ∙ t.3.report ∙ ap (option_map (λ all. all ++ t.0.report)) old in
       let same : report ≡ t.0.report = append_cancel_left before report t.0.report (same_Some (before ++ report) (before ++ t.0.report) added) in
       t.1.deviations is (sym t.2 ∙ refused)
-      (subst (HasOnlyLines deviation_beginnings) same (lines-narrower deviation_beginnings allowed report harmless lines))
+      (subst (HasOnlyLines harmless_refusal_beginnings) same (lines-narrower harmless_refusal_beginnings allowed report harmless lines))
 
   pub verify-told : (asked : Option Command) (conf extra : Option (List ℕ)) →
-      WritesAnswer (HasStrictGuarantees asked conf extra) cert_written cert_faults out_written out_faults status cert_old
+      WritesAnswer (ReplyHasStrictGuarantees asked conf extra) cert_written cert_faults out_written out_faults status cert_old
       cert_new out_old out_new →
       (depth conflicts : ℕ) (name bytes : List ℕ) (p : PlantLists) →
-      asked ≡ Some (Verify Strict depth conflicts name) → conf ≡ Some bytes → IsCleanFor bytes p →
+      asked ≡ Some (Verify Strict depth conflicts name) → conf ≡ Some bytes → IsCleanConfOfPlant bytes p →
       WritesAnswer (SaysSafeAtOneOrSpent p depth conflicts) cert_written cert_faults out_written out_faults status
       cert_old cert_new out_old out_new
   verify-told asked conf extra told depth conflicts name bytes p is at clean =
-      WritesAnswer-as (HasStrictGuarantees asked conf extra) (SaysSafeAtOneOrSpent p depth conflicts) (λ made right. right.verify depth conflicts name is bytes p at clean) told
+      WritesAnswer-as (ReplyHasStrictGuarantees asked conf extra) (SaysSafeAtOneOrSpent p depth conflicts) (λ made right. right.verify depth conflicts name is bytes p at clean) told
 
   pub table-told : (asked : Option Command) (conf extra : Option (List ℕ)) →
-      WritesAnswer (HasStrictGuarantees asked conf extra) cert_written cert_faults out_written out_faults status cert_old
+      WritesAnswer (ReplyHasStrictGuarantees asked conf extra) cert_written cert_faults out_written out_faults status cert_old
       cert_new out_old out_new →
-      (columns : Columns) → asked ≡ Some (Table columns) →
+      (columns : ColumnRuleMode) → asked ≡ Some (Table columns) →
       WritesAnswer (λ made. made.status ≡ Good → IfSome conf (λ bytes. HasTableOf columns bytes made)) cert_written
       cert_faults out_written out_faults status cert_old cert_new out_old out_new
   table-told asked conf extra told columns is =
-      WritesAnswer-as (HasStrictGuarantees asked conf extra) (λ made. made.status ≡ Good → IfSome conf (λ bytes. HasTableOf columns bytes made)) (λ made right. right.table columns is) told
+      WritesAnswer-as (ReplyHasStrictGuarantees asked conf extra) (λ made. made.status ≡ Good → IfSome conf (λ bytes. HasTableOf columns bytes made)) (λ made right. right.table columns is) told
 
   pub drive-told : (asked : Option Command) (conf extra : Option (List ℕ)) →
-      WritesAnswer (HasStrictGuarantees asked conf extra) cert_written cert_faults out_written out_faults status cert_old
+      WritesAnswer (ReplyHasStrictGuarantees asked conf extra) cert_written cert_faults out_written out_faults status cert_old
       cert_new out_old out_new →
       (name bytes : List ℕ) → asked ≡ Some (Drive Strict name) → conf ≡ Some bytes →
       WritesAnswer (ReportsNoHazard name bytes extra) cert_written cert_faults out_written out_faults status cert_old
       cert_new out_old out_new
   drive-told asked conf extra told name bytes is at =
-      WritesAnswer-as (HasStrictGuarantees asked conf extra) (ReportsNoHazard name bytes extra) (λ made right. right.drive name bytes is at) told
+      WritesAnswer-as (ReplyHasStrictGuarantees asked conf extra) (ReportsNoHazard name bytes extra) (λ made right. right.drive name bytes is at) told

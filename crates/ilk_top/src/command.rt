@@ -1,45 +1,45 @@
 ghost use Rattle.std.specs.Prelude.{◌≡◌, ◌≢◌, IfOk, IsTrue, Err, Some, [], is_ok};
 ghost use Rattle.ilk_answers.specs.Answer.{IsAnswerTo};
-ghost use Rattle.ilk_answers.specs.Reply.{FitsPlan};
-ghost use Rattle.ilk_answers.specs.Status.{reached_writing, is_reply};
-ghost use Rattle.ilk_answers.specs.Strict.{HasStrictGuarantees};
+ghost use Rattle.ilk_answers.specs.Reply.{FitsIoPlan};
+ghost use Rattle.ilk_answers.specs.Status.{reached_writing, is_reply_status};
+ghost use Rattle.ilk_answers.specs.Strict.{ReplyHasStrictGuarantees};
 ghost use Rattle.ilk_top.specs.Handled.{Handled, SinksHandled, SourcesHandled};
 ghost use Rattle.ilk_top.specs.Outside.{WritesAnswer};
-ghost use Rattle.ilk_words.specs.Limits.{has_option_limits};
+ghost use Rattle.ilk_words.specs.Limits.{within_option_limits};
 ghost use Rattle.ilk_words.specs.Plan.{plan_of};
 
 use crate::conf_stage::read_plant;
-use crate::extra_stage::plant_reply;
+use crate::extra_stage::read_extra_and_reply;
 use crate::no_reply::NoReply;
 use crate::writing::write_content;
-use ilk_answers::{Reply, Status, answer_alone, refuse};
+use ilk_answers::{Reply, Status, answer_without_conf, refuse};
 use ilk_io::{Sink, Source};
-use ilk_words::{Command, Stages};
+use ilk_words::{CheckedRuleStages, Command};
 use std::alloc::Global;
 
 // Reads the configuration and the extra input of the command, and computes the reply.
 fn conf_reply<C: Source, D: Source>(
     alloc: Global,
     command: &Command,
-    stages: Stages,
+    stages: CheckedRuleStages,
     conf: &mut C,
     extra: &mut D,
 ) -> Result<Reply, NoReply>
-    requires options { IsTrue (has_option_limits command.now) }
+    requires options { IsTrue (within_option_limits command.now) }
     requires stages { (plan_of command.now).stages ≡ Some stages }
     ensures reply { IfOk result
         (IsAnswerTo (Some command.now) (C.left conf.old) (D.left extra.old)) }
     ensures strict { IfOk result
-        (HasStrictGuarantees (Some command.now) (C.left conf.old) (D.left extra.old)) }
-    ensures planned { IfOk result (FitsPlan (plan_of command.now)) }
+        (ReplyHasStrictGuarantees (Some command.now) (C.left conf.old) (D.left extra.old)) }
+    ensures planned { IfOk result (FitsIoPlan (plan_of command.now)) }
     ensures handled { SourcesHandled C.left C.faults D.left D.faults (plan_of command.now)
         (result ≡ Err NoReply.ReadFault) (is_ok result) conf.old conf.new extra.old extra.new }
 {
     match read_plant(alloc, stages, conf)? {
         Ok(plant) => {
-            plant.is_sound();
-            plant.is_from_drafts();
-            let reply = plant_reply(alloc, command, &plant, extra);
+            plant.prove_is_plant();
+            plant.prove_from_drafts();
+            let reply = read_extra_and_reply(alloc, command, &plant, extra);
             drop(plant);
             reply
         }
@@ -58,25 +58,25 @@ fn command_reply<C: Source, D: Source>(
     conf: &mut C,
     extra: &mut D,
 ) -> Result<Reply, NoReply>
-    requires { IsTrue (has_option_limits command.now) }
+    requires { IsTrue (within_option_limits command.now) }
     ensures reply { IfOk result
         (IsAnswerTo (Some command.now) (C.left conf.old) (D.left extra.old)) }
     ensures strict { IfOk result
-        (HasStrictGuarantees (Some command.now) (C.left conf.old) (D.left extra.old)) }
-    ensures planned { IfOk result (FitsPlan (plan_of command.now)) }
+        (ReplyHasStrictGuarantees (Some command.now) (C.left conf.old) (D.left extra.old)) }
+    ensures planned { IfOk result (FitsIoPlan (plan_of command.now)) }
     ensures handled { SourcesHandled C.left C.faults D.left D.faults (plan_of command.now)
         (result ≡ Err NoReply.ReadFault) (is_ok result) conf.old conf.new extra.old extra.new }
 {
     match command.plan().stages {
         Some(stages) => conf_reply(alloc, command, stages, conf, extra),
-        None => Ok(answer_alone(alloc, command)?),
+        None => Ok(answer_without_conf(alloc, command)?),
     }
 }
 
 // Writes the certificate of a reply, then its report. Returns `WriteFault` if a sink failed; that
 // sink then gained a prefix.
 fn tell<O: Sink, L: Sink>(reply: Reply, out: &mut O, cert: &mut L) -> Status
-    requires { IsTrue (is_reply reply.status) }
+    requires { IsTrue (is_reply_status reply.status) }
     ensures answer { WritesAnswer (λ made. made ≡ reply) L.written L.faults O.written O.faults
         result
         cert.old cert.new out.old out.new }
@@ -112,12 +112,12 @@ pub fn perform<C: Source, D: Source, O: Sink, L: Sink>(
     out: &mut O,
     cert: &mut L,
 ) -> Status
-    requires { IsTrue (has_option_limits command.now) }
+    requires { IsTrue (within_option_limits command.now) }
     ensures answer { WritesAnswer (IsAnswerTo (Some command.now) (C.left conf.old)
         (D.left extra.old))
         L.written L.faults O.written O.faults result cert.old cert.new out.old out.new }
     ensures strict { WritesAnswer
-        (HasStrictGuarantees (Some command.now) (C.left conf.old) (D.left extra.old)) L.written
+        (ReplyHasStrictGuarantees (Some command.now) (C.left conf.old) (D.left extra.old)) L.written
         L.faults O.written O.faults result cert.old cert.new out.old out.new }
     ensures handled { Handled C.left C.faults D.left D.faults O.faults L.faults
         (plan_of command.now) result conf.old conf.new extra.old extra.new out.old out.new

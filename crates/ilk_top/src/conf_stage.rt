@@ -1,31 +1,31 @@
 ghost use Rattle.std.specs.Prelude.{◌≡◌, true, IfOk, IfSome, OnOk, Err, Some, is_ok};
-ghost use Rattle.ilk_answers.specs.Answer.{plant_of};
-ghost use Rattle.ilk_answers.specs.Strict.{GivesPlantIfFree};
+ghost use Rattle.ilk_answers.specs.Answer.{plant_of_conf};
+ghost use Rattle.ilk_answers.specs.Strict.{GivesPlantDespiteColumns};
 ghost use Rattle.ilk_top.specs.Handled.{SourceHandled};
-ghost use Rattle.ilk_words.specs.declared.lengths.TheConstants.{MAX_CONFIGURATION};
+ghost use Rattle.ilk_words.specs.declared.lengths.TheConstants.{MAX_CONFIGURATION_BYTES};
 
 use crate::no_reply::NoReply;
-use ilk_answers::{Refusals, plant_of};
+use ilk_answers::{Refusals, plant_of_conf};
 use ilk_io::{ReadError, Source, read_all};
 use ilk_plant::Plant;
-use ilk_words::{MAX_CONFIGURATION, Stages};
+use ilk_words::{CheckedRuleStages, MAX_CONFIGURATION_BYTES};
 use std::alloc::Global;
 
 /// Reads the configuration to its end and builds its plant, or returns all its refusals. Fails with
 /// `ReadFault` at the first fault of the source, which is not called again.
 pub fn read_plant<C: Source>(
     alloc: Global,
-    stages: Stages,
+    stages: CheckedRuleStages,
     conf: &mut C,
 ) -> Result<Result<Plant, Refusals>, NoReply>
     ensures found { IfOk result
-        (λ found. IfSome (C.left conf.old) (λ c. found ≡ plant_of stages c)) }
-    ensures plant { OnOk result (IfSome (C.left conf.old) GivesPlantIfFree) }
-    ensures handled { SourceHandled C.left C.faults (Some true) (Some MAX_CONFIGURATION)
+        (λ found. IfSome (C.left conf.old) (λ c. found ≡ plant_of_conf stages c)) }
+    ensures plant { OnOk result (IfSome (C.left conf.old) GivesPlantDespiteColumns) }
+    ensures handled { SourceHandled C.left C.faults (Some true) (Some MAX_CONFIGURATION_BYTES)
         (result ≡ Err NoReply.ReadFault) (is_ok result) conf.old conf.new }
 {
-    match read_all(alloc, conf, MAX_CONFIGURATION) {
-        Ok(text) => Ok(plant_of(alloc, stages, text.as_slice())?),
+    match read_all(alloc, conf, MAX_CONFIGURATION_BYTES) {
+        Ok(text) => Ok(plant_of_conf(alloc, stages, text.as_slice())?),
         Err(ReadError::TooLong) => Ok(Err(Refusals::too_long(alloc))),
         Err(ReadError::Failed) => Err(NoReply::ReadFault),
         Err(ReadError::OutOfMemory) => Err(NoReply::OutOfMemory),

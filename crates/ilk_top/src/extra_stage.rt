@@ -1,13 +1,13 @@
 ghost use Rattle.std.specs.Prelude.{◌≡◌, ◌^◌, ◌<◌, true, IfErr, IfOk, IsTrue, Ok, Err, Some, is_ok, is_some};
 ghost use Rattle.ilk_answers.specs.Besides.{AnswersSomeExtra};
-ghost use Rattle.ilk_answers.specs.Reply.{FitsPlan};
+ghost use Rattle.ilk_answers.specs.Reply.{FitsIoPlan};
 ghost use Rattle.ilk_top.specs.Handled.{SourceHandled};
-ghost use Rattle.ilk_words.specs.Limits.{has_option_limits};
+ghost use Rattle.ilk_words.specs.Limits.{within_option_limits};
 ghost use Rattle.ilk_words.specs.Plan.{plan_of};
 
 use crate::no_reply::NoReply;
 use crate::pieces::read_pieces;
-use ilk_answers::{Reader, Reply, answer, answer_plant};
+use ilk_answers::{ExtraReader, Reply, answer, answer_without_extra};
 use ilk_io::{ReadError, Source};
 use ilk_plant::Plant;
 use ilk_words::Command;
@@ -33,16 +33,16 @@ fn reply_to_extra<D: Source>(
     limit: u64,
     extra: &mut D,
 ) -> Result<Reply, NoReply>
-    requires options { IsTrue (has_option_limits command.now) }
+    requires options { IsTrue (within_option_limits command.now) }
     requires over { is_some (plan_of command.now).stages ≡ true }
     requires limit { (plan_of command.now).extra ≡ Some limit }
     requires small { limit < 2 ^ 40 }
     ensures reply { IfOk result (AnswersSomeExtra command.now (Ok plant.now) (D.left extra.old)) }
-    ensures planned { IfOk result (FitsPlan (plan_of command.now)) }
+    ensures planned { IfOk result (FitsIoPlan (plan_of command.now)) }
     ensures handled { SourceHandled D.left D.faults (Some true) (plan_of command.now).extra
         (result ≡ Err NoReply.ReadFault) (is_ok result) extra.old extra.new }
 {
-    let mut reader = Reader::new(alloc, command, plant)?;
+    let mut reader = ExtraReader::new(alloc, command, plant)?;
     let read = read_pieces(extra, limit, &mut reader);
     match unless_failed(read, reader) {
         Ok(reader) => Ok(answer(alloc, command, plant, reader)?),
@@ -54,21 +54,21 @@ fn reply_to_extra<D: Source>(
 
 /// Returns the reply of a command to a plant and to its extra input. If the command has one, reads
 /// it to its end, in pieces.
-pub fn plant_reply<D: Source>(
+pub fn read_extra_and_reply<D: Source>(
     alloc: Global,
     command: &Command,
     plant: &Plant,
     extra: &mut D,
 ) -> Result<Reply, NoReply>
-    requires options { IsTrue (has_option_limits command.now) }
+    requires options { IsTrue (within_option_limits command.now) }
     requires over { is_some (plan_of command.now).stages ≡ true }
     ensures reply { IfOk result (AnswersSomeExtra command.now (Ok plant.now) (D.left extra.old)) }
-    ensures planned { IfOk result (FitsPlan (plan_of command.now)) }
+    ensures planned { IfOk result (FitsIoPlan (plan_of command.now)) }
     ensures handled { SourceHandled D.left D.faults (Some true) (plan_of command.now).extra
         (result ≡ Err NoReply.ReadFault) (is_ok result) extra.old extra.new }
 {
     match command.plan().extra {
         Some(limit) => reply_to_extra(alloc, command, plant, limit, extra),
-        None => Ok(answer_plant(alloc, command, plant)?),
+        None => Ok(answer_without_extra(alloc, command, plant)?),
     }
 }

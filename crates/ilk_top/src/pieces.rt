@@ -1,9 +1,9 @@
 ghost use Rattle.std.specs.Prelude.{◌≡◌, ◌≢◌, ◌+◌, ◌^◌, ◌<◌, ◌≤◌, Err, IfOk, IfErr};
-ghost use Rattle.ilk_io.specs.ReadError.{HasCause};
-ghost use Rattle.ilk_io.specs.Source.{IsAtEnd, TakesAtMost};
+ghost use Rattle.ilk_io.specs.ReadError.{ReadErrorHasCause};
+ghost use Rattle.ilk_io.specs.Source.{IsAtEnd, ConsumesAtMost};
 ghost use Rattle.ilk_top.specs.Feeding.{WasFedWhole};
 
-use ilk_answers::Reader;
+use ilk_answers::ExtraReader;
 use ilk_io::{Failed, ReadError, Source};
 
 // The most bytes requested from a source in one call.
@@ -19,14 +19,15 @@ const PIECE: usize = 65536;
 pub fn read_pieces<S: Source>(
     source: &mut S,
     limit: u64,
-    reader: &mut Reader<'_>,
+    reader: &mut ExtraReader<'_>,
 ) -> Result<(), ReadError>
     requires limit { limit < 2 ^ 40 }
     ensures whole { IfOk result (λ _. WasFedWhole (S.left source.old) limit reader.old reader.new) }
     ensures end { IfOk result (λ _. IsAtEnd (S.left source.new)) }
     ensures cause { IfErr result
-        (λ e. HasCause e limit (S.left source.old) (S.faults source.old) (S.faults source.new)) }
-    ensures taken { TakesAtMost (limit + 1) (S.left source.old) (S.left source.new) }
+        (λ e. ReadErrorHasCause e limit (S.left source.old) (S.faults source.old)
+        (S.faults source.new)) }
+    ensures taken { ConsumesAtMost (limit + 1) (S.left source.old) (S.left source.new) }
     ensures unraised { result ≢ Err ReadError.Failed → S.faults source.new ≡ S.faults source.old }
     ensures counted { S.faults source.old ≤ S.faults source.new }
 {

@@ -1,16 +1,16 @@
 ghost use Rattle.std.specs.Prelude.{ℕ, ◌≡◌, ◌≢◌, ◌⊎◌, ◌↔◌, ◌++◌, Some, None, IfSome, List, true, false, map, string_bytes};
-ghost use Rattle.ilk_answers.specs.Answer.{IsAnswerTo, reaches_extra, conf_limit, plan_if_asked};
+ghost use Rattle.ilk_answers.specs.Answer.{IsAnswerTo, reaches_extra, conf_limit, io_plan_if_command};
 ghost use Rattle.ilk_answers.specs.Status.{reached_writing};
-ghost use Rattle.ilk_answers.specs.Strict.{HasOnlyLines, HasSafePlant, HasTableOf, IsCleanAndSafe, IsCleanFor, SaysSafeAtOneOrSpent, ReportsNoHazard, deviation_beginnings};
+ghost use Rattle.ilk_answers.specs.Strict.{HasOnlyLines, HasSafePlant, HasTableOf, IsCleanAndSafe, IsCleanConfOfPlant, SaysSafeAtOneOrSpent, ReportsNoHazard, harmless_refusal_beginnings};
 ghost use Rattle.ilk_io.specs.Faults.{CountedOneFault};
 ghost use Rattle.ilk_plant.specs.Plant.{PlantLists};
-ghost use Rattle.ilk_top.specs.Outside.{ReadByPlan, FaultsRiseOnlyWith, WritesAnswer};
+ghost use Rattle.ilk_top.specs.Outside.{ReadByCommandPlan, FaultsRiseOnlyWith, WritesAnswer};
 ghost use Rattle.ilk_words.specs.Words.{parsed_command};
 
 use crate::command::perform;
 use ilk_answers::Status;
 use ilk_io::{Sink, Source};
-use ilk_words::{Columns, Command, parse_arguments};
+use ilk_words::{ColumnRuleMode, Command, parse_arguments};
 use std::alloc::Global;
 
 /// Executes the command that `words` gives, the program's name first. Reads the configuration from
@@ -42,7 +42,7 @@ pub fn run<C: Source, D: Source, O: Sink, L: Sink>(
     // from the initial state, of any length, ends in a state that meets the invariant. Assumes that
     // `conf` exposes its bytes (`C.left conf.old` is `Some bytes`).
     ensures strict_check { let asked = parsed_command (map string_bytes words.now.items) in
-        asked ≡ Some (Command.Check Columns.Strict) → result ≡ Status.Good →
+        asked ≡ Some (Command.Check ColumnRuleMode.Strict) → result ≡ Status.Good →
         IfSome (C.left conf.old) IsCleanAndSafe }
 
     // If `check` with strict columns returns `Refused`, and each line that it wrote refuses by C4,
@@ -51,10 +51,10 @@ pub fn run<C: Source, D: Source, O: Sink, L: Sink>(
     // (`C.left conf.old` is `Some bytes`), and that `out` exposes what was written. Says nothing
     // after a write fault, since a cut report may have lost a line.
     ensures strict_deviations { let asked = parsed_command (map string_bytes words.now.items) in
-        (before report : List ℕ) → asked ≡ Some (Command.Check Columns.Strict) →
+        (before report : List ℕ) → asked ≡ Some (Command.Check ColumnRuleMode.Strict) →
         result ≡ Status.Refused → O.written out.old ≡ Some before →
         O.written out.new ≡ Some (before ++ report) →
-        HasOnlyLines deviation_beginnings report →
+        HasOnlyLines harmless_refusal_beginnings report →
         IfSome (C.left conf.old) HasSafePlant }
 
     // If a configuration breaks no rule, `verify` with strict columns returns `Good` with `safe
@@ -63,8 +63,8 @@ pub fn run<C: Source, D: Source, O: Sink, L: Sink>(
     // Assumes that `conf` exposes its bytes (`C.left conf.old` is `Some bytes`).
     ensures strict_verify { let asked = parsed_command (map string_bytes words.now.items) in
         (depth conflicts : ℕ) (name : List ℕ) (bytes : List ℕ) (p : PlantLists)
-        → asked ≡ Some (Command.Verify Columns.Strict depth conflicts name) →
-        C.left conf.old ≡ Some bytes → IsCleanFor bytes p
+        → asked ≡ Some (Command.Verify ColumnRuleMode.Strict depth conflicts name) →
+        C.left conf.old ≡ Some bytes → IsCleanConfOfPlant bytes p
         → WritesAnswer (SaysSafeAtOneOrSpent p depth conflicts) L.written L.faults O.written
         O.faults
         result cert.old cert.new out.old out.new }
@@ -74,7 +74,7 @@ pub fn run<C: Source, D: Source, O: Sink, L: Sink>(
     // safe for runs of any length. Assumes that `conf` exposes its bytes (`C.left conf.old` is
     // `Some bytes`).
     ensures table { let asked = parsed_command (map string_bytes words.now.items) in
-        (columns : Columns) → asked ≡ Some (Command.Table columns)
+        (columns : ColumnRuleMode) → asked ≡ Some (Command.Table columns)
         → WritesAnswer
         (λ made. made.status ≡ Status.Good →
         IfSome (C.left conf.old) (λ bytes. HasTableOf columns bytes made)) L.written
@@ -84,7 +84,7 @@ pub fn run<C: Source, D: Source, O: Sink, L: Sink>(
     // After a write fault, an answer without a hazard was written up to the fault. Assumes that
     // `conf` exposes its bytes (`C.left conf.old` is `Some bytes`).
     ensures strict_drive { let asked = parsed_command (map string_bytes words.now.items) in
-        (name bytes : List ℕ) → asked ≡ Some (Command.Drive Columns.Strict name)
+        (name bytes : List ℕ) → asked ≡ Some (Command.Drive ColumnRuleMode.Strict name)
         → C.left conf.old ≡ Some bytes
         → WritesAnswer (ReportsNoHazard name bytes (D.left extra.old))
         L.written L.faults O.written O.faults result cert.old cert.new out.old out.new }
@@ -114,19 +114,20 @@ pub fn run<C: Source, D: Source, O: Sink, L: Sink>(
 
     // If the call came to writing, a source with a limit was read to its end, or held more bytes
     // than that. If the configuration is known to give no plant, `extra` is not read.
-    ensures conf_read { let plan = plan_if_asked
+    ensures conf_read { let plan = io_plan_if_command
         (parsed_command (map string_bytes words.now.items)) in
-        ReadByPlan C.left (Some true) (conf_limit plan) (reached_writing result) conf.old conf.new }
-    ensures extra_read { let plan = plan_if_asked
+        ReadByCommandPlan C.left (Some true) (conf_limit plan)
+        (reached_writing result) conf.old conf.new }
+    ensures extra_read { let plan = io_plan_if_command
         (parsed_command (map string_bytes words.now.items)) in
-        ReadByPlan D.left (reaches_extra plan (C.left conf.old)) plan.extra
+        ReadByCommandPlan D.left (reaches_extra plan (C.left conf.old)) plan.extra
         (reached_writing result) extra.old extra.new }
 
     // Nothing is written after a read fault, a usage error, or if memory runs out. A certificate
     // needs a plan that allows one.
     ensures unwritten { reached_writing result ≡ false →
         (out.new ≡ out.old) × (cert.new ≡ cert.old) }
-    ensures uncertified { let plan = plan_if_asked
+    ensures uncertified { let plan = io_plan_if_command
         (parsed_command (map string_bytes words.now.items)) in
         plan.certifies ≡ false → cert.new ≡ cert.old }
 {

@@ -1,6 +1,6 @@
 ghost use Rattle.std.specs.Prelude.{◌≡◌, [], IsOk, OnErr, OnOk, ◌≤◌};
 ghost use Rattle.ilk_io.specs.Faults.{CountedOneFault};
-ghost use Rattle.ilk_io.specs.Sink.{Adds, AddsPrefix};
+ghost use Rattle.ilk_io.specs.Sink.{Appends, AppendsPrefix};
 
 use ilk_answers::Content;
 use ilk_io::{Failed, Sink, write_all};
@@ -14,8 +14,8 @@ const PIECE: usize = 65536;
 /// counted, and a prefix of the content was written. With `Ok` the fault count is unchanged. An
 /// empty content makes no call.
 pub fn write_content<K: Sink>(sink: &mut K, content: &mut Content) -> Result<(), Failed>
-    ensures whole { OnOk result (Adds (K.written sink.old) (K.written sink.new) content.old) }
-    ensures prefix { AddsPrefix (K.written sink.old) (K.written sink.new) content.old }
+    ensures whole { OnOk result (Appends (K.written sink.old) (K.written sink.new) content.old) }
+    ensures prefix { AppendsPrefix (K.written sink.old) (K.written sink.new) content.old }
     ensures failed { OnErr result (CountedOneFault (K.faults sink.old) (K.faults sink.new)) }
     ensures unraised { OnOk result (K.faults sink.new ≡ K.faults sink.old) }
     ensures counted { K.faults sink.old ≤ K.faults sink.new }

@@ -9,14 +9,14 @@ use Rattle.std.proofs.lemmas.List.{length-map, get_or-set_same, get_or-set_other
 use Rattle.std.proofs.Math.ListN.{length-set}
 use Rattle.ilk_cnf.specs.Literal.{Literal}
 use Rattle.ilk_cnf.specs.Formula.{is_lit_over}
-use Rattle.ilk_cnf.proofs.Literals.{vars_differ-push, is_lit_over-parts}
+use Rattle.ilk_cnf.proofs.Literals.{has_distinct_vars-push, is_lit_over-parts}
 use Rattle.ilk_trail.specs.declared.entry.Entry.{Entry}
 use Rattle.ilk_trail.specs.Trail.{TrailList, entry_of, last_level, level_of}
 use Rattle.ilk_trail.specs.Laws.{IsTrail, is_next_level, is_set, lits_of}
-use Rattle.ilk_trail.specs.Stored.{Stored}
+use Rattle.ilk_trail.specs.Stored.{StoresTrail}
 use Rattle.ilk_base.proofs.Lists.{slice_get-push_cases, at-before}
 use Rattle.ilk_trail.proofs.Entries.{lits_of-push, entry_of-unset, entry_of-other, entry_of-new, found, set-at}
-use Rattle.ilk_trail.proofs.Literals.{vars_differ-front, is_clause_over-push, is_clause_over-front, count_of_vars}
+use Rattle.ilk_trail.proofs.Literals.{has_distinct_vars-front, is_clause_over-push, is_clause_over-front, count_of_vars}
 use Rattle.ilk_trail.proofs.Values.{set_both, length-set_both, set_both-same, set_both-other}
 use Rattle.ilk_trail.proofs.Levels.{has_rising_levels-push, has_rising_levels-front, level-small}
 
@@ -30,28 +30,28 @@ pub trail-add : (n : ℕ) (es : List Entry) (e : Entry) → IsTrail (record { va
 trail-add n es e t h u k = record {
   few = t.few;
   within = rw (lits_of-push es e) (is_clause_over-push n (lits_of es) e.lit t.within h);
-  once = rw (lits_of-push es e) (vars_differ-push (lits_of es) e.lit t.once u);
+  once = rw (lits_of-push es e) (has_distinct_vars-push (lits_of es) e.lit t.once u);
   climbing = has_rising_levels-push 0 es e t.climbing k;
 }
 
 pub trail-take : (n : ℕ) (es : List Entry) (e : Entry) → IsTrail (record { vars = n; entries = es ++ e ∷ [] }) → IsTrail (record { vars = n; entries = es }) × (is_lit_over n e.lit ≡ true) × (is_set es e.lit.var ≡ false)
 trail-take n es e t =
     let w = is_clause_over-front n (lits_of es) e.lit (rw (lits_of-push es e) at t.within) in
-    let d = vars_differ-front (lits_of es) e.lit (rw (lits_of-push es e) at t.once) in
+    let d = has_distinct_vars-front (lits_of es) e.lit (rw (lits_of-push es e) at t.once) in
     (record { few = t.few; within = w.0; once = d.0; climbing = (has_rising_levels-front 0 es e t.climbing).0 }, w.1, d.1)
 
 -- The capacity suffices for the entry of an unset variable.
 pub room-for : (n : ℕ) (es : List Entry) (l : Literal) → IsTrail (record { vars = n; entries = es }) → is_lit_over n l ≡ true → is_set es l.var ≡ false → length es < n + 1
 room-for n es l t h u =
-    let c = count_of_vars n (lits_of es ++ l ∷ []) (is_clause_over-push n (lits_of es) l t.within h) (vars_differ-push (lits_of es) l t.once u) in
+    let c = count_of_vars n (lits_of es ++ l ∷ []) (is_clause_over-push n (lits_of es) l t.within h) (has_distinct_vars-push (lits_of es) l t.once u) in
     let m : length (lits_of es ++ l ∷ []) ≡ length es + 1 = simp (length-append, length-map) in
     omega (arith, c, m)
 
 pub stored-add :
     (values : List (Option Bool)) (places : List ℕ) (n : ℕ) (es : List Entry) (e : Entry) (size more : ℕ) →
-    Stored values places (record { vars = n; entries = es }) size → size ≤ more → is_lit_over n e.lit ≡ true →
+    StoresTrail values places (record { vars = n; entries = es }) size → size ≤ more → is_lit_over n e.lit ≡ true →
     is_set es e.lit.var ≡ false → is_next_level (last_level 0 es) e ≡ true →
-    Stored (set_both values e.lit (λ b. Some b)) (set places e.lit.var (length es))
+    StoresTrail (set_both values e.lit (λ b. Some b)) (set places e.lit.var (length es))
     (record { vars = n; entries = es ++ e ∷ [] }) more
 stored-add values places n es e size more k le h u c = let w : e.lit.var ≤ n = (is_lit_over-parts n e.lit h).1 in record {
   values_long = length-set_both values e.lit (λ b. Some b) ∙ k.values_long;
@@ -72,8 +72,8 @@ stored-add values places n es e size more k le h u c = let w : e.lit.var ≤ n =
 
 pub stored-take :
     (values : List (Option Bool)) (places : List ℕ) (n : ℕ) (es : List Entry) (e : Entry) (size more : ℕ) →
-    Stored values places (record { vars = n; entries = es ++ e ∷ [] }) size → size ≤ more →
-    Stored (set_both values e.lit (λ b. None)) places (record { vars = n; entries = es }) more
+    StoresTrail values places (record { vars = n; entries = es ++ e ∷ [] }) size → size ≤ more →
+    StoresTrail (set_both values e.lit (λ b. None)) places (record { vars = n; entries = es }) more
 stored-take values places n es e size more k le =
     let t = trail-take n es e k.is_trail in
     let w : e.lit.var ≤ n = (is_lit_over-parts n e.lit t.1).1 in
@@ -91,7 +91,7 @@ stored-take values places n es e size more k le =
     }
 
 pub stands-at-place : (values : List (Option Bool)) (places : List ℕ) (t : TrailList) (size v : ℕ) →
-    Stored values places t size → is_set t.entries v ≡ true →
+    StoresTrail values places t size → is_set t.entries v ≡ true →
     (slice_get t.entries (get_or places v 0) ≡ entry_of t.entries v) × (get_or places v 0 < length t.entries)
 stands-at-place values places t size v k s =
     let f = found t.entries v s in
@@ -105,5 +105,5 @@ level-fits t k =
     let e : length (lits_of t.entries) ≡ length t.entries = length-map t.entries (λ (x : Entry). x.lit) in
     omega (arith, level-small 0 t.entries k.climbing, c, e, k.few)
 
-pub within : (values : List (Option Bool)) (places : List ℕ) (t : TrailList) (size : ℕ) (l : Literal) → Stored values places t size → is_lit_over t.vars l ≡ true → l.var < length places
+pub within : (values : List (Option Bool)) (places : List ℕ) (t : TrailList) (size : ℕ) (l : Literal) → StoresTrail values places t size → is_lit_over t.vars l ≡ true → l.var < length places
 within values places t size l k h = (let w = is_lit_over-parts t.vars l h in omega (arith, k.places_long, w.1))

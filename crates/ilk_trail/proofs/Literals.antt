@@ -6,16 +6,16 @@ use Rattle.std.proofs.lemmas.List.Folds.{list_any-append}
 use Rattle.std.proofs.lemmas.Bool.{and_parts, and_from, or_cases, or_parts, or_from, eqb-true, eqb-false, ne_eqb, not-true, not_from_false}
 use Rattle.std.proofs.lemmas.Map.Keys.{IsDistinct-cons}
 use Rattle.std.proofs.lemmas.Map.Steps.{length-le_from_distinct_below}
-use Rattle.ilk_cnf.specs.Literal.{Literal, has_var, vars_differ}
+use Rattle.ilk_cnf.specs.Literal.{Literal, has_var, has_distinct_vars}
 use Rattle.ilk_cnf.specs.Formula.{is_lit_over, is_clause_over}
 use Rattle.ilk_cnf.proofs.Literals.{is_lit_over-parts}
 
-pub vars_differ-front : (ls : List Literal) (l : Literal) → vars_differ (ls ++ l ∷ []) ≡ true → (vars_differ ls ≡ true) × (has_var l.var ls ≡ false)
-vars_differ-front [] l h = (refl, refl)
-vars_differ-front (m ∷ ls) l h =
+pub has_distinct_vars-front : (ls : List Literal) (l : Literal) → has_distinct_vars (ls ++ l ∷ []) ≡ true → (has_distinct_vars ls ≡ true) × (has_var l.var ls ≡ false)
+has_distinct_vars-front [] l h = (refl, refl)
+has_distinct_vars-front (m ∷ ls) l h =
     let p = and_parts _ _ h in
     let away = or_parts (has_var m.var ls) _ (sym (list_any-append (λ (x : Literal). eqb x.var m.var) ls (l ∷ [])) ∙ not-true (has_var m.var (ls ++ l ∷ [])) p.0) in
-    let r = vars_differ-front ls l p.1 in
+    let r = has_distinct_vars-front ls l p.1 in
     let other : eqb m.var l.var ≡ false = ne_eqb m.var l.var (λ e. eqb-false l.var m.var (or_parts _ _ away.1).0 (sym e)) in
     (and_from _ _ (not_from_false _ away.0) r.0, or_from _ _ other r.1)
 
@@ -40,7 +40,7 @@ all_other v (l ∷ ls) h =
     let p = or_parts _ _ h in
     (ne_eqb v l.var (λ e. eqb-false l.var v p.0 (sym e)), all_other v ls p.1)
 
-vars_apart : (ls : List Literal) → vars_differ ls ≡ true → IsDistinct eqb (map (λ (l : Literal). l.var) ls)
+vars_apart : (ls : List Literal) → has_distinct_vars ls ≡ true → IsDistinct eqb (map (λ (l : Literal). l.var) ls)
 unfolding IsDistinct
 vars_apart [] h = tt
 vars_apart (l ∷ ls) h =
@@ -56,7 +56,7 @@ var_below n q (l ∷ ls) h s =
       | inr r ↦ var_below n q ls p.1 r
     ]
 
-pub count_of_vars : (n : ℕ) (ls : List Literal) → is_clause_over n ls ≡ true → vars_differ ls ≡ true → length ls ≤ n + 1
+pub count_of_vars : (n : ℕ) (ls : List Literal) → is_clause_over n ls ≡ true → has_distinct_vars ls ≡ true → length ls ≤ n + 1
 count_of_vars n ls h d =
     let vs : List ℕ = map (λ (l : Literal). l.var) ls in
     let b : length vs ≤ n + 1 = length-le_from_distinct_below vs (n + 1) (vars_apart ls d) (λ q s. var_below n q ls h s) in

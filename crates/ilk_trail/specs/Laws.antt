@@ -1,6 +1,6 @@
 -- Properties of every trail.
 use Rattle.std.specs.Prelude.{ℕ, ◌+◌, ◌≤◌, ◌^◌, Bool, true, ◌&&◌, ◌==◌, cond, List, [], ◌∷◌, map, IsTrue, is_some}
-use Rattle.ilk_cnf.specs.Literal.{Literal, has_var, vars_differ}
+use Rattle.ilk_cnf.specs.Literal.{Literal, has_var, has_distinct_vars}
 use Rattle.ilk_cnf.specs.Formula.{is_clause_over}
 use Rattle.ilk_trail.specs.declared.entry.Entry.{Entry}
 use Rattle.ilk_trail.specs.Trail.{TrailList}
@@ -29,5 +29,5 @@ has_rising_levels k (e ∷ es) = is_next_level k e && has_rising_levels e.level 
 pub record IsTrail (t : TrailList) : Type 0 where
   pub few : t.vars ≤ 2 ^ 62
   pub within : IsTrue (is_clause_over t.vars (lits_of t.entries))
-  pub once : IsTrue (vars_differ (lits_of t.entries))
+  pub once : IsTrue (has_distinct_vars (lits_of t.entries))
   pub climbing : IsTrue (has_rising_levels 0 t.entries)

@@ -9,7 +9,7 @@ use Rattle.ilk_trail.specs.Laws.{IsTrail}
 -- Holds if the fields store the trail `t`: each literal's value at its number, and each entry's
 -- index at its variable. Both lists have space for one extra variable, as do the entries with
 -- capacity `room`.
-pub record Stored (values : List (Option Bool)) (places : List ℕ) (t : TrailList) (room : ℕ) : Type 0 where
+pub record StoresTrail (values : List (Option Bool)) (places : List ℕ) (t : TrailList) (room : ℕ) : Type 0 where
   pub values_long : length values ≡ 2 * (t.vars + 1)
   pub places_long : length places ≡ t.vars + 1
   pub roomy : t.vars + 1 ≤ room

@@ -22,13 +22,13 @@ pub struct Trail {
 impl Model for Trail {
     ghost use Rattle.std.specs.Prelude.{◌-◌, length, vec_capacity};
     ghost use Rattle.ilk_trail.specs.Trail.{TrailList};
-    ghost use Rattle.ilk_trail.specs.Stored.{Stored};
+    ghost use Rattle.ilk_trail.specs.Stored.{StoresTrail};
 
     ghost Value = { TrailList };
 
     ghost view = { λ t. record { vars = length t.places.items - 1; entries = t.entries.items } };
 
-    ghost invariant = { λ t. Stored t.values.items t.places.items
+    ghost invariant = { λ t. StoresTrail t.values.items t.places.items
         (record { vars = length t.places.items - 1; entries = t.entries.items })
         (vec_capacity t.entries) };
 }

@@ -13,28 +13,28 @@ use Rattle.ilk_base.proofs.Tested.{list_all-slice_get}
 use Rattle.ilk_cnf.specs.Literal.{Literal}
 use Rattle.ilk_cnf.specs.Formula.{Formula, with_clauses, is_clause_over, are_clauses_over}
 use Rattle.ilk_cnf.specs.Truth.{is_clause_true, satisfies}
-use Rattle.ilk_cnf.specs.Extends.{Extends, IsExactly, FollowedBy}
-use Rattle.ilk_cnf.specs.Part.{Part, as_clauses}
+use Rattle.ilk_cnf.specs.Extends.{ExtensionsAreExactly, AreExactValues, ValuesFollowedBy}
+use Rattle.ilk_cnf.specs.Part.{FormulaPart, clauses_from_lists}
 use Rattle.ilk_cnf.proofs.Literals.{are_clauses_over-more}
 use Rattle.ilk_cnf.proofs.Parts.{in_turn, in_words}
 use Rattle.ilk_cnf.proofs.Extending.{no_more_if, only_from_if}
 use Rattle.ilk_cnf.proofs.Gates.{grown_more}
 use Rattle.ilk_ir.specs.System.{in_ranges}
 use Rattle.ilk_ir.specs.Tree.{Tree, tree_valid}
-use Rattle.ilk_forms.specs.declared.copy.Column.{Column}
-use Rattle.ilk_forms.specs.Copy.{copy_part, copy_var_count, copy_bits, IsCopy, LiteralsEncode}
+use Rattle.ilk_forms.specs.declared.copy.VarLits.{VarLits}
+use Rattle.ilk_forms.specs.Copy.{copy_part, copy_var_count, copy_bits, AreCopyBits, LiteralsEncode}
 use Rattle.ilk_forms.proofs.ColumnLaw.{ranges_fit, copy-low, copy-in}
 use Rattle.ilk_forms.proofs.CopyLaw.{copy-law}
 use Rattle.ilk_forms.proofs.CopyFew.{copy-few}
 use Rattle.ilk_forms.proofs.CopyWidth.{copy-end}
 use Rattle.ilk_forms.proofs.CopySays.{copy-say}
-use Rattle.ilk_forms.specs.Leaf.{columns_in, ranges_of}
-use Rattle.ilk_forms.proofs.Reading.{columns_in-more}
+use Rattle.ilk_forms.specs.Leaf.{has_lits_within_vars, ranges_of}
+use Rattle.ilk_forms.proofs.Reading.{has_lits_within_vars-more}
 use Rattle.ilk_forms.proofs.CopyTable.{copy-lits_in, copy-ranges}
 use Rattle.ilk_step.proofs.StepLaw.{says-left}
 use Rattle.ilk_unroll.specs.Query.{copies_part}
 use Rattle.ilk_unroll.specs.Assignment.{copies_bits}
-use Rattle.ilk_unroll.specs.Tables.{tables_in, is_valid_in_each, HaveRanges}
+use Rattle.ilk_unroll.specs.Tables.{are_copies_over, is_valid_in_each, HaveRanges}
 
 pub copies-low : (count : ℕ) (ranges : List ℕ) (n : ℕ) → n ≤ (copies_part ranges count n).part.vars
 copies-low zero ranges n = omega arith
@@ -50,18 +50,18 @@ copies-in (suc count) ranges n fit =
     let p = (copy_part ranges later.vars).part in
     list_all-append (is_clause_over p.vars) p.clauses later.clauses ∙ and_from _ _ (copy-in ranges later.vars fit) (are_clauses_over-more later.vars p.vars later.clauses (copy-low ranges later.vars) (copies-in count ranges n fit))
 
-pub tables_in-more : (m n : ℕ) (tables : List (List Column)) → m ≤ n → tables_in m tables ≡ true → tables_in n tables ≡ true
-tables_in-more m n [] le h = refl
-tables_in-more m n (table ∷ tables) le h =
-    let parts = and_parts (columns_in m table) (tables_in m tables) h in
-    and_from _ _ (columns_in-more m n table le parts.0) (tables_in-more m n tables le parts.1)
+pub are_copies_over-more : (m n : ℕ) (tables : List (List VarLits)) → m ≤ n → are_copies_over m tables ≡ true → are_copies_over n tables ≡ true
+are_copies_over-more m n [] le h = refl
+are_copies_over-more m n (table ∷ tables) le h =
+    let parts = and_parts (has_lits_within_vars m table) (are_copies_over m tables) h in
+    and_from _ _ (has_lits_within_vars-more m n table le parts.0) (are_copies_over-more m n tables le parts.1)
 
-pub copies-tables_in : (count : ℕ) (ranges : List ℕ) (n : ℕ) → ranges_fit ranges ≡ true → tables_in (copies_part ranges count n).part.vars (copies_part ranges count n).tables ≡ true
-copies-tables_in zero ranges n fit = refl
-copies-tables_in (suc count) ranges n fit =
+pub copies-are_copies_over : (count : ℕ) (ranges : List ℕ) (n : ℕ) → ranges_fit ranges ≡ true → are_copies_over (copies_part ranges count n).part.vars (copies_part ranges count n).tables ≡ true
+copies-are_copies_over zero ranges n fit = refl
+copies-are_copies_over (suc count) ranges n fit =
     let later = copies_part ranges count n in
     let m = later.part.vars in
-    and_from _ _ (copy-lits_in ranges m fit) (tables_in-more m (copy_part ranges m).part.vars later.tables (copy-low ranges m) (copies-tables_in count ranges n fit))
+    and_from _ _ (copy-lits_in ranges m fit) (are_copies_over-more m (copy_part ranges m).part.vars later.tables (copy-low ranges m) (copies-are_copies_over count ranges n fit))
 
 pub copies-ranges : (count : ℕ) (ranges : List ℕ) (n : ℕ) → HaveRanges ranges (copies_part ranges count n).tables
 copies-ranges zero ranges n = tt
@@ -71,7 +71,7 @@ pub copies-many : (count : ℕ) (ranges : List ℕ) (n : ℕ) → length (copies
 copies-many zero ranges n = refl
 copies-many (suc count) ranges n = ap suc (copies-many count ranges n)
 
-pub is_valid_in_each-from : (ranges : List ℕ) (tables : List (List Column)) (t : Tree) → HaveRanges ranges tables → tree_valid ranges t ≡ true → is_valid_in_each tables t ≡ true
+pub is_valid_in_each-from : (ranges : List ℕ) (tables : List (List VarLits)) (t : Tree) → HaveRanges ranges tables → tree_valid ranges t ≡ true → is_valid_in_each tables t ≡ true
 is_valid_in_each-from ranges [] t h k = refl
 is_valid_in_each-from ranges (table ∷ tables) t h k = and_from _ _ (ap (λ (rs : List ℕ). tree_valid rs t) h.0 ∙ k) (is_valid_in_each-from ranges tables t h.1 k)
 
@@ -84,15 +84,15 @@ AreCopies count ranges b = (run : List (List ℕ)) × (length run ≡ count) × 
 satisfies-order : (a : List Bool) (cs ds : List (List Literal)) → satisfies a (cs ++ ds) ≡ satisfies a (ds ++ cs)
 satisfies-order a cs ds = list_all-append (is_clause_true a) cs ds ∙ and_comm (satisfies a cs) (satisfies a ds) ∙ sym (list_all-append (is_clause_true a) ds cs)
 
-in_order : (a : List Bool) (m : ℕ) (cs ds : List (List Literal)) (E : List Bool → Type 0) → Extends a m (cs ++ ds) E → Extends a m (ds ++ cs) E
+in_order : (a : List Bool) (m : ℕ) (cs ds : List (List Literal)) (E : List Bool → Type 0) → ExtensionsAreExactly a m (cs ++ ds) E → ExtensionsAreExactly a m (ds ++ cs) E
 in_order a m cs ds E h = record {
   sized = h.sized;
   all_satisfy = λ b e. satisfies-order (a ++ b) ds cs ∙ h.all_satisfy b e;
   only = λ b long met. h.only b long (satisfies-order (a ++ b) cs ds ∙ met);
 }
 
-pub copies-law : (count : ℕ) (ranges : List ℕ) (a : List Bool) (n : ℕ) → length a ≡ n → ranges_fit ranges ≡ true → Extends a (copies_part ranges count n).part.vars (copies_part ranges count n).part.clauses (AreCopies count ranges)
-copies-law zero ranges a n size fit = in_words a n [] (IsExactly []) (AreCopies zero ranges) (λ b h. ([], refl, refl, h)) (λ b h. none b h.0 h.1 h.3) (only_from_if a n [] [] (no_more_if a n [] true size refl))
+pub copies-law : (count : ℕ) (ranges : List ℕ) (a : List Bool) (n : ℕ) → length a ≡ n → ranges_fit ranges ≡ true → ExtensionsAreExactly a (copies_part ranges count n).part.vars (copies_part ranges count n).part.clauses (AreCopies count ranges)
+copies-law zero ranges a n size fit = in_words a n [] (AreExactValues []) (AreCopies zero ranges) (λ b h. ([], refl, refl, h)) (λ b h. none b h.0 h.1 h.3) (only_from_if a n [] [] (no_more_if a n [] true size refl))
   where
     none : (b : List Bool) (run : List (List ℕ)) → length run ≡ zero → b ≡ copies_bits ranges run → b ≡ []
     none b [] h e = e
@@ -103,48 +103,48 @@ copies-law (suc count) ranges a n size fit =
     (AreCopies (suc count) ranges) to (λ b h. split b h.0 h.1 h.2 h.3)
     (in_order a one.vars later.clauses one.clauses _
     (in_turn a later.vars one.vars later.clauses one.clauses (AreCopies count ranges)
-    (λ b _. IsCopy ranges) (omega (arith, size, copies-low count ranges n))
+    (λ b _. AreCopyBits ranges) (omega (arith, size, copies-low count ranges n))
     (copy-low ranges later.vars) (copies-in count ranges n fit) first
     (λ b h. copy-law ranges (a ++ b) later.vars (first.sized b h) fit)))
   where
-    later : Part
+    later : FormulaPart
     later = (copies_part ranges count n).part
 
-    one : Part
+    one : FormulaPart
     one = (copy_part ranges later.vars).part
 
-    to : (b : List Bool) → FollowedBy (AreCopies count ranges) (λ b _. IsCopy ranges) b → AreCopies (suc count) ranges b
+    to : (b : List Bool) → ValuesFollowedBy (AreCopies count ranges) (λ b _. AreCopyBits ranges) b → AreCopies (suc count) ranges b
     to b h =
         (h.4.0 ∷ h.3.0, ap suc h.3.1, and_from _ _ h.4.1 h.3.2, h.2 ∙ ap (λ (u : List Bool). u ++ h.1) h.3.3 ∙ ap (λ (u : List Bool). copies_bits ranges h.3.0 ++ u) h.4.2)
 
-    split : (b : List Bool) (run : List (List ℕ)) → length run ≡ suc count → all_in_ranges ranges run ≡ true → b ≡ copies_bits ranges run → FollowedBy (AreCopies count ranges) (λ b _. IsCopy ranges) b
+    split : (b : List Bool) (run : List (List ℕ)) → length run ≡ suc count → all_in_ranges ranges run ≡ true → b ≡ copies_bits ranges run → ValuesFollowedBy (AreCopies count ranges) (λ b _. AreCopyBits ranges) b
     split b [] l r e = absurd (omega arith)
     split b (values ∷ run) l r e =
         let parts = and_parts (in_ranges values ranges) (all_in_ranges ranges run) r in
         (copies_bits ranges run, copy_bits ranges values, e, (run, (omega arith), parts.1, refl), (values, parts.0, refl))
 
 -- Holds if the literals of a copy say its values, in a formula of `n` variables.
-pub record TableSays (a : List Bool) (n : ℕ) (ranges : List ℕ) (table : List Column) (values : List ℕ) : Type 0 where
-  pub within : columns_in n table ≡ true
+pub record TableSays (a : List Bool) (n : ℕ) (ranges : List ℕ) (table : List VarLits) (values : List ℕ) : Type 0 where
+  pub within : has_lits_within_vars n table ≡ true
   pub has_ranges : ranges_of table ≡ ranges
   pub says : LiteralsEncode a table ranges values
   pub in_range : in_ranges values ranges ≡ true
 
-abbrev pub TablesSay : List Bool → ℕ → List ℕ → List (List Column) → List (List ℕ) → Type 0
+abbrev pub TablesSay : List Bool → ℕ → List ℕ → List (List VarLits) → List (List ℕ) → Type 0
 TablesSay a n ranges [] [] = Unit {0}
 TablesSay a n ranges [] (values ∷ run) = ⊥
 TablesSay a n ranges (table ∷ tables) [] = ⊥
 TablesSay a n ranges (table ∷ tables) (values ∷ run) = TableSays a n ranges table values × TablesSay a n ranges tables run
 
-pub table_says-more : (a e : List Bool) (n m : ℕ) (ranges : List ℕ) (table : List Column) (values : List ℕ) → length a ≡ n → n ≤ m → TableSays a n ranges table values → TableSays (a ++ e) m ranges table values
+pub table_says-more : (a e : List Bool) (n m : ℕ) (ranges : List ℕ) (table : List VarLits) (values : List ℕ) → length a ≡ n → n ≤ m → TableSays a n ranges table values → TableSays (a ++ e) m ranges table values
 table_says-more a e n m ranges table values size le h = record {
-  within = columns_in-more n m table le h.within;
+  within = has_lits_within_vars-more n m table le h.within;
   has_ranges = h.has_ranges;
   says = says-left table ranges values a e n size h.within h.says;
   in_range = h.in_range;
 }
 
-pub tables_say-more : (tables : List (List Column)) (run : List (List ℕ)) (a e : List Bool) (n m : ℕ) (ranges : List ℕ) → length a ≡ n → n ≤ m → TablesSay a n ranges tables run → TablesSay (a ++ e) m ranges tables run
+pub tables_say-more : (tables : List (List VarLits)) (run : List (List ℕ)) (a e : List Bool) (n m : ℕ) (ranges : List ℕ) → length a ≡ n → n ≤ m → TablesSay a n ranges tables run → TablesSay (a ++ e) m ranges tables run
 tables_say-more [] [] a e n m ranges size le h = tt
 tables_say-more [] (values ∷ run) a e n m ranges size le h = h
 tables_say-more (table ∷ tables) [] a e n m ranges size le h = h
@@ -179,7 +179,7 @@ copies-say (suc count) ranges (values ∷ run) a n size fit l h =
     (first, subst (λ (u : List Bool). TablesSay u p.part.vars ranges later.tables run) whole rest)
 
 pub table-at :
-    (tables : List (List Column)) (run : List (List ℕ)) (a : List Bool) (n : ℕ) (ranges : List ℕ) (j : ℕ) →
+    (tables : List (List VarLits)) (run : List (List ℕ)) (a : List Bool) (n : ℕ) (ranges : List ℕ) (j : ℕ) →
     TablesSay a n ranges tables run → j < length tables →
     TableSays a n ranges (get_or tables j []) (get_or run j []) × (slice_get run j ≡ Some (get_or run j []))
 table-at [] run a n ranges j h less = absurd (omega arith)
@@ -208,34 +208,34 @@ copies-few (suc count) ranges n =
     omega (arith, later, one, more)
 
 pub copies-step :
-    (f g : Formula) (ranges : List ℕ) (tables whole : List (List Column)) (table : List Column)
+    (f g : Formula) (ranges : List ℕ) (tables whole : List (List VarLits)) (table : List VarLits)
     (i rest before : ℕ) → rest ≡ suc i →
     before ≡ i * copy_var_count ranges → tables ++ (copies_part ranges rest 0).tables ≡ whole →
     table ≡ (copy_part ranges before).columns →
-    g ≡ with_clauses f f.vars (as_clauses (copy_part ranges before).part.clauses) →
+    g ≡ with_clauses f f.vars (clauses_from_lists (copy_part ranges before).part.clauses) →
     ((tables ++ table ∷ []) ++ (copies_part ranges i 0).tables ≡ whole) ×
-    (with_clauses g g.vars (as_clauses (copies_part ranges i 0).part.clauses)
-    ≡ with_clauses f f.vars (as_clauses (copies_part ranges rest 0).part.clauses))
+    (with_clauses g g.vars (clauses_from_lists (copies_part ranges i 0).part.clauses)
+    ≡ with_clauses f f.vars (clauses_from_lists (copies_part ranges rest 0).part.clauses))
 copies-step f g ranges tables whole table i rest before left begins seen is made =
     let later = copies_part ranges i 0 in
     let at : before ≡ later.part.vars = omega (arith, begins, copies-end i ranges 0) in
     let one = copy_part ranges later.part.vars in
-    let here : g ≡ with_clauses f f.vars (as_clauses one.part.clauses) = made ∙ ap (λ (k : ℕ). with_clauses f f.vars (as_clauses (copy_part ranges k).part.clauses)) at in (
+    let here : g ≡ with_clauses f f.vars (clauses_from_lists one.part.clauses) = made ∙ ap (λ (k : ℕ). with_clauses f f.vars (clauses_from_lists (copy_part ranges k).part.clauses)) at in (
       append_assoc tables (table ∷ []) later.tables
-          ∙ ap (λ (t : List Column). tables ++ t ∷ later.tables) (is ∙ ap (λ (k : ℕ). (copy_part ranges k).columns) at)
+          ∙ ap (λ (t : List VarLits). tables ++ t ∷ later.tables) (is ∙ ap (λ (k : ℕ). (copy_part ranges k).columns) at)
           ∙ ap (λ (k : ℕ). tables ++ (copies_part ranges k 0).tables) (sym left)
           ∙ seen,
-      grown_more f g (with_clauses g g.vars (as_clauses later.part.clauses)) one.part.clauses later.part.clauses here refl
-          ∙ ap (λ (k : ℕ). with_clauses f f.vars (as_clauses (copies_part ranges k 0).part.clauses)) (sym left),
+      grown_more f g (with_clauses g g.vars (clauses_from_lists later.part.clauses)) one.part.clauses later.part.clauses here refl
+          ∙ ap (λ (k : ℕ). with_clauses f f.vars (clauses_from_lists (copies_part ranges k 0).part.clauses)) (sym left),
     )
 
-pub within-at : (tables : List (List Column)) (n j : ℕ) (table : List Column) → tables_in n tables ≡ true → slice_get tables j ≡ Some table → columns_in n table ≡ true
-within-at tables n j table h at = list_all-slice_get (columns_in n) tables j table h at
+pub within-at : (tables : List (List VarLits)) (n j : ℕ) (table : List VarLits) → are_copies_over n tables ≡ true → slice_get tables j ≡ Some table → has_lits_within_vars n table ≡ true
+within-at tables n j table h at = list_all-slice_get (has_lits_within_vars n) tables j table h at
 
-pub ranges-at : (tables : List (List Column)) (ranges : List ℕ) (j : ℕ) (table : List Column) → HaveRanges ranges tables → slice_get tables j ≡ Some table → ranges_of table ≡ ranges
+pub ranges-at : (tables : List (List VarLits)) (ranges : List ℕ) (j : ℕ) (table : List VarLits) → HaveRanges ranges tables → slice_get tables j ≡ Some table → ranges_of table ≡ ranges
 ranges-at [] ranges j table h at = absurd cc
 ranges-at (t ∷ tables) ranges zero table h at = ap ranges_of (sym (same_Some t table at)) ∙ h.0
 ranges-at (t ∷ tables) ranges (suc j) table h at = ranges-at tables ranges j table h.1 at
 
-pub valid-at : (tables : List (List Column)) (t : Tree) (j : ℕ) (table : List Column) → is_valid_in_each tables t ≡ true → slice_get tables j ≡ Some table → tree_valid (ranges_of table) t ≡ true
-valid-at tables t j table h at = list_all-slice_get (λ (table : List Column). tree_valid (ranges_of table) t) tables j table h at
+pub valid-at : (tables : List (List VarLits)) (t : Tree) (j : ℕ) (table : List VarLits) → is_valid_in_each tables t ≡ true → slice_get tables j ≡ Some table → tree_valid (ranges_of table) t ≡ true
+valid-at tables t j table h at = list_all-slice_get (λ (table : List VarLits). tree_valid (ranges_of table) t) tables j table h at

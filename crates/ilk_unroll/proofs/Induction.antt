@@ -10,12 +10,12 @@ use Rattle.ilk_base.proofs.Lists.{get-taken, get-dropped}
 use Rattle.ilk_base.specs.Option.{is_some_and}
 use Rattle.ilk_base.proofs.Ranges.{below_or_past}
 use Rattle.ilk_base.proofs.Tested.{list_all-slice_get}
-use Rattle.ilk_ir.specs.Tree.{Tree, all_of, negation, trees, tree_holds, each_holds}
-use Rattle.ilk_ir.specs.System.{SystemTree, rule_valid, in_ranges}
+use Rattle.ilk_ir.specs.Tree.{Tree, all_of, negation, trees_from_list, tree_holds, each_holds}
+use Rattle.ilk_ir.specs.System.{PlainSystem, rule_valid, in_ranges}
 use Rattle.ilk_ir.proofs.Trees.{all_of-holds}
 use Rattle.ilk_unroll.specs.declared.queries.Wanted.TheVariants.{Hazard, Breach, Step}
-use Rattle.ilk_unroll.specs.Goal.{GoalTree, CopyDemand, must_hold_in, must_fail_in, must_hold_below}
-use Rattle.ilk_unroll.specs.Run.{run_from, is_met_by}
+use Rattle.ilk_unroll.specs.Goal.{PlainGoal, CopyDemand, must_hold_in, must_fail_in, must_hold_below}
+use Rattle.ilk_unroll.specs.Run.{run_firing_rules, is_met_by}
 use Rattle.ilk_unroll.proofs.Runs.{run-is}
 use Rattle.ilk_unroll.specs.Evidence.{HasRun}
 use Rattle.ilk_unroll.proofs.QueryDemands.{below-each, below-from, each-below-from, IsWanted, wanted-parts, wanted-from}
@@ -28,17 +28,17 @@ met-same : (run other : List (List ℕ)) (i j : ℕ) (t : Tree) (holds : Bool) �
 met-same run other i j t holds same = ap (λ (o : Option (List ℕ)). is_some_and o (λ ws. cond holds (tree_holds ws t) (not (tree_holds ws t)))) same
 
 -- A run from the start through well-formed values.
-record FromStart (s : SystemTree) (g : GoalTree) (n : ℕ) (first rules : List ℕ) : Type 0 where
+record FromStart (s : PlainSystem) (g : PlainGoal) (n : ℕ) (first rules : List ℕ) : Type 0 where
   in_range : in_ranges first s.ranges ≡ true
   many : length rules ≡ n
   run : List (List ℕ)
-  is : run_from s first rules ≡ Some run
+  is : run_firing_rules s first rules ≡ Some run
   start : is_met_by run (must_hold_in 0 g.start) ≡ true
   wellformed : (j : ℕ) → j < n → is_met_by run (must_hold_in j g.wellformed) ≡ true
 
 -- If no shorter run breaks a family, the values before the last keep all.
 kept-before :
-    (s : SystemTree) (g : GoalTree) (n : ℕ) (first rules : List ℕ) (w : FromStart s g n first rules) (j : ℕ)
+    (s : PlainSystem) (g : PlainGoal) (n : ℕ) (first rules : List ℕ) (w : FromStart s g n first rules) (j : ℕ)
     (values : List ℕ) → j < n →
     ¬ HasRun s g (Breach j) → slice_get w.run j ≡ Some values → list_all (tree_holds values) g.families ≡ true
 kept-before s g n first rules w j values less none at = by_case (list_all (tree_holds values) g.families) refl
@@ -53,14 +53,15 @@ kept-before s g n first rules w j values less none at = by_case (list_all (tree_
         g.wellformed (j + 1)
         (λ i low. met-same run w.run i i g.wellformed true (get-taken w.run (suc j) i (omega arith))
         ∙ w.wellformed i (omega arith)) in
-        let last : is_met_by run (must_fail_in j (all_of (trees g.families))) ≡ true = met-at run (must_fail_in j (all_of (trees g.families))) values (get-taken w.run (suc j) j (omega arith) ∙ at) ∙ ap not (all_of-holds values g.families ∙ e) in
-        let met = and_from _ _ start (list_all-append (is_met_by run) (must_hold_below g.wellformed (j + 1)) (must_fail_in j (all_of (trees g.families)) ∷ []) ∙ and_from _ _ wellformed (and_from _ _ last refl)) in
+        let last : is_met_by run (must_fail_in j (all_of (trees_from_list g.families)))
+        ≡ true = met-at run (must_fail_in j (all_of (trees_from_list g.families))) values (get-taken w.run (suc j) j (omega arith) ∙ at) ∙ ap not (all_of-holds values g.families ∙ e) in
+        let met = and_from _ _ start (list_all-append (is_met_by run) (must_hold_below g.wellformed (j + 1)) (must_fail_in j (all_of (trees_from_list g.families)) ∷ []) ∙ and_from _ _ wellformed (and_from _ _ last refl)) in
         let wanted : IsWanted s g (Breach j) first (take j rules) = record { in_range = w.in_range; many = length-take-le j rules (let many = w.many in omega arith); run = run; is = m.before; met = met } in
         absurd (none (first, take j rules, wanted-from s g (Breach j) first (take j rules) wanted))
 
 -- The same for the values from number `m` on.
 kept-later :
-    (s : SystemTree) (g : GoalTree) (n : ℕ) (first rules : List ℕ) (w : FromStart s g n first rules) (m k : ℕ)
+    (s : PlainSystem) (g : PlainGoal) (n : ℕ) (first rules : List ℕ) (w : FromStart s g n first rules) (m k : ℕ)
     → m + k ≡ n →
     ((j : ℕ) → j < n → ¬ HasRun s g (Breach j)) → (j : ℕ) → j < k →
     list_all (λ t. is_met_by (drop m w.run) (must_hold_in j t)) g.families ≡ true
@@ -72,10 +73,10 @@ kept-later s g n first rules w m k whole none j less =
     ∙ kept-before s g n first rules w (m + j) here.values (omega arith) (none (m + j) (omega arith)) here.at
 
 -- If the last values have a hazard or break a family, the last `k` steps are a run of a step query.
-last-steps : (s : SystemTree) (g : GoalTree) (k n : ℕ) (first rules : List ℕ) →
+last-steps : (s : PlainSystem) (g : PlainGoal) (k n : ℕ) (first rules : List ℕ) →
     list_all (rule_valid s.ranges) s.rules ≡ true → k ≤ n → (w : FromStart s g n first rules) →
     ((j : ℕ) → j < n → ¬ HasRun s g (Breach j)) →
-    is_met_by w.run (must_fail_in n (all_of (trees (negation g.hazard ∷ g.families)))) ≡ true → HasRun s g (Step k)
+    is_met_by w.run (must_fail_in n (all_of (trees_from_list (negation g.hazard ∷ g.families)))) ≡ true → HasRun s g (Step k)
 last-steps s g k n first rules valid le w none last =
     let many = w.many in
     let m = middle s rules first w.run (n - k) (omega arith) w.is in
@@ -88,7 +89,7 @@ last-steps s g k n first rules valid le w none last =
     λ i t holds. met-same run w.run i ((n - k) + i) t holds (get-dropped w.run (n - k) i) in
     let wellformed : list_all (is_met_by run) (must_hold_below g.wellformed k) ≡ true = below-from run g.wellformed k (λ j less. same j g.wellformed true ∙ w.wellformed ((n - k) + j) (omega arith)) in
     let families = λ (j : ℕ) (less : j < k). kept-later s g n first rules w (n - k) k far none j less in
-    let T = all_of (trees (negation g.hazard ∷ g.families)) in
+    let T = all_of (trees_from_list (negation g.hazard ∷ g.families)) in
     let ends : is_met_by run (must_fail_in k T) ≡ true = same k T false ∙ ap (λ (i : ℕ). is_met_by w.run (must_fail_in i T)) far ∙ last in
     let kept = flat_map (λ t. must_hold_below t k) g.families in
     let met =
@@ -98,7 +99,7 @@ last-steps s g k n first rules valid le w none last =
     let wanted : IsWanted s g (Step k) m.values (drop (n - k) rules) = record { in_range = in_range; many = omega (arith, size, many, le); run = run; is = m.after; met = met } in
     (m.values, drop (n - k) rules, wanted-from s g (Step k) m.values (drop (n - k) rules) wanted)
 
-hazard-steps : (s : SystemTree) (g : GoalTree) (k n : ℕ) → list_all (rule_valid s.ranges) s.rules ≡ true → k ≤ n → ((j : ℕ) → j < n → ¬ HasRun s g (Breach j)) → HasRun s g (Hazard n) → HasRun s g (Step k)
+hazard-steps : (s : PlainSystem) (g : PlainGoal) (k n : ℕ) → list_all (rule_valid s.ranges) s.rules ≡ true → k ≤ n → ((j : ℕ) → j < n → ¬ HasRun s g (Breach j)) → HasRun s g (Hazard n) → HasRun s g (Step k)
 hazard-steps s g k n valid le none has =
     let w = wanted-parts s g (Hazard n) has.0 has.1 has.2 in
     let many : length has.1 ≡ n = w.many in
@@ -108,28 +109,29 @@ hazard-steps s g k n valid le none has =
     let hazard = (and_parts (is_met_by w.run (must_hold_in n g.hazard)) true rest.1).0 in
     let m = middle s has.1 has.0 w.run n (omega arith) w.is in
     let here : tree_holds m.values g.hazard ≡ true = sym (met-at w.run (must_hold_in n g.hazard) m.values m.at) ∙ hazard in
-    let last = met-at w.run (must_fail_in n (all_of (trees (negation g.hazard ∷ g.families)))) m.values m.at ∙ ap (λ (b : Bool). not (not b && each_holds m.values (trees g.families))) here in
+    let last = met-at w.run (must_fail_in n (all_of (trees_from_list (negation g.hazard ∷ g.families)))) m.values m.at ∙ ap (λ (b : Bool). not (not b && each_holds m.values (trees_from_list g.families))) here in
     last-steps s g k n has.0 has.1 valid le (record { in_range = w.in_range; many = w.many; run = w.run; is = w.is; start = parts.0; wellformed = λ j less. below-each w.run g.wellformed n j rest.0 less }) none last
 
 and-false : (a : Bool) → (a && false) ≡ false
 and-false true = refl
 and-false false = refl
 
-breach-steps : (s : SystemTree) (g : GoalTree) (k n : ℕ) → list_all (rule_valid s.ranges) s.rules ≡ true → k ≤ n → ((j : ℕ) → j < n → ¬ HasRun s g (Breach j)) → HasRun s g (Breach n) → HasRun s g (Step k)
+breach-steps : (s : PlainSystem) (g : PlainGoal) (k n : ℕ) → list_all (rule_valid s.ranges) s.rules ≡ true → k ≤ n → ((j : ℕ) → j < n → ¬ HasRun s g (Breach j)) → HasRun s g (Breach n) → HasRun s g (Step k)
 breach-steps s g k n valid le none has =
     let w = wanted-parts s g (Breach n) has.0 has.1 has.2 in
     let many : length has.1 ≡ n = w.many in
-    let T = all_of (trees g.families) in
+    let T = all_of (trees_from_list g.families) in
     let parts = and_parts (is_met_by w.run (must_hold_in 0 g.start)) (list_all (is_met_by w.run) (must_hold_below g.wellformed (n + 1) ++ must_fail_in n T ∷ [])) w.met in
     let rest = and_parts (list_all (is_met_by w.run) (must_hold_below g.wellformed (n + 1))) (is_met_by w.run (must_fail_in n T) && true)
     (sym (list_all-append (is_met_by w.run) (must_hold_below g.wellformed (n + 1)) (must_fail_in n T ∷ [])) ∙ parts.1) in
     let broken = (and_parts (is_met_by w.run (must_fail_in n T)) true rest.1).0 in
     let m = middle s has.1 has.0 w.run n (omega arith) w.is in
     let here : tree_holds m.values T ≡ false = fails (tree_holds m.values T) (sym (met-at w.run (must_fail_in n T) m.values m.at) ∙ broken) in
-    let last = met-at w.run (must_fail_in n (all_of (trees (negation g.hazard ∷ g.families)))) m.values m.at ∙ ap (λ (b : Bool). not (not (tree_holds m.values g.hazard) && b)) here ∙ ap not (and-false (not (tree_holds m.values g.hazard))) in
+    let last = met-at w.run (must_fail_in n (all_of (trees_from_list (negation g.hazard ∷ g.families)))) m.values m.at ∙ ap
+    (λ (b : Bool). not (not (tree_holds m.values g.hazard) && b)) here ∙ ap not (and-false (not (tree_holds m.values g.hazard))) in
     last-steps s g k n has.0 has.1 valid le (record { in_range = w.in_range; many = w.many; run = w.run; is = w.is; start = parts.0; wellformed = λ j less. below-each w.run g.wellformed (n + 1) j rest.0 (omega arith) }) none last
 
-forever-to : (s : SystemTree) (g : GoalTree) (k : ℕ) → list_all (rule_valid s.ranges) s.rules ≡ true →
+forever-to : (s : PlainSystem) (g : PlainGoal) (k : ℕ) → list_all (rule_valid s.ranges) s.rules ≡ true →
     ((n : ℕ) → n ≤ k → ¬ HasRun s g (Hazard n)) → ((n : ℕ) → n ≤ k → ¬ HasRun s g (Breach n)) →
     ¬ HasRun s g (Step k) → (bound n : ℕ) → n ≤ bound → (¬ HasRun s g (Hazard n)) × (¬ HasRun s g (Breach n))
 forever-to s g k valid hazards breaches step zero n le = (hazards n (omega arith), breaches n (omega arith))
@@ -140,7 +142,7 @@ forever-to s g k valid hazards breaches step (suc bound) n le =
       | inr short ↦ (hazards n short, breaches n short)
     ]
 
-pub forever : (s : SystemTree) (g : GoalTree) (k : ℕ) → list_all (rule_valid s.ranges) s.rules ≡ true →
+pub forever : (s : PlainSystem) (g : PlainGoal) (k : ℕ) → list_all (rule_valid s.ranges) s.rules ≡ true →
     ((n : ℕ) → n ≤ k → ¬ HasRun s g (Hazard n)) → ((n : ℕ) → n ≤ k → ¬ HasRun s g (Breach n)) →
     ¬ HasRun s g (Step k) → (n : ℕ) → (¬ HasRun s g (Hazard n)) × (¬ HasRun s g (Breach n))
 forever s g k valid hazards breaches step n = forever-to s g k valid hazards breaches step n n (omega arith)

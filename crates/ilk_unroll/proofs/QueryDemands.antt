@@ -8,10 +8,10 @@ use Rattle.ilk_base.proofs.Options.{some-and}
 use Rattle.ilk_base.proofs.Ranges.{range-at}
 use Rattle.ilk_base.proofs.Tested.{list_all-slice_get}
 use Rattle.ilk_ir.specs.Tree.{Tree}
-use Rattle.ilk_ir.specs.System.{SystemTree, in_ranges}
+use Rattle.ilk_ir.specs.System.{PlainSystem, in_ranges}
 use Rattle.ilk_unroll.specs.declared.queries.Wanted.{Wanted}
-use Rattle.ilk_unroll.specs.Goal.{GoalTree, must_hold_in, must_hold_below, step_count, demands_of}
-use Rattle.ilk_unroll.specs.Run.{run_from, is_met_by, is_wanted_run}
+use Rattle.ilk_unroll.specs.Goal.{PlainGoal, must_hold_in, must_hold_below, step_count, demands_of}
+use Rattle.ilk_unroll.specs.Run.{run_firing_rules, is_met_by, is_wanted_run}
 
 pub below-each : (run : List (List ℕ)) (t : Tree) (n j : ℕ) → list_all (is_met_by run) (must_hold_below t n) ≡ true → j < n → is_met_by run (must_hold_in j t) ≡ true
 below-each run t n j h less =
@@ -37,20 +37,20 @@ each-below-from run (t ∷ ts) n h =
     (each-below-from run ts n (λ j less. (and_parts (is_met_by run (must_hold_in j t)) (P j) (h j less)).1))
 
 -- The parts of a run that a query asks for.
-pub record IsWanted (s : SystemTree) (g : GoalTree) (q : Wanted) (first rules : List ℕ) : Type 0 where
+pub record IsWanted (s : PlainSystem) (g : PlainGoal) (q : Wanted) (first rules : List ℕ) : Type 0 where
   pub in_range : in_ranges first s.ranges ≡ true
   pub many : length rules ≡ step_count q
   pub run : List (List ℕ)
-  pub is : run_from s first rules ≡ Some run
+  pub is : run_firing_rules s first rules ≡ Some run
   pub met : list_all (is_met_by run) (demands_of g q) ≡ true
 
-pub wanted-parts : (s : SystemTree) (g : GoalTree) (q : Wanted) (first rules : List ℕ) → is_wanted_run s g q first rules ≡ true → IsWanted s g q first rules
+pub wanted-parts : (s : PlainSystem) (g : PlainGoal) (q : Wanted) (first rules : List ℕ) → is_wanted_run s g q first rules ≡ true → IsWanted s g q first rules
 wanted-parts s g q first rules h =
-    let outer = and_parts (in_ranges first s.ranges && length rules == step_count q) (is_some_and (run_from s first rules) (λ run. list_all (is_met_by run) (demands_of g q))) h in
+    let outer = and_parts (in_ranges first s.ranges && length rules == step_count q) (is_some_and (run_firing_rules s first rules) (λ run. list_all (is_met_by run) (demands_of g q))) h in
     let inner = and_parts (in_ranges first s.ranges) (length rules == step_count q) outer.0 in
-    let run = some-and (run_from s first rules) (λ run. list_all (is_met_by run) (demands_of g q)) outer.1 in
+    let run = some-and (run_firing_rules s first rules) (λ run. list_all (is_met_by run) (demands_of g q)) outer.1 in
     record { in_range = inner.0; many = eqb-true (length rules) (step_count q) inner.1; run = run.0; is = run.1; met = run.2 }
 
-pub wanted-from : (s : SystemTree) (g : GoalTree) (q : Wanted) (first rules : List ℕ) → IsWanted s g q first rules → is_wanted_run s g q first rules ≡ true
+pub wanted-from : (s : PlainSystem) (g : PlainGoal) (q : Wanted) (first rules : List ℕ) → IsWanted s g q first rules → is_wanted_run s g q first rules ≡ true
 wanted-from s g q first rules w =
     and_from _ _ (and_from _ _ w.in_range (eq-eqb (length rules) (step_count q) w.many)) (rw w.is w.met)

@@ -5,20 +5,20 @@ use Rattle.std.specs.Prelude.{nat_le}
 use Rattle.std.proofs.lemmas.Bool.{and_parts, and_from, false≢true, ltb-true, lt-ltb, leb-true}
 use Rattle.std.proofs.lemmas.List.{append-nil}
 use Rattle.ilk_base.proofs.Tested.{list_all-slice_get}
-use Rattle.ilk_cnf.specs.Part.{as_clauses}
+use Rattle.ilk_cnf.specs.Part.{clauses_from_lists}
 use Rattle.ilk_cnf.specs.Truth.{satisfies}
-use Rattle.ilk_cnf.proofs.Gates.{satisfies-as_clauses}
+use Rattle.ilk_cnf.proofs.Gates.{satisfies-clauses_from_lists}
 use Rattle.ilk_ints.specs.Bits.{bit_count, bits_of, bits_at}
 use Rattle.ilk_ints.specs.Number.{non_value_clauses}
 use Rattle.ilk_ints.proofs.BitsLaw.{number_of, number-bits}
 use Rattle.ilk_ints.proofs.NumberLaw.{value-passes}
 use Rattle.ilk_ir.specs.System.{in_ranges}
-use Rattle.ilk_forms.specs.Copy.{total_bits, HaveBits}
+use Rattle.ilk_forms.specs.Copy.{copy_bit_count, BitsEncode}
 use Rattle.ilk_forms.proofs.ColumnLaw.{ranges_fit}
 use Rattle.ilk_forms.proofs.CopyLaw.{ranges_fit-small}
 use Rattle.ilk_step.specs.declared.choice.Choice.{Choice}
 use Rattle.ilk_step.specs.Choice.{Chooses}
-use Rattle.ilk_unroll.specs.Tables.{AllChosen, choices_begin_by}
+use Rattle.ilk_unroll.specs.Tables.{ChoosesEach, choices_begin_by}
 
 pub record Told (a : List Bool) (first range : ℕ) (others ws : List ℕ) : Type 0 where
   pub value : ℕ
@@ -27,20 +27,20 @@ pub record Told (a : List Bool) (first range : ℕ) (others ws : List ℕ) : Typ
   pub below : value < range
   pub bits : bits_at a first (bit_count range) ≡ bits_of (bit_count range) value
   pub in_range : in_ranges rest others ≡ true
-  pub have : HaveBits a (first + bit_count range) others rest
+  pub have : BitsEncode a (first + bit_count range) others rest
 
-told-parts : (a : List Bool) (first range : ℕ) (others ws : List ℕ) → in_ranges ws (range ∷ others) ≡ true → HaveBits a first (range ∷ others) ws → Told a first range others ws
+told-parts : (a : List Bool) (first range : ℕ) (others ws : List ℕ) → in_ranges ws (range ∷ others) ≡ true → BitsEncode a first (range ∷ others) ws → Told a first range others ws
 told-parts a first range others [] h k = absurd (false≢true h)
 told-parts a first range others (w ∷ ws) h k =
     let parts = and_parts _ _ h in
     record { value = w; rest = ws; split = refl; below = ltb-true w range parts.0; bits = k.0; in_range = parts.1; have = k.1 }
 
-pub told : (a : List Bool) (first range : ℕ) (all others ws : List ℕ) → all ≡ range ∷ others → in_ranges ws all ≡ true → HaveBits a first all ws → Told a first range others ws
+pub told : (a : List Bool) (first range : ℕ) (all others ws : List ℕ) → all ≡ range ∷ others → in_ranges ws all ≡ true → BitsEncode a first all ws → Told a first range others ws
 told a first range all others ws split h k =
-    told-parts a first range others ws (ap (in_ranges ws) (sym split) ∙ h) (subst (λ (rs : List ℕ). HaveBits a first rs ws) split k)
+    told-parts a first range others ws (ap (in_ranges ws) (sym split) ∙ h) (subst (λ (rs : List ℕ). BitsEncode a first rs ws) split k)
 
-pub told-passes : (a : List Bool) (first range : ℕ) (others ws : List ℕ) → range ≤ 2 ^ bit_count range → Told a first range others ws → satisfies a (as_clauses (non_value_clauses first range)) ≡ true
-told-passes a first range others ws enough t = satisfies-as_clauses a (non_value_clauses first range) ∙ value-passes a first range t.value enough t.below t.bits
+pub told-passes : (a : List Bool) (first range : ℕ) (others ws : List ℕ) → range ≤ 2 ^ bit_count range → Told a first range others ws → satisfies a (clauses_from_lists (non_value_clauses first range)) ≡ true
+told-passes a first range others ws enough t = satisfies-clauses_from_lists a (non_value_clauses first range) ∙ value-passes a first range t.value enough t.below t.bits
 
 told-read : (a : List Bool) (first range v : ℕ) (others ws : List ℕ) → range ≤ 2 ^ bit_count range → (t : Told a first range others ws) → bits_at a first (bit_count range) ≡ bits_of (bit_count range) v → v < range → v ≡ t.value
 told-read a first range v others ws enough t is less =
@@ -51,7 +51,7 @@ pub record Left (a : List Bool) (first : ℕ) (ranges done values : List ℕ) : 
   pub rest : List ℕ
   pub whole : done ++ rest ≡ values
   pub in_range : in_ranges rest ranges ≡ true
-  pub have : HaveBits a first ranges rest
+  pub have : BitsEncode a first ranges rest
 
 pub left-next : (a : List Bool) (first range count v : ℕ) (all others done longer values : List ℕ) →
     all ≡ range ∷ others → count ≡ bit_count range → range ≤ 2 ^ bit_count range →
@@ -69,7 +69,7 @@ left-next a first range count v all others done longer values split counted enou
           ∙ ap (λ (us : List ℕ). done ++ us) (sym t.split)
           ∙ h.whole;
       in_range = t.in_range;
-      have = subst (λ (k : ℕ). HaveBits a (first + k) others t.rest) (sym counted) t.have;
+      have = subst (λ (k : ℕ). BitsEncode a (first + k) others t.rest) (sym counted) t.have;
     }
 
 pub none-left : (a : List Bool) (first : ℕ) (ranges done values : List ℕ) → ranges ≡ [] → Left a first ranges done values → done ≡ values
@@ -81,29 +81,29 @@ none-left a first ranges done values none h =
     ends [] k = refl
     ends (w ∷ ws) k = absurd (false≢true k)
 
-pub bits_reach : (first range count m : ℕ) (all others : List ℕ) → all ≡ range ∷ others → count ≡ bit_count range → first + total_bits all ≤ m → (first + bit_count range ≤ m) × (first + count + total_bits others ≤ m)
+pub bits_reach : (first range count m : ℕ) (all others : List ℕ) → all ≡ range ∷ others → count ≡ bit_count range → first + copy_bit_count all ≤ m → (first + bit_count range ≤ m) × (first + count + copy_bit_count others ≤ m)
 bits_reach first range count m all others split counted h =
-    let fits : first + (bit_count range + total_bits others) ≤ m = subst (λ (rs : List ℕ). first + total_bits rs ≤ m) split h in
+    let fits : first + (bit_count range + copy_bit_count others) ≤ m = subst (λ (rs : List ℕ). first + copy_bit_count rs ≤ m) split h in
     (omega arith, omega (arith, counted))
 
 pub record RulesLeft (a : List Bool) (choices : List Choice) (done rules : List ℕ) : Type 0 where
   pub rest : List ℕ
   pub whole : done ++ rest ≡ rules
-  pub chosen : AllChosen a choices rest
+  pub chosen : ChoosesEach a choices rest
 
 pub record Head (a : List Bool) (choice : Choice) (others : List Choice) (rules : List ℕ) : Type 0 where
   pub rule : ℕ
   pub rest : List ℕ
   pub split : rules ≡ rule ∷ rest
   pub chosen : Chooses a choice.first choice.rules rule
-  pub others_chosen : AllChosen a others rest
+  pub others_chosen : ChoosesEach a others rest
 
-head-parts : (a : List Bool) (choice : Choice) (others : List Choice) (rules : List ℕ) → AllChosen a (choice ∷ others) rules → Head a choice others rules
+head-parts : (a : List Bool) (choice : Choice) (others : List Choice) (rules : List ℕ) → ChoosesEach a (choice ∷ others) rules → Head a choice others rules
 head-parts a choice others [] h = absurd h
 head-parts a choice others (rule ∷ rules) h = record { rule = rule; rest = rules; split = refl; chosen = h.0; others_chosen = h.1 }
 
-pub head : (a : List Bool) (choice : Choice) (all others : List Choice) (rules : List ℕ) → all ≡ choice ∷ others → AllChosen a all rules → Head a choice others rules
-head a choice all others rules split h = head-parts a choice others rules (subst (λ (cs : List Choice). AllChosen a cs rules) split h)
+pub head : (a : List Bool) (choice : Choice) (all others : List Choice) (rules : List ℕ) → all ≡ choice ∷ others → ChoosesEach a all rules → Head a choice others rules
+head a choice all others rules split h = head-parts a choice others rules (subst (λ (cs : List Choice). ChoosesEach a cs rules) split h)
 
 pub rules-next :
     (a : List Bool) (choice : Choice) (all others : List Choice) (r : ℕ) (done longer rules : List ℕ) →
@@ -124,7 +124,7 @@ rules-next a choice all others r done longer rules split only pushed h =
 
 pub no_rules-left : (a : List Bool) (choices : List Choice) (done rules : List ℕ) → choices ≡ [] → RulesLeft a choices done rules → done ≡ rules
 no_rules-left a choices done rules none h =
-    let end : h.rest ≡ [] = subst (λ (cs : List Choice). AllChosen a cs h.rest) none h.chosen in
+    let end : h.rest ≡ [] = subst (λ (cs : List Choice). ChoosesEach a cs h.rest) none h.chosen in
     sym (append-nil done) ∙ ap (λ (us : List ℕ). done ++ us) (sym end) ∙ h.whole
 
 pub numbered-at : (n : ℕ) (choices : List Choice) (i : ℕ) (choice : Choice) → choices_begin_by n choices ≡ true → slice_get choices i ≡ Some choice → choice.first ≤ n + 1

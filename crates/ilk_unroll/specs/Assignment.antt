@@ -1,12 +1,12 @@
 -- The assignment of a run: the value of each variable of its query's formula.
 use Rattle.std.specs.Prelude.{ℕ, ◌≡◌, Bool, true, List, [], ◌∷◌, ◌++◌, unwrap_or, slice_index_or, if◌then◌else◌}
-use Rattle.ilk_ir.specs.System.{RuleTree, SystemTree}
+use Rattle.ilk_ir.specs.System.{PlainRule, PlainSystem}
 use Rattle.ilk_forms.specs.Copy.{copy_bits}
-use Rattle.ilk_forms.specs.Truths.{demand_bits}
+use Rattle.ilk_forms.specs.Truths.{lit_or_form_bits}
 use Rattle.ilk_forms.specs.Violated.{violated_bits}
 use Rattle.ilk_step.specs.Step.{step_bits}
-use Rattle.ilk_unroll.specs.Goal.{GoalTree, CopyDemand, demands_of}
-use Rattle.ilk_unroll.specs.Run.{run_from, is_wanted_run}
+use Rattle.ilk_unroll.specs.Goal.{PlainGoal, CopyDemand, demands_of}
+use Rattle.ilk_unroll.specs.Run.{run_firing_rules, is_wanted_run}
 use Rattle.ilk_unroll.specs.declared.queries.Wanted.{Wanted}
 
 -- The variables of the copies with these value lists, those of the last copy first.
@@ -15,7 +15,7 @@ copies_bits ranges [] = []
 copies_bits ranges (values ∷ run) = copies_bits ranges run ++ copy_bits ranges values
 
 -- The variables of the steps by these rules, if the variables have these ranges.
-abbrev pub steps_bits : List ℕ → List RuleTree → List (List ℕ) → List ℕ → List Bool
+abbrev pub steps_bits : List ℕ → List PlainRule → List (List ℕ) → List ℕ → List Bool
 steps_bits ranges rules [] chosen = []
 steps_bits ranges rules (values ∷ run) [] = []
 steps_bits ranges rules (values ∷ run) (rule ∷ chosen) = step_bits ranges rules values rule ++ steps_bits ranges rules run chosen
@@ -23,21 +23,21 @@ steps_bits ranges rules (values ∷ run) (rule ∷ chosen) = step_bits ranges ru
 -- The variables of the demands.
 abbrev pub demanded_bits : List ℕ → List (List ℕ) → CopyDemand → List Bool
 demanded_bits ranges run d =
-    if d.holds then demand_bits ranges (slice_index_or run d.copy []) d.form else violated_bits ranges (slice_index_or run d.copy []) d.form
+    if d.holds then lit_or_form_bits ranges (slice_index_or run d.copy []) d.form else violated_bits ranges (slice_index_or run d.copy []) d.form
 
 abbrev pub demands_bits : List ℕ → List (List ℕ) → List CopyDemand → List Bool
 demands_bits ranges run [] = []
 demands_bits ranges run (d ∷ ds) = demanded_bits ranges run d ++ demands_bits ranges run ds
 
 -- The values of all variables of a query's formula, for a run with these value lists and rules.
-abbrev pub run_bits : SystemTree → GoalTree → Wanted → List (List ℕ) → List ℕ → List Bool
+abbrev pub run_bits : PlainSystem → PlainGoal → Wanted → List (List ℕ) → List ℕ → List Bool
 run_bits s g q run rules = copies_bits s.ranges run ++ (steps_bits s.ranges s.rules run rules ++ demands_bits s.ranges run (demands_of g q))
 
 -- The assignment of the run that begins with `first` and fires `rules`.
-abbrev pub run_assignment : SystemTree → GoalTree → Wanted → List ℕ → List ℕ → List Bool
-run_assignment s g q first rules = run_bits s g q (unwrap_or (run_from s first rules) []) rules
+abbrev pub run_assignment : PlainSystem → PlainGoal → Wanted → List ℕ → List ℕ → List Bool
+run_assignment s g q first rules = run_bits s g q (unwrap_or (run_firing_rules s first rules) []) rules
 
 -- Holds if `a` is the assignment of some run that the query asks for.
-abbrev pub IsWantedRun : SystemTree → GoalTree → Wanted → List Bool → Type 0
-IsWantedRun s g q a =
+abbrev pub EncodesWantedRun : PlainSystem → PlainGoal → Wanted → List Bool → Type 0
+EncodesWantedRun s g q a =
     (first : List ℕ) × (rules : List ℕ) × (is_wanted_run s g q first rules ≡ true) × (a ≡ run_assignment s g q first rules)

@@ -1,14 +1,14 @@
 -- The basis of a verdict: the number of steps to a hazard or breach, and the k for which the
 -- invariant is k-inductive.
 use Rattle.std.specs.Prelude.{ℕ, ◌<◌, ◌≤◌, List, IsTrue}
-use Rattle.ilk_ir.specs.System.{SystemTree}
+use Rattle.ilk_ir.specs.System.{PlainSystem}
 use Rattle.ilk_unroll.specs.declared.queries.Wanted.{Wanted}
 use Rattle.ilk_unroll.specs.declared.queries.Wanted.TheVariants.{Hazard, Breach, Step}
-use Rattle.ilk_unroll.specs.Goal.{GoalTree}
+use Rattle.ilk_unroll.specs.Goal.{PlainGoal}
 use Rattle.ilk_unroll.specs.Run.{is_wanted_run}
 
 -- Holds if a run exists that the query asks for.
-abbrev pub HasRun : SystemTree → GoalTree → Wanted → Type 0
+abbrev pub HasRun : PlainSystem → PlainGoal → Wanted → Type 0
 HasRun s g q = (first : List ℕ) × (rules : List ℕ) × IsTrue (is_wanted_run s g q first rules)
 
 -- Holds if `n` is the least number, up to the depth, with `P`.

@@ -1,25 +1,25 @@
 -- The demands of a query on the copies of a run: the forms of a goal, each in some copies.
 use Rattle.std.specs.Prelude.{ℕ, ◌+◌, Bool, true, false, List, [], ◌∷◌, ◌++◌, ◌&&◌, map, nat_lt, nat_le}
 use Rattle.std.specs.List.{list_all, range_with_len, flat_map}
-use Rattle.ilk_ir.specs.Tree.{Tree, all_of, negation, trees, tree_valid}
+use Rattle.ilk_ir.specs.Tree.{Tree, all_of, negation, trees_from_list, tree_valid}
 use Rattle.ilk_ir.specs.Form.{tree_of}
 use Rattle.ilk_unroll.specs.declared.queries.Goal.{Goal}
 use Rattle.ilk_unroll.specs.declared.queries.Wanted.{Wanted}
 use Rattle.ilk_unroll.specs.declared.queries.Wanted.TheVariants.{Hazard, Breach, Step}
 
 -- A goal with trees for forms.
-pub record GoalTree : Type 0 where
+pub record PlainGoal : Type 0 where
   pub start : Tree
   pub hazard : Tree
   pub wellformed : Tree
   pub families : List Tree
 
-abbrev pub goal_tree : Goal → GoalTree
-goal_tree g =
+abbrev pub plain_goal : Goal → PlainGoal
+plain_goal g =
     record { start = tree_of g.start; hazard = tree_of g.hazard; wellformed = tree_of g.wellformed; families = map tree_of g.families }
 
 -- Returns whether each form is valid over the ranges.
-abbrev pub goal_valid : List ℕ → GoalTree → Bool
+abbrev pub goal_valid : List ℕ → PlainGoal → Bool
 goal_valid ranges g =
     tree_valid ranges g.start && tree_valid ranges g.hazard && tree_valid ranges g.wellformed && list_all (tree_valid ranges) g.families
 
@@ -30,10 +30,10 @@ step_count (Breach n) = n
 step_count (Step n) = n
 
 -- Returns whether the query has at most 16 steps, and at least one if it is a step query.
-abbrev pub wanted_valid : Wanted → Bool
-wanted_valid (Hazard n) = nat_le n 16
-wanted_valid (Breach n) = nat_le n 16
-wanted_valid (Step n) = nat_lt 0 n && nat_le n 16
+abbrev pub step_count_is_allowed : Wanted → Bool
+step_count_is_allowed (Hazard n) = nat_le n 16
+step_count_is_allowed (Breach n) = nat_le n 16
+step_count_is_allowed (Step n) = nat_lt 0 n && nat_le n 16
 
 -- A form that has to hold, or to fail, in copy number `copy`.
 pub record CopyDemand : Type 0 where
@@ -52,12 +52,12 @@ abbrev pub must_hold_below : Tree → ℕ → List CopyDemand
 must_hold_below t n = map (λ j. must_hold_in j t) (range_with_len 0 n)
 
 -- The demands of a query.
-abbrev pub demands_of : GoalTree → Wanted → List CopyDemand
+abbrev pub demands_of : PlainGoal → Wanted → List CopyDemand
 -- From the start by `n` steps to a hazard, through states without one.
 demands_of g (Hazard n) = must_hold_in 0 g.start ∷ must_hold_below g.wellformed n ++ must_hold_in n g.hazard ∷ []
 -- From the start by `n` steps to a broken family, and no state has a hazard.
-demands_of g (Breach n) = must_hold_in 0 g.start ∷ must_hold_below g.wellformed (n + 1) ++ must_fail_in n (all_of (trees g.families)) ∷ []
+demands_of g (Breach n) = must_hold_in 0 g.start ∷ must_hold_below g.wellformed (n + 1) ++ must_fail_in n (all_of (trees_from_list g.families)) ∷ []
 -- From anywhere by `n` steps to a hazard or a broken family, through states without either.
 demands_of g (Step n) =
     must_hold_below g.wellformed n ++ flat_map (λ t. must_hold_below t n) g.families
-    ++ must_fail_in n (all_of (trees (negation g.hazard ∷ g.families))) ∷ []
+    ++ must_fail_in n (all_of (trees_from_list (negation g.hazard ∷ g.families))) ∷ []

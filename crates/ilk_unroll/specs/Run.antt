@@ -3,17 +3,17 @@ use Rattle.std.specs.Prelude.{ℕ, Bool, List, [], ◌∷◌, ◌==◌, ◌&&◌
 use Rattle.std.specs.List.{list_all}
 use Rattle.ilk_base.specs.Option.{is_some_and}
 use Rattle.ilk_ir.specs.Tree.{tree_holds}
-use Rattle.ilk_ir.specs.System.{SystemTree, in_ranges, after_rule_number}
+use Rattle.ilk_ir.specs.System.{PlainSystem, in_ranges, after_rule_number}
 use Rattle.ilk_forms.specs.Gathered.{bool_equals}
-use Rattle.ilk_unroll.specs.Goal.{GoalTree, CopyDemand, step_count, demands_of}
+use Rattle.ilk_unroll.specs.Goal.{PlainGoal, CopyDemand, step_count, demands_of}
 use Rattle.ilk_unroll.specs.declared.queries.Wanted.{Wanted}
 
 -- The value lists of the run that begins with `values` and fires `rules` in order, if each guard
 -- holds.
-abbrev pub run_from : SystemTree → List ℕ → List ℕ → Option (List (List ℕ))
-run_from s values [] = Some (values ∷ [])
-run_from s values (rule ∷ rules) =
-    option_map (λ run. values ∷ run) (option_and_then (λ next. run_from s next rules) (after_rule_number s rule values))
+abbrev pub run_firing_rules : PlainSystem → List ℕ → List ℕ → Option (List (List ℕ))
+run_firing_rules s values [] = Some (values ∷ [])
+run_firing_rules s values (rule ∷ rules) =
+    option_map (λ run. values ∷ run) (option_and_then (λ next. run_firing_rules s next rules) (after_rule_number s rule values))
 
 -- Returns whether the value lists meet the demand.
 abbrev pub is_met_by : List (List ℕ) → CopyDemand → Bool
@@ -21,7 +21,7 @@ is_met_by run d = is_some_and (slice_get run d.copy) (λ values. bool_equals d.h
 
 -- Returns whether a run with these first values and rules exists and is one that the query asks
 -- for.
-abbrev pub is_wanted_run : SystemTree → GoalTree → Wanted → List ℕ → List ℕ → Bool
+abbrev pub is_wanted_run : PlainSystem → PlainGoal → Wanted → List ℕ → List ℕ → Bool
 is_wanted_run s g q first rules =
     in_ranges first s.ranges && length rules == step_count q
-    && is_some_and (run_from s first rules) (λ run. list_all (is_met_by run) (demands_of g q))
+    && is_some_and (run_firing_rules s first rules) (λ run. list_all (is_met_by run) (demands_of g q))

@@ -3,52 +3,52 @@ ghost use Rattle.std.specs.List.{list_all, flat_map};
 ghost use Rattle.ilk_cnf.specs.Part.{with_part};
 ghost use Rattle.ilk_ir.specs.Form.{tree_of, trees_of};
 ghost use Rattle.ilk_ir.specs.Tree.{all_of, more, negation};
-ghost use Rattle.ilk_unroll.specs.Goal.{must_hold_in, must_fail_in, must_hold_below, demands_of, goal_tree, step_count};
+ghost use Rattle.ilk_unroll.specs.Goal.{must_hold_in, must_fail_in, must_hold_below, demands_of, plain_goal, step_count};
 ghost use Rattle.ilk_unroll.specs.Query.{demands_part};
-ghost use Rattle.ilk_unroll.specs.Tables.{tables_in, is_valid_in_each};
+ghost use Rattle.ilk_unroll.specs.Tables.{are_copies_over, is_valid_in_each};
 
 use crate::queries::{Goal, Wanted};
-use crate::unroll::Tables;
+use crate::unroll::RunLits;
 use ilk_cnf::Cnf;
-use ilk_forms::{demand, demand_holds_or_fails, demand_some_fails};
+use ilk_forms::{demand_form_or_some_fail, demand_lit_or_form, demand_some_fails};
 use ilk_ir::{Form, Forms};
 use std::alloc::{AllocError, Global};
 
 fn demand_in(
     alloc: Global,
     cnf: &mut Cnf,
-    tables: &Tables,
+    tables: &RunLits,
     form: &Form,
     copy: u32,
 ) -> Result<(), AllocError>
     requires copy { copy < length tables.now }
-    requires within { IsTrue (tables_in cnf.old.vars tables.now) }
+    requires within { IsTrue (are_copies_over cnf.old.vars tables.now) }
     requires valid { IsTrue (is_valid_in_each tables.now (tree_of form.now)) }
     ensures made { OnOk result
         (cnf.new
         ≡ with_part cnf.old
         (demands_part tables.now (must_hold_in copy (tree_of form.now) ∷ []) cnf.old.vars)) }
-    ensures within { OnOk result (IsTrue (tables_in cnf.new.vars tables.now)) }
+    ensures within { OnOk result (IsTrue (are_copies_over cnf.new.vars tables.now)) }
 {
-    demand(alloc, cnf, tables.at(u64::from(copy)), &[], form)?;
+    demand_lit_or_form(alloc, cnf, tables.at(u64::from(copy)), &[], form)?;
     Ok(())
 }
 
 fn demand_below(
     alloc: Global,
     cnf: &mut Cnf,
-    tables: &Tables,
+    tables: &RunLits,
     form: &Form,
     count: u32,
 ) -> Result<(), AllocError>
     requires count { count ≤ length tables.now }
-    requires within { IsTrue (tables_in cnf.old.vars tables.now) }
+    requires within { IsTrue (are_copies_over cnf.old.vars tables.now) }
     requires valid { IsTrue (is_valid_in_each tables.now (tree_of form.now)) }
     ensures made { OnOk result
         (cnf.new
         ≡ with_part cnf.old
         (demands_part tables.now (must_hold_below (tree_of form.now) count) cnf.old.vars)) }
-    ensures within { OnOk result (IsTrue (tables_in cnf.new.vars tables.now)) }
+    ensures within { OnOk result (IsTrue (are_copies_over cnf.new.vars tables.now)) }
 {
     for copy in 0..count {
         demand_in(alloc, cnf, tables, form, copy)?;
@@ -59,19 +59,19 @@ fn demand_below(
 fn demand_each_below(
     alloc: Global,
     cnf: &mut Cnf,
-    tables: &Tables,
+    tables: &RunLits,
     forms: &[Form],
     count: u32,
 ) -> Result<(), AllocError>
     requires count { count ≤ length tables.now }
-    requires within { IsTrue (tables_in cnf.old.vars tables.now) }
+    requires within { IsTrue (are_copies_over cnf.old.vars tables.now) }
     requires valid { IsTrue (list_all (is_valid_in_each tables.now) (map tree_of forms.now)) }
     ensures made { OnOk result
         (cnf.new
         ≡ with_part cnf.old
         (demands_part tables.now
         (flat_map (λ t. must_hold_below t count) (map tree_of forms.now)) cnf.old.vars)) }
-    ensures within { OnOk result (IsTrue (tables_in cnf.new.vars tables.now)) }
+    ensures within { OnOk result (IsTrue (are_copies_over cnf.new.vars tables.now)) }
 {
     for form in forms {
         demand_below(alloc, cnf, tables, form, count)?;
@@ -83,12 +83,12 @@ fn demand_each_below(
 fn demand_violated(
     alloc: Global,
     cnf: &mut Cnf,
-    tables: &Tables,
+    tables: &RunLits,
     forms: &Forms,
     copy: u32,
 ) -> Result<(), AllocError>
     requires copy { copy < length tables.now }
-    requires within { IsTrue (tables_in cnf.old.vars tables.now) }
+    requires within { IsTrue (are_copies_over cnf.old.vars tables.now) }
     requires valid { IsTrue (is_valid_in_each tables.now (all_of (trees_of forms.now))) }
     ensures { OnOk result
         (cnf.new
@@ -104,13 +104,13 @@ fn demand_violated(
 fn demand_or_violated(
     alloc: Global,
     cnf: &mut Cnf,
-    tables: &Tables,
+    tables: &RunLits,
     form: &Form,
     forms: &Forms,
     copy: u32,
 ) -> Result<(), AllocError>
     requires copy { copy < length tables.now }
-    requires within { IsTrue (tables_in cnf.old.vars tables.now) }
+    requires within { IsTrue (are_copies_over cnf.old.vars tables.now) }
     requires valid { IsTrue
         (is_valid_in_each tables.now (all_of
         (more (negation (tree_of form.now)) (trees_of forms.now)))) }
@@ -123,26 +123,26 @@ fn demand_or_violated(
         ∷ []) cnf.old.vars)) }
 {
     let table = tables.at(u64::from(copy));
-    demand_holds_or_fails(alloc, cnf, table, form, forms.as_slice())?;
+    demand_form_or_some_fail(alloc, cnf, table, form, forms.as_slice())?;
     Ok(())
 }
 
 fn add_hazard(
     alloc: Global,
     cnf: &mut Cnf,
-    tables: &Tables,
+    tables: &RunLits,
     goal: &Goal,
     steps: u32,
 ) -> Result<(), AllocError>
     requires steps { steps < length tables.now }
-    requires within { IsTrue (tables_in cnf.old.vars tables.now) }
+    requires within { IsTrue (are_copies_over cnf.old.vars tables.now) }
     requires start { IsTrue (is_valid_in_each tables.now (tree_of goal.now.start)) }
     requires hazard { IsTrue (is_valid_in_each tables.now (tree_of goal.now.hazard)) }
     requires wellformed { IsTrue (is_valid_in_each tables.now (tree_of goal.now.wellformed)) }
     ensures { OnOk result
         (cnf.new
         ≡ with_part cnf.old
-        (demands_part tables.now (demands_of (goal_tree goal.now) (Wanted.Hazard steps))
+        (demands_part tables.now (demands_of (plain_goal goal.now) (Wanted.Hazard steps))
         cnf.old.vars)) }
 {
     demand_in(alloc, cnf, tables, &goal.start, 0)?;
@@ -154,20 +154,20 @@ fn add_hazard(
 fn add_breach(
     alloc: Global,
     cnf: &mut Cnf,
-    tables: &Tables,
+    tables: &RunLits,
     goal: &Goal,
     steps: u32,
 ) -> Result<(), AllocError>
     requires steps { steps < length tables.now }
     requires few { steps ≤ 16 }
-    requires within { IsTrue (tables_in cnf.old.vars tables.now) }
+    requires within { IsTrue (are_copies_over cnf.old.vars tables.now) }
     requires start { IsTrue (is_valid_in_each tables.now (tree_of goal.now.start)) }
     requires wellformed { IsTrue (is_valid_in_each tables.now (tree_of goal.now.wellformed)) }
     requires families { IsTrue (is_valid_in_each tables.now (all_of (trees_of goal.now.families))) }
     ensures { OnOk result
         (cnf.new
         ≡ with_part cnf.old
-        (demands_part tables.now (demands_of (goal_tree goal.now) (Wanted.Breach steps))
+        (demands_part tables.now (demands_of (plain_goal goal.now) (Wanted.Breach steps))
         cnf.old.vars)) }
 {
     demand_in(alloc, cnf, tables, &goal.start, 0)?;
@@ -179,12 +179,12 @@ fn add_breach(
 fn add_step_query(
     alloc: Global,
     cnf: &mut Cnf,
-    tables: &Tables,
+    tables: &RunLits,
     goal: &Goal,
     steps: u32,
 ) -> Result<(), AllocError>
     requires steps { steps < length tables.now }
-    requires within { IsTrue (tables_in cnf.old.vars tables.now) }
+    requires within { IsTrue (are_copies_over cnf.old.vars tables.now) }
     requires wellformed { IsTrue (is_valid_in_each tables.now (tree_of goal.now.wellformed)) }
     requires each { IsTrue (list_all (is_valid_in_each tables.now)
         (map tree_of goal.now.families)) }
@@ -194,7 +194,7 @@ fn add_step_query(
     ensures { OnOk result
         (cnf.new
         ≡ with_part cnf.old
-        (demands_part tables.now (demands_of (goal_tree goal.now) (Wanted.Step steps))
+        (demands_part tables.now (demands_of (plain_goal goal.now) (Wanted.Step steps))
         cnf.old.vars)) }
 {
     demand_below(alloc, cnf, tables, &goal.wellformed, steps)?;
@@ -207,13 +207,13 @@ fn add_step_query(
 pub fn add_demands(
     alloc: Global,
     cnf: &mut Cnf,
-    tables: &Tables,
+    tables: &RunLits,
     goal: &Goal,
     q: Wanted,
 ) -> Result<(), AllocError>
     requires steps { step_count q < length tables.now }
     requires few { step_count q ≤ 16 }
-    requires within { IsTrue (tables_in cnf.old.vars tables.now) }
+    requires within { IsTrue (are_copies_over cnf.old.vars tables.now) }
     requires start { IsTrue (is_valid_in_each tables.now (tree_of goal.now.start)) }
     requires hazard { IsTrue (is_valid_in_each tables.now (tree_of goal.now.hazard)) }
     requires wellformed { IsTrue (is_valid_in_each tables.now (tree_of goal.now.wellformed)) }
@@ -226,7 +226,7 @@ pub fn add_demands(
     ensures { OnOk result
         (cnf.new
         ≡ with_part cnf.old
-        (demands_part tables.now (demands_of (goal_tree goal.now) q) cnf.old.vars)) }
+        (demands_part tables.now (demands_of (plain_goal goal.now) q) cnf.old.vars)) }
 {
     match q {
         Wanted::Hazard(steps) => add_hazard(alloc, cnf, tables, goal, steps),

@@ -1,6 +1,6 @@
 ghost use Rattle.std.specs.Prelude.{◌≡◌, ◌≤◌, ◌*◌, suc, sum, OnOk, IfOk, IsTrue};
-ghost use Rattle.ilk_ir.specs.System.{system_tree, system_valid};
-ghost use Rattle.ilk_unroll.specs.Goal.{goal_tree, goal_valid, wanted_valid, step_count};
+ghost use Rattle.ilk_ir.specs.System.{plain_system, system_valid};
+ghost use Rattle.ilk_unroll.specs.Goal.{plain_goal, goal_valid, step_count_is_allowed, step_count};
 ghost use Rattle.ilk_unroll.specs.Query.{copies_part, query_formula};
 ghost use Rattle.ilk_unroll.specs.Represented.{IsSatisfiedByEachRun, IsSatisfiedOnlyByRuns};
 
@@ -17,11 +17,11 @@ use std::alloc::{AllocError, Global};
 /// system has to be valid, and the goal's forms valid over its ranges. The query has at most 16
 /// steps, and a step query at least one.
 pub fn query(alloc: Global, system: &System, goal: &Goal, q: Wanted) -> Result<Cnf, AllocError>
-    requires system { IsTrue (system_valid (system_tree system.now)) }
-    requires goal { IsTrue (goal_valid system.now.ranges (goal_tree goal.now)) }
-    requires wanted { IsTrue (wanted_valid q) }
+    requires system { IsTrue (system_valid (plain_system system.now)) }
+    requires goal { IsTrue (goal_valid system.now.ranges (plain_goal goal.now)) }
+    requires wanted { IsTrue (step_count_is_allowed q) }
     ensures formula { IfOk result
-        (λ cnf. cnf ≡ query_formula (system_tree system.now) (goal_tree goal.now) q) }
+        (λ cnf. cnf ≡ query_formula (plain_system system.now) (plain_goal goal.now) q) }
 
     // The copies have at most two variables for each value of a variable.
     ensures copies { OnOk result
@@ -30,11 +30,11 @@ pub fn query(alloc: Global, system: &System, goal: &Goal, q: Wanted) -> Result<C
 
     // An assignment that satisfies the formula is that of a run that the query asks for.
     ensures sound { OnOk result
-        (IsSatisfiedOnlyByRuns (system_tree system.now) (goal_tree goal.now) q) }
+        (IsSatisfiedOnlyByRuns (plain_system system.now) (plain_goal goal.now) q) }
 
     // The assignment of each such run satisfies the formula.
     ensures complete { OnOk result
-        (IsSatisfiedByEachRun (system_tree system.now) (goal_tree goal.now) q) }
+        (IsSatisfiedByEachRun (plain_system system.now) (plain_goal goal.now) q) }
 {
     let mut cnf = Cnf::new(alloc);
     let unrolled = unroll(alloc, &mut cnf, system, q.steps())?;

@@ -25,7 +25,7 @@
 //! breaks a family. Its premises: no run of up to k steps from the start does, and no run of k
 //! steps leaves the invariant. This is induction over k steps, as in M. Sheeran, S. Singh and G.
 //! Stålmarck, "Checking safety properties using induction and a SAT-solver", FMCAD 2000. A query
-//! has a run exactly if its formula is satisfiable (`satisfiable_queries_have_runs`).
+//! has a run exactly if its formula is satisfiable (`satisfiable_iff_run_exists`).
 //!
 //! This crate depends on no crate of the search. A check of a certificate, or of another solver's
 //! refutations, thus needs these laws and no search.
@@ -39,6 +39,6 @@ mod reading;
 mod unroll;
 
 pub use formula::query;
-pub use laws::{k_induction_is_sound, satisfiable_queries_have_runs};
+pub use laws::{k_induction_is_sound, satisfiable_iff_run_exists};
 pub use queries::{Goal, Wanted};
 pub use reading::{Rows, Trace, read_back};

@@ -1,13 +1,13 @@
 ghost use Rattle.std.specs.Prelude.{◌≡◌, ℕ, ◌+◌, ◌<◌, ◌≤◌, ◌^◌, List, length, IfOk, IsTrue};
 ghost use Rattle.ilk_cnf.specs.Truth.{satisfies};
-ghost use Rattle.ilk_ir.specs.System.{system_tree, system_valid};
-ghost use Rattle.ilk_forms.specs.Copy.{total_bits};
-ghost use Rattle.ilk_unroll.specs.Goal.{goal_tree, goal_valid, wanted_valid};
+ghost use Rattle.ilk_ir.specs.System.{plain_system, system_valid};
+ghost use Rattle.ilk_forms.specs.Copy.{copy_bit_count};
+ghost use Rattle.ilk_unroll.specs.Goal.{plain_goal, goal_valid, step_count_is_allowed};
 ghost use Rattle.ilk_unroll.specs.Run.{is_wanted_run};
 ghost use Rattle.ilk_unroll.specs.Query.{query_formula};
 ghost use Rattle.ilk_unroll.specs.Assignment.{run_assignment};
 ghost use Rattle.ilk_unroll.specs.Represented.{RepresentValues};
-ghost use Rattle.ilk_unroll.specs.Tables.{AllChosen, choices_begin_by};
+ghost use Rattle.ilk_unroll.specs.Tables.{ChoosesEach, choices_begin_by};
 
 use crate::queries::{Goal, Wanted};
 use crate::unroll::{Choices, unroll};
@@ -36,8 +36,8 @@ fn read_values(
     from: u64,
 ) -> Result<Values, AllocError>
     requires from_1 { 0 < from }
-    requires numbered { from + total_bits ranges.now ≤ 2 ^ 62 + 1 }
-    requires reached { from + total_bits ranges.now ≤ length a.now + 1 }
+    requires numbered { from + copy_bit_count ranges.now ≤ 2 ^ 62 + 1 }
+    requires reached { from + copy_bit_count ranges.now ≤ length a.now + 1 }
     requires told { (values : List ℕ) × RepresentValues a.now from ranges.now values }
     ensures { IfOk result
         (λ read. (values : List ℕ) → RepresentValues a.now from ranges.now values →
@@ -60,9 +60,9 @@ fn read_values(
 
 fn read_rules(alloc: Global, choices: &Choices, a: &Assignment) -> Result<Rows, AllocError>
     requires numbered { IsTrue (choices_begin_by (2 ^ 62) choices.now) }
-    requires chosen { (rules : List ℕ) × AllChosen a.now choices.now rules }
+    requires chosen { (rules : List ℕ) × ChoosesEach a.now choices.now rules }
     ensures { IfOk result
-        (λ read. (rules : List ℕ) → AllChosen a.now choices.now rules → read ≡ rules) }
+        (λ read. (rules : List ℕ) → ChoosesEach a.now choices.now rules → read ≡ rules) }
 {
     let mut rules = Rows::new(alloc);
     for choice in choices.as_slice() {
@@ -81,20 +81,21 @@ pub fn read_back(
     q: Wanted,
     a: &Assignment,
 ) -> Result<Trace, AllocError>
-    requires system { IsTrue (system_valid (system_tree system.now)) }
-    requires goal { IsTrue (goal_valid system.now.ranges (goal_tree goal.now)) }
-    requires wanted { IsTrue (wanted_valid q) }
+    requires system { IsTrue (system_valid (plain_system system.now)) }
+    requires goal { IsTrue (goal_valid system.now.ranges (plain_goal goal.now)) }
+    requires wanted { IsTrue (step_count_is_allowed q) }
     requires sized { length a.now
-        ≡ (query_formula (system_tree system.now) (goal_tree goal.now) q).vars }
+        ≡ (query_formula (plain_system system.now) (plain_goal goal.now) q).vars }
     requires satisfied { IsTrue
-        (satisfies a.now (query_formula (system_tree system.now) (goal_tree goal.now) q).clauses) }
+        (satisfies a.now (query_formula (plain_system system.now)
+        (plain_goal goal.now) q).clauses) }
     ensures run { IfOk result
         (λ trace. IsTrue
-        (is_wanted_run (system_tree system.now) (goal_tree goal.now) q trace.first
+        (is_wanted_run (plain_system system.now) (plain_goal goal.now) q trace.first
         trace.rules)) }
     ensures assignment { IfOk result
         (λ trace. a.now
-        ≡ run_assignment (system_tree system.now) (goal_tree goal.now) q trace.first
+        ≡ run_assignment (plain_system system.now) (plain_goal goal.now) q trace.first
         trace.rules) }
 {
     let mut cnf = Cnf::new(alloc);

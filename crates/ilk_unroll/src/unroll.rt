@@ -1,22 +1,22 @@
 ghost use Rattle.std.specs.Prelude.{◌≡◌, ◌+◌, ◌*◌, ◌<◌, ◌≤◌, ◌^◌, [], nat_lt, map, OnOk, IfOk, IsTrue};
 ghost use Rattle.std.specs.List.{list_all};
-ghost use Rattle.ilk_cnf.specs.Formula.{with_clauses, with_vars};
-ghost use Rattle.ilk_cnf.specs.Part.{with_part, as_clauses};
-ghost use Rattle.ilk_ir.specs.System.{rule_tree, system_tree, system_valid};
-ghost use Rattle.ilk_forms.specs.Copy.{total_bits, copy_var_count};
+ghost use Rattle.ilk_cnf.specs.Formula.{with_clauses, with_var_count};
+ghost use Rattle.ilk_cnf.specs.Part.{with_part, clauses_from_lists};
+ghost use Rattle.ilk_ir.specs.System.{plain_rule, plain_system, system_valid};
+ghost use Rattle.ilk_forms.specs.Copy.{copy_bit_count, copy_var_count};
 ghost use Rattle.ilk_unroll.specs.Query.{copies_part, steps_part};
 ghost use Rattle.ilk_unroll.specs.Represented.{run_choices, run_copies, run_part};
-ghost use Rattle.ilk_unroll.specs.Tables.{tables_in, HaveRanges, step_choices, choices_begin_by};
+ghost use Rattle.ilk_unroll.specs.Tables.{are_copies_over, HaveRanges, step_choice_variables, choices_begin_by};
 
 use ilk_base::Row;
 use ilk_cnf::Cnf;
-use ilk_forms::{Table, add_copy, reserve_copy};
+use ilk_forms::{CopyLits, add_copy, reserve_copy};
 use ilk_ir::{Ranges, System};
 use ilk_step::{Choice, add_step};
 use std::alloc::{AllocError, Global};
 
 /// The literals of the copy of each moment, from the first on.
-pub type Tables = Row<Table>;
+pub type RunLits = Row<CopyLits>;
 
 /// The variables that say which rule is chosen, for each step.
 pub type Choices = Row<Choice>;
@@ -24,7 +24,7 @@ pub type Choices = Row<Choice>;
 /// An unrolled system: its literals, and the variables from which a run is read.
 #[derive(Drop)]
 pub struct Unrolled {
-    pub tables: Tables,
+    pub tables: RunLits,
     /// The first variable of the first values' copy.
     pub first: u64,
     pub choices: Choices,
@@ -32,7 +32,7 @@ pub struct Unrolled {
 
 fn take_copies(cnf: &mut Cnf, ranges: &Ranges, count: u32) -> Result<(), AllocError>
     ensures { OnOk result
-        (cnf.new ≡ with_vars cnf.old (cnf.old.vars + count * copy_var_count ranges.now)) }
+        (cnf.new ≡ with_var_count cnf.old (cnf.old.vars + count * copy_var_count ranges.now)) }
 {
     for _ in 0..count {
         reserve_copy(cnf, ranges)?;
@@ -48,16 +48,16 @@ fn add_copies(
     ranges: &Ranges,
     width: u64,
     count: u32,
-) -> Result<Tables, AllocError>
+) -> Result<RunLits, AllocError>
     requires width { width ≡ copy_var_count ranges.now }
     requires there { cnf.old.vars ≡ count * copy_var_count ranges.now }
     ensures tables { IfOk result (λ tables. tables ≡ (copies_part ranges.now count 0).tables) }
     ensures made { OnOk result
         (cnf.new
         ≡ with_clauses cnf.old cnf.old.vars
-        (as_clauses (copies_part ranges.now count 0).part.clauses)) }
+        (clauses_from_lists (copies_part ranges.now count 0).part.clauses)) }
 {
-    let mut tables = Tables::new(alloc);
+    let mut tables = RunLits::new(alloc);
     let mut before = cnf.vars();
     for _ in 0..count {
         before -= width;
@@ -71,18 +71,18 @@ fn add_steps(
     alloc: Global,
     cnf: &mut Cnf,
     system: &System,
-    tables: &Tables,
+    tables: &RunLits,
 ) -> Result<Choices, AllocError>
-    requires within { IsTrue (tables_in cnf.old.vars tables.now) }
+    requires within { IsTrue (are_copies_over cnf.old.vars tables.now) }
     requires ranges { HaveRanges system.now.ranges tables.now }
-    requires valid { IsTrue (system_valid (system_tree system.now)) }
+    requires valid { IsTrue (system_valid (plain_system system.now)) }
     ensures choices { IfOk result
         (λ choices. choices
-        ≡ step_choices (map rule_tree system.now.rules) tables.now cnf.old.vars) }
+        ≡ step_choice_variables (map plain_rule system.now.rules) tables.now cnf.old.vars) }
     ensures made { OnOk result
         (cnf.new
         ≡ with_part cnf.old
-        (steps_part (map rule_tree system.now.rules) tables.now cnf.old.vars)) }
+        (steps_part (map plain_rule system.now.rules) tables.now cnf.old.vars)) }
 {
     let mut choices = Choices::new(alloc);
     for i in 1..tables.len() {
@@ -111,22 +111,24 @@ pub fn unroll(
 ) -> Result<Unrolled, AllocError>
     requires empty { cnf.old ≡ record { vars = 0; clauses = [] } }
     requires steps { steps < 2 ^ 31 }
-    requires valid { IsTrue (system_valid (system_tree system.now)) }
+    requires valid { IsTrue (system_valid (plain_system system.now)) }
     ensures tables { IfOk result
         (λ unrolled. unrolled.tables ≡ (run_copies system.now.ranges steps).tables) }
     ensures first { IfOk result
         (λ unrolled. unrolled.first ≡ (copies_part system.now.ranges steps 0).part.vars + 1) }
     ensures choices { IfOk result
-        (λ unrolled. unrolled.choices ≡ run_choices (system_tree system.now) steps) }
+        (λ unrolled. unrolled.choices ≡ run_choices (plain_system system.now) steps) }
     ensures made { OnOk result
         (cnf.new
-        ≡ with_part (record { vars = 0; clauses = [] }) (run_part (system_tree system.now) steps)) }
-    ensures within { IfOk result (λ unrolled. IsTrue (tables_in cnf.new.vars unrolled.tables)) }
+        ≡ with_part (record { vars = 0; clauses = [] })
+        (run_part (plain_system system.now) steps)) }
+    ensures within { IfOk result
+        (λ unrolled. IsTrue (are_copies_over cnf.new.vars unrolled.tables)) }
     ensures ranges { IfOk result (λ unrolled. HaveRanges system.now.ranges unrolled.tables) }
     ensures numbered { IfOk result
         (λ unrolled. IsTrue (choices_begin_by (2 ^ 62) unrolled.choices)) }
     ensures reach { IfOk result
-        (λ unrolled. unrolled.first + total_bits system.now.ranges ≤ 2 ^ 62 + 1) }
+        (λ unrolled. unrolled.first + copy_bit_count system.now.ranges ≤ 2 ^ 62 + 1) }
     ensures bytes { OnOk result (IsTrue (list_all (λ range. nat_lt range 256) system.now.ranges)) }
 {
     let _ranges = bytes_of(system.ranges.as_slice());

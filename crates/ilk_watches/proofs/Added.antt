@@ -17,7 +17,7 @@ use Rattle.ilk_arena.specs.Arena.{ArenaLists, with_clause_added, chain_of, liter
 use Rattle.ilk_arena.proofs.Watching.{stands-with_clause_added}
 use Rattle.ilk_watches.specs.Chained.{IsClauses, IsClauseAdded}
 use Rattle.ilk_watches.proofs.Chained.{by-number, placed}
-use Rattle.ilk_watches.specs.Watched.{is_satisfied, IsAddable, IsCovered, IsQueue, MayForce}
+use Rattle.ilk_watches.specs.Watched.{is_satisfied, FirstTwoAreWatchable, IsCovered, IsQueue, MayForce}
 use Rattle.ilk_watches.proofs.Covers.{stands-either, stands-one}
 
 chains-old : (a : ArenaLists) (clause : List Literal) (r s d : ℕ) (p : Literal) → d ≢ r → is_listed_in d (chain_of (with_clause_added a clause r s) p) ≡ true → is_listed_in d (chain_of a p) ≡ true
@@ -73,7 +73,7 @@ new-watches a l m ls r s p k fresh h =
 
 new-covered : (a : ArenaLists) (es : List Entry) (h s r sp : ℕ) (clause : List Literal) → IsClauses a →
     IsClauses (with_clause_added a clause r sp) → is_listed_in r a.references ≡ false →
-    is_listed_in r (with_clause_added a clause r sp).references ≡ true → s ≤ length a.clauses → IsAddable es clause →
+    is_listed_in r (with_clause_added a clause r sp).references ≡ true → s ≤ length a.clauses → FirstTwoAreWatchable es clause →
     IsCovered (with_clause_added a clause r sp) es h r
     ⊎
     ((s < number_of_clause (with_clause_added a clause r sp) r) ×
@@ -133,7 +133,7 @@ old-covered a es h s r sp c clause q ka kb known ne =
       )
     ]
 
-grown : (a : ArenaLists) (es : List Entry) (h s r sp : ℕ) (clause : List Literal) → IsQueue a es h s → IsClauses a → IsClauses (with_clause_added a clause r sp) → is_listed_in r a.references ≡ false → IsAddable es clause
+grown : (a : ArenaLists) (es : List Entry) (h s r sp : ℕ) (clause : List Literal) → IsQueue a es h s → IsClauses a → IsClauses (with_clause_added a clause r sp) → is_listed_in r a.references ≡ false → FirstTwoAreWatchable es clause
     → IsQueue (with_clause_added a clause r sp) es h s
 grown a es h s r sp clause q ka kb fresh ok =
     let other : (c : ℕ) → is_listed_in c a.references ≡ true → c ≢ r = λ c known e. true≢false (sym known ∙ ap (λ (x : ℕ). is_listed_in x a.references) e ∙ fresh) in
@@ -157,7 +157,7 @@ grown a es h s r sp clause q ka kb fresh ok =
       ];
     }
 
-pub queue-with_clause_added : (a b : ArenaLists) (es : List Entry) (h s : ℕ) (clause : List Literal) → IsQueue a es h s → IsClauses a → IsClauses b → IsClauseAdded a clause b → IsAddable es clause → IsQueue b es h s
+pub queue-with_clause_added : (a b : ArenaLists) (es : List Entry) (h s : ℕ) (clause : List Literal) → IsQueue a es h s → IsClauses a → IsClauses b → IsClauseAdded a clause b → FirstTwoAreWatchable es clause → IsQueue b es h s
 queue-with_clause_added a b es h s clause q ka kb n ok =
     let C : ArenaLists → Type 0 = λ x. IsClauses x in
     let Q : ArenaLists → Type 0 = λ x. IsQueue x es h s in

@@ -11,7 +11,7 @@ use Rattle.ilk_trail.specs.Trail.{level_of, entries_up_to}
 use Rattle.ilk_trail.specs.Laws.{has_rising_levels, lits_of}
 use Rattle.ilk_trail.proofs.Levels.{entries_up_to-all}
 use Rattle.ilk_arena.specs.Arena.{ArenaLists, literals_of}
-use Rattle.ilk_watches.specs.Reasons.{clause_at}
+use Rattle.ilk_watches.specs.Reasons.{nth_clause_or_empty}
 use Rattle.ilk_watches.specs.Chained.{IsClauses}
 use Rattle.ilk_watches.proofs.Chained.{by-reference}
 use Rattle.ilk_watches.proofs.Within.{clause-there}
@@ -52,7 +52,7 @@ lower a es h s k n q cl climb low closed le fits same = record {
   ];
   short = λ c known few b.
       (let r = by-reference a c cl known in
-      let o : is_open (lits_of (entries_up_to k es)) (clause_at a.clauses r.index) ≡ true = list_all-slice_get (is_open (lits_of (entries_up_to k es))) a.clauses r.index (clause_at a.clauses r.index) closed
+      let o : is_open (lits_of (entries_up_to k es)) (nth_clause_or_empty a.clauses r.index) ≡ true = list_all-slice_get (is_open (lits_of (entries_up_to k es))) a.clauses r.index (nth_clause_or_empty a.clauses r.index) closed
       (clause-there a.clauses r.index r.within) in
       short-satisfied (entries_up_to k es) (literals_of a c) b (ap (is_open (lits_of (entries_up_to k es))) (sym r.literals) ∙ o));
 }

@@ -2,14 +2,14 @@
 use Rattle.std.proofs.Common.{◌≡◌, ◌≢◌, ◌≤◌, ℕ, inl, inr, true, List, [], ◌∷◌, length, get_or, take, Option, sym, ap, ◌∙◌}
 use Rattle.std.proofs.lemmas.Bool.{true≢false}
 use Rattle.std.proofs.lemmas.List.{get_or-set_other}
-use Rattle.ilk_cnf.specs.Literal.{Literal, negated_lit, same_lit, vars_differ}
+use Rattle.ilk_cnf.specs.Literal.{Literal, negated_lit, same_lit, has_distinct_vars}
 use Rattle.ilk_log.specs.Propagation.{is_false}
 use Rattle.ilk_trail.specs.declared.entry.Entry.{Entry}
 use Rattle.ilk_trail.specs.Laws.{lits_of}
 use Rattle.ilk_arena.specs.Arena.{ArenaLists, place, chain_of, chains_with_first, with_watch_moved, is_listed_in, chains_without, without_reference}
 use Rattle.ilk_arena.proofs.Watching.{place-one, stands-with_watch_moved}
 use Rattle.ilk_watches.specs.Chained.{SameClauses}
-use Rattle.ilk_watches.specs.Visits.{ChainsAfter, CoveredExcept, IsWalkAt, remaining_clauses, rest_from}
+use Rattle.ilk_watches.specs.Visits.{AtMostOneLeftChain, CoveredExceptInChains, IsWalkAt, count_rest_of_chain, rest_from}
 use Rattle.ilk_watches.proofs.Entries.{lit-kept, not-both}
 use Rattle.ilk_watches.proofs.Covers.{but-chains, but-more, but-with_watch_moved}
 
@@ -17,8 +17,8 @@ use Rattle.ilk_watches.proofs.Covers.{but-chains, but-more, but-with_watch_moved
 pub record StepAt (a b : ArenaLists) (es fs : List Entry) (f : Literal) : Type 0 where
   pub same : SameClauses a b
   pub kept : take (length es) fs ≡ es
-  pub chains : ChainsAfter a es b f
-  pub once : vars_differ (lits_of es) ≡ true
+  pub chains : AtMostOneLeftChain a es b f
+  pub once : has_distinct_vars (lits_of es) ≡ true
   pub denied : is_false (lits_of es) f ≡ true
 
 chain-kept : (a : ArenaLists) (c : ℕ) (f t g : Literal) → g ≢ f → g ≢ t → chain_of (with_watch_moved a c f t) g ≡ chain_of a g
@@ -60,10 +60,10 @@ walking-beside a b es fs f g before next s fg n w = record {
   };
 }
 
-pub left-beside : (a b : ArenaLists) (es fs : List Entry) (f g : Literal) (next : Option ℕ) → StepAt a b es fs f → is_false (lits_of es) g ≡ true → g ≢ f → remaining_clauses b g next ≡ remaining_clauses a g next
+pub left-beside : (a b : ArenaLists) (es fs : List Entry) (f g : Literal) (next : Option ℕ) → StepAt a b es fs f → is_false (lits_of es) g ≡ true → g ≢ f → count_rest_of_chain b g next ≡ count_rest_of_chain a g next
 left-beside a b es fs f g next s fg n = ap (λ (cs : List ℕ). length (rest_from next cs)) (chain-beside a b es fs f g s fg n)
 
-pub but-step : (a b : ArenaLists) (es fs : List Entry) (n : ℕ) (f g : Literal) → StepAt a b es fs f → n ≤ length es → CoveredExcept a es n f g → CoveredExcept b fs n f g
+pub but-step : (a b : ArenaLists) (es fs : List Entry) (n : ℕ) (f g : Literal) → StepAt a b es fs f → n ≤ length es → CoveredExceptInChains a es n f g → CoveredExceptInChains b fs n f g
 but-step a b es fs n f g s le h = but-more b es fs n f g s.kept le (elim s.chains [
   | inl e ↦ but-chains a b es n f g s.same.references e h
   | inr m ↦ but-chains (with_watch_moved a m.clause f m.to) b es n f g s.same.references m.chains (but-with_watch_moved a es n m.clause f g m.to s.once s.denied m.open_one m.stood h)

@@ -7,14 +7,14 @@ use Rattle.std.proofs.lemmas.Map.Keys.{IsDistinct-head, IsDistinct-tail, IsDisti
 use Rattle.std.proofs.lemmas.Option.{slice_get-get_or}
 use Rattle.ilk_base.proofs.Lists.{item_at}
 use Rattle.ilk_base.proofs.Tested.{list_all-more}
-use Rattle.ilk_cnf.specs.Literal.{Literal, vars_differ}
+use Rattle.ilk_cnf.specs.Literal.{Literal, has_distinct_vars}
 use Rattle.ilk_cnf.specs.Formula.{is_clause_over, are_clauses_over}
 use Rattle.ilk_arena.specs.Arena.{ArenaLists, with_clause_added, literals_of, number_of_clause, item_for_reference, with_watch_moved, set_for_reference, is_listed_in}
 use Rattle.ilk_arena.specs.Chains.{IsArena}
 use Rattle.ilk_arena.proofs.Watching.{once-head}
-use Rattle.ilk_watches.specs.Reasons.{clause_at}
+use Rattle.ilk_watches.specs.Reasons.{nth_clause_or_empty}
 use Rattle.ilk_watches.specs.Chained.{IsClauses, IsClauseAdded}
-use Rattle.ilk_watches.specs.Held.{HoldsClauses}
+use Rattle.ilk_watches.specs.Held.{AreClauseReferences}
 
 -- The item at the position of the reference at an index.
 pub record Paired {A : Type 0} (rs : List ℕ) (xs : List A) (d : A) (i r : ℕ) : Type 0 where
@@ -56,7 +56,7 @@ placed (x ∷ rs) r h =
 
 pub record ByNumber (a : ArenaLists) (c r : ℕ) : Type 0 where
   pub known : is_listed_in r a.references ≡ true
-  pub literals : literals_of a r ≡ clause_at a.clauses c
+  pub literals : literals_of a r ≡ nth_clause_or_empty a.clauses c
   pub number : number_of_clause a r ≡ c + 1
 
 pub by-number : (a : ArenaLists) (c r : ℕ) → IsClauses a → slice_get a.references c ≡ Some r → ByNumber a c r
@@ -68,7 +68,7 @@ pub record ByReference (a : ArenaLists) (r : ℕ) : Type 0 where
   pub index : ℕ
   pub number : number_of_clause a r ≡ index + 1
   pub within : index < length a.clauses
-  pub literals : clause_at a.clauses index ≡ literals_of a r
+  pub literals : nth_clause_or_empty a.clauses index ≡ literals_of a r
 
 pub by-reference : (a : ArenaLists) (r : ℕ) → IsClauses a → is_listed_in r a.references ≡ true → ByReference a r
 by-reference a r k h =
@@ -90,11 +90,11 @@ none-twice : IsDistinct eqb []
 unfolding IsDistinct
 none-twice = tt
 
-pub held-none : (a : ArenaLists) → a.vars ≤ 2 ^ 62 → a.references ≡ [] → a.clauses ≡ [] → IsArena a → HoldsClauses a []
+pub held-none : (a : ArenaLists) → a.vars ≤ 2 ^ 62 → a.references ≡ [] → a.clauses ≡ [] → IsArena a → AreClauseReferences a []
 held-none a few rs cs k = record {
   row = sym rs;
   clauses = record {
-    formula = record { numbered = few; within = ap (are_clauses_over a.vars) cs; differ = ap (list_all vars_differ) cs };
+    formula = record { numbered = few; within = ap (are_clauses_over a.vars) cs; differ = ap (list_all has_distinct_vars) cs };
     arena = k;
     paired = ap length rs ∙ sym (ap length cs);
     once = subst (λ (xs : List ℕ). IsDistinct eqb xs) (sym rs) none-twice;
@@ -112,16 +112,16 @@ once-push (x ∷ rs) r u h =
     all-push [] k e = (e, tt)
     all-push (y ∷ ys) k e = (k.0, all-push ys k.1 e)
 
-pub held-with_clause_added : (a : ArenaLists) (rs : List ℕ) (clause : List Literal) (r s : ℕ) → HoldsClauses a rs →
-    is_clause_over a.vars clause ≡ true → vars_differ clause ≡ true → is_listed_in r a.references ≡ false →
-    IsArena (with_clause_added a clause r s) → HoldsClauses (with_clause_added a clause r s) (rs ++ r ∷ [])
+pub held-with_clause_added : (a : ArenaLists) (rs : List ℕ) (clause : List Literal) (r s : ℕ) → AreClauseReferences a rs →
+    is_clause_over a.vars clause ≡ true → has_distinct_vars clause ≡ true → is_listed_in r a.references ≡ false →
+    IsArena (with_clause_added a clause r s) → AreClauseReferences (with_clause_added a clause r s) (rs ++ r ∷ [])
 held-with_clause_added a rs clause r s h w d f k = record {
   row = ap (λ (xs : List ℕ). xs ++ r ∷ []) h.row;
   clauses = record {
     formula = record {
       numbered = h.clauses.formula.numbered;
       within = list_all-more (is_clause_over a.vars) a.clauses clause h.clauses.formula.within w;
-      differ = list_all-more vars_differ a.clauses clause h.clauses.formula.differ d;
+      differ = list_all-more has_distinct_vars a.clauses clause h.clauses.formula.differ d;
     };
     arena = k;
     paired = length-append a.references (r ∷ []) ∙ ap (λ n. n + 1) h.clauses.paired ∙ sym (length-append a.clauses (clause ∷ []));
@@ -129,13 +129,13 @@ held-with_clause_added a rs clause r s h w d f k = record {
   };
 }
 
-pub held-with_watch_moved : (a : ArenaLists) (rs : List ℕ) (c : ℕ) (f t : Literal) → HoldsClauses a rs → IsArena (with_watch_moved a c f t) → HoldsClauses (with_watch_moved a c f t) rs
+pub held-with_watch_moved : (a : ArenaLists) (rs : List ℕ) (c : ℕ) (f t : Literal) → AreClauseReferences a rs → IsArena (with_watch_moved a c f t) → AreClauseReferences (with_watch_moved a c f t) rs
 held-with_watch_moved a rs c f t h k = record {
   row = h.row;
   clauses = record { formula = h.clauses.formula; arena = k; paired = h.clauses.paired; once = h.clauses.once };
 }
 
-pub held-cursor : (a : ArenaLists) (rs : List ℕ) (c i : ℕ) → HoldsClauses a rs → HoldsClauses (record a { cursors = set_for_reference c a.references a.cursors i }) rs
+pub held-cursor : (a : ArenaLists) (rs : List ℕ) (c i : ℕ) → AreClauseReferences a rs → AreClauseReferences (record a { cursors = set_for_reference c a.references a.cursors i }) rs
 held-cursor a rs c i h = record {
   row = h.row;
   clauses = record {
@@ -162,7 +162,7 @@ held-cursor a rs c i h = record {
   };
 }
 
-pub held-room : (a : ArenaLists) (rs : List ℕ) (s : ℕ) → HoldsClauses a rs → HoldsClauses (record a { spare = s }) rs
+pub held-room : (a : ArenaLists) (rs : List ℕ) (s : ℕ) → AreClauseReferences a rs → AreClauseReferences (record a { spare = s }) rs
 held-room a rs s h = record {
   row = h.row;
   clauses = record {
@@ -189,19 +189,19 @@ held-room a rs s h = record {
   };
 }
 
-pub read-reference : (a : ArenaLists) (rs : List ℕ) (c r : ℕ) → HoldsClauses a rs → c < length a.clauses → r ≡ get_or rs c r → ByNumber a c r
+pub read-reference : (a : ArenaLists) (rs : List ℕ) (c r : ℕ) → AreClauseReferences a rs → c < length a.clauses → r ≡ get_or rs c r → ByNumber a c r
 read-reference a rs c r h w e =
     let size : length rs ≡ length a.clauses = ap length h.row ∙ h.clauses.paired in
     let there : slice_get rs c ≡ Some r = slice_get-get_or rs c r (omega (arith, size, w)) ∙ ap Some (sym e) in
     by-number a c r h.clauses (ap (λ (xs : List ℕ). slice_get xs c) (sym h.row) ∙ there)
 
-pub held-grown : (a b n : ArenaLists) (rs : List ℕ) (clause : List Literal) (r : ℕ) → HoldsClauses a rs →
-    b ≡ record a { spare = b.spare } → is_clause_over a.vars clause ≡ true → vars_differ clause ≡ true →
+pub held-grown : (a b n : ArenaLists) (rs : List ℕ) (clause : List Literal) (r : ℕ) → AreClauseReferences a rs →
+    b ≡ record a { spare = b.spare } → is_clause_over a.vars clause ≡ true → has_distinct_vars clause ≡ true →
     is_listed_in r b.references ≡ false → n ≡ with_clause_added b clause r n.spare → IsArena n →
-    HoldsClauses n (rs ++ r ∷ [])
+    AreClauseReferences n (rs ++ r ∷ [])
 held-grown a b n rs clause r h e w d f g k =
-    let H : ArenaLists → Type 0 = λ x. HoldsClauses x rs in
-    let G : ArenaLists → Type 0 = λ x. HoldsClauses x (rs ++ r ∷ []) in
+    let H : ArenaLists → Type 0 = λ x. AreClauseReferences x rs in
+    let G : ArenaLists → Type 0 = λ x. AreClauseReferences x (rs ++ r ∷ []) in
     let A : ArenaLists → Type 0 = λ x. IsArena x in
     let wide : is_clause_over b.vars clause ≡ true = ap (λ (x : ArenaLists). is_clause_over x.vars clause) e ∙ w in
     subst G (sym g) (held-with_clause_added b rs clause r n.spare (subst H (sym e) (held-room a rs b.spare h)) wide d f (subst A g k))

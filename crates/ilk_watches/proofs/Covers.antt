@@ -4,7 +4,7 @@ use Rattle.std.specs.List.{slice_get, IsDistinct}
 use Rattle.std.proofs.lemmas.Bool.{or_cases, or_left, or_right, or_parts, true≢false, eqb-true, eqb-false, ne_eqb}
 use Rattle.std.proofs.lemmas.Map.Keys.{IsDistinct-tail}
 use Rattle.std.proofs.lemmas.List.{append-nil}
-use Rattle.ilk_cnf.specs.Literal.{Literal, negated_lit, has_lit, vars_differ}
+use Rattle.ilk_cnf.specs.Literal.{Literal, negated_lit, has_lit, has_distinct_vars}
 use Rattle.ilk_log.specs.Propagation.{is_false}
 use Rattle.ilk_trail.specs.declared.entry.Entry.{Entry}
 use Rattle.ilk_trail.specs.Trail.{level_of}
@@ -12,29 +12,29 @@ use Rattle.ilk_trail.specs.Laws.{has_rising_levels, lits_of}
 use Rattle.ilk_trail.proofs.Levels.{entries_up_to-all}
 use Rattle.ilk_arena.specs.Arena.{ArenaLists, place, chain_of, with_watch_moved, is_listed_in, without_reference}
 use Rattle.ilk_arena.proofs.Watching.{chain-left, once-head, stands-front, stands-with_watch_moved, without-between}
-use Rattle.ilk_watches.specs.Watched.{is_true_at, IsCovered}
-use Rattle.ilk_watches.specs.Visits.{CoveredExcept, IsWalk, IsOtherWatchTrue}
+use Rattle.ilk_watches.specs.Watched.{is_true_by_level, IsCovered}
+use Rattle.ilk_watches.specs.Visits.{CoveredExceptInChains, IsWalk, IsOtherWatchTrue}
 use Rattle.ilk_watches.proofs.Entries.{true-somewhere, true-kept, lit-kept, at-old, not-both, entry-denies}
 
 pub covered-more : (a : ArenaLists) (es fs : List Entry) (n c : ℕ) → take (length es) fs ≡ es → n ≤ length es → IsCovered a es n c → IsCovered a fs n c
 covered-more a es fs n c p w h = λ i e l b s w1 w2 d.
     true-kept es fs e.level l p (h i e l b (at-old es fs i e p (omega (arith, b, w)) s) w1 w2 d)
 
-pub but-more : (a : ArenaLists) (es fs : List Entry) (n : ℕ) (f g : Literal) → take (length es) fs ≡ es → n ≤ length es → CoveredExcept a es n f g → CoveredExcept a fs n f g
+pub but-more : (a : ArenaLists) (es fs : List Entry) (n : ℕ) (f g : Literal) → take (length es) fs ≡ es → n ≤ length es → CoveredExceptInChains a es n f g → CoveredExceptInChains a fs n f g
 but-more a es fs n f g p w h = λ c known i e l b s nf ng w1 w2 d.
     true-kept es fs e.level l p (h c known i e l b (at-old es fs i e p (omega (arith, b, w)) s) nf ng w1 w2 d)
 
-pub but-chains : (a b : ArenaLists) (es : List Entry) (n : ℕ) (f g : Literal) → b.references ≡ a.references → b.chains ≡ a.chains → CoveredExcept a es n f g → CoveredExcept b es n f g
+pub but-chains : (a b : ArenaLists) (es : List Entry) (n : ℕ) (f g : Literal) → b.references ≡ a.references → b.chains ≡ a.chains → CoveredExceptInChains a es n f g → CoveredExceptInChains b es n f g
 but-chains a b es n f g r e h = λ c known.
     (let P : List (List ℕ) → Type 0 = λ ch. (i : ℕ) (x : Entry) (l : Literal) → i < n →
     slice_get es i ≡ Some x → negated_lit x.lit ≢ f → negated_lit x.lit ≢ g →
     is_listed_in c (get_or ch (place (negated_lit x.lit)) []) ≡ true →
-    is_listed_in c (get_or ch (place l) []) ≡ true → l ≢ negated_lit x.lit → is_true_at es x.level l ≡ true in
+    is_listed_in c (get_or ch (place l) []) ≡ true → l ≢ negated_lit x.lit → is_true_by_level es x.level l ≡ true in
     subst P (sym e) (h c (ap (is_listed_in c) (sym r) ∙ known)))
 
 pub but-with_watch_moved : (a : ArenaLists) (es : List Entry) (n c : ℕ) (f g t : Literal) →
-    vars_differ (lits_of es) ≡ true → is_false (lits_of es) f ≡ true → is_false (lits_of es) t ≡ false →
-    is_listed_in c (chain_of a f) ≡ true → CoveredExcept a es n f g → CoveredExcept (with_watch_moved a c f t) es n f g
+    has_distinct_vars (lits_of es) ≡ true → is_false (lits_of es) f ≡ true → is_false (lits_of es) t ≡ false →
+    is_listed_in c (chain_of a f) ≡ true → CoveredExceptInChains a es n f g → CoveredExceptInChains (with_watch_moved a c f t) es n f g
 but-with_watch_moved a es n c f g t d ff tf sf h = λ k known i e l b s nf ng w1 w2 ne.
     elim (stands-with_watch_moved a c f t k (negated_lit e.lit) w1) [
       | inl o1 ↦ elim (stands-with_watch_moved a c f t k l w2) [
@@ -45,7 +45,7 @@ but-with_watch_moved a es n c f g t d ff tf sf h = λ k known i e l b s nf ng w1
       | inr q ↦ absurd (true≢false (sym (entry-denies es i e s) ∙ ap (is_false (lits_of es)) q.1 ∙ tf))
     ]
 
-pub but-turned : (a : ArenaLists) (es : List Entry) (n : ℕ) (f g : Literal) → CoveredExcept a es n f g → CoveredExcept a es n g f
+pub but-turned : (a : ArenaLists) (es : List Entry) (n : ℕ) (f g : Literal) → CoveredExceptInChains a es n f g → CoveredExceptInChains a es n g f
 but-turned a es n f g h = λ c known i e l b s ng nf. h c known i e l b s nf ng
 
 pub stands-either : (d : ℕ) (xs ys : List ℕ) → is_listed_in d (xs ++ ys) ≡ true → (is_listed_in d xs ≡ true) ⊎ (is_listed_in d ys ≡ true)
@@ -107,7 +107,7 @@ walk-moves a b es fs f t passed c rest w e p once ff tf =
 pub walk-end : (a : ArenaLists) (es : List Entry) (f : Literal) (passed : List ℕ) → IsWalk a es f passed [] →
     has_rising_levels 0 es ≡ true → (c : ℕ) (e : Entry) (l : Literal) → negated_lit e.lit ≡ f → e.level ≡ level_of es →
     is_listed_in c (chain_of a (negated_lit e.lit)) ≡ true → is_listed_in c (chain_of a l) ≡ true →
-    l ≢ negated_lit e.lit → is_true_at es e.level l ≡ true
+    l ≢ negated_lit e.lit → is_true_by_level es e.level l ≡ true
 walk-end a es f passed w climb c e l is level w1 w2 ne =
     let inside : is_listed_in c passed ≡ true = ap (is_listed_in c) (sym (append-nil passed)) ∙ ap (is_listed_in c) (sym w.split) ∙ ap (λ (x : Literal). is_listed_in c (chain_of a x)) (sym is) ∙ w1 in
     let true_now = w.done c inside l w2 (λ x. ne (x ∙ sym is)) in

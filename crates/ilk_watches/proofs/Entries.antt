@@ -6,7 +6,7 @@ use Rattle.std.proofs.lemmas.Bool.{cases_Bool, or_cases, or_left, or_right, and_
 use Rattle.std.proofs.lemmas.List.{take-append-drop, length-take, length-map}
 use Rattle.ilk_base.specs.Option.{is_some_and}
 use Rattle.ilk_base.proofs.Lists.{at-before, take-at}
-use Rattle.ilk_cnf.specs.Literal.{Literal, negated_lit, same_lit, has_lit, has_var, vars_differ}
+use Rattle.ilk_cnf.specs.Literal.{Literal, negated_lit, same_lit, has_lit, has_var, has_distinct_vars}
 use Rattle.ilk_cnf.proofs.Gates.{negated_lit-negated_lit}
 use Rattle.ilk_cnf.proofs.SameLiterals.{lit-is, same-lit}
 use Rattle.ilk_log.specs.Propagation.{is_false}
@@ -17,30 +17,30 @@ use Rattle.std.proofs.lemmas.Bool.Decides.{nat_tests}
 use Rattle.ilk_trail.proofs.Entries.{set-at, entry-lit}
 use Rattle.ilk_trail.proofs.Literals.{count_of_vars}
 use Rattle.ilk_watches.proofs.Values.{value-tells}
-use Rattle.ilk_watches.specs.Watched.{is_true_at}
+use Rattle.ilk_watches.specs.Watched.{is_true_by_level}
 
-pub true-somewhere : (es : List Entry) (k : ℕ) (l : Literal) → is_true_at es k l ≡ true → has_lit l (lits_of es) ≡ true
+pub true-somewhere : (es : List Entry) (k : ℕ) (l : Literal) → is_true_by_level es k l ≡ true → has_lit l (lits_of es) ≡ true
 true-somewhere [] k l h = h
 true-somewhere (x ∷ es) k l h =
     elim (cases_Bool (nat_le x.level k)) [
-      | inl t ↦ (let s : (same_lit l x.lit || is_true_at es k l) ≡ true = rw t at h in
-          elim (or_cases (same_lit l x.lit) (is_true_at es k l) s) [
+      | inl t ↦ (let s : (same_lit l x.lit || is_true_by_level es k l) ≡ true = rw t at h in
+          elim (or_cases (same_lit l x.lit) (is_true_by_level es k l) s) [
             | inl q ↦ or_left (same_lit l x.lit) (has_lit l (lits_of es)) q
             | inr q ↦ or_right (same_lit l x.lit) (has_lit l (lits_of es)) (true-somewhere es k l q)
           ])
-      | inr t ↦ (let s : is_true_at es k l ≡ true = rw t at h in or_right (same_lit l x.lit) (has_lit l (lits_of es)) (true-somewhere es k l s))
+      | inr t ↦ (let s : is_true_by_level es k l ≡ true = rw t at h in or_right (same_lit l x.lit) (has_lit l (lits_of es)) (true-somewhere es k l s))
     ]
 
-true-more : (es more : List Entry) (k : ℕ) (l : Literal) → is_true_at es k l ≡ true → is_true_at (es ++ more) k l ≡ true
+true-more : (es more : List Entry) (k : ℕ) (l : Literal) → is_true_by_level es k l ≡ true → is_true_by_level (es ++ more) k l ≡ true
 true-more [] more k l h = absurd (cc)
 true-more (x ∷ es) more k l h =
     elim (cases_Bool (nat_le x.level k)) [
-      | inl t ↦ (let s : (same_lit l x.lit || is_true_at es k l) ≡ true = rw t at h in
-          rw t (elim (or_cases (same_lit l x.lit) (is_true_at es k l) s) [
-            | inl q ↦ or_left (same_lit l x.lit) (is_true_at (es ++ more) k l) q
-            | inr q ↦ or_right (same_lit l x.lit) (is_true_at (es ++ more) k l) (true-more es more k l q)
+      | inl t ↦ (let s : (same_lit l x.lit || is_true_by_level es k l) ≡ true = rw t at h in
+          rw t (elim (or_cases (same_lit l x.lit) (is_true_by_level es k l) s) [
+            | inl q ↦ or_left (same_lit l x.lit) (is_true_by_level (es ++ more) k l) q
+            | inr q ↦ or_right (same_lit l x.lit) (is_true_by_level (es ++ more) k l) (true-more es more k l q)
           ]))
-      | inr t ↦ (let s : is_true_at es k l ≡ true = rw t at h in rw t (true-more es more k l s))
+      | inr t ↦ (let s : is_true_by_level es k l ≡ true = rw t at h in rw t (true-more es more k l s))
     ]
 
 lit-more : (es more : List Entry) (l : Literal) → has_lit l (lits_of es) ≡ true → has_lit l (lits_of (es ++ more)) ≡ true
@@ -54,8 +54,8 @@ lit-more (x ∷ es) more l h =
 joined : (es fs : List Entry) → take (length es) fs ≡ es → fs ≡ es ++ drop (length es) fs
 joined es fs k = sym (take-append-drop (length es) fs) ∙ ap (λ xs. xs ++ drop (length es) fs) k
 
-pub true-kept : (es fs : List Entry) (k : ℕ) (l : Literal) → take (length es) fs ≡ es → is_true_at es k l ≡ true → is_true_at fs k l ≡ true
-true-kept es fs k l p h = (let P : List Entry → Type 0 = λ xs. is_true_at xs k l ≡ true in subst P (sym (joined es fs p)) (true-more es (drop (length es) fs) k l h))
+pub true-kept : (es fs : List Entry) (k : ℕ) (l : Literal) → take (length es) fs ≡ es → is_true_by_level es k l ≡ true → is_true_by_level fs k l ≡ true
+true-kept es fs k l p h = (let P : List Entry → Type 0 = λ xs. is_true_by_level xs k l ≡ true in subst P (sym (joined es fs p)) (true-more es (drop (length es) fs) k l h))
 
 pub lit-kept : (es fs : List Entry) (l : Literal) → take (length es) fs ≡ es → has_lit l (lits_of es) ≡ true → has_lit l (lits_of fs) ≡ true
 lit-kept es fs l p h = (let P : List Entry → Type 0 = λ xs. has_lit l (lits_of xs) ≡ true in subst P (sym (joined es fs p)) (lit-more es (drop (length es) fs) l h))
@@ -74,10 +74,10 @@ both None h k = absurd (cc)
 both (Some true) h k = absurd (cc)
 both (Some false) h k = absurd (cc)
 
-pub not-both : (es : List Entry) (l : Literal) → vars_differ (lits_of es) ≡ true → has_lit l (lits_of es) ≡ true → is_false (lits_of es) l ≡ true → ⊥
+pub not-both : (es : List Entry) (l : Literal) → has_distinct_vars (lits_of es) ≡ true → has_lit l (lits_of es) ≡ true → is_false (lits_of es) l ≡ true → ⊥
 not-both es l d h k = (let t = value-tells es l d in both (value_of_literal es l) (sym t.stands ∙ h) (sym t.denied ∙ k))
 
-pub true-not-false : (es : List Entry) (l : Literal) → vars_differ (lits_of es) ≡ true → has_lit l (lits_of es) ≡ true → is_false (lits_of es) l ≡ false
+pub true-not-false : (es : List Entry) (l : Literal) → has_distinct_vars (lits_of es) ≡ true → has_lit l (lits_of es) ≡ true → is_false (lits_of es) l ≡ false
 true-not-false es l d h = elim (cases_Bool (is_false (lits_of es) l)) [ inl t ↦ absurd (not-both es l d h t) | inr f ↦ f ]
 
 -- The entry of a literal in the trail.
@@ -98,24 +98,24 @@ entry-of-lit (x ∷ es) l h =
 pub entry-denies : (es : List Entry) (i : ℕ) (e : Entry) → slice_get es i ≡ Some e → is_false (lits_of es) (negated_lit e.lit) ≡ true
 entry-denies es i e h = ap (λ (l : Literal). has_lit l (lits_of es)) (negated_lit-negated_lit e.lit) ∙ entry-lit es i e h
 
-twice : (es : List Entry) (x e d : Entry) (j : ℕ) → vars_differ (lits_of (x ∷ es)) ≡ true → x ≡ e → slice_get es j ≡ Some d → e.lit.var ≡ d.lit.var → ⊥
+twice : (es : List Entry) (x e d : Entry) (j : ℕ) → has_distinct_vars (lits_of (x ∷ es)) ≡ true → x ≡ e → slice_get es j ≡ Some d → e.lit.var ≡ d.lit.var → ⊥
 twice es x e d j v s t q =
-    let none = not-true (has_var x.lit.var (lits_of es)) (and_parts (not (has_var x.lit.var (lits_of es))) (vars_differ (lits_of es)) v).0 in
+    let none = not-true (has_var x.lit.var (lits_of es)) (and_parts (not (has_var x.lit.var (lits_of es))) (has_distinct_vars (lits_of es)) v).0 in
     let w : x.lit.var ≡ d.lit.var = ap (λ (y : Entry). y.lit.var) s ∙ q in
     true≢false (sym (ap (λ (n : ℕ). has_var n (lits_of es)) w ∙ set-at es j d t) ∙ none)
 
-pub one-entry : (es : List Entry) (i j : ℕ) (e d : Entry) → vars_differ (lits_of es) ≡ true → slice_get es i ≡ Some e → slice_get es j ≡ Some d → e.lit.var ≡ d.lit.var → i ≡ j
+pub one-entry : (es : List Entry) (i j : ℕ) (e d : Entry) → has_distinct_vars (lits_of es) ≡ true → slice_get es i ≡ Some e → slice_get es j ≡ Some d → e.lit.var ≡ d.lit.var → i ≡ j
 one-entry [] i j e d v s t q = absurd (cc)
 one-entry (x ∷ es) zero zero e d v s t q = refl
 one-entry (x ∷ es) zero (suc j) e d v s t q = absurd (twice es x e d j v (cc) t q)
 one-entry (x ∷ es) (suc i) zero e d v s t q = absurd (twice es x d e i v (cc) s (sym q))
-one-entry (x ∷ es) (suc i) (suc j) e d v s t q = ap suc (one-entry es i j e d (and_parts (not (has_var x.lit.var (lits_of es))) (vars_differ (lits_of es)) v).1 s t q)
+one-entry (x ∷ es) (suc i) (suc j) e d v s t q = ap suc (one-entry es i j e d (and_parts (not (has_var x.lit.var (lits_of es))) (has_distinct_vars (lits_of es)) v).1 s t q)
 
-pub true-pushed : (es : List Entry) (e : Entry) (k : ℕ) → e.level ≤ k → is_true_at (es ++ e ∷ []) k e.lit ≡ true
+pub true-pushed : (es : List Entry) (e : Entry) (k : ℕ) → e.level ≤ k → is_true_by_level (es ++ e ∷ []) k e.lit ≡ true
 true-pushed [] e k h = (let t : nat_le e.level k ≡ true = grind (arith, nat_tests) in rw t (or_left (same_lit e.lit e.lit) false (same-lit e.lit)))
 true-pushed (x ∷ es) e k h =
     elim (cases_Bool (nat_le x.level k)) [
-      | inl t ↦ rw t (or_right (same_lit e.lit x.lit) (is_true_at (es ++ e ∷ []) k e.lit) (true-pushed es e k h))
+      | inl t ↦ rw t (or_right (same_lit e.lit x.lit) (is_true_by_level (es ++ e ∷ []) k e.lit) (true-pushed es e k h))
       | inr t ↦ rw t (true-pushed es e k h)
     ]
 

@@ -13,7 +13,7 @@ use Rattle.ilk_log.proofs.Closed.{lone-is}
 use Rattle.ilk_log.specs.Propagation.{is_false, is_falsified, unit_lit}
 use Rattle.ilk_trail.specs.declared.entry.Entry.{Entry}
 use Rattle.ilk_trail.specs.Laws.{lits_of}
-use Rattle.ilk_watches.specs.Reasons.{HasReasons, clause_at, is_reason}
+use Rattle.ilk_watches.specs.Reasons.{HasReasons, nth_clause_or_empty, is_reason}
 use Rattle.ilk_cnf.proofs.SameLiterals.{same-lit}
 
 pub reasons-none : (cs : List (List Literal)) → HasReasons cs []
@@ -42,7 +42,7 @@ reasons-front cs es more h = λ i x c s r.
 pub reasons-grown : (cs more : List (List Literal)) (es : List Entry) → HasReasons cs es → HasReasons (cs ++ more) es
 reasons-grown cs more es h = λ i x c s r.
     (let known = h i x c s r in
-    let same : clause_at (cs ++ more) c ≡ clause_at cs c = get_or-append cs more [] c (there cs (lits_of (take i es)) x.lit c known) in
+    let same : nth_clause_or_empty (cs ++ more) c ≡ nth_clause_or_empty cs c = get_or-append cs more [] c (there cs (lits_of (take i es)) x.lit c known) in
     let P : List Literal → Type 0 = λ k. (has_lit x.lit k && is_falsified (lits_of (take i es)) (other_lits x.lit k)) ≡ true in
     subst P (sym same) known)
   where
@@ -84,8 +84,8 @@ one-left set (m ∷ c) l h =
           record { has = rw s refl; others_false = rw s (filter-none-false set c empty l) })
     ]
 
-pub unit-forces : (cs : List (List Literal)) (set : List Literal) (c : ℕ) (l : Literal) → unit_lit set (clause_at cs c) ≡ Some l → is_reason cs set l c ≡ true
+pub unit-forces : (cs : List (List Literal)) (set : List Literal) (c : ℕ) (l : Literal) → unit_lit set (nth_clause_or_empty cs c) ≡ Some l → is_reason cs set l c ≡ true
 unit-forces cs set c l u =
-    let clause = clause_at cs c in
+    let clause = nth_clause_or_empty cs c in
     let one = one-left set clause l (lone-is set (filter (λ m. not (is_false set m)) clause) l u) in
     and_from (has_lit l clause) (is_falsified set (other_lits l clause)) one.has one.others_false

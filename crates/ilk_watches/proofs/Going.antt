@@ -4,7 +4,7 @@ use Rattle.std.proofs.Common.{◌≡◌, ◌≢◌, ◌<◌, ◌≤◌, ◌+◌,
 use Rattle.std.specs.List.{slice_get}
 use Rattle.std.proofs.lemmas.Bool.{cases_Bool, true≢false}
 use Rattle.ilk_base.proofs.Ranges.{below_or_past}
-use Rattle.ilk_cnf.specs.Literal.{Literal, negated_lit, same_lit, vars_differ}
+use Rattle.ilk_cnf.specs.Literal.{Literal, negated_lit, same_lit, has_distinct_vars}
 use Rattle.ilk_cnf.proofs.Gates.{negated_lit-negated_lit}
 use Rattle.ilk_cnf.proofs.SameLiterals.{lit-is, same-lit}
 use Rattle.ilk_trail.specs.declared.entry.Entry.{Entry}
@@ -12,9 +12,9 @@ use Rattle.ilk_trail.specs.Trail.{TrailList, level_of}
 use Rattle.ilk_trail.specs.Laws.{has_rising_levels, lits_of}
 use Rattle.ilk_arena.specs.Arena.{ArenaLists, chain_of, first_of, is_listed_in}
 use Rattle.ilk_watches.specs.Chained.{SameClauses}
-use Rattle.ilk_watches.specs.Propagated.{IsPropagated}
-use Rattle.ilk_watches.specs.Watched.{AllCovered, is_true_at}
-use Rattle.ilk_watches.specs.Visits.{CoveredExcept, IsMadeFalseBy, IsWalkAt}
+use Rattle.ilk_watches.specs.Propagated.{ExtendsByPropagation}
+use Rattle.ilk_watches.specs.Watched.{AllCovered, is_true_by_level}
+use Rattle.ilk_watches.specs.Visits.{CoveredExceptInChains, IsMadeFalseBy, IsWalkAt}
 use Rattle.ilk_watches.specs.declared.walk.Walk.{Walk}
 use Rattle.ilk_watches.proofs.Beside.{StepAt, but-step, walking-beside}
 use Rattle.ilk_watches.proofs.Covers.{but-turned, walk-end, walk-start}
@@ -28,12 +28,12 @@ use Rattle.ilk_watches.proofs.Walks.{all-passed}
 pub record Sofar (a0 a : ArenaLists) (t0 t : TrailList) : Type 0 where
   pub trail : t ≡ record t0 { entries = t.entries }
   pub same : SameClauses a0 a
-  pub propagated : IsPropagated a0.clauses t0.entries t.entries
+  pub propagated : ExtendsByPropagation a0.clauses t0.entries t.entries
 
 pub sofar-start : (a : ArenaLists) (t : TrailList) → Sofar a a t t
 sofar-start a t = record { trail = refl; same = same-self a; propagated = propagated-start a.clauses t.entries }
 
-pub sofar-more : {a0 a b : ArenaLists} {t0 t u : TrailList} → Sofar a0 a t0 t → SameClauses a b → u ≡ record t { entries = u.entries } → IsPropagated a.clauses t.entries u.entries → Sofar a0 b t0 u
+pub sofar-more : {a0 a b : ArenaLists} {t0 t u : TrailList} → Sofar a0 a t0 t → SameClauses a b → u ≡ record t { entries = u.entries } → ExtendsByPropagation a.clauses t.entries u.entries → Sofar a0 b t0 u
 sofar-more {a0} {a} {b} {t0} {t} {u} s same e p = record {
   trail = e ∙ ap (λ (x : TrailList). record x { entries = u.entries }) s.trail;
   same = same-join a0 a b s.same same;
@@ -61,14 +61,14 @@ pub record Going (a : ArenaLists) (es : List Entry) (head next : ℕ) (w : Walk)
 
 pub record Alone (a : ArenaLists) (es : List Entry) (head next : ℕ) (w : Walk) : Type 0 where
   pub going : Going a es head next w
-  pub covered : CoveredExcept a es next w.f w.f
+  pub covered : CoveredExceptInChains a es next w.f w.f
   pub next_in : next ≤ length es
 
 pub record Both (a : ArenaLists) (es : List Entry) (head next : ℕ) (v w : Walk) : Type 0 where
   pub one : Going a es head next v
   pub two : Going a es head next w
   pub apart : w.f ≢ v.f
-  pub covered : CoveredExcept a es next v.f w.f
+  pub covered : CoveredExceptInChains a es next v.f w.f
   pub next_in : next ≤ length es
 
 pub both-turned : {a : ArenaLists} {es : List Entry} {head next : ℕ} {v w : Walk} → Both a es head next v w → Both a es head next w v
@@ -107,13 +107,13 @@ alone-start a es head w all m level before next = record {
     first : (i : ℕ) (e : Entry) → i ≡ head → slice_get es i ≡ Some e → negated_lit e.lit ≡ w.f
     first i e q s = (let one : Some e ≡ Some m.entry = sym s ∙ ap (slice_get es) q ∙ m.stands in let same : e ≡ m.entry = cc in ap (λ (x : Entry). negated_lit x.lit) same ∙ m.is)
 
-one-index : (vars n k : ℕ) (es : List Entry) (f : Literal) (e : Entry) → vars_differ (lits_of es) ≡ true → (m : IsMadeFalseBy vars es n f) → slice_get es k ≡ Some e → negated_lit e.lit ≡ f → k ≡ n
+one-index : (vars n k : ℕ) (es : List Entry) (f : Literal) (e : Entry) → has_distinct_vars (lits_of es) ≡ true → (m : IsMadeFalseBy vars es n f) → slice_get es k ≡ Some e → negated_lit e.lit ≡ f → k ≡ n
 one-index vars n k es f e d m s q =
     let same : e.lit ≡ m.entry.lit = sym (negated_lit-negated_lit e.lit) ∙ ap negated_lit (q ∙ sym m.is) ∙ negated_lit-negated_lit m.entry.lit in
     one-entry es k n e m.entry d s m.stands (ap (λ (l : Literal). l.var) same)
 
 pub both-start : (a : ArenaLists) (es : List Entry) (head next : ℕ) (v w : Walk) → Alone a es head next v →
-    vars_differ (lits_of es) ≡ true → IsMadeFalseBy a.vars es next w.f →
+    has_distinct_vars (lits_of es) ≡ true → IsMadeFalseBy a.vars es next w.f →
     ((e : Entry) → slice_get es next ≡ Some e → e.level ≡ level_of es) → head ≤ next → w.before ≡ None →
     w.next ≡ first_of (chain_of a w.f) → Both a es head (next + 1) v w
 both-start a es head next v w o d m level low before first =
@@ -165,7 +165,7 @@ going-beside {a} {b} {es} {fs} {head} {next} {w} f g s level n = record {
 
 pub alone-step : {a b : ArenaLists} {es fs : List Entry} {head next : ℕ} {v w : Walk} → Alone a es head next v → StepAt a b es fs v.f → level_of fs ≡ level_of es → w.f ≡ v.f → IsWalkAt b fs v.f w.before w.next → Alone b fs head next w
 alone-step {a} {b} {es} {fs} {head} {next} {v} {w} o s level f walking =
-    let C : Literal → Type 0 = λ x. CoveredExcept b fs next x x in
+    let C : Literal → Type 0 = λ x. CoveredExceptInChains b fs next x x in
     let longer = length-kept es fs s.kept in
     record {
       going = going-own o.going s level f walking;
@@ -175,7 +175,7 @@ alone-step {a} {b} {es} {fs} {head} {next} {v} {w} o s level f walking =
 
 pub both-step : {a b : ArenaLists} {es fs : List Entry} {head next : ℕ} {v w u : Walk} → Both a es head next v u → StepAt a b es fs v.f → level_of fs ≡ level_of es → w.f ≡ v.f → IsWalkAt b fs v.f w.before w.next → Both b fs head next w u
 both-step {a} {b} {es} {fs} {head} {next} {v} {w} {u} o s level f walking =
-    let C : Literal → Type 0 = λ x. CoveredExcept b fs next x u.f in
+    let C : Literal → Type 0 = λ x. CoveredExceptInChains b fs next x u.f in
     let longer = length-kept es fs s.kept in
     record {
       one = going-own o.one s level f walking;
@@ -192,16 +192,16 @@ same-or-not f g = elim (cases_Bool (same_lit f g)) [
 ]
 
 ended : (a : ArenaLists) (es : List Entry) (head next : ℕ) (w : Walk) → Going a es head next w →
-    w.next ≡ None → vars_differ (lits_of es) ≡ true → has_rising_levels 0 es ≡ true →
+    w.next ≡ None → has_distinct_vars (lits_of es) ≡ true → has_rising_levels 0 es ≡ true →
     (c i : ℕ) (e : Entry) (l : Literal) → slice_get es i ≡ Some e → negated_lit e.lit ≡ w.f →
     is_listed_in c (chain_of a (negated_lit e.lit)) ≡ true → is_listed_in c (chain_of a l) ≡ true →
-    l ≢ negated_lit e.lit → is_true_at es e.level l ≡ true
+    l ≢ negated_lit e.lit → is_true_by_level es e.level l ≡ true
 ended a es head next w g none d climb c i e l s is w1 w2 ne =
     let k = one-index a.vars g.index i es w.f e d g.made s is in
     let level : e.level ≡ level_of es = g.level e (ap (slice_get es) (sym k) ∙ s) in
     walk-end a es w.f g.walking.passed (all-passed a es w.f w.before w.next g.walking none) climb c e l is level w1 w2 ne
 
-pub both-ended : {a : ArenaLists} {es : List Entry} {head next : ℕ} {v w : Walk} → Both a es head next v w → v.next ≡ None → vars_differ (lits_of es) ≡ true → has_rising_levels 0 es ≡ true → Alone a es head next w
+pub both-ended : {a : ArenaLists} {es : List Entry} {head next : ℕ} {v w : Walk} → Both a es head next v w → v.next ≡ None → has_distinct_vars (lits_of es) ≡ true → has_rising_levels 0 es ≡ true → Alone a es head next w
 both-ended {a} {es} {head} {next} {v} {w} b none d climb = record {
   going = b.two;
   covered = λ c known i e l below s nw nw2 w1 w2 ne. elim (same-or-not (negated_lit e.lit) v.f) [
@@ -211,18 +211,18 @@ both-ended {a} {es} {head} {next} {v} {w} b none d climb = record {
   next_in = b.next_in;
 }
 
-pub alone-ended : {a : ArenaLists} {es : List Entry} {head next : ℕ} {w : Walk} → Alone a es head next w → w.next ≡ None → vars_differ (lits_of es) ≡ true → has_rising_levels 0 es ≡ true → AllCovered a es next
+pub alone-ended : {a : ArenaLists} {es : List Entry} {head next : ℕ} {w : Walk} → Alone a es head next w → w.next ≡ None → has_distinct_vars (lits_of es) ≡ true → has_rising_levels 0 es ≡ true → AllCovered a es next
 alone-ended {a} {es} {head} {next} {w} o none d climb = λ c known i e l below s w1 w2 ne. elim (same-or-not (negated_lit e.lit) w.f) [
   | inl q ↦ ended a es head next w o.going none d climb c i e l s q w1 w2 ne
   | inr q ↦ o.covered c known i e l below s q q w1 w2 ne
 ]
 
-before-going : (a : ArenaLists) (es : List Entry) (head next : ℕ) (w : Walk) → Going a es head next w → vars_differ (lits_of es) ≡ true → (i : ℕ) (e : Entry) → i < head → slice_get es i ≡ Some e → negated_lit e.lit ≢ w.f
+before-going : (a : ArenaLists) (es : List Entry) (head next : ℕ) (w : Walk) → Going a es head next w → has_distinct_vars (lits_of es) ≡ true → (i : ℕ) (e : Entry) → i < head → slice_get es i ≡ Some e → negated_lit e.lit ≢ w.f
 before-going a es head next w g d i e below s q =
     let k = one-index a.vars g.index i es w.f e d g.made s q in
     absurd (omega (arith, k, below, g.low))
 
-pub alone-before : {a : ArenaLists} {es : List Entry} {head next : ℕ} {w : Walk} → Alone a es head next w → vars_differ (lits_of es) ≡ true → AllCovered a es head
+pub alone-before : {a : ArenaLists} {es : List Entry} {head next : ℕ} {w : Walk} → Alone a es head next w → has_distinct_vars (lits_of es) ≡ true → AllCovered a es head
 alone-before {a} {es} {head} {next} {w} o d = λ c known i e l below s w1 w2 ne.
     (let g = o.going in
     let n = before-going a es head next w g d i e below s in

@@ -4,7 +4,7 @@ use Rattle.std.proofs.lemmas.Bool.{and_parts, and_from, or_cases, or_left, or_ri
 use Rattle.std.proofs.Math.Seq.{take-length}
 use Rattle.ilk_base.proofs.Ranges.{below_or_past}
 use Rattle.ilk_base.proofs.Tested.{list_all-slice_get}
-use Rattle.ilk_cnf.specs.Literal.{Literal, negated_lit, has_lit, vars_differ}
+use Rattle.ilk_cnf.specs.Literal.{Literal, negated_lit, has_lit, has_distinct_vars}
 use Rattle.ilk_cnf.proofs.Gates.{negated_lit-negated_lit}
 use Rattle.ilk_log.specs.Fresh.{other_lits}
 use Rattle.ilk_log.specs.Propagation.{is_false, is_falsified}
@@ -13,15 +13,15 @@ use Rattle.ilk_trail.specs.Trail.{with_assignment, level_of}
 use Rattle.ilk_trail.specs.Laws.{has_rising_levels, lits_of}
 use Rattle.ilk_trail.proofs.Levels.{entries_up_to-all}
 use Rattle.ilk_arena.specs.Arena.{ArenaLists, literals_of, number_of_clause, is_listed_in}
-use Rattle.ilk_watches.specs.Reasons.{clause_at}
+use Rattle.ilk_watches.specs.Reasons.{nth_clause_or_empty}
 use Rattle.ilk_watches.specs.Chained.{IsClauses}
 use Rattle.ilk_watches.proofs.Chained.{by-reference}
 use Rattle.ilk_watches.proofs.Forced.{unit-forces}
 use Rattle.ilk_watches.proofs.Within.{clause-there}
 use Rattle.ilk_watches.specs.Look.{clause_state}
 use Rattle.ilk_watches.specs.declared.look.ClauseState.TheVariants.{Open, Unit}
-use Rattle.ilk_watches.specs.Propagated.{IsPropagated}
-use Rattle.ilk_watches.specs.Watched.{is_true_at, is_satisfied, IsCovered, IsQueue, MayForce}
+use Rattle.ilk_watches.specs.Propagated.{ExtendsByPropagation}
+use Rattle.ilk_watches.specs.Watched.{is_true_by_level, is_satisfied, IsCovered, IsQueue, MayForce}
 use Rattle.ilk_watches.proofs.Entries.{at-old, length-kept, lit-kept, true-pushed}
 use Rattle.ilk_watches.proofs.Covers.{covered-more}
 use Rattle.ilk_watches.proofs.Finding.{left-open, lone-open, open-told, unit-told}
@@ -29,14 +29,14 @@ use Rattle.ilk_watches.proofs.Others.{pushed-true}
 use Rattle.ilk_watches.proofs.Propagations.{propagated-one, propagated-start}
 use Rattle.ilk_watches.proofs.Satisfied.{is_open, open-true, other_lits-only, satisfied-by, short-satisfied}
 
-pub forced-covered : (a : ArenaLists) (es fs : List Entry) (n c : ℕ) (x y : Literal) → MayForce a es n c x y → take (length es) fs ≡ es → n ≤ length es → is_true_at fs (level_of es) x ≡ true → IsCovered a fs n c
+pub forced-covered : (a : ArenaLists) (es fs : List Entry) (n c : ℕ) (x y : Literal) → MayForce a es n c x y → take (length es) fs ≡ es → n ≤ length es → is_true_by_level fs (level_of es) x ≡ true → IsCovered a fs n c
 forced-covered a es fs n c x y m p le t = λ i e l b s w1 w2 ne.
     let old = at-old es fs i e p (omega (arith, b, le)) s in
     elim (m.watches (negated_lit e.lit) w1) [
       | inl q ↦ absurd (m.possible i e b old (sym (negated_lit-negated_lit e.lit) ∙ ap negated_lit q))
       | inr q ↦ elim (m.watches l w2) [
         | inl r ↦ (let level = m.recent i e old (sym (negated_lit-negated_lit e.lit) ∙ ap negated_lit q) in
-            ap (λ (k : ℕ). is_true_at fs k l) level ∙ ap (is_true_at fs (level_of es)) r ∙ t)
+            ap (λ (k : ℕ). is_true_by_level fs k l) level ∙ ap (is_true_by_level fs (level_of es)) r ∙ t)
         | inr r ↦ absurd (ne (r ∙ sym q))
       ]
     ]
@@ -55,7 +55,7 @@ satisfied-kept es fs (l ∷ ls) p h =
       | inr q ↦ or_right (has_lit l (lits_of fs)) (is_satisfied fs ls) (satisfied-kept es fs ls p q)
     ]
 
-may-more : (a : ArenaLists) (es fs : List Entry) (n c : ℕ) (x y : Literal) → IsPropagated a.clauses es fs → n ≤ length es → MayForce a es n c x y → MayForce a fs n c x y
+may-more : (a : ArenaLists) (es fs : List Entry) (n c : ℕ) (x y : Literal) → ExtendsByPropagation a.clauses es fs → n ≤ length es → MayForce a es n c x y → MayForce a fs n c x y
 may-more a es fs n c x y p le m = record {
   watches = m.watches;
   others_false = falsified-kept es fs (other_lits x (literals_of a c)) p.kept m.others_false;
@@ -72,7 +72,7 @@ pub record Looked (a : ArenaLists) (fs : List Entry) (h c : ℕ) : Type 0 where
   pub short : length (literals_of a c) < 2 → is_satisfied fs (literals_of a c) ≡ true
 
 pub queue-next : (a : ArenaLists) (es fs : List Entry) (h s : ℕ) → IsQueue a es h s → s < length a.clauses →
-    IsPropagated a.clauses es fs →
+    ExtendsByPropagation a.clauses es fs →
     ((c : ℕ) → is_listed_in c a.references ≡ true → number_of_clause a c ≡ s + 1 → Looked a fs h c) →
     IsQueue a fs h (s + 1)
 queue-next a es fs h s k w p here = record {
@@ -95,21 +95,21 @@ queue-next a es fs h s k w p here = record {
   ];
 }
 
-pub at-number : (a : ArenaLists) (c s : ℕ) → IsClauses a → is_listed_in c a.references ≡ true → number_of_clause a c ≡ s + 1 → literals_of a c ≡ clause_at a.clauses s
+pub at-number : (a : ArenaLists) (c s : ℕ) → IsClauses a → is_listed_in c a.references ≡ true → number_of_clause a c ≡ s + 1 → literals_of a c ≡ nth_clause_or_empty a.clauses s
 at-number a c s k known n =
     let b = by-reference a c k known in
     let same : b.index ≡ s = omega (arith, b.number, n) in
-    sym b.literals ∙ ap (clause_at a.clauses) same
+    sym b.literals ∙ ap (nth_clause_or_empty a.clauses) same
 
-pub differ-at : (a : ArenaLists) (s : ℕ) → IsClauses a → s < length a.clauses → vars_differ (clause_at a.clauses s) ≡ true
-differ-at a s k w = list_all-slice_get vars_differ a.clauses s (clause_at a.clauses s) k.formula.differ (clause-there a.clauses s w)
+pub differ-at : (a : ArenaLists) (s : ℕ) → IsClauses a → s < length a.clauses → has_distinct_vars (nth_clause_or_empty a.clauses s) ≡ true
+differ-at a s k w = list_all-slice_get has_distinct_vars a.clauses s (nth_clause_or_empty a.clauses s) k.formula.differ (clause-there a.clauses s w)
 
 pub queue-unit : (a : ArenaLists) (es : List Entry) (h s : ℕ) (l : Literal) → IsQueue a es h s → IsClauses a →
-    vars_differ (lits_of es) ≡ true → s < length a.clauses →
-    clause_state (lits_of es) (clause_at a.clauses s) ≡ Unit l → IsQueue a (with_assignment es l s) h (s + 1)
+    has_distinct_vars (lits_of es) ≡ true → s < length a.clauses →
+    clause_state (lits_of es) (nth_clause_or_empty a.clauses s) ≡ Unit l → IsQueue a (with_assignment es l s) h (s + 1)
 queue-unit a es h s l k cl d w look =
     let set = lits_of es in
-    let clause = clause_at a.clauses s in
+    let clause = nth_clause_or_empty a.clauses s in
     let e : Entry = record { lit = l; level = level_of es; reason = Some s } in
     let u = unit-told set clause l look in
     let r = unit-forces a.clauses set s l u in
@@ -124,26 +124,26 @@ queue-unit a es h s l k cl d w look =
         | inl v ↦ covered-more a es (with_assignment es l s) h c p.kept k.head_in v
         | inr m ↦ (let x = m.1.0 in
             let same : l ≡ x = other_lits-only set (literals_of a c) x l m.1.2.others_false inside possible in
-            let t : is_true_at (with_assignment es l s) (level_of es) x ≡ true = ap (is_true_at (with_assignment es l s) (level_of es)) (sym same) ∙ true-pushed es e (level_of es) (omega arith) in
+            let t : is_true_by_level (with_assignment es l s) (level_of es) x ≡ true = ap (is_true_by_level (with_assignment es l s) (level_of es)) (sym same) ∙ true-pushed es e (level_of es) (omega arith) in
             forced-covered a es (with_assignment es l s) h c x m.1.1 m.1.2 p.kept k.head_in t)
       ];
       short = λ b. satisfied-by (with_assignment es l s) (literals_of a c) l inside (pushed-true es e);
     }))
 
-pub queue-open : (a : ArenaLists) (es : List Entry) (h s : ℕ) → IsQueue a es h s → IsClauses a → has_rising_levels 0 es ≡ true → s < length a.clauses → clause_state (lits_of es) (clause_at a.clauses s) ≡ Open → IsQueue a es h (s + 1)
+pub queue-open : (a : ArenaLists) (es : List Entry) (h s : ℕ) → IsQueue a es h s → IsClauses a → has_rising_levels 0 es ≡ true → s < length a.clauses → clause_state (lits_of es) (nth_clause_or_empty a.clauses s) ≡ Open → IsQueue a es h (s + 1)
 queue-open a es h s k cl climb w look =
     let set = lits_of es in
-    let o = open-told set (clause_at a.clauses s) look in
+    let o = open-told set (nth_clause_or_empty a.clauses s) look in
     queue-next a es es h s k w (propagated-start a.clauses es) (λ c known n.
     (let ls = at-number a c s cl known n in
     let open_it : is_open set (literals_of a c) ≡ true = ap (is_open set) ls ∙ o in
-    let differ : vars_differ (literals_of a c) ≡ true = ap vars_differ ls ∙ differ-at a s cl w in
+    let differ : has_distinct_vars (literals_of a c) ≡ true = ap has_distinct_vars ls ∙ differ-at a s cl w in
     record {
       covered = elim (k.watched c known) [
         | inl v ↦ v
         | inr m ↦ (let x = m.1.0 in
             let true_now = open-true set (literals_of a c) x differ m.1.2.others_false open_it in
-            let t : is_true_at es (level_of es) x ≡ true = ap (λ (xs : List Entry). has_lit x (lits_of xs)) (entries_up_to-all 0 (level_of es) es climb (omega arith)) ∙ true_now in
+            let t : is_true_by_level es (level_of es) x ≡ true = ap (λ (xs : List Entry). has_lit x (lits_of xs)) (entries_up_to-all 0 (level_of es) es climb (omega arith)) ∙ true_now in
             forced-covered a es es h c x m.1.1 m.1.2 (take-length es) k.head_in t)
       ];
       short = λ b. short-satisfied es (literals_of a c) b open_it;

@@ -11,7 +11,7 @@ use Rattle.ilk_log.specs.Fresh.{other_lits}
 use Rattle.ilk_log.specs.Propagation.{is_false, is_falsified}
 use Rattle.ilk_arena.specs.Arena.{ArenaLists, chain_of, literals_of, number_of_clause, other_watch_of, with_watch_moved, is_listed_in}
 use Rattle.ilk_arena.specs.Chains.{WatchesTwo}
-use Rattle.ilk_watches.specs.Reasons.{clause_at, is_conflict, is_reason}
+use Rattle.ilk_watches.specs.Reasons.{nth_clause_or_empty, is_conflict, is_reason}
 use Rattle.ilk_watches.specs.Chained.{IsClauses, SameClauses, formula_of}
 use Rattle.ilk_watches.proofs.Within.{clause-in}
 use Rattle.ilk_cnf.specs.Formula.{is_clause_over, is_lit_over}
@@ -91,7 +91,7 @@ reason-of a c set m k s h o =
     let b = by-reference a c k s in
     let n : number_of_clause a c - 1 ≡ b.index = omega (arith, b.number) in
     let test : List Literal → Bool = λ ls. has_lit m ls && is_falsified set (other_lits m ls) in
-    ap (λ (i : ℕ). test (clause_at a.clauses i)) n ∙ ap test b.literals ∙ and_from (has_lit m (literals_of a c)) (is_falsified set (other_lits m (literals_of a c))) h o
+    ap (λ (i : ℕ). test (nth_clause_or_empty a.clauses i)) n ∙ ap test b.literals ∙ and_from (has_lit m (literals_of a c)) (is_falsified set (other_lits m (literals_of a c))) h o
 
 pub falsified-whole : (set : List Literal) (m : Literal) (c : List Literal) → is_falsified set (other_lits m c) ≡ true → is_false set m ≡ true → is_falsified set c ≡ true
 falsified-whole set m [] h f = refl
@@ -108,7 +108,7 @@ conflict-of a c set m k s o f =
     let b = by-reference a c k s in
     let n : number_of_clause a c - 1 ≡ b.index = omega (arith, b.number) in
     ap (is_conflict a.clauses set) n
-    ∙ and_from (nat_lt b.index (length a.clauses)) (is_falsified set (clause_at a.clauses b.index))
+    ∙ and_from (nat_lt b.index (length a.clauses)) (is_falsified set (nth_clause_or_empty a.clauses b.index))
     (lt-ltb b.index (length a.clauses) b.within)
     (ap (is_falsified set) b.literals ∙ falsified-whole set m (literals_of a c) o f)
 

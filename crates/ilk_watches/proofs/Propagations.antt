@@ -13,10 +13,10 @@ use Rattle.ilk_trail.specs.Trail.{with_assignment, level_of}
 use Rattle.ilk_trail.specs.Laws.{lits_of}
 use Rattle.ilk_trail.proofs.Levels.{last_level-push}
 use Rattle.ilk_watches.specs.Reasons.{is_reason}
-use Rattle.ilk_watches.specs.Propagated.{IsPropagated}
+use Rattle.ilk_watches.specs.Propagated.{ExtendsByPropagation}
 use Rattle.ilk_watches.proofs.Entries.{at-old, length-kept}
 
-pub propagated-start : (cs : List (List Literal)) (es : List Entry) → IsPropagated cs es es
+pub propagated-start : (cs : List (List Literal)) (es : List Entry) → ExtendsByPropagation cs es es
 propagated-start cs es = record {
   kept = take-length es;
   level = refl;
@@ -27,7 +27,7 @@ propagated-start cs es = record {
     past : (es : List Entry) (i : ℕ) (e : Entry) → length es ≤ i → slice_get es i ≡ Some e → ⊥
     past es i e h s = (let w = slice_get_within es i e s in absurd (omega (arith, w, h)))
 
-pub propagated-push : (cs : List (List Literal)) (old new : List Entry) (l : Literal) (c : ℕ) → IsPropagated cs old new → is_reason cs (lits_of new) l c ≡ true → IsPropagated cs old (with_assignment new l c)
+pub propagated-push : (cs : List (List Literal)) (old new : List Entry) (l : Literal) (c : ℕ) → ExtendsByPropagation cs old new → is_reason cs (lits_of new) l c ≡ true → ExtendsByPropagation cs old (with_assignment new l c)
 propagated-push cs old new l c p r =
     let e : Entry = record { lit = l; level = level_of new; reason = Some c } in
     record {
@@ -48,7 +48,7 @@ propagated-push cs old new l c p r =
       ];
     }
 
-pub propagated-one : (cs : List (List Literal)) (es : List Entry) (l : Literal) (c : ℕ) → is_reason cs (lits_of es) l c ≡ true → IsPropagated cs es (with_assignment es l c)
+pub propagated-one : (cs : List (List Literal)) (es : List Entry) (l : Literal) (c : ℕ) → is_reason cs (lits_of es) l c ≡ true → ExtendsByPropagation cs es (with_assignment es l c)
 propagated-one cs es l c r = propagated-push cs es es l c (propagated-start cs es) r
 
 same-front : (es fs : List Entry) (i : ℕ) → take (length es) fs ≡ es → i ≤ length es → take i es ≡ take i fs
@@ -56,7 +56,7 @@ same-front es fs i k le =
     let size = ap length k in
     ap (take i) (sym k) ∙ sym (take-append-le i (take (length es) fs) (drop (length es) fs) (omega (arith, size, le))) ∙ ap (take i) (take-append-drop (length es) fs)
 
-pub propagated-join : (cs : List (List Literal)) (old mid new : List Entry) → IsPropagated cs old mid → IsPropagated cs mid new → IsPropagated cs old new
+pub propagated-join : (cs : List (List Literal)) (old mid new : List Entry) → ExtendsByPropagation cs old mid → ExtendsByPropagation cs mid new → ExtendsByPropagation cs old new
 propagated-join cs old mid new p q = record {
   kept = sym (same-front mid new (length old) q.kept (length-kept old mid p.kept)) ∙ p.kept;
   level = q.level ∙ p.level;
@@ -71,5 +71,5 @@ propagated-join cs old mid new p q = record {
   ];
 }
 
-pub propagated-same : (cs ds : List (List Literal)) (old new : List Entry) → ds ≡ cs → IsPropagated ds old new → IsPropagated cs old new
-propagated-same cs ds old new e p = (let P : List (List Literal) → Type 0 = λ x. IsPropagated x old new in subst P e p)
+pub propagated-same : (cs ds : List (List Literal)) (old new : List Entry) → ds ≡ cs → ExtendsByPropagation ds old new → ExtendsByPropagation cs old new
+propagated-same cs ds old new e p = (let P : List (List Literal) → Type 0 = λ x. ExtendsByPropagation x old new in subst P e p)

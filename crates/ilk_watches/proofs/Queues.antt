@@ -9,7 +9,7 @@ use Rattle.std.proofs.lemmas.Option.{slice_get_within}
 use Rattle.ilk_base.proofs.Lists.{item_at}
 use Rattle.ilk_base.proofs.Ranges.{below_or_past}
 use Rattle.ilk_base.proofs.Tested.{list_all-slice_get}
-use Rattle.ilk_cnf.specs.Literal.{Literal, has_lit, vars_differ}
+use Rattle.ilk_cnf.specs.Literal.{Literal, has_lit, has_distinct_vars}
 use Rattle.ilk_log.specs.Fresh.{other_lits}
 use Rattle.ilk_log.specs.Propagation.{is_saturated, is_falsified, unit_lit}
 use Rattle.ilk_trail.specs.declared.entry.Entry.{Entry}
@@ -17,11 +17,11 @@ use Rattle.ilk_trail.specs.Trail.{with_decision, level_of}
 use Rattle.ilk_trail.specs.Laws.{lits_of}
 use Rattle.ilk_trail.proofs.Levels.{last_level-push}
 use Rattle.ilk_arena.specs.Arena.{ArenaLists, literals_of, number_of_clause, item_for_reference, is_listed_in}
-use Rattle.ilk_watches.specs.Reasons.{clause_at, is_conflict, is_reason}
+use Rattle.ilk_watches.specs.Reasons.{nth_clause_or_empty, is_conflict, is_reason}
 use Rattle.ilk_watches.specs.Chained.{IsClauses, SameClauses}
 use Rattle.ilk_watches.proofs.Chained.{by-reference}
 use Rattle.ilk_watches.proofs.Within.{clause-there}
-use Rattle.ilk_watches.specs.Propagated.{IsPropagated}
+use Rattle.ilk_watches.specs.Propagated.{ExtendsByPropagation}
 use Rattle.ilk_watches.specs.Watched.{AllCovered, is_satisfied, IsQueue}
 use Rattle.ilk_watches.proofs.Entries.{at-old, entry-of-lit, one-entry, at-kept}
 use Rattle.ilk_watches.proofs.Covers.{covered-more}
@@ -50,7 +50,7 @@ all-covered a es h s k cl all = λ c known. elim (k.watched c known) [
   | inr m ↦ absurd (let b = by-reference a c cl known in omega (arith, m.0, b.number, b.within, all))
 ]
 
-pub queue-walked : (a b : ArenaLists) (es fs : List Entry) (h n s : ℕ) → IsQueue a es h s → AllCovered b fs n → IsPropagated a.clauses es fs → SameClauses a b → h ≤ n → n ≤ length fs → IsQueue b fs n s
+pub queue-walked : (a b : ArenaLists) (es fs : List Entry) (h n s : ℕ) → IsQueue a es h s → AllCovered b fs n → ExtendsByPropagation a.clauses es fs → SameClauses a b → h ≤ n → n ≤ length fs → IsQueue b fs n s
 queue-walked a b es fs h n s k v p same le m = record {
   head_in = m;
   settled_in = omega (arith, k.settled_in, ap length same.clauses);
@@ -66,7 +66,7 @@ queue-walked a b es fs h n s k v p same le m = record {
       ap (is_satisfied fs) ls ∙ satisfied-kept es fs (literals_of a c) p.kept (k.short c there (omega (arith, few, number)) (omega (arith, b2, ap length ls))));
 }
 
-pub queue-closed : (a : ArenaLists) (es : List Entry) (h s : ℕ) → IsQueue a es h s → IsClauses a → vars_differ (lits_of es) ≡ true → s ≡ length a.clauses → length es ≤ h → (is_saturated a.clauses (lits_of es) ≡ true) × (h ≡ length es)
+pub queue-closed : (a : ArenaLists) (es : List Entry) (h s : ℕ) → IsQueue a es h s → IsClauses a → has_distinct_vars (lits_of es) ≡ true → s ≡ length a.clauses → length es ≤ h → (is_saturated a.clauses (lits_of es) ≡ true) × (h ≡ length es)
 queue-closed a es h s k cl d all past =
     let here : h ≡ length es = omega (arith, past, k.head_in) in
     let P : ℕ → Type 0 = λ n. AllCovered a es n in
@@ -98,7 +98,7 @@ queue-with_decision a es h s l k cl all here =
 
 forced-open : (a : ArenaLists) (es : List Entry) (l : Literal) (c : ℕ) → IsClauses a → is_saturated a.clauses (lits_of es) ≡ true → is_reason a.clauses (lits_of es) l c ≡ true → has_lit l (lits_of es) ≡ true
 forced-open a es l c k closed r =
-    let clause = clause_at a.clauses c in
+    let clause = nth_clause_or_empty a.clauses c in
     let p = and_parts (has_lit l clause) (is_falsified (lits_of es) (other_lits l clause)) r in
     elim (below_or_past c (length a.clauses)) [
       | inl b ↦ open-true (lits_of es) clause l (differ-at a c k b) p.1 (list_all-slice_get (is_open (lits_of es)) a.clauses c clause closed (clause-there a.clauses c b))
@@ -111,7 +111,7 @@ drop-past [] (suc n) h = refl
 drop-past (x ∷ xs) zero h = absurd (omega arith)
 drop-past (x ∷ xs) (suc n) h = drop-past xs n (omega arith)
 
-pub nothing-forced : (a : ArenaLists) (es fs : List Entry) → IsClauses a → is_saturated a.clauses (lits_of es) ≡ true → IsPropagated a.clauses es fs → vars_differ (lits_of fs) ≡ true → fs ≡ es
+pub nothing-forced : (a : ArenaLists) (es fs : List Entry) → IsClauses a → is_saturated a.clauses (lits_of es) ≡ true → ExtendsByPropagation a.clauses es fs → has_distinct_vars (lits_of fs) ≡ true → fs ≡ es
 nothing-forced a es fs k closed p d =
     elim (below_or_past (length es) (length fs)) [
       | inl b ↦ absurd (let x = item_at fs (length es) b in
@@ -132,7 +132,7 @@ nothing-forced a es fs k closed p d =
 pub no-conflict : (cs : List (List Literal)) (set : List Literal) (o : Option ℕ) (E : Type 0) → is_saturated cs set ≡ true → IfSome o (λ c. is_conflict cs set c ≡ true) → IfNone o E → E
 no-conflict cs set None E closed f e = e
 no-conflict cs set (Some c) E closed f e =
-    let p = and_parts (nat_lt c (length cs)) (is_falsified set (clause_at cs c)) f in
+    let p = and_parts (nat_lt c (length cs)) (is_falsified set (nth_clause_or_empty cs c)) f in
     let b = ltb-true c (length cs) p.0 in
-    let o = and_parts (not (is_falsified set (clause_at cs c))) (is_none (unit_lit set (clause_at cs c))) (list_all-slice_get (is_open set) cs c (clause_at cs c) closed (clause-there cs c b)) in
-    absurd (true≢false (sym p.1 ∙ not-true (is_falsified set (clause_at cs c)) o.0))
+    let o = and_parts (not (is_falsified set (nth_clause_or_empty cs c))) (is_none (unit_lit set (nth_clause_or_empty cs c))) (list_all-slice_get (is_open set) cs c (nth_clause_or_empty cs c) closed (clause-there cs c b)) in
+    absurd (true≢false (sym p.1 ∙ not-true (is_falsified set (nth_clause_or_empty cs c)) o.0))

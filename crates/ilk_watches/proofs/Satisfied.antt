@@ -6,7 +6,7 @@ use Rattle.std.proofs.lemmas.Bool.{and_parts, and_from, cases_Bool, or_cases, or
 use Rattle.std.proofs.lemmas.Option.{slice_get_within, get_or_from_slice_get}
 use Rattle.ilk_base.proofs.Tested.{all-pass}
 use Rattle.ilk_base.proofs.Ranges.{below_or_past}
-use Rattle.ilk_cnf.specs.Literal.{Literal, negated_lit, same_lit, has_lit, has_var, vars_differ}
+use Rattle.ilk_cnf.specs.Literal.{Literal, negated_lit, same_lit, has_lit, has_var, has_distinct_vars}
 use Rattle.ilk_cnf.proofs.Gates.{negated_lit-negated_lit}
 use Rattle.ilk_cnf.proofs.SameLiterals.{same-lit, lit-is}
 use Rattle.ilk_log.specs.Fresh.{other_lits}
@@ -95,7 +95,7 @@ satisfied-by es (l ∷ c) m h k =
       | inr s ↦ or_right (has_lit l (lits_of es)) (is_satisfied es c) (satisfied-by es c m s k)
     ]
 
-pub satisfied-open : (es : List Entry) (c : List Literal) → vars_differ (lits_of es) ≡ true → is_satisfied es c ≡ true → is_open (lits_of es) c ≡ true
+pub satisfied-open : (es : List Entry) (c : List Literal) → has_distinct_vars (lits_of es) ≡ true → is_satisfied es c ≡ true → is_open (lits_of es) c ≡ true
 satisfied-open es c d h =
     let r = has-satisfied es c h in
     let f = true-not-false es r.0 d r.2 in
@@ -114,7 +114,7 @@ short-satisfied es (l ∷ []) n h =
 short-satisfied es (l ∷ (m ∷ c)) n h = absurd (omega arith)
 
 pub watched-open : (a : ArenaLists) (es : List Entry) (c : ℕ) (x y : Literal) →
-    vars_differ (lits_of es) ≡ true → WatchesTwo a c x y →
+    has_distinct_vars (lits_of es) ≡ true → WatchesTwo a c x y →
     (is_false (lits_of es) x ≡ true → has_lit y (lits_of es) ≡ true) →
     (is_false (lits_of es) y ≡ true → has_lit x (lits_of es) ≡ true) →
     is_open (lits_of es) (literals_of a c) ≡ true
@@ -137,7 +137,7 @@ other-holds a es c x y known h sx sy ne f =
     let same : negated_lit e.entry.lit ≡ x = ap negated_lit e.is ∙ negated_lit-negated_lit x in
     true-somewhere es e.entry.level y (h c known e.index e.entry y (slice_get_within es e.index e.entry e.stands) e.stands (ap (λ (l : Literal). is_listed_in c (chain_of a l)) same ∙ sx) sy (λ q. ne (q ∙ same)))
 
-pub closed-all : (a : ArenaLists) (es : List Entry) → IsClauses a → vars_differ (lits_of es) ≡ true →
+pub closed-all : (a : ArenaLists) (es : List Entry) → IsClauses a → has_distinct_vars (lits_of es) ≡ true →
     AllCovered a es (length es) →
     ((c : ℕ) → is_listed_in c a.references ≡ true → length (literals_of a c) < 2 →
     is_satisfied es (literals_of a c) ≡ true) →
@@ -182,10 +182,10 @@ none-open set (m ∷ c) x n h =
       | inr t ↦ (let p = and_parts (is_false set m) (is_falsified set (other_lits x c)) (rw t at h) in rw p.0 (none-open set c x q.1 p.1))
     ]
 
-pub open-true : (set c : List Literal) (x : Literal) → vars_differ c ≡ true → is_falsified set (other_lits x c) ≡ true → is_open set c ≡ true → has_lit x set ≡ true
+pub open-true : (set c : List Literal) (x : Literal) → has_distinct_vars c ≡ true → is_falsified set (other_lits x c) ≡ true → is_open set c ≡ true → has_lit x set ≡ true
 open-true set [] x d h o = absurd (true≢false (sym o))
 open-true set (m ∷ c) x d h o =
-    let v = and_parts (not (has_var m.var c)) (vars_differ c) d in
+    let v = and_parts (not (has_var m.var c)) (has_distinct_vars c) d in
     elim (cases_Bool (same_lit x m)) [
       | inl t ↦ (let e = lit-is x m t in
           elim (cases_Bool (is_false set m)) [

@@ -5,8 +5,8 @@ use Rattle.std.specs.Option.{option_map_or}
 use Rattle.std.proofs.lemmas.Bool.{cases_Bool}
 use Rattle.std.proofs.lemmas.Option.{slice_get_within, get_or_from_slice_get}
 use Rattle.ilk_base.proofs.Lists.{drop_at}
-use Rattle.ilk_cnf.specs.Literal.{Literal, has_lit, vars_differ}
-use Rattle.ilk_log.specs.Propagation.{is_false, is_falsified, single_unset_lit}
+use Rattle.ilk_cnf.specs.Literal.{Literal, has_lit, has_distinct_vars}
+use Rattle.ilk_log.specs.Propagation.{is_false, is_falsified, only_lit_if_unset}
 use Rattle.ilk_trail.specs.declared.entry.Entry.{Entry}
 use Rattle.ilk_trail.specs.Trail.{value_of_literal}
 use Rattle.ilk_trail.specs.Laws.{lits_of}
@@ -47,7 +47,7 @@ value_cases None = inr (inr refl)
 value_cases (Some true) = inl refl
 value_cases (Some false) = inr (inl refl)
 
-scan-one : (es : List Entry) (k : Literal) (c : List Literal) → vars_differ (lits_of es) ≡ true → has_lit k (lits_of es) ≡ false → scan es (Some k) c ≡ meaning (lits_of es) (k ∷ filter (λ m. not (is_false (lits_of es) m)) c)
+scan-one : (es : List Entry) (k : Literal) (c : List Literal) → has_distinct_vars (lits_of es) ≡ true → has_lit k (lits_of es) ≡ false → scan es (Some k) c ≡ meaning (lits_of es) (k ∷ filter (λ m. not (is_false (lits_of es) m)) c)
 unfolding meaning
 scan-one es k [] d u = rw u refl
 scan-one es k (l ∷ c) d u =
@@ -65,7 +65,7 @@ unfolding meaning
 open-first set l [] h = rw h refl
 open-first set l (m ∷ ls) h = refl
 
-scan-none : (es : List Entry) (c : List Literal) → vars_differ (lits_of es) ≡ true → scan es None c ≡ meaning (lits_of es) (filter (λ m. not (is_false (lits_of es) m)) c)
+scan-none : (es : List Entry) (c : List Literal) → has_distinct_vars (lits_of es) ≡ true → scan es None c ≡ meaning (lits_of es) (filter (λ m. not (is_false (lits_of es) m)) c)
 unfolding meaning
 scan-none es [] d = refl
 scan-none es (l ∷ c) d =
@@ -92,17 +92,17 @@ falsified-is set [] = refl
 falsified-is set (l ∷ c) =
     elim (cases_Bool (is_false set l)) [ inl t ↦ rw t (falsified-is set c) | inr f ↦ rw f refl ]
 
-meaning-is : (set ls : List Literal) → meaning set ls ≡ cond (no_literal ls) Conflict (option_map_or Unit (single_unset_lit set ls) Open)
+meaning-is : (set ls : List Literal) → meaning set ls ≡ cond (no_literal ls) Conflict (option_map_or Unit (only_lit_if_unset set ls) Open)
 unfolding meaning no_literal
 meaning-is set [] = refl
 meaning-is set (l ∷ []) = elim (cases_Bool (has_lit l set)) [ inl t ↦ rw t refl | inr f ↦ rw f refl ]
 meaning-is set (l ∷ (m ∷ ls)) = refl
 
-pub scan-is : (es : List Entry) (c : List Literal) → vars_differ (lits_of es) ≡ true → scan es None c ≡ clause_state (lits_of es) c
+pub scan-is : (es : List Entry) (c : List Literal) → has_distinct_vars (lits_of es) ≡ true → scan es None c ≡ clause_state (lits_of es) c
 scan-is es c d =
     let set = lits_of es in
     let left = filter (λ m. not (is_false set m)) c in
-    scan-none es c d ∙ meaning-is set left ∙ ap (λ (b : Bool). cond b Conflict (option_map_or Unit (single_unset_lit set left) Open)) (sym (falsified-is set c))
+    scan-none es c d ∙ meaning-is set left ∙ ap (λ (b : Bool). cond b Conflict (option_map_or Unit (only_lit_if_unset set left) Open)) (sym (falsified-is set c))
 
 pub scan-true : (es : List Entry) (first : Option Literal) (clause : List Literal) (i : ℕ) (l : Literal) → slice_get clause i ≡ Some l → value_of_literal es l ≡ Some true → scan es first (drop i clause) ≡ Open
 scan-true es first clause i l e v = scan-next es first clause i l e ∙ rw v refl

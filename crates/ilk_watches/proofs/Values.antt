@@ -4,7 +4,7 @@ use Rattle.std.specs.Bool.{beq}
 use Rattle.std.proofs.lemmas.Bool.{and_parts, cases_Bool, not-true, true≢false, ne_eqb, eqb-false, eq-eqb}
 use Rattle.std.proofs.lemmas.Bool.Decides.{eqb_tells}
 use Rattle.ilk_base.specs.Option.{is_some_and}
-use Rattle.ilk_cnf.specs.Literal.{Literal, negated_lit, has_lit, has_var, vars_differ}
+use Rattle.ilk_cnf.specs.Literal.{Literal, negated_lit, has_lit, has_var, has_distinct_vars}
 use Rattle.ilk_log.specs.Propagation.{is_false}
 use Rattle.ilk_trail.specs.declared.entry.Entry.{Entry}
 use Rattle.ilk_trail.specs.Trail.{value_of_literal}
@@ -37,10 +37,10 @@ other_sign true false = refl
 other_sign false true = refl
 other_sign false false = refl
 
-pub value-tells : (es : List Entry) (l : Literal) → vars_differ (lits_of es) ≡ true → Tells es l
+pub value-tells : (es : List Entry) (l : Literal) → has_distinct_vars (lits_of es) ≡ true → Tells es l
 value-tells [] l d = record { stands = refl; denied = refl }
 value-tells (x ∷ es) l d =
-    let p = and_parts (not (has_var x.lit.var (lits_of es))) (vars_differ (lits_of es)) d in
+    let p = and_parts (not (has_var x.lit.var (lits_of es))) (has_distinct_vars (lits_of es)) d in
     let rest = value-tells es l p.1 in
     let none : has_var x.lit.var (lits_of es) ≡ false = not-true (has_var x.lit.var (lits_of es)) p.0 in
     elim (eqb_tells x.lit.var l.var) [

@@ -12,7 +12,7 @@ use Rattle.ilk_trail.specs.Laws.{lits_of}
 use Rattle.ilk_arena.specs.Arena.{ArenaLists, reference_after, chain_of, first_of, directly_follows, is_listed_in}
 use Rattle.ilk_arena.specs.Chains.{IsArena}
 use Rattle.ilk_arena.proofs.Watching.{once-head, stands-front}
-use Rattle.ilk_watches.specs.Visits.{rest_from_reference, remaining_clauses, rest_from, IsVisitResult, IsWalk, IsWalkAt}
+use Rattle.ilk_watches.specs.Visits.{rest_from_reference, count_rest_of_chain, rest_from, IsVisitResult, IsWalk, IsWalkAt}
 use Rattle.ilk_watches.specs.declared.visit.Visited.TheVariants.{Stays, Moves}
 use Rattle.ilk_watches.proofs.Covers.{walk-stays, walk-moves}
 
@@ -97,7 +97,7 @@ hand-directly_follows a es f before c h = ap (directly_follows before c) h.is.sp
 -- A step of a walk, after which less is left.
 pub record Stepped (a b : ArenaLists) (fs : List Entry) (f : Literal) (now before next : Option ℕ) : Type 0 where
   pub walking : IsWalkAt b fs f before next
-  pub smaller : remaining_clauses b f next < remaining_clauses a f now
+  pub smaller : count_rest_of_chain b f next < count_rest_of_chain a f now
 
 distinct-of : (a : ArenaLists) (es : List Entry) (f : Literal) (passed rest : List ℕ) → IsArena a → IsWalk a es f passed rest → IsDistinct eqb (passed ++ rest)
 distinct-of a es f passed rest k w = (let D : List ℕ → Type 0 = λ xs. IsDistinct eqb xs in subst D w.split (k.once f))

@@ -4,6 +4,6 @@ use Rattle.ilk_arena.specs.Arena.{ArenaLists}
 use Rattle.ilk_watches.specs.Chained.{IsClauses}
 
 -- Holds if the list has the references by number.
-pub record HoldsClauses (a : ArenaLists) (references : List ℕ) : Type 0 where
+pub record AreClauseReferences (a : ArenaLists) (references : List ℕ) : Type 0 where
   pub row : references ≡ a.references
   pub clauses : IsClauses a

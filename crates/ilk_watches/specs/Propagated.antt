@@ -8,7 +8,7 @@ use Rattle.ilk_watches.specs.Reasons.{is_reason}
 
 -- Holds if `new` extends `old` at the same level, and each new entry has a reason that forces its
 -- literal under the entries before it.
-pub record IsPropagated (clauses : List (List Literal)) (old new : List Entry) : Type 0 where
+pub record ExtendsByPropagation (clauses : List (List Literal)) (old new : List Entry) : Type 0 where
   pub kept : take (length old) new ≡ old
   pub level : level_of new ≡ level_of old
   pub levels : (i : ℕ) (e : Entry) → length old ≤ i → slice_get new i ≡ Some e → e.level ≡ level_of old

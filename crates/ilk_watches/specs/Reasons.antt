@@ -7,21 +7,21 @@ use Rattle.ilk_trail.specs.declared.entry.Entry.{Entry}
 use Rattle.ilk_trail.specs.Laws.{lits_of}
 
 -- Clause `c`, counted from 0, or the empty clause if there is none.
-abbrev pub clause_at : List (List Literal) → ℕ → List Literal
-clause_at clauses c = slice_index_or clauses c []
+abbrev pub nth_clause_or_empty : List (List Literal) → ℕ → List Literal
+nth_clause_or_empty clauses c = slice_index_or clauses c []
 
 -- Returns whether clause `c` is a conflict: all its literals are false if the literals in `set` are
 -- true.
 abbrev pub is_conflict : List (List Literal) → List Literal → ℕ → Bool
-is_conflict clauses set c = nat_lt c (length clauses) && is_falsified set (clause_at clauses c)
+is_conflict clauses set c = nat_lt c (length clauses) && is_falsified set (nth_clause_or_empty clauses c)
 
 -- Returns whether clause `c` is a unit: one literal is unset, and all others are false.
 abbrev pub is_unit : List (List Literal) → List Literal → ℕ → Bool
-is_unit clauses set c = is_some (unit_lit set (clause_at clauses c))
+is_unit clauses set c = is_some (unit_lit set (nth_clause_or_empty clauses c))
 
 -- Returns whether clause `c` forces literal `l`: it has `l`, and all its other literals are false.
 abbrev pub is_reason : List (List Literal) → List Literal → Literal → ℕ → Bool
-is_reason clauses set l c = has_lit l (clause_at clauses c) && is_falsified set (other_lits l (clause_at clauses c))
+is_reason clauses set l c = has_lit l (nth_clause_or_empty clauses c) && is_falsified set (other_lits l (nth_clause_or_empty clauses c))
 
 -- Holds if the reason of each entry is a clause that forces its literal under the entries before
 -- it.

@@ -10,7 +10,7 @@ use Rattle.ilk_trail.specs.declared.entry.Entry.{Entry}
 use Rattle.ilk_trail.specs.Laws.{lits_of}
 use Rattle.ilk_arena.specs.Arena.{ArenaLists, chain_of, first_of, literals_of, number_of_clause, with_watch_moved, is_listed_in}
 use Rattle.ilk_watches.specs.Reasons.{is_conflict}
-use Rattle.ilk_watches.specs.Watched.{is_true_at}
+use Rattle.ilk_watches.specs.Watched.{is_true_by_level}
 use Rattle.ilk_watches.specs.declared.visit.Visited.{Visited}
 use Rattle.ilk_watches.specs.declared.visit.Visited.TheVariants.{Stays, Moves, Broken}
 
@@ -28,9 +28,9 @@ NoneMayWatch set other ls from to = (i : ℕ) (l : Literal) → from ≤ i → i
 
 -- Holds if the watch of clause `c` at `f` was moved to a literal that isn't false, or otherwise all
 -- its literals but the other watch are false.
-abbrev pub IsReplaced : ArenaLists → List Literal → ArenaLists → ℕ → Literal → Literal → Bool → Type 0
-IsReplaced a set b c f other true = (t : Literal) × (is_false set t ≡ false) × (b.chains ≡ (with_watch_moved a c f t).chains)
-IsReplaced a set b c f other false = (b.chains ≡ a.chains) × IsTrue (is_falsified set (other_lits other (literals_of a c)))
+abbrev pub IsReplacementResult : ArenaLists → List Literal → ArenaLists → ℕ → Literal → Literal → Bool → Type 0
+IsReplacementResult a set b c f other true = (t : Literal) × (is_false set t ≡ false) × (b.chains ≡ (with_watch_moved a c f t).chains)
+IsReplacementResult a set b c f other false = (b.chains ≡ a.chains) × IsTrue (is_falsified set (other_lits other (literals_of a c)))
 
 -- Holds if each watch of clause `c` besides `f` is true.
 abbrev pub IsOtherWatchTrue : ArenaLists → List Entry → ℕ → Literal → Type 0
@@ -74,16 +74,16 @@ pub record HasMoved (a : ArenaLists) (es : List Entry) (b : ArenaLists) (f : Lit
   pub chains : b.chains ≡ (with_watch_moved a clause f to).chains
 
 -- Holds if the chains are unchanged after a step along that of `f`, or a clause has left it.
-abbrev pub ChainsAfter : ArenaLists → List Entry → ArenaLists → Literal → Type 0
-ChainsAfter a es b f = (b.chains ≡ a.chains) ⊎ HasMoved a es b f
+abbrev pub AtMostOneLeftChain : ArenaLists → List Entry → ArenaLists → Literal → Type 0
+AtMostOneLeftChain a es b f = (b.chains ≡ a.chains) ⊎ HasMoved a es b f
 
 -- Holds if each clause is covered for those of the first `n` entries that make a watch other than
 -- `f` and `g` false. The chains of `f` and `g` are being walked.
-abbrev pub CoveredExcept : ArenaLists → List Entry → ℕ → Literal → Literal → Type 0
-CoveredExcept a es n f g = (c : ℕ) → IsTrue (is_listed_in c a.references) → (i : ℕ) (e : Entry) (l : Literal) →
+abbrev pub CoveredExceptInChains : ArenaLists → List Entry → ℕ → Literal → Literal → Type 0
+CoveredExceptInChains a es n f g = (c : ℕ) → IsTrue (is_listed_in c a.references) → (i : ℕ) (e : Entry) (l : Literal) →
     i < n → slice_get es i ≡ Some e → negated_lit e.lit ≢ f → negated_lit e.lit ≢ g →
     IsTrue (is_listed_in c (chain_of a (negated_lit e.lit))) → IsTrue (is_listed_in c (chain_of a l)) →
-    l ≢ negated_lit e.lit → IsTrue (is_true_at es e.level l)
+    l ≢ negated_lit e.lit → IsTrue (is_true_by_level es e.level l)
 
 -- The rest of a chain from a clause on.
 abbrev pub rest_from_reference : ℕ → List ℕ → List ℕ
@@ -95,5 +95,5 @@ rest_from None cs = []
 rest_from (Some c) cs = rest_from_reference c cs
 
 -- The number of clauses in the chain of `f` from one on.
-abbrev pub remaining_clauses : ArenaLists → Literal → Option ℕ → ℕ
-remaining_clauses a f next = length (rest_from next (chain_of a f))
+abbrev pub count_rest_of_chain : ArenaLists → Literal → Option ℕ → ℕ
+count_rest_of_chain a f next = length (rest_from next (chain_of a f))

@@ -11,8 +11,8 @@ use Rattle.ilk_trail.specs.Laws.{is_set, lits_of}
 use Rattle.ilk_arena.specs.Arena.{ArenaLists, chain_of, literals_of, number_of_clause, is_listed_in}
 
 -- Returns whether literal `l` is true by the entries up to level `k`.
-abbrev pub is_true_at : List Entry → ℕ → Literal → Bool
-is_true_at es k l = has_lit l (lits_of (entries_up_to k es))
+abbrev pub is_true_by_level : List Entry → ℕ → Literal → Bool
+is_true_by_level es k l = has_lit l (lits_of (entries_up_to k es))
 
 -- Returns whether some literal of a clause is true.
 abbrev pub is_satisfied : List Entry → List Literal → Bool
@@ -21,21 +21,22 @@ is_satisfied es ls = list_any (λ l. has_lit l (lits_of es)) ls
 -- Holds if, when one of the first `n` entries makes a watch of clause `c` false, the other watch is
 -- true at the level of that entry.
 abbrev pub IsCovered : ArenaLists → List Entry → ℕ → ℕ → Type 0
-IsCovered a es n c = (i : ℕ) (e : Entry) (l : Literal) → i < n → slice_get es i ≡ Some e → IsTrue (is_listed_in c (chain_of a (negated_lit e.lit))) → IsTrue (is_listed_in c (chain_of a l)) → l ≢ negated_lit e.lit → IsTrue (is_true_at es e.level l)
+IsCovered a es n c = (i : ℕ) (e : Entry) (l : Literal) → i < n → slice_get es i ≡ Some e → IsTrue (is_listed_in c (chain_of a (negated_lit e.lit))) → IsTrue (is_listed_in c (chain_of a l)) → l ≢ negated_lit e.lit →
+    IsTrue (is_true_by_level es e.level l)
 
 abbrev pub AllCovered : ArenaLists → List Entry → ℕ → Type 0
 AllCovered a es n = (c : ℕ) → IsTrue (is_listed_in c a.references) → IsCovered a es n c
 
 -- Holds if each entry that makes `l` false is at the current level.
-abbrev pub FalseAtCurrentLevel : List Entry → Literal → Type 0
-FalseAtCurrentLevel es l = (i : ℕ) (e : Entry) → slice_get es i ≡ Some e → e.lit ≡ negated_lit l → e.level ≡ level_of es
+abbrev pub NotFalseBelowCurrentLevel : List Entry → Literal → Type 0
+NotFalseBelowCurrentLevel es l = (i : ℕ) (e : Entry) → slice_get es i ≡ Some e → e.lit ≡ negated_lit l → e.level ≡ level_of es
 
 -- Holds if clause `c` watches at most `x` and `y`. Its literals but `x` are false, `y` since the
 -- current level. None of the first `n` entries makes `x` false.
 pub record MayForce (a : ArenaLists) (es : List Entry) (n c : ℕ) (x y : Literal) : Type 0 where
   pub watches : (l : Literal) → IsTrue (is_listed_in c (chain_of a l)) → (l ≡ x) ⊎ (l ≡ y)
   pub others_false : IsTrue (is_falsified (lits_of es) (other_lits x (literals_of a c)))
-  pub recent : FalseAtCurrentLevel es y
+  pub recent : NotFalseBelowCurrentLevel es y
   pub possible : (i : ℕ) (e : Entry) → i < n → slice_get es i ≡ Some e → e.lit ≢ negated_lit x
 
 -- Holds for a queue. The entries before `head` are propagated; those from there on are at the
@@ -50,7 +51,7 @@ pub record IsQueue (a : ArenaLists) (es : List Entry) (head settled : ℕ) : Typ
 
 -- Holds if a clause may be added: it is short, its first two literals are unset, or only its first
 -- is unset. In the last case the others are false, the second since the current level.
-abbrev pub IsAddable : List Entry → List Literal → Type 0
-IsAddable es [] = Unit {0}
-IsAddable es (l ∷ []) = Unit {0}
-IsAddable es (l ∷ (m ∷ ls)) = (is_set es l.var ≡ false) × ((is_set es m.var ≡ false) ⊎ (IsTrue (is_falsified (lits_of es) (m ∷ ls)) × FalseAtCurrentLevel es m))
+abbrev pub FirstTwoAreWatchable : List Entry → List Literal → Type 0
+FirstTwoAreWatchable es [] = Unit {0}
+FirstTwoAreWatchable es (l ∷ []) = Unit {0}
+FirstTwoAreWatchable es (l ∷ (m ∷ ls)) = (is_set es l.var ≡ false) × ((is_set es m.var ≡ false) ⊎ (IsTrue (is_falsified (lits_of es) (m ∷ ls)) × NotFalseBelowCurrentLevel es m))

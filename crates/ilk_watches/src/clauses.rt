@@ -1,8 +1,8 @@
 ghost use Rattle.std.specs.Prelude.{◌≡◌, ◌≤◌, ◌<◌, ◌^◌, [], false, length, slice_get, Some, IfOk, IfSome, OnOk, OnErr, IsTrue};
 ghost use Rattle.ilk_cnf.specs.Formula.{is_clause_over, is_lit_over, IsFormula};
-ghost use Rattle.ilk_cnf.specs.Literal.{vars_differ};
+ghost use Rattle.ilk_cnf.specs.Literal.{has_distinct_vars};
 ghost use Rattle.ilk_arena.specs.Arena.{chain_of, directly_follows, literals_of, with_watch_moved, set_for_reference, is_listed_in};
-ghost use Rattle.ilk_watches.specs.Reasons.{clause_at};
+ghost use Rattle.ilk_watches.specs.Reasons.{nth_clause_or_empty};
 ghost use Rattle.ilk_watches.specs.Chained.{formula_of, IsClauses, IsClauseAdded};
 
 use ilk_arena::Arena;
@@ -20,13 +20,13 @@ pub struct Clauses {
 
 impl Model for Clauses {
     ghost use Rattle.ilk_arena.specs.Arena.{ArenaLists};
-    ghost use Rattle.ilk_watches.specs.Held.{HoldsClauses};
+    ghost use Rattle.ilk_watches.specs.Held.{AreClauseReferences};
 
     ghost Value = { ArenaLists };
 
     ghost view = { λ c. c.arena };
 
-    ghost invariant = { λ c. HoldsClauses c.arena c.references.items };
+    ghost invariant = { λ c. AreClauseReferences c.arena c.references.items };
 }
 
 impl Clauses {
@@ -56,7 +56,7 @@ impl Clauses {
     /// literals, if it has two.
     pub fn add(&mut self, clause: &[Lit]) -> Result<(), AllocError>
         requires within { IsTrue (is_clause_over self.old.vars clause.now) }
-        requires differ { IsTrue (vars_differ clause.now) }
+        requires differ { IsTrue (has_distinct_vars clause.now) }
         ensures ok { OnOk result (IsClauseAdded self.old clause.now self.new) }
         ensures err { OnErr result (self.new ≡ self.old) }
     {
@@ -87,7 +87,7 @@ impl Clauses {
     /// Returns the number of literals of clause `c`.
     pub fn length(&self, c: u64) -> u64
         requires { c < length self.now.clauses }
-        ensures { result ≡ length (clause_at self.now.clauses c) }
+        ensures { result ≡ length (nth_clause_or_empty self.now.clauses c) }
     {
         self.arena.length(self.references[c as usize])
     }
@@ -95,8 +95,8 @@ impl Clauses {
     /// Returns literal `i` of clause `c`.
     pub fn literal(&self, c: u64, i: u64) -> Lit
         requires clause { c < length self.now.clauses }
-        requires literal { i < length (clause_at self.now.clauses c) }
-        ensures literal { slice_get (clause_at self.now.clauses c) i ≡ Some result }
+        requires literal { i < length (nth_clause_or_empty self.now.clauses c) }
+        ensures literal { slice_get (nth_clause_or_empty self.now.clauses c) i ≡ Some result }
         ensures within { IsTrue (is_lit_over self.now.vars result) }
     {
         self.arena.literal(self.references[c as usize], i)

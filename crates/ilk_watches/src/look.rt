@@ -1,5 +1,5 @@
 ghost use Rattle.std.specs.Prelude.{◌≡◌, ◌<◌, length};
-ghost use Rattle.ilk_watches.specs.Reasons.{clause_at};
+ghost use Rattle.ilk_watches.specs.Reasons.{nth_clause_or_empty};
 ghost use Rattle.ilk_trail.specs.Laws.{lits_of, IsTrail};
 ghost use Rattle.ilk_watches.specs.Look.{clause_state};
 
@@ -21,7 +21,7 @@ pub fn clause_state(clauses: &Clauses, trail: &Trail, c: u64) -> ClauseState
     requires clause { c < length clauses.now.clauses }
     requires vars { trail.now.vars ≡ clauses.now.vars }
     ensures look { result ≡ clause_state (lits_of trail.now.entries)
-        (clause_at clauses.now.clauses c) }
+        (nth_clause_or_empty clauses.now.clauses c) }
     ensures trail { IsTrail trail.now }
 {
     let _ = trail.level();

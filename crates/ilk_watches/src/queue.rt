@@ -5,12 +5,12 @@ ghost use Rattle.ilk_trail.specs.Trail.{with_decision};
 ghost use Rattle.ilk_trail.specs.Laws.{is_set, lits_of};
 ghost use Rattle.ilk_watches.specs.Reasons.{is_conflict};
 ghost use Rattle.ilk_watches.specs.Chained.{SameClauses};
-ghost use Rattle.ilk_watches.specs.Propagated.{IsPropagated};
+ghost use Rattle.ilk_watches.specs.Propagated.{ExtendsByPropagation};
 ghost use Rattle.ilk_watches.specs.Watched.{IsQueue};
 
 use crate::clauses::Clauses;
 use crate::look::{ClauseState, clause_state};
-use crate::walk::walk_from;
+use crate::walk::propagate_from;
 use ilk_cnf::Lit;
 use ilk_trail::Trail;
 
@@ -48,7 +48,8 @@ impl Propagator {
         ensures queue { IsQueue clauses.new trail.new.entries self.new.head self.new.settled }
         ensures clauses { SameClauses clauses.old clauses.new }
         ensures trail { trail.new ≡ record trail.old { entries = trail.new.entries } }
-        ensures propagated { IsPropagated clauses.old.clauses trail.old.entries trail.new.entries }
+        ensures propagated { ExtendsByPropagation clauses.old.clauses trail.old.entries
+            trail.new.entries }
     {
         match self.settle(clauses, trail) {
             Some(c) => Some(c),
@@ -65,7 +66,8 @@ impl Propagator {
         ensures settled { IfNone result (self.new.settled ≡ length clauses.now.clauses) }
         ensures queue { IsQueue clauses.now trail.new.entries self.new.head self.new.settled }
         ensures trail { trail.new ≡ record trail.old { entries = trail.new.entries } }
-        ensures propagated { IsPropagated clauses.now.clauses trail.old.entries trail.new.entries }
+        ensures propagated { ExtendsByPropagation clauses.now.clauses trail.old.entries
+            trail.new.entries }
     {
         'looks: while self.settled < clauses.count() {
             match clause_state(clauses, trail, self.settled) {
@@ -91,13 +93,14 @@ impl Propagator {
         ensures queue { IsQueue clauses.new trail.new.entries self.new.head self.new.settled }
         ensures clauses { SameClauses clauses.old clauses.new }
         ensures trail { trail.new ≡ record trail.old { entries = trail.new.entries } }
-        ensures propagated { IsPropagated clauses.old.clauses trail.old.entries trail.new.entries }
+        ensures propagated { ExtendsByPropagation clauses.old.clauses trail.old.entries
+            trail.new.entries }
     {
         let _ = clauses.count();
         if self.head == trail.count() {
             return None;
         }
-        if let Some(c) = walk_from(clauses, trail, self.head) {
+        if let Some(c) = propagate_from(clauses, trail, self.head) {
             return Some(c);
         }
         let _ = clauses.count();

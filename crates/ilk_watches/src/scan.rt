@@ -3,7 +3,7 @@ ghost use Rattle.ilk_log.specs.Propagation.{is_saturated};
 ghost use Rattle.ilk_trail.specs.Laws.{lits_of, IsTrail};
 ghost use Rattle.ilk_watches.specs.Reasons.{is_conflict};
 ghost use Rattle.ilk_watches.specs.Found.{IsScanResult};
-ghost use Rattle.ilk_watches.specs.Propagated.{IsPropagated};
+ghost use Rattle.ilk_watches.specs.Propagated.{ExtendsByPropagation};
 
 use crate::clauses::Clauses;
 use crate::look::{ClauseState, clause_state};
@@ -44,7 +44,8 @@ pub fn propagate_by_scan(clauses: &Clauses, trail: &mut Trail) -> Option<u64>
     ensures closed { IfNone result
         (IsTrue (is_saturated clauses.now.clauses (lits_of trail.new.entries))) }
     ensures trail { trail.new ≡ record trail.old { entries = trail.new.entries } }
-    ensures propagated { IsPropagated clauses.now.clauses trail.old.entries trail.new.entries }
+    ensures propagated { ExtendsByPropagation clauses.now.clauses trail.old.entries
+        trail.new.entries }
 {
     'rounds: loop {
         match find(clauses, trail) {

@@ -8,9 +8,9 @@ ghost use Rattle.ilk_trail.specs.Laws.{lits_of, IsTrail};
 ghost use Rattle.ilk_arena.specs.Arena.{chain_of, directly_follows, literals_of, other_watch_of, is_listed_in};
 ghost use Rattle.ilk_watches.specs.Reasons.{is_conflict};
 ghost use Rattle.ilk_watches.specs.Chained.{SameClauses};
-ghost use Rattle.ilk_watches.specs.Propagated.{IsPropagated};
+ghost use Rattle.ilk_watches.specs.Propagated.{ExtendsByPropagation};
 ghost use Rattle.ilk_watches.specs.Watched.{AllCovered};
-ghost use Rattle.ilk_watches.specs.Visits.{IsReplaced, IsVisitResult, MayWatchAt, NoneMayWatch};
+ghost use Rattle.ilk_watches.specs.Visits.{IsReplacementResult, IsVisitResult, MayWatchAt, NoneMayWatch};
 
 use crate::clauses::Clauses;
 use ilk_cnf::Lit;
@@ -129,7 +129,8 @@ fn replace_watch(
     requires stands { IsTrue (is_listed_in c (chain_of clauses.old f)) }
     requires follows { IsTrue (directly_follows before c (chain_of clauses.old f)) }
     requires other { other_watch_of clauses.old c f ≡ Some other }
-    ensures replaced { IsReplaced clauses.old (lits_of trail.now.entries) clauses.new c f other
+    ensures replaced { IsReplacementResult clauses.old
+        (lits_of trail.now.entries) clauses.new c f other
         result }
     ensures clauses { SameClauses clauses.old clauses.new }
 {
@@ -162,7 +163,8 @@ pub fn visit(
         result }
     ensures clauses { SameClauses clauses.old clauses.new }
     ensures trail { trail.new ≡ record trail.old { entries = trail.new.entries } }
-    ensures propagated { IsPropagated clauses.old.clauses trail.old.entries trail.new.entries }
+    ensures propagated { ExtendsByPropagation clauses.old.clauses trail.old.entries
+        trail.new.entries }
     ensures was_trail { IsTrail trail.old }
 {
     let _ = trail.level();

@@ -7,9 +7,9 @@ ghost use Rattle.ilk_trail.specs.Laws.{lits_of, IsTrail};
 ghost use Rattle.ilk_arena.specs.Arena.{chain_of, first_of};
 ghost use Rattle.ilk_watches.specs.Reasons.{is_conflict};
 ghost use Rattle.ilk_watches.specs.Chained.{SameClauses};
-ghost use Rattle.ilk_watches.specs.Propagated.{IsPropagated};
+ghost use Rattle.ilk_watches.specs.Propagated.{ExtendsByPropagation};
 ghost use Rattle.ilk_watches.specs.Watched.{AllCovered};
-ghost use Rattle.ilk_watches.specs.Visits.{ChainsAfter, IsMadeFalseBy, IsWalkAt, remaining_clauses};
+ghost use Rattle.ilk_watches.specs.Visits.{AtMostOneLeftChain, IsMadeFalseBy, IsWalkAt, count_rest_of_chain};
 
 use crate::clauses::Clauses;
 use crate::visit::{Visited, visit};
@@ -58,12 +58,13 @@ fn step(clauses: &mut Clauses, trail: &mut Trail, walk: &mut Walk) -> Option<u64
         (IsWalkAt clauses.new trail.new.entries walk.old.f walk.new.before walk.new.next) }
     ensures shorter { IfNone result
         (walk.old.next ≢ None →
-        remaining_clauses clauses.new walk.old.f walk.new.next
-        < remaining_clauses clauses.old walk.old.f walk.old.next) }
-    ensures chains { ChainsAfter clauses.old trail.old.entries clauses.new walk.old.f }
+        count_rest_of_chain clauses.new walk.old.f walk.new.next
+        < count_rest_of_chain clauses.old walk.old.f walk.old.next) }
+    ensures chains { AtMostOneLeftChain clauses.old trail.old.entries clauses.new walk.old.f }
     ensures clauses { SameClauses clauses.old clauses.new }
     ensures trail { trail.new ≡ record trail.old { entries = trail.new.entries } }
-    ensures propagated { IsPropagated clauses.old.clauses trail.old.entries trail.new.entries }
+    ensures propagated { ExtendsByPropagation clauses.old.clauses trail.old.entries
+        trail.new.entries }
     ensures was_trail { IsTrail trail.old }
 {
     let _ = trail.level();
@@ -86,7 +87,7 @@ fn step(clauses: &mut Clauses, trail: &mut Trail, walk: &mut Walk) -> Option<u64
 ///
 /// A clause is far away in memory, and only it names the next one of its chain. So if two entries
 /// are queued, their chains are walked side by side, and both clauses are loaded at once.
-pub fn walk_from(clauses: &mut Clauses, trail: &mut Trail, head: u64) -> Option<u64>
+pub fn propagate_from(clauses: &mut Clauses, trail: &mut Trail, head: u64) -> Option<u64>
     requires vars { trail.old.vars ≡ clauses.old.vars }
     requires head { head < length trail.old.entries }
     requires queued { (i : ℕ) (e : Entry) → head ≤ i → slice_get trail.old.entries i ≡ Some e →
@@ -99,7 +100,8 @@ pub fn walk_from(clauses: &mut Clauses, trail: &mut Trail, head: u64) -> Option<
     ensures covered { AllCovered clauses.new trail.new.entries head }
     ensures clauses { SameClauses clauses.old clauses.new }
     ensures trail { trail.new ≡ record trail.old { entries = trail.new.entries } }
-    ensures propagated { IsPropagated clauses.old.clauses trail.old.entries trail.new.entries }
+    ensures propagated { ExtendsByPropagation clauses.old.clauses trail.old.entries
+        trail.new.entries }
 {
     let mut older = start(clauses, trail, head);
     let mut next = head + 1;

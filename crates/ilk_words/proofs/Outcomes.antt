@@ -11,21 +11,21 @@ use Rattle.clap.specs.Walk.{is_empty}
 use Rattle.clap.proofs.WalkLemmas.{both, first_value-rows}
 use Rattle.clap.specs.Faults.{is_free_app}
 use Rattle.clap.specs.Simple.{built}
-use Rattle.ilk_base.specs.Option.{◌>>=◌, only_if}
+use Rattle.ilk_base.specs.Option.{◌>>=◌, then_some}
 use Rattle.ilk_words.specs.Line.{app}
-use Rattle.ilk_words.specs.Places.{moved_app}
+use Rattle.ilk_words.specs.Places.{app_without_addresses}
 use Rattle.ilk_words.proofs.Places.{faults_like_ours, rows_like_ours}
 use Rattle.ilk_words.specs.declared.command.Command.{Command}
-use Rattle.ilk_words.specs.Words.{parsed_command, command_on_line}
+use Rattle.ilk_words.specs.Words.{parsed_command, command_from_args}
 
 pub simple : (a : App) → is_simple_and_free a ≡ true → is_simple a ≡ true
 simple a h = (both (is_simple a) (is_free_app (built a)) h).0
 
-passed : (kinds : Kinds) (words : List Text) (o : Option Command) → kinds ≡ [] → (only_if (is_empty kinds) words >>= (λ _. o)) ≡ o
+passed : (kinds : Kinds) (words : List Text) (o : Option Command) → kinds ≡ [] → (then_some (is_empty kinds) words >>= (λ _. o)) ≡ o
 passed [] words o e = refl
 passed (k ∷ ks) words o e = cc
 
-stopped : (kinds : Kinds) (words : List Text) (o : Option Command) (k : ErrorKind) → IsAmong k kinds → None ≡ (only_if (is_empty kinds) words >>= (λ _. o))
+stopped : (kinds : Kinds) (words : List Text) (o : Option Command) (k : ErrorKind) → IsAmong k kinds → None ≡ (then_some (is_empty kinds) words >>= (λ _. o))
 stopped [] words o k h = absurd h
 stopped (x ∷ xs) words o k h = rw (not_nil x xs) refl
   where
@@ -33,20 +33,20 @@ stopped (x ∷ xs) words o k h = rw (not_nil x xs) refl
     not_nil x xs = grind arith
 
 -- If parsing fails for a reason other than memory, there is no command.
-pub refused : (a : App) (words : List Text) (e : Error) → moved_app a ≡ app → HasKind (fault_of a words) e → (kind_of e ≡ OutOfMemory → ⊥) → None ≡ parsed_command words
+pub refused : (a : App) (words : List Text) (e : Error) → app_without_addresses a ≡ app → HasKind (fault_of a words) e → (kind_of e ≡ OutOfMemory → ⊥) → None ≡ parsed_command words
 refused a words e like fails other = go (subst (λ (kinds : Kinds). HasKind kinds e) (faults_like_ours a words like) fails)
   where
     go : HasKind (fault_of app words) e → None ≡ parsed_command words
     go (inl h) = absurd (other h)
-    go (inr h) = stopped (fault_of app words) words (command_on_line (λ id. first_of id (matches_of app words))) (kind_of e) h
+    go (inr h) = stopped (fault_of app words) words (command_from_args (λ id. first_of id (matches_of app words))) (kind_of e) h
 
-given : (a : App) (words : List Text) (m : ArgMatches) → moved_app a ≡ app → fault_of a words ≡ [] → rows_of (found_of m) ≡ matches_of a words → command_on_line (first_value (found_of m)) ≡ parsed_command words
+given : (a : App) (words : List Text) (m : ArgMatches) → app_without_addresses a ≡ app → fault_of a words ≡ [] → rows_of (found_of m) ≡ matches_of a words → command_from_args (first_value (found_of m)) ≡ parsed_command words
 given a words m like free rows =
     let line : first_value (found_of m) ≡ (λ id. first_of id (matches_of app words)) = fun_ext (λ id. first_value-rows (found_of m) id ∙ ap (first_of id) (rows ∙ rows_like_ours a words like)) in
-    ap command_on_line line ∙ sym (passed (fault_of app words) words (command_on_line (λ id. first_of id (matches_of app words))) (sym (faults_like_ours a words like) ∙ free))
+    ap command_from_args line ∙ sym (passed (fault_of app words) words (command_from_args (λ id. first_of id (matches_of app words))) (sym (faults_like_ours a words like) ∙ free))
 
 -- If it succeeds, the command is that of the matches.
 pub accepted : {E : Type 0} (r : Result (Option Command) E) (a : App) (words : List Text) (m : ArgMatches) →
-    moved_app a ≡ app → fault_of a words ≡ [] → rows_of (found_of m) ≡ matches_of a words →
-    IfOk r (λ o. o ≡ command_on_line (first_value (found_of m))) → IfOk r (λ o. o ≡ parsed_command words)
+    app_without_addresses a ≡ app → fault_of a words ≡ [] → rows_of (found_of m) ≡ matches_of a words →
+    IfOk r (λ o. o ≡ command_from_args (first_value (found_of m))) → IfOk r (λ o. o ≡ parsed_command words)
 accepted r a words m like free rows h = IfOk-weaker r _ _ (λ o e. e ∙ given a words m like free rows) h

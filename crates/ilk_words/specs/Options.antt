@@ -8,11 +8,11 @@ use Rattle.clap.specs.ValueTests.{accepts}
 use Rattle.clap.specs.Words.{Text}
 use Rattle.clap.specs.declared.builder.value_parser.ValueParser.{ValueParser}
 use Rattle.clap.specs.declared.builder.value_parser.ValueParser.TheVariants as parser
-use Rattle.ilk_base.specs.Option.{◌>>=◌, only_if}
-use Rattle.ilk_words.specs.Columns.{all_columns, columns_word}
+use Rattle.ilk_base.specs.Option.{◌>>=◌, then_some}
+use Rattle.ilk_words.specs.Columns.{all_column_rule_modes, column_rule_mode_word}
 use Rattle.ilk_words.specs.Queries.{all_queries, query_word}
-use Rattle.ilk_words.specs.declared.command.Columns.TheVariants.{Strict}
-use Rattle.ilk_words.specs.declared.limits.TheConstants.{DEFAULT_SEARCH_CONFLICTS, DEFAULT_DEPTH, MAX_SEARCH_CONFLICTS, MAX_DEPTH, MAX_NUMBER, MAX_STATIONS}
+use Rattle.ilk_words.specs.declared.command.ColumnRuleMode.TheVariants.{Strict}
+use Rattle.ilk_words.specs.declared.limits.TheConstants.{DEFAULT_TOTAL_CONFLICTS, DEFAULT_DEPTH, MAX_TOTAL_CONFLICTS, MAX_DEPTH, MAX_QUERY_EVENTS, MAX_STATIONS}
 
 -- A reference, as `clap` holds texts. The location of a text in memory doesn't affect parsing.
 abbrev pub as_reference : {X : Type 0} → X → Bor X
@@ -30,48 +30,48 @@ abbrev pub any_text : ValueParser
 any_text = parser.String
 
 -- An option: its name, the values it takes and its default. It occurs at most once.
-pub record LineOption : Type 0 where
+pub record OptionSpec : Type 0 where
   pub name : Text
   -- The values that `clap` accepts.
   pub values : ValueParser
   -- The value if the option isn't on the line. An option without a default is required.
   pub default : Option Text
 
-abbrev pub columns_option : LineOption
+abbrev pub columns_option : OptionSpec
 columns_option = record {
   name = codes "columns";
-  values = one_of_texts (map columns_word all_columns);
-  default = Some (columns_word Strict);
+  values = one_of_texts (map column_rule_mode_word all_column_rule_modes);
+  default = Some (column_rule_mode_word Strict);
 }
 
-abbrev pub depth_option : LineOption
+abbrev pub depth_option : OptionSpec
 depth_option = record {
   name = codes "depth";
   values = number_between 1 MAX_DEPTH;
   default = Some (decimal DEFAULT_DEPTH);
 }
 
-abbrev pub conflicts_option : LineOption
+abbrev pub conflicts_option : OptionSpec
 conflicts_option = record {
   name = codes "conflicts";
-  values = number_between 0 MAX_SEARCH_CONFLICTS;
-  default = Some (decimal DEFAULT_SEARCH_CONFLICTS);
+  values = number_between 0 MAX_TOTAL_CONFLICTS;
+  default = Some (decimal DEFAULT_TOTAL_CONFLICTS);
 }
 
-abbrev pub cert_option : LineOption
+abbrev pub cert_option : OptionSpec
 cert_option = record { name = codes "cert"; values = any_text; default = None }
 
-abbrev pub run_option : LineOption
+abbrev pub run_option : OptionSpec
 run_option = record { name = codes "run"; values = any_text; default = None }
 
-abbrev pub stations_option : LineOption
+abbrev pub stations_option : OptionSpec
 stations_option = record {
   name = codes "stations";
   values = number_between 1 MAX_STATIONS;
   default = None;
 }
 
-abbrev pub query_option : LineOption
+abbrev pub query_option : OptionSpec
 query_option = record {
   name = codes "query";
   values = one_of_texts (map query_word all_queries);
@@ -79,26 +79,26 @@ query_option = record {
 }
 
 -- The option for the number of events of a single query.
-abbrev pub number_option : LineOption
-number_option = record { name = codes "number"; values = number_between 0 MAX_NUMBER; default = None }
+abbrev pub query_number_option : OptionSpec
+query_number_option = record { name = codes "number"; values = number_between 0 MAX_QUERY_EVENTS; default = None }
 
-abbrev pub options : List LineOption
-options = columns_option ∷ depth_option ∷ conflicts_option ∷ cert_option ∷ run_option ∷ stations_option ∷ query_option ∷ number_option ∷ []
+abbrev pub options : List OptionSpec
+options = columns_option ∷ depth_option ∷ conflicts_option ∷ cert_option ∷ run_option ∷ stations_option ∷ query_option ∷ query_number_option ∷ []
 
 -- The value of each argument on the line.
-abbrev pub Line : Type 0
-Line = Text → Option Text
+abbrev pub ParsedArgs : Type 0
+ParsedArgs = Text → Option Text
 
 -- The option's value on the line, or its default.
-abbrev pub value_of_option : Line → LineOption → Option Text
-value_of_option line o = option_or (line o.name) o.default
+abbrev pub option_value_or_default : ParsedArgs → OptionSpec → Option Text
+option_value_or_default line o = option_or (line o.name) o.default
 
 -- The number of a value, if `clap` accepts the value.
 abbrev pub number_of_value : ValueParser → Text → Option ℕ
-number_of_value values value = only_if (accepts false values value) (digits_value 10 (without_leading_plus value))
+number_of_value values value = then_some (accepts false values value) (digits_value 10 (without_leading_plus value))
 
 -- The number in the option's value on the line, or in its default.
-abbrev pub number_of_option : Line → LineOption → Option ℕ
-number_of_option line o = do
-  value ← value_of_option line o
+abbrev pub option_number_or_default : ParsedArgs → OptionSpec → Option ℕ
+option_number_or_default line o = do
+  value ← option_value_or_default line o
   number_of_value o.values value

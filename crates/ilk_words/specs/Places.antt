@@ -7,19 +7,19 @@ use Rattle.clap.specs.declared.builder.value_parser.ValueParser.TheVariants as p
 use Rattle.ilk_words.specs.Options.{as_reference}
 
 -- The same parser, with each text replaced by what `as_reference` makes of it.
-abbrev pub with_held_texts : ValueParser → ValueParser
-with_held_texts (parser.Names names) = parser.Names (as_reference (map (λ (s : Bor Text). as_reference s.now) names.now))
-with_held_texts p = p
+abbrev pub parser_without_addresses : ValueParser → ValueParser
+parser_without_addresses (parser.Names names) = parser.Names (as_reference (map (λ (s : Bor Text). as_reference s.now) names.now))
+parser_without_addresses p = p
 
 -- The same argument, with each text replaced by what `as_reference` makes of it.
-abbrev pub moved_rule : Rule → Rule
-moved_rule a = record a { parser = option_map with_held_texts a.parser }
+abbrev pub rule_without_addresses : Rule → Rule
+rule_without_addresses a = record a { parser = option_map parser_without_addresses a.parser }
 
-abbrev pub moved_rules : List Rule → List Rule
-moved_rules = map moved_rule
+abbrev pub rules_without_addresses : List Rule → List Rule
+rules_without_addresses = map rule_without_addresses
 
-abbrev pub moved_shape : Shape → Shape
-moved_shape s = record s { rules = moved_rules s.rules }
+abbrev pub shape_without_addresses : Shape → Shape
+shape_without_addresses s = record s { rules = rules_without_addresses s.rules }
 
-abbrev pub moved_app : App → App
-moved_app a = record a { top = moved_shape a.top }
+abbrev pub app_without_addresses : App → App
+app_without_addresses a = record a { top = shape_without_addresses a.top }

@@ -1,12 +1,12 @@
 ghost use Rattle.std.specs.Prelude.{◌≡◌};
-ghost use Rattle.ilk_words.specs.Columns.{columns_of_word};
+ghost use Rattle.ilk_words.specs.Columns.{column_rule_mode_of_word};
 ghost use Rattle.ilk_words.specs.Queries.{query_exists, query_of_word};
 
-use ilk_base::{Text, Worded, value_of_word};
+use ilk_base::{HasWord, Text, value_of_word};
 
 /// The strictness of the checks: with or without the column rules.
 #[derive(Clone, Copy, PartialEq, Eq, Debug)]
-pub enum Columns {
+pub enum ColumnRuleMode {
     Strict,
     Free,
 }
@@ -15,28 +15,28 @@ const STRICT: &str = "strict";
 
 const FREE: &str = "free";
 
-// The words of all values of `Columns`.
+// The words of all values of `ColumnRuleMode`.
 pub(crate) static COLUMNS_WORDS: [&str; 2] = [STRICT, FREE];
 
-impl Worded for Columns {
-    ghost use Rattle.ilk_words.specs.Columns.{columns_word};
+impl HasWord for ColumnRuleMode {
+    ghost use Rattle.ilk_words.specs.Columns.{column_rule_mode_word};
 
-    ghost word_of = { columns_word };
+    ghost word_of = { column_rule_mode_word };
 
     fn word(self) -> &'static str {
         match self {
-            Columns::Strict => STRICT,
-            Columns::Free => FREE,
+            ColumnRuleMode::Strict => STRICT,
+            ColumnRuleMode::Free => FREE,
         }
     }
 }
 
-impl Columns {
+impl ColumnRuleMode {
     // Returns the value with this word. Returns `None` if there is none.
-    pub(crate) fn of_word(word: &[u8]) -> Option<Columns>
-        ensures { result ≡ columns_of_word word.now }
+    pub(crate) fn of_word(word: &[u8]) -> Option<ColumnRuleMode>
+        ensures { result ≡ column_rule_mode_of_word word.now }
     {
-        value_of_word(&[Columns::Strict, Columns::Free], word)
+        value_of_word(&[ColumnRuleMode::Strict, ColumnRuleMode::Free], word)
     }
 }
 
@@ -61,7 +61,7 @@ const STEP: &str = "step";
 // The words of all values of `QueryKind`.
 pub(crate) static QUERY_WORDS: [&str; 3] = [HAZARD, BREACH, STEP];
 
-impl Worded for QueryKind {
+impl HasWord for QueryKind {
     ghost use Rattle.ilk_words.specs.Queries.{query_word};
 
     ghost word_of = { query_word };
@@ -102,24 +102,24 @@ impl QueryKind {
 pub enum Command {
     /// Print every rule that the configuration violates.
     Check {
-        columns: Columns,
+        columns: ColumnRuleMode,
     },
     /// Decide whether the plant is safe, by runs of up to `depth` events and searches of at most
     /// `conflicts` conflicts in total. The certificate is written to the file `cert`.
     Verify {
-        columns: Columns,
+        columns: ColumnRuleMode,
         depth: u32,
         conflicts: u64,
         cert: Text,
     },
     /// Check the certificate in the file `cert`.
     Audit {
-        columns: Columns,
+        columns: ColumnRuleMode,
         cert: Text,
     },
     /// Replay the run in the file `run`.
     Replay {
-        columns: Columns,
+        columns: ColumnRuleMode,
         run: Text,
     },
     /// Print the configuration of a line of `stations` stations.
@@ -135,24 +135,24 @@ pub enum Command {
     },
     /// Print the configuration's network with the routes that it has.
     Table {
-        columns: Columns,
+        columns: ColumnRuleMode,
     },
     /// Print the formula of the query of this kind for runs of `number` events.
     Export {
-        columns: Columns,
+        columns: ColumnRuleMode,
         query: QueryKind,
         number: u32,
     },
     /// Check another solver's refutation of that query's formula, in the file `cert`.
     Rup {
-        columns: Columns,
+        columns: ColumnRuleMode,
         query: QueryKind,
         number: u32,
         cert: Text,
     },
     /// Run the scenario in the file `run` until it terminates.
     Drive {
-        columns: Columns,
+        columns: ColumnRuleMode,
         run: Text,
     },
 }

@@ -5,8 +5,8 @@
 //! what the command reads, checks and writes.
 //!
 //! Definitions in `specs/`: `Commands` has the table of commands, `Options` that of options, and
-//! `Line` the resulting line for `clap`. `Plan` has the table of plans, and `Files` the named
-//! files. `limits` names the limits of numbers, `lengths` those of inputs.
+//! `ParsedArgs` the resulting line for `clap`. `CommandPlan` has the table of plans, and `Files`
+//! the named files. `limits` names the limits of numbers, `lengths` those of inputs.
 #![tactic(auto)]
 
 mod command;
@@ -19,12 +19,15 @@ mod options;
 mod plan;
 mod read;
 
-pub use command::{Columns, Command, QueryKind};
+pub use command::{ColumnRuleMode, Command, QueryKind};
 pub use files::{FileNames, names_of};
-pub use lengths::{MAX_CERTIFICATE, MAX_CONFIGURATION, MAX_REFUTATION, MAX_RUN_TEXT, MAX_SCENARIO};
-pub use limits::{
-    DEFAULT_DEPTH, DEFAULT_SEARCH_CONFLICTS, MAX_DEPTH, MAX_NUMBER, MAX_SEARCH_CONFLICTS,
-    MAX_STATIONS,
+pub use lengths::{
+    MAX_CERTIFICATE_BYTES, MAX_CONFIGURATION_BYTES, MAX_REFUTATION_BYTES, MAX_RUN_TEXT_BYTES,
+    MAX_SCENARIO_BYTES,
 };
-pub use plan::{Plan, Stages, files_are_planned};
+pub use limits::{
+    DEFAULT_DEPTH, DEFAULT_TOTAL_CONFLICTS, MAX_DEPTH, MAX_QUERY_EVENTS, MAX_STATIONS,
+    MAX_TOTAL_CONFLICTS,
+};
+pub use plan::{CheckedRuleStages, CommandPlan, files_are_planned};
 pub use read::parse_arguments;

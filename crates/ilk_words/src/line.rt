@@ -2,12 +2,12 @@
 //! name, an entry in `OPTIONS`, and one `arg` in `line_command`.
 ghost use Rattle.std.specs.Prelude.{◌≡◌, IfOk, false};
 ghost use Rattle.clap.specs.Words.{app_of, rule_of};
-ghost use Rattle.ilk_words.specs.Line.{app, command_rule, rule_of_option};
+ghost use Rattle.ilk_words.specs.Line.{app, command_arg, named_option_arg};
 ghost use Rattle.ilk_words.specs.Options.{columns_option, query_option};
-ghost use Rattle.ilk_words.specs.Places.{moved_app, moved_rule, with_held_texts};
+ghost use Rattle.ilk_words.specs.Places.{app_without_addresses, rule_without_addresses, parser_without_addresses};
 
 use crate::command::{COLUMNS_WORDS, QUERY_WORDS};
-use crate::{MAX_DEPTH, MAX_NUMBER, MAX_SEARCH_CONFLICTS, MAX_STATIONS};
+use crate::{MAX_DEPTH, MAX_QUERY_EVENTS, MAX_STATIONS, MAX_TOTAL_CONFLICTS};
 use clap::builder::ValueParser;
 use clap::{Arg, ArgAction};
 use std::alloc::{AllocError, Global};
@@ -58,7 +58,7 @@ pub(crate) static OPTIONS: [&str; 8] = [
 
 // Creates the whole command line; its texts may be anywhere in memory.
 pub(crate) fn line_command<'a>(alloc: Global) -> Result<clap::Command<'a>, AllocError>
-    ensures { IfOk result (λ c. moved_app (app_of c) ≡ app) }
+    ensures { IfOk result (λ c. app_without_addresses (app_of c) ≡ app) }
 {
     clap::Command::new(alloc, "irv")
         .arg(command_argument(alloc))?
@@ -67,17 +67,17 @@ pub(crate) fn line_command<'a>(alloc: Global) -> Result<clap::Command<'a>, Alloc
         .arg(option_argument(
             alloc,
             CONFLICTS,
-            ValueParser::unsigned(0, MAX_SEARCH_CONFLICTS),
+            ValueParser::unsigned(0, MAX_TOTAL_CONFLICTS),
         ))?
         .arg(option_argument(alloc, CERT, ValueParser::string()))?
         .arg(option_argument(alloc, RUN, ValueParser::string()))?
         .arg(option_argument(alloc, STATIONS, ValueParser::unsigned(1, MAX_STATIONS)))?
         .arg(option_argument(alloc, QUERY, query_values()))?
-        .arg(option_argument(alloc, NUMBER, ValueParser::unsigned(0, MAX_NUMBER)))
+        .arg(option_argument(alloc, NUMBER, ValueParser::unsigned(0, MAX_QUERY_EVENTS)))
 }
 
 fn command_argument<'a>(alloc: Global) -> Arg<'a>
-    ensures rule { moved_rule (rule_of result) ≡ command_rule }
+    ensures rule { rule_without_addresses (rule_of result) ≡ command_arg }
     ensures local { result.global ≡ false }
 {
     Arg::new(alloc, "command")
@@ -88,8 +88,8 @@ fn command_argument<'a>(alloc: Global) -> Arg<'a>
 
 // Creates an option with this name that occurs at most once and takes one of these values.
 fn option_argument<'a>(alloc: Global, name: &'a str, values: ValueParser<'a>) -> Arg<'a>
-    ensures rule { moved_rule (rule_of result)
-        ≡ rule_of_option name.entry.now (with_held_texts values.entry) }
+    ensures rule { rule_without_addresses (rule_of result)
+        ≡ named_option_arg name.entry.now (parser_without_addresses values.entry) }
     ensures local { result.global ≡ false }
 {
     Arg::new(alloc, name)
@@ -99,13 +99,13 @@ fn option_argument<'a>(alloc: Global, name: &'a str, values: ValueParser<'a>) ->
 }
 
 fn columns_values<'a>() -> ValueParser<'a>
-    ensures { with_held_texts result ≡ columns_option.values }
+    ensures { parser_without_addresses result ≡ columns_option.values }
 {
     ValueParser::Names(COLUMNS_WORDS.as_slice())
 }
 
 fn query_values<'a>() -> ValueParser<'a>
-    ensures { with_held_texts result ≡ query_option.values }
+    ensures { parser_without_addresses result ≡ query_option.values }
 {
     ValueParser::Names(QUERY_WORDS.as_slice())
 }

@@ -3,19 +3,19 @@ ghost use Rattle.std.specs.Prelude.{◌≡◌, ◌||◌, is_none};
 ghost use Rattle.clap.specs.Words.{first_value, found_of};
 ghost use Rattle.std.specs.List.{list_all, list_any};
 ghost use Rattle.std.specs.Str.{bytes_eq};
-ghost use Rattle.ilk_words.specs.Commands.{columns_of, query_of};
-ghost use Rattle.ilk_words.specs.Options.{conflicts_option, depth_option, number_of_option};
-ghost use Rattle.ilk_words.specs.Options.{number_option, stations_option};
+ghost use Rattle.ilk_words.specs.Commands.{column_rule_mode_of, query_of};
+ghost use Rattle.ilk_words.specs.Options.{conflicts_option, depth_option, option_number_or_default};
+ghost use Rattle.ilk_words.specs.Options.{query_number_option, stations_option};
 ghost use Rattle.ilk_words.specs.Words.{has_only_own_options};
 
 use crate::line::{COLUMNS, CONFLICTS, DEPTH, NUMBER, OPTIONS, QUERY, STATIONS};
 use crate::number::number_between;
 use crate::{
-    Columns, DEFAULT_DEPTH, DEFAULT_SEARCH_CONFLICTS, MAX_DEPTH, MAX_NUMBER, MAX_SEARCH_CONFLICTS,
-    MAX_STATIONS, QueryKind,
+    ColumnRuleMode, DEFAULT_DEPTH, DEFAULT_TOTAL_CONFLICTS, MAX_DEPTH, MAX_QUERY_EVENTS,
+    MAX_STATIONS, MAX_TOTAL_CONFLICTS, QueryKind,
 };
 use clap::ArgMatches;
-use ilk_base::Worded;
+use ilk_base::HasWord;
 
 /// Returns whether only options in `own` are on the line.
 pub(crate) fn has_only(matches: &ArgMatches<'_>, own: &[&str]) -> bool
@@ -53,16 +53,18 @@ fn is_among(own: &[&str], option: &str) -> bool
 }
 
 /// Returns the strictness of the checks; strict by default.
-pub(crate) fn columns(matches: &ArgMatches<'_>) -> Option<Columns>
-    ensures { result ≡ columns_of (first_value (found_of matches.now)) }
+pub(crate) fn columns(matches: &ArgMatches<'_>) -> Option<ColumnRuleMode>
+    ensures { result ≡ column_rule_mode_of (first_value (found_of matches.now)) }
 {
-    let word = matches.get_str(COLUMNS).unwrap_or(Columns::Strict.word());
-    Columns::of_word(word.as_bytes())
+    let word = matches
+        .get_str(COLUMNS)
+        .unwrap_or(ColumnRuleMode::Strict.word());
+    ColumnRuleMode::of_word(word.as_bytes())
 }
 
 /// Returns the maximum number of events of the runs, or its default.
 pub(crate) fn depth(matches: &ArgMatches<'_>) -> Option<u32>
-    ensures { result ≡ number_of_option (first_value (found_of matches.now)) depth_option }
+    ensures { result ≡ option_number_or_default (first_value (found_of matches.now)) depth_option }
 {
     match matches.get_str(DEPTH) {
         Some(value) => Some(number_between(value, 1, MAX_DEPTH)? as u32),
@@ -72,17 +74,19 @@ pub(crate) fn depth(matches: &ArgMatches<'_>) -> Option<u32>
 
 /// Returns the conflict budget of the searches, or its default.
 pub(crate) fn conflicts(matches: &ArgMatches<'_>) -> Option<u64>
-    ensures { result ≡ number_of_option (first_value (found_of matches.now)) conflicts_option }
+    ensures { result ≡ option_number_or_default
+        (first_value (found_of matches.now)) conflicts_option }
 {
     match matches.get_str(CONFLICTS) {
-        Some(value) => number_between(value, 0, MAX_SEARCH_CONFLICTS),
-        None => Some(DEFAULT_SEARCH_CONFLICTS),
+        Some(value) => number_between(value, 0, MAX_TOTAL_CONFLICTS),
+        None => Some(DEFAULT_TOTAL_CONFLICTS),
     }
 }
 
 /// Returns the number of stations. Returns `None` if it isn't on the line.
 pub(crate) fn stations(matches: &ArgMatches<'_>) -> Option<u32>
-    ensures { result ≡ number_of_option (first_value (found_of matches.now)) stations_option }
+    ensures { result ≡ option_number_or_default
+        (first_value (found_of matches.now)) stations_option }
 {
     let stations = number_between(matches.get_str(STATIONS)?, 1, MAX_STATIONS)?;
     Some(stations as u32)
@@ -97,8 +101,9 @@ pub(crate) fn query(matches: &ArgMatches<'_>) -> Option<QueryKind>
 
 /// Returns the number of the query. Returns `None` if it isn't on the line.
 pub(crate) fn number(matches: &ArgMatches<'_>) -> Option<u32>
-    ensures { result ≡ number_of_option (first_value (found_of matches.now)) number_option }
+    ensures { result ≡ option_number_or_default
+        (first_value (found_of matches.now)) query_number_option }
 {
-    let number = number_between(matches.get_str(NUMBER)?, 0, MAX_NUMBER)?;
+    let number = number_between(matches.get_str(NUMBER)?, 0, MAX_QUERY_EVENTS)?;
     Some(number as u32)
 }

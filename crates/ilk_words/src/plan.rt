@@ -3,25 +3,28 @@ ghost use Rattle.std.specs.Prelude.{◌≡◌, ◌^◌, ◌<◌, IfSome, None, S
 ghost use Rattle.ilk_words.specs.Files.{files_of_command};
 ghost use Rattle.ilk_words.specs.Plan.{plan_of};
 
-use crate::{Columns, Command, MAX_CERTIFICATE, MAX_REFUTATION, MAX_RUN_TEXT, MAX_SCENARIO};
+use crate::{
+    ColumnRuleMode, Command, MAX_CERTIFICATE_BYTES, MAX_REFUTATION_BYTES, MAX_RUN_TEXT_BYTES,
+    MAX_SCENARIO_BYTES,
+};
 
 /// The stages of rules checked on a configuration.
 #[derive(Clone, Copy, PartialEq, Eq, Debug)]
-pub enum Stages {
+pub enum CheckedRuleStages {
     /// All rules: those of the form, the network, the interlocking table and, if strict, its
     /// columns.
-    All(Columns),
+    All(ColumnRuleMode),
     /// The rules of the form and of the network. If the columns are strict, also the one column
     /// rule about the network alone: each border has its board. Routes are only checked for their
     /// form.
-    Network(Columns),
+    Network(ColumnRuleMode),
 }
 
 /// The inputs, checks and outputs of a command.
 #[derive(Clone, Copy, PartialEq, Eq, Debug)]
-pub struct Plan {
+pub struct CommandPlan {
     /// The rules checked on the configuration, or `None` if no configuration is read.
-    pub stages: Option<Stages>,
+    pub stages: Option<CheckedRuleStages>,
     /// The maximum number of bytes of the input besides the configuration, or `None` if there is no
     /// such input.
     pub extra: Option<u64>,
@@ -29,12 +32,12 @@ pub struct Plan {
     pub certifies: bool,
 }
 
-impl Plan {
+impl CommandPlan {
     // Creates a plan that reads nothing.
-    fn alone(certifies: bool) -> Plan
+    fn alone(certifies: bool) -> CommandPlan
         ensures { result ≡ record { stages = None; extra = None; certifies = certifies } }
     {
-        Plan {
+        CommandPlan {
             stages: None,
             extra: None,
             certifies,
@@ -42,10 +45,10 @@ impl Plan {
     }
 
     // Creates a plan that checks a configuration by `stages`, without other input or certificate.
-    fn over(stages: Stages) -> Plan
+    fn over(stages: CheckedRuleStages) -> CommandPlan
         ensures { result ≡ record { stages = Some stages; extra = None; certifies = false } }
     {
-        Plan {
+        CommandPlan {
             stages: Some(stages),
             extra: None,
             certifies: false,
@@ -53,13 +56,18 @@ impl Plan {
     }
 
     // Creates a plan with all stages and other input of at most `limit` bytes.
-    fn beside(columns: Columns, limit: u64) -> Plan
+    fn beside(columns: ColumnRuleMode, limit: u64) -> CommandPlan
         ensures { result
-            ≡ record { stages = Some (Stages.All columns); extra = Some limit; certifies = false } }
+            ≡ record {
+              stages = Some
+                  (CheckedRuleStages.All columns);
+              extra = Some limit;
+              certifies = false;
+            } }
     {
-        Plan {
+        CommandPlan {
             extra: Some(limit),
-            ..Plan::over(Stages::All(columns))
+            ..CommandPlan::over(CheckedRuleStages::All(columns))
         }
     }
 }
@@ -67,25 +75,25 @@ impl Plan {
 impl Command {
     /// Returns the plan of the command. Its input besides the configuration is shorter than 2^40
     /// bytes.
-    pub fn plan(&self) -> Plan
+    pub fn plan(&self) -> CommandPlan
         ensures plan { result ≡ plan_of self.now }
         ensures limit { IfSome result.extra (λ limit. limit < 2 ^ 40) }
     {
         match self {
             Command::Check { columns } | Command::Export { columns, .. } => {
-                Plan::over(Stages::All(*columns))
+                CommandPlan::over(CheckedRuleStages::All(*columns))
             }
-            Command::Table { columns } => Plan::over(Stages::Network(*columns)),
-            Command::Verify { columns, .. } => Plan {
+            Command::Table { columns } => CommandPlan::over(CheckedRuleStages::Network(*columns)),
+            Command::Verify { columns, .. } => CommandPlan {
                 certifies: true,
-                ..Plan::over(Stages::All(*columns))
+                ..CommandPlan::over(CheckedRuleStages::All(*columns))
             },
-            Command::Audit { columns, .. } => Plan::beside(*columns, MAX_CERTIFICATE),
-            Command::Replay { columns, .. } => Plan::beside(*columns, MAX_RUN_TEXT),
-            Command::Rup { columns, .. } => Plan::beside(*columns, MAX_REFUTATION),
-            Command::Drive { columns, .. } => Plan::beside(*columns, MAX_SCENARIO),
-            Command::Make { .. } => Plan::alone(false),
-            Command::Demo { .. } => Plan::alone(true),
+            Command::Audit { columns, .. } => CommandPlan::beside(*columns, MAX_CERTIFICATE_BYTES),
+            Command::Replay { columns, .. } => CommandPlan::beside(*columns, MAX_RUN_TEXT_BYTES),
+            Command::Rup { columns, .. } => CommandPlan::beside(*columns, MAX_REFUTATION_BYTES),
+            Command::Drive { columns, .. } => CommandPlan::beside(*columns, MAX_SCENARIO_BYTES),
+            Command::Make { .. } => CommandPlan::alone(false),
+            Command::Demo { .. } => CommandPlan::alone(true),
         }
     }
 }

@@ -5,8 +5,8 @@ ghost use Rattle.clap.specs.Words.{first_value, found_of};
 ghost use Rattle.ilk_words.specs.Commands.{audit_command, check_command, demo_command, drive_command};
 ghost use Rattle.ilk_words.specs.Commands.{export_command, make_command, replay_command, rup_command};
 ghost use Rattle.ilk_words.specs.Commands.{table_command, verify_command};
-ghost use Rattle.ilk_words.specs.Limits.{has_option_limits};
-ghost use Rattle.ilk_words.specs.Words.{parsed_command, command_on_line, command_if_allowed};
+ghost use Rattle.ilk_words.specs.Limits.{within_option_limits};
+ghost use Rattle.ilk_words.specs.Words.{parsed_command, command_from_args, command_if_allowed};
 
 use crate::Command;
 use crate::line::{
@@ -27,7 +27,8 @@ use std::alloc::{AllocError, Global};
 /// - No such query exists.
 pub fn parse_arguments(alloc: Global, words: &Vec<String>) -> Result<Option<Command>, AllocError>
     ensures command { IfOk result (λ c. c ≡ parsed_command (map string_bytes words.now.items)) }
-    ensures options { IfOk result (λ c. IfSome c (λ command. IsTrue (has_option_limits command))) }
+    ensures options { IfOk result
+        (λ c. IfSome c (λ command. IsTrue (within_option_limits command))) }
 {
     match line_command(alloc)?.try_get_matches_from(words.as_slice()) {
         Ok(matches) => chosen(alloc, &matches),
@@ -40,7 +41,7 @@ pub fn parse_arguments(alloc: Global, words: &Vec<String>) -> Result<Option<Comm
 
 // Returns the command that the matches name.
 fn chosen(alloc: Global, matches: &ArgMatches<'_>) -> Result<Option<Command>, AllocError>
-    ensures { IfOk result (λ c. c ≡ command_on_line (first_value (found_of matches.now))) }
+    ensures { IfOk result (λ c. c ≡ command_from_args (first_value (found_of matches.now))) }
 {
     match matches.get_str("command") {
         Some(CHECK) => Ok(check(matches)),

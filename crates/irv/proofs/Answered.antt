@@ -4,8 +4,8 @@ use Rattle.ilk_words.specs.Files.{files_named, files_of_command}
 use Rattle.ilk_words.specs.Plan.{plan_of}
 use Rattle.ilk_words.specs.Words.{parsed_command}
 use Rattle.ilk_words.specs.declared.command.Command.{Command}
-use Rattle.ilk_words.specs.declared.plan.Stages.{Stages}
-use Rattle.ilk_answers.specs.Answer.{AnswersConf, IsAnswerTo}
+use Rattle.ilk_words.specs.declared.plan.CheckedRuleStages.{CheckedRuleStages}
+use Rattle.ilk_answers.specs.Answer.{AnswersConfBytes, IsAnswerTo}
 use Rattle.ilk_answers.specs.Report.{reply}
 use Rattle.ilk_answers.specs.declared.reply.Reply.{Reply}
 use Rattle.ilk_answers.specs.declared.status.Status.{Status}
@@ -17,7 +17,7 @@ answer-untold : (asked : Option Command) (extra : Option (List ℕ)) (made : Rep
 answer-untold None extra made is = is
 answer-untold (Some command) extra made is = of_stages (plan_of command).stages is
   where
-    of_stages : (stages : Option Stages) → AnswersConf stages command None extra made → AnswersConf stages command None None made
+    of_stages : (stages : Option CheckedRuleStages) → AnswersConfBytes stages command None extra made → AnswersConfBytes stages command None None made
     of_stages None h = h
     of_stages (Some stages) h = tt
 

@@ -6,11 +6,11 @@
 ghost use Rattle.std.specs.Prelude.{◌≡◌, ◌≢◌, ◌↔◌, IsTrue, None, false, map, string_bytes};
 ghost use Rattle.std.specs.IoError.{error_kind};
 ghost use Rattle.std.specs.Option.{option_copied};
-ghost use Rattle.ilk_answers.specs.Answer.{plan_if_asked};
+ghost use Rattle.ilk_answers.specs.Answer.{io_plan_if_command};
 ghost use Rattle.ilk_answers.specs.Status.{reached_writing};
 ghost use Rattle.ilk_top.specs.Outside.{FaultsRiseOnlyWith};
 ghost use Rattle.ilk_words.specs.Words.{parsed_command};
-ghost use Rattle.irv.specs.Edge.{IsAnswered, complaint, unreadable_status};
+ghost use Rattle.irv.specs.Edge.{IsAnswered, complaint, unreadable_args_status};
 
 use ilk_io::{FileSink, FileSource, MemSink, Sink, StdSink, StdSource, SteadySink, SteadySource};
 use ilk_plant::Text;
@@ -39,7 +39,7 @@ fn words(rt: &HostRuntime) -> Result<Vec<String>, Status> {
 
 // Returns the status if the arguments can't be read: an argument that isn't UTF-8 is a usage error.
 fn status_of(error: &io::Error) -> Status
-    ensures { result ≡ unreadable_status (error_kind error.now) }
+    ensures { result ≡ unreadable_args_status (error_kind error.now) }
 {
     match error.kind() {
         io::ErrorKind::OutOfMemory => Status::OutOfMemory,
@@ -62,7 +62,7 @@ fn run_over<L: Sink>(
     ensures cert_faults { FaultsRiseOnlyWith (result ≡ Status.WriteFault) (L.faults cert.old)
         (L.faults cert.new) }
     ensures unwritten { reached_writing result ≡ false → cert.new ≡ cert.old }
-    ensures uncertified { let plan = plan_if_asked
+    ensures uncertified { let plan = io_plan_if_command
         (parsed_command (map string_bytes words.now.items)) in
         plan.certifies ≡ false → cert.new ≡ cert.old }
 {

@@ -29,46 +29,46 @@ def use(root):
 TOP_CALL = "ilk_top.src.program", "run"
 # The reading stages: title, first definitions, and crates. The first stage with a definition lists
 # it.
-VERDICT = [("ilk_engine.specs.Right", "IsRightVerdict"), ("ilk_engine.specs.Forever", "HoldsAtAnyLength")]
+VERDICT = [("ilk_engine.specs.Right", "IsRightVerdict"), ("ilk_engine.specs.Forever", "SafeVerdictMeansAlwaysSafe")]
 STAGES = [
     ("The answer", [TOP_CALL], ["ilk_top", "ilk_answers"]),
     ("Verdicts", VERDICT,
      ["ilk_engine", "ilk_forever", "ilk_induct", "ilk_queries", "ilk_unroll"]),
     ("Runs, events, hazards and the invariant", VERDICT, ["ilk_model", "ilk_motion", "ilk_routes"]),
     ("The plant and its states", VERDICT, ["ilk_plant", "ilk_base"]),
-    ("From the configuration to the plant", [("ilk_answers.specs.Answer", "plant_of"),
+    ("From the configuration to the plant", [("ilk_answers.specs.Answer", "plant_of_conf"),
                                              ("ilk_answers.specs.Refusal", "refusal_line")], None),
     ("Runs as texts",
      [("ilk_replay.specs.RunText", "run_text"), ("ilk_replay.specs.Told", "run_from_text"),
       ("ilk_replay.specs.Told", "run_from_start"), ("ilk_replay.specs.Seen", "replay_result")], None),
     ("The command line", [("ilk_words.specs.Words", "parsed_command"),
-                          ("ilk_words.specs.Limits", "has_option_limits"),
+                          ("ilk_words.specs.Limits", "within_option_limits"),
                           ("ilk_words.specs.Plan", "plan_of")], None),
     ("Reading and writing", [TOP_CALL], ["ilk_io"]),
     ("Scenarios and drives", [("ilk_answers.specs.Drives", "AnswersDrive")], ["ilk_drive"]),
-    ("The routes of a network", [("ilk_answers.specs.Tables", "HasTable")], ["ilk_tablegen"]),
+    ("The routes of a network", [("ilk_answers.specs.Tables", "HasValidTable")], ["ilk_tablegen"]),
     ("Generated stations", [TOP_CALL], ["ilk_gen"]),
     ("Configurations as texts", [TOP_CALL], ["ilk_conf_write", "ilk_tablegen"]),
     ("Formulas", [("ilk_dimacs.specs.DimacsText", "dimacs_text"),
                   ("ilk_unroll.specs.Satisfied", "IsSatisfiable")], None),
     ("Certificates", [("ilk_certificate.specs.Certificate", "IsCertificate")], None),
     ("The first bad line of a certificate", [("ilk_answers.specs.Audits", "AnswersAudit")], None),
-    ("Refutations", [("ilk_answers.specs.Refutations", "AnswersRefutation")], None),
+    ("Refutations", [("ilk_answers.specs.Refutations", "AnswersRefutationText")], None),
     ("Spent texts, and the certificate of a verdict",
      [("ilk_engine.specs.CertificateOf", "IsCertificateOf")], None),
     ("Construction of formulas", [TOP_CALL], None),
 ]
 # First names of a formula's construction: a query's formula, a plant's system and goal. Only the
 # last stage goes on from these.
-FORMULA = frozenset({"query_formula", "system_of", "goal_of"})
+FORMULA = frozenset({"query_formula", "system_of_plant", "goal_of_plant"})
 # first definitions of some statements and of a configuration's rules
 FOREVER = [("ilk_forever.specs.Forever", "IsAlwaysSafe")]
 EVENTS = [("ilk_queries.specs.Asked", "HasQueriedRun")]
 EVIDENCE = [("ilk_unroll.specs.Evidence", name) for name in ("HoldsForNoneUpTo", "ReachesHazard", "ReachesBreach")]
-PLANT = [("ilk_answers.specs.Answer", "plant_of")]
+PLANT = [("ilk_answers.specs.Answer", "plant_of_conf")]
 CLEAN = [("ilk_answers.specs.Strict", "IsCleanAndSafe")]
 RULES = frozenset({"network_rules_broken", "table_rules_broken", "column_rules_broken",
-                   "column_rule_broken"})
+                   "broken_for_column_rule"})
 USE = re.compile(r"use Rattle\.([\w.]+)(?:\.\{(.*)\}| as (\w+));?")
 RUST_USE = re.compile(r"^use (crate|ilk_\w+)::(?:\{([\w, \n]*)\}|(\w+));", re.M)
 HEAD = re.compile(r"(?:unfoldable |abbrev |infixr? \d+ )*pub "

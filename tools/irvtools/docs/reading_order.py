@@ -27,14 +27,14 @@ ABOUT = (
     "The formula of a query, from the plant to its clauses. No answer needs it to be believed.",
 )
 # first definitions of some answers, besides those of the module `definitions`
-TABLE = [("ilk_answers.specs.Tables", "HasTable")]
+TABLE = [("ilk_answers.specs.Tables", "HasValidTable")]
 FORMULA = [
     ("ilk_dimacs.specs.DimacsText", "dimacs_text"),
     ("ilk_unroll.specs.Satisfied", "IsSatisfiable"),
 ]
 DRIVE = [("ilk_answers.specs.Drives", "AnswersDrive")]
 REPLAY = [
-    ("ilk_answers.specs.Answer", "run_text_reply"),
+    ("ilk_answers.specs.Answer", "reply_to_run_text"),
     ("ilk_replay.specs.Told", "run_from_text"),
     ("ilk_replay.specs.Seen", "replay_result"),
 ]

@@ -1,22 +1,22 @@
 use Rattle.std.proofs.Common.{◌≡◌, IfOk, List, sym, ap, ◌∙◌, subst}
 use Rattle.ilk_plant.specs.Draft.{plant_from_drafts}
 use Rattle.ilk_plant.specs.Plant.{PlantLists}
-use Rattle.ilk_plant.specs.Sound.{AreSound}
+use Rattle.ilk_plant.specs.Sound.{AreSoundDrafts}
 use Rattle.ilk_plant.specs.declared.draft.RouteDraft.{RouteDraft}
 use Rattle.ilk_plant.specs.declared.draft.TableDraft.{TableDraft}
 use Rattle.ilk_tablegen.specs.Rules.{no_routes}
-use Rattle.ilk_answers.specs.Answer.{unless_refused, refusals_of}
+use Rattle.ilk_answers.specs.Answer.{unless_refused, refusals_from_broken_rules}
 use Rattle.ilk_answers.specs.Stages.{borders_broken}
 use Rattle.ilk_answers.proofs.checks.check_bare.Goals as goal
 
 pub from_numbered-requires : goal.from_numbered-requires
 from_numbered-requires c =
     let table : List RouteDraft → TableDraft = λ routes. record { routes = routes } in
-    let bare : AreSound c.args.net.now no_routes = c.bare_network_is_sound.ensures c.args.net.now c.requires.limits c.requires.network in
+    let bare : AreSoundDrafts c.args.net.now no_routes = c.bare_network_is_sound.ensures c.args.net.now c.requires.limits c.requires.network in
     record {
       net = c.args.net.now;
       table = table c.new.result;
-      sound = subst (λ routes. AreSound c.args.net.now (table routes)) (sym c.new.ensures) bare;
+      sound = subst (λ routes. AreSoundDrafts c.args.net.now (table routes)) (sym c.new.ensures) bare;
       same = c.in_ok-drafts.ensures;
     }
 
@@ -24,5 +24,5 @@ pub returns : goal.returns
 returns c =
     let table : List RouteDraft → TableDraft = λ routes. record { routes = routes } in
     let is : c.in_ok-from_numbered.field-0 ≡ plant_from_drafts c.args.net.now no_routes = c.in_ok-from_numbered.ensures ∙ c.in_ok-drafts.ensures ∙ ap (λ routes. plant_from_drafts c.args.net.now (table routes)) c.new.ensures in
-    let Found : PlantLists → Type 0 = λ p. IfOk c.check_plant_borders.result (λ found. found ≡ unless_refused (refusals_of (borders_broken c.args.columns p)) p) in
+    let Found : PlantLists → Type 0 = λ p. IfOk c.check_plant_borders.result (λ found. found ≡ unless_refused (refusals_from_broken_rules (borders_broken c.args.columns p)) p) in
     subst Found is c.check_plant_borders.ensures

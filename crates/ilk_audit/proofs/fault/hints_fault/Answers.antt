@@ -1,6 +1,6 @@
 use Rattle.std.proofs.Common.{◌+◌, drop, get_or, refl, ap, sym, ◌∙◌}
-use Rattle.ilk_base.specs.Option.{only_if}
-use Rattle.ilk_audit.specs.Stored.{PartialList}
+use Rattle.ilk_base.specs.Option.{then_some}
+use Rattle.ilk_audit.specs.Stored.{AssignedLits}
 use Rattle.ilk_audit.specs.Taken.{hints_fault}
 use Rattle.ilk_audit.specs.declared.hinted.ClauseStatus.TheVariants.{AllFalse, OneUnset, Other}
 use Rattle.ilk_audit.specs.declared.taken.Why.TheVariants.{NotFalse}
@@ -14,7 +14,7 @@ returns-in-AllFalse-clause-fault c =
     let i = c.loop-i.i in
     let at : AtHints clauses c.args.partial.now.set hints c.loop-i.partial.set (drop i hints) = record { fault = c.loop-i.invariant.fault } in
     let next = hint-next clauses c.args.partial.now.set hints c.loop-i.partial.set i (get_or hints i 0) AllFalse at c.loop-i-test.true refl (c.in-AllFalse.ensures {u = tt}).found in
-    ap (λ b. only_if b NotFalse) (sym (some-left_drop hints (i + 1) c.if-i-hints.true)) ∙ next
+    ap (λ b. then_some b NotFalse) (sym (some-left_drop hints (i + 1) c.if-i-hints.true)) ∙ next
 
 pub returns-in-AllFalse-2-clause-fault : goal.returns-in-AllFalse-2-clause-fault
 returns-in-AllFalse-2-clause-fault c =
@@ -23,7 +23,7 @@ returns-in-AllFalse-2-clause-fault c =
     let i = c.loop-i.i in
     let at : AtHints clauses c.args.partial.now.set hints c.loop-i.partial.set (drop i hints) = record { fault = c.loop-i.invariant.fault } in
     let next = hint-next clauses c.args.partial.now.set hints c.loop-i.partial.set i (get_or hints i 0) AllFalse at c.loop-i-test.true refl (c.in-AllFalse-2.ensures {u = tt}).found in
-    ap (λ b. only_if b NotFalse) (sym (none-left_drop hints (i + 1) c.if-i-hints.false)) ∙ next
+    ap (λ b. then_some b NotFalse) (sym (none-left_drop hints (i + 1) c.if-i-hints.false)) ∙ next
 
 pub returns-in-Other-clause-fault : goal.returns-in-Other-clause-fault
 returns-in-Other-clause-fault c =
@@ -44,6 +44,6 @@ loop-i-preserved c =
     let next = hint-next clauses c.args.partial.now.set hints c.loop-i.partial.set i (get_or hints i 0) (OneUnset l) at c.loop-i-test.true refl (c.in-OneUnset.ensures {u = tt}).found in
     let ok = (c.in_ok-set-in-OneUnset.ensures {u = tt}).ok in
     record {
-      vars = ap (λ (p : PartialList). p.vars) ok ∙ c.loop-i.invariant.vars;
-      fault = ap (λ (p : PartialList). hints_fault clauses p.set (drop (i + 1) hints)) ok ∙ next;
+      vars = ap (λ (p : AssignedLits). p.vars) ok ∙ c.loop-i.invariant.vars;
+      fault = ap (λ (p : AssignedLits). hints_fault clauses p.set (drop (i + 1) hints)) ok ∙ next;
     }

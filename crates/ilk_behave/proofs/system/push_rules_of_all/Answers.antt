@@ -1,5 +1,5 @@
 use Rattle.std.proofs.Common.{map}
-use Rattle.ilk_ir.specs.System.{rule_tree}
+use Rattle.ilk_ir.specs.System.{plain_rule}
 use Rattle.ilk_behave.specs.Behaviour.{rules_of}
 use Rattle.ilk_behave.proofs.Pushed.{made_more}
 use Rattle.ilk_behave.proofs.system.push_rules_of_all.Goals as goal
@@ -7,6 +7,6 @@ use Rattle.ilk_behave.proofs.system.push_rules_of_all.Goals as goal
 pub loop-event-preserved : goal.loop-event-preserved
 loop-event-preserved c =
     made_more (rules_of c.args.plant.now) c.args.events.now c.loop-event.event-index _
-    (map rule_tree c.args.rules.now) (map rule_tree c.loop-event.rules)
-    (map rule_tree c.push_rules_of.new.rules) c.loop-event-test.true c.loop-event.invariant
+    (map plain_rule c.args.rules.now) (map plain_rule c.loop-event.rules)
+    (map plain_rule c.push_rules_of.new.rules) c.loop-event-test.true c.loop-event.invariant
     c.in_ok-push_rules_of.ensures

@@ -1,7 +1,7 @@
 use Rattle.std.proofs.Common.{◌≡◌, ◌++◌, ◌∷◌, [], true, map, drop}
 use Rattle.ilk_cnf.specs.Literal.{negated_lit}
 use Rattle.ilk_cnf.specs.Formula.{is_clause_over}
-use Rattle.ilk_cnf.specs.Part.{as_clauses}
+use Rattle.ilk_cnf.specs.Part.{clauses_from_lists}
 use Rattle.ilk_cnf.proofs.gate.imply_each.Given as goal
 
 abbrev pub invariant-loop-lit : goal.invariant-loop-lit
@@ -9,5 +9,5 @@ invariant-loop-lit l =
     record {
       vars : l.cnf.vars ≡ l.fn.cnf.vars;
       within : is_clause_over l.cnf.vars (drop l.lit-index l.lits) ≡ true;
-      rest : l.cnf.clauses ++ as_clauses (map (λ k. negated_lit l.gate ∷ k ∷ []) (drop l.lit-index l.lits)) ≡ l.fn.cnf.clauses ++ as_clauses (map (λ k. negated_lit l.gate ∷ k ∷ []) l.lits);
+      rest : l.cnf.clauses ++ clauses_from_lists (map (λ k. negated_lit l.gate ∷ k ∷ []) (drop l.lit-index l.lits)) ≡ l.fn.cnf.clauses ++ clauses_from_lists (map (λ k. negated_lit l.gate ∷ k ∷ []) l.lits);
     }

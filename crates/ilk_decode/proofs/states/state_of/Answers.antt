@@ -11,12 +11,12 @@ use Rattle.ilk_decode.proofs.states.state_of.Goals as goal
 pub returns-clause-calm : goal.returns-clause-calm
 returns-clause-calm c =
     let is : c.in_ok-s.s ≡ decoded c.args.plant.now c.args.values.now = c.in_ok-s.ensures ∙ ap (decoded c.args.plant.now) c.as_slice.ensures in
-    subst (IsWellFormedAndSafe c.args.plant.now) (sym is) (decoded-calm c.args.plant.now c.is_sound.ensures c.is_from_drafts.ensures.walks c.args.values.now c.requires.in_range c.requires.wellformed)
+    subst (IsWellFormedAndSafe c.args.plant.now) (sym is) (decoded-calm c.args.plant.now c.prove_is_plant.ensures c.prove_from_drafts.ensures.walks c.args.values.now c.requires.in_range c.requires.wellformed)
 
 pub returns-clause-image : goal.returns-clause-image
 returns-clause-image c =
     let is : c.in_ok-s.s ≡ decoded c.args.plant.now c.args.values.now = c.in_ok-s.ensures ∙ ap (decoded c.args.plant.now) c.as_slice.ensures in
-    ap (image_of c.args.plant.now) is ∙ decoded-image c.args.plant.now c.is_sound.ensures c.is_from_drafts.ensures.walks c.args.values.now c.requires.in_range c.requires.wellformed
+    ap (image_of c.args.plant.now) is ∙ decoded-image c.args.plant.now c.prove_is_plant.ensures c.prove_from_drafts.ensures.walks c.args.values.now c.requires.in_range c.requires.wellformed
 
 pub returns-clause-order : goal.returns-clause-order
 returns-clause-order c =

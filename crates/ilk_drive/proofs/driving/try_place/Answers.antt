@@ -30,7 +30,7 @@ returns-clause-covers c =
     c.as_slice.result.now c.args.automatic.now.events c.args.place c.in-Some.event.now c.as_slice.ensures
     c.in-Some.ensures.lookup.3.0 c.in-Some.ensures.lookup.1 in
     let enabled : is_some (next c.args.plant.now c.args.s.now c.in-Some.event.now) ≡ true = sym c.in_ok-apply.ensures.answer ∙ c.if-not-branch.false in
-    covers-on c.args.plant.now c.is_sound.ensures c.args.s.now c.apply.new.s c.requires.shape c.in-Some.event.now (done-is _ c.args.s.now c.apply.new.s enabled c.in_ok-apply.ensures.next)
+    covers-on c.args.plant.now c.prove_is_plant.ensures c.args.s.now c.apply.new.s c.requires.shape c.in-Some.event.now (done-is _ c.args.s.now c.apply.new.s enabled c.in_ok-apply.ensures.next)
     (λ j. c.args.place == j || has_number j c.args.candidates.now) c.requires.covers c.at.result.now c.push_all.new.candidates
     (c.requires.all.woken c.args.place c.in-Some.event.now c.at.result.now there c.at.ensures)
     (λ j h. c.in_ok-push_all.ensures.kept j (c.in_ok-push.ensures j ∙ h)) c.in_ok-push_all.ensures.added

@@ -8,7 +8,7 @@ pub returns-clause-run : goal.returns-clause-run
 returns-clause-run c = drive-run c.args.plant.now
 
 pub returns-clause-few : goal.returns-clause-few
-returns-clause-few c = drive-few c.args.plant.now c.is_sound.ensures c.is_from_drafts.ensures.walks
+returns-clause-few c = drive-few c.args.plant.now c.prove_is_plant.ensures c.prove_from_drafts.ensures.walks
 
 pub returns-clause-strict : goal.returns-clause-strict
-returns-clause-strict c = drive-safe c.args.plant.now c.is_sound.ensures
+returns-clause-strict c = drive-safe c.args.plant.now c.prove_is_plant.ensures

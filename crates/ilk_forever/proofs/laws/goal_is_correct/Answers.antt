@@ -9,6 +9,6 @@ pub returns : goal.returns
 returns c =
     let p = c.args.plant.now in
     record {
-      means = goal_is p c.images_are_in_range.ensures (start-holds p) (holds-at_images p c.is_sound.ensures c.is_from_drafts.ensures.walks) (hazard-holds p) c.families_hold.ensures;
-      valid = goal_fits p (start-valid p) (hazard-valid p) (wellformed-valid p c.is_sound.ensures) c.families_valid.ensures;
+      means = goal_is p c.images_are_in_range.ensures (start-holds p) (holds-at_images p c.prove_is_plant.ensures c.prove_from_drafts.ensures.walks) (hazard-holds p) c.family_forms_are_correct.ensures;
+      valid = goal_fits p (start-valid p) (hazard-valid p) (wellformed-valid p c.prove_is_plant.ensures) c.family_forms_are_valid.ensures;
     }

@@ -2,4 +2,4 @@ use Rattle.ilk_forever.proofs.OnPlant.{lifts}
 use Rattle.ilk_forever.proofs.laws.runs_correspond.Goals as goal
 
 pub returns : goal.returns
-returns c = λ q valid. lifts c.args.plant.now c.is_sound.ensures c.system_steps.ensures c.goal_is_correct.ensures.means q valid
+returns c = λ q valid. lifts c.args.plant.now c.prove_is_plant.ensures c.system_matches_events.ensures c.goal_is_correct.ensures.means q valid

@@ -1,7 +1,7 @@
 use Rattle.std.proofs.Common.{not, ap, arith}
-use Rattle.ilk_cnf.specs.Extends.{IsExactlyIf}
+use Rattle.ilk_cnf.specs.Extends.{PassesWithExactValues}
 use Rattle.ilk_cnf.specs.Formula.{Formula}
-use Rattle.ilk_cnf.proofs.Extending.{extends-as_clauses}
+use Rattle.ilk_cnf.proofs.Extending.{extends-clauses_from_lists}
 use Rattle.ilk_ir.specs.Form.{trees_of}
 use Rattle.ilk_ir.specs.Tree.{all_of, tree_holds}
 use Rattle.ilk_forms.specs.Violated.{violated_part, violated_bits}
@@ -16,7 +16,8 @@ returns-clause-law c =
     let columns = c.args.table.now in
     let t = all_of (trees_of c.args.forms.now) in
     let part = violated_part columns t n in
-    extends-as_clauses a part.vars part.clauses (IsExactlyIf (not (tree_holds ws t)) (violated_bits ranges ws t)) (violated-law t columns ranges ws a n size (reads a columns ranges ws n size c.requires.within says fit) c.requires.valid)
+    extends-clauses_from_lists a part.vars part.clauses (PassesWithExactValues (not (tree_holds ws t)) (violated_bits ranges ws t))
+    (violated-law t columns ranges ws a n size (reads a columns ranges ws n size c.requires.within says fit) c.requires.valid)
 
 pub returns-clause-more : goal.returns-clause-more
 returns-clause-more c =

@@ -2,7 +2,7 @@ use Rattle.std.proofs.Common.{◌∙◌, ◌∷◌, [], ap, refl}
 use Rattle.std.proofs.lemmas.Bool.{and_parts, and_from}
 use Rattle.ilk_cnf.specs.Formula.{is_clause_over}
 use Rattle.ilk_cnf.specs.Literal.{Literal, negated_lit}
-use Rattle.ilk_forms.specs.Violated.{violated_after}
+use Rattle.ilk_forms.specs.Violated.{first_violated_lits}
 use Rattle.ilk_forms.proofs.Steps.{lits-in, first-in, some-made}
 use Rattle.ilk_forms.proofs.ViolatedLaw.{after-fits}
 use Rattle.ilk_forms.proofs.violated.some_violated.Goals as goal
@@ -10,9 +10,9 @@ use Rattle.ilk_forms.proofs.violated.some_violated.Goals as goal
 pub add_joined_clause-requires-clause-first : goal.add_joined_clause-requires-clause-first
 add_joined_clause-requires-clause-first c =
     let n = c.args.cnf.now.vars in
-    let h = c.violated_after.new.cnf in
+    let h = c.first_violated_lits.new.cnf in
     let parts = and_parts _ _ c.requires in
-    let g = violated_after c.args.kept c.args.others.now n in
+    let g = first_violated_lits c.args.kept c.args.others.now n in
     ap (λ (l : Literal). is_clause_over h.vars (l ∷ [])) c.negated.ensures
     ∙ first-in n c.args.cnf.now h g (negated_lit c.args.kept ∷ []) (after-fits c.args.others.now c.args.kept n parts.0 parts.1) (and_from _ _ parts.0 refl) c.in_ok-lits.ensures.made
 
@@ -20,12 +20,12 @@ pub add_joined_clause-requires-clause-others : goal.add_joined_clause-requires-c
 add_joined_clause-requires-clause-others c =
     let n = c.args.cnf.now.vars in
     let parts = and_parts _ _ c.requires in
-    let g = violated_after c.args.kept c.args.others.now n in
-    lits-in n c.args.cnf.now c.violated_after.new.cnf g c.as_slice.result.now (after-fits c.args.others.now c.args.kept n parts.0 parts.1) c.in_ok-lits.ensures.made (c.as_slice.ensures ∙ c.in_ok-lits.ensures.lits)
+    let g = first_violated_lits c.args.kept c.args.others.now n in
+    lits-in n c.args.cnf.now c.first_violated_lits.new.cnf g c.as_slice.result.now (after-fits c.args.others.now c.args.kept n parts.0 parts.1) c.in_ok-lits.ensures.made (c.as_slice.ensures ∙ c.in_ok-lits.ensures.lits)
 
 pub returns : goal.returns
 returns c =
-    let g = violated_after c.args.kept c.args.others.now c.args.cnf.now.vars in
+    let g = first_violated_lits c.args.kept c.args.others.now c.args.cnf.now.vars in
     let first = c.negated.ensures in
-    some-made c.args.cnf.now c.violated_after.new.cnf c.add_joined_clause.new.cnf g (negated_lit c.args.kept ∷ []) c.as_slice.result.now c.in_ok-lits.ensures.made (c.as_slice.ensures ∙ c.in_ok-lits.ensures.lits)
+    some-made c.args.cnf.now c.first_violated_lits.new.cnf c.add_joined_clause.new.cnf g (negated_lit c.args.kept ∷ []) c.as_slice.result.now c.in_ok-lits.ensures.made (c.as_slice.ensures ∙ c.in_ok-lits.ensures.lits)
     (c.in_ok-add_joined_clause.ensures ∙ rw first refl)

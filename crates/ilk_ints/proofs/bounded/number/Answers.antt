@@ -1,7 +1,7 @@
 use Rattle.std.proofs.Common.{◌^◌, ◌≤◌, subst, ℕ}
-use Rattle.ilk_cnf.proofs.Extending.{extends-as_clauses}
+use Rattle.ilk_cnf.proofs.Extending.{extends-clauses_from_lists}
 use Rattle.ilk_ints.specs.Bits.{bit_count}
-use Rattle.ilk_ints.specs.Number.{number_part, IsValue}
+use Rattle.ilk_ints.specs.Number.{number_part, AreBitsInRange}
 use Rattle.ilk_ints.proofs.NumberLaw.{number-law}
 use Rattle.ilk_ints.proofs.bounded.number.Goals as goal
 
@@ -11,4 +11,4 @@ returns-clause-law c =
     let range = c.args.range in
     let n = c.args.cnf.now.vars in
     let enough : range ≤ 2 ^ bit_count range = subst (λ (b : ℕ). range ≤ 2 ^ b) c.bit_count.ensures.count c.bit_count.ensures.enough in
-    extends-as_clauses a (number_part range n).vars (number_part range n).clauses (IsValue range) (number-law a range n enough size)
+    extends-clauses_from_lists a (number_part range n).vars (number_part range n).clauses (AreBitsInRange range) (number-law a range n enough size)

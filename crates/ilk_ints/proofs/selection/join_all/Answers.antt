@@ -3,7 +3,7 @@ use Rattle.std.proofs.lemmas.List.{drop-append-le}
 use Rattle.ilk_cnf.specs.Literal.{Literal, positive_lit}
 use Rattle.ilk_cnf.specs.Formula.{is_clause_over}
 use Rattle.ilk_cnf.specs.Part.{with_part}
-use Rattle.ilk_ints.specs.OneOf.{one_of_part}
+use Rattle.ilk_ints.specs.OneOf.{exactly_one_part}
 use Rattle.ilk_ints.proofs.OneOfLaw.{queue-front, first-two, join-step}
 use Rattle.ilk_ints.proofs.selection.join_all.Goals as goal
 
@@ -34,5 +34,5 @@ loop-first-preserved c =
     record {
       started = omega (arith, two, length-append queue (v ∷ []), ap length c.in_ok-join.ensures.queued);
       within = ap (is_clause_over g.vars) next ∙ step.0;
-      rest = ap (λ (ls : List Literal). with_part g (one_of_part ls g.vars)) next ∙ step.1 ∙ ap (λ (ls : List Literal). with_part f (one_of_part ls f.vars)) (sym front) ∙ c.loop-first.invariant.rest;
+      rest = ap (λ (ls : List Literal). with_part g (exactly_one_part ls g.vars)) next ∙ step.1 ∙ ap (λ (ls : List Literal). with_part f (exactly_one_part ls f.vars)) (sym front) ∙ c.loop-first.invariant.rest;
     }

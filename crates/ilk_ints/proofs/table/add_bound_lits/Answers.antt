@@ -1,9 +1,9 @@
 use Rattle.std.proofs.Common.{◌^◌, ◌≤◌, ℕ, subst}
-use Rattle.ilk_cnf.specs.Extends.{IsExactly}
-use Rattle.ilk_cnf.proofs.Extending.{extends-as_clauses}
+use Rattle.ilk_cnf.specs.Extends.{AreExactValues}
+use Rattle.ilk_cnf.proofs.Extending.{extends-clauses_from_lists}
 use Rattle.ilk_ints.specs.Bits.{bit_count}
-use Rattle.ilk_ints.specs.Named.{bounds_part, bound_vars_bits, bound_count}
-use Rattle.ilk_ints.proofs.BoundsPart.{bounds_part-law, bounds_part-say}
+use Rattle.ilk_ints.specs.Named.{bound_lits_part, bound_vars_bits, bound_count}
+use Rattle.ilk_ints.proofs.BoundsPart.{bound_lits_part-law, bound_lits_part-say}
 use Rattle.ilk_ints.proofs.table.add_bound_lits.Goals as goal
 
 pub returns-clause-law : goal.returns-clause-law
@@ -14,8 +14,9 @@ returns-clause-law c =
     let values = c.args.values.now in
     let n = c.args.used.now in
     let enough : range ≤ 2 ^ bit_count range = subst (λ (b : ℕ). range ≤ 2 ^ b) c.bit_count.ensures.count c.bit_count.ensures.enough in
-    let part = (bounds_part first range values n).part in
-    extends-as_clauses a part.vars part.clauses (IsExactly (bound_vars_bits range w 1 (bound_count range))) (bounds_part-law values a first range w n size c.requires.from_1 c.requires.within enough c.requires.all c.requires.lits less is says)
+    let part = (bound_lits_part first range values n).part in
+    extends-clauses_from_lists a part.vars part.clauses (AreExactValues (bound_vars_bits range w 1 (bound_count range)))
+    (bound_lits_part-law values a first range w n size c.requires.from_1 c.requires.within enough c.requires.all c.requires.lits less is says)
 
 pub returns-clause-exact : goal.returns-clause-exact
 returns-clause-exact c =
@@ -23,4 +24,4 @@ returns-clause-exact c =
     let first = c.args.n.first in
     let range = c.args.n.range in
     let enough : range ≤ 2 ^ bit_count range = subst (λ (b : ℕ). range ≤ 2 ^ b) c.bit_count.ensures.count c.bit_count.ensures.enough in
-    bounds_part-say c.args.values.now a d first range w c.args.used.now size c.requires.from_1 c.requires.within enough c.requires.all c.requires.lits less is says
+    bound_lits_part-say c.args.values.now a d first range w c.args.used.now size c.requires.from_1 c.requires.within enough c.requires.all c.requires.lits less is says

@@ -1,9 +1,9 @@
 use Rattle.std.proofs.Common.{◌^◌, ◌≤◌, ℕ, subst}
-use Rattle.ilk_cnf.specs.Extends.{IsExactly}
-use Rattle.ilk_cnf.proofs.Extending.{extends-as_clauses}
+use Rattle.ilk_cnf.specs.Extends.{AreExactValues}
+use Rattle.ilk_cnf.proofs.Extending.{extends-clauses_from_lists}
 use Rattle.ilk_ints.specs.Bits.{bit_count}
-use Rattle.ilk_ints.specs.Named.{values_part, value_vars_bits}
-use Rattle.ilk_ints.proofs.ValuesLaw.{values_part-law, values_part-say}
+use Rattle.ilk_ints.specs.Named.{value_lits_part, one_hot_var_bits}
+use Rattle.ilk_ints.proofs.ValuesLaw.{value_lits_part-law, value_lits_part-say}
 use Rattle.ilk_ints.proofs.table.add_value_lits.Goals as goal
 
 pub returns-clause-law : goal.returns-clause-law
@@ -13,7 +13,8 @@ returns-clause-law c =
     let range = c.args.n.range in
     let n = c.args.used.now in
     let enough : range ≤ 2 ^ bit_count range = subst (λ (b : ℕ). range ≤ 2 ^ b) c.bit_count.ensures.count c.bit_count.ensures.enough in
-    extends-as_clauses a (values_part first range n).part.vars (values_part first range n).part.clauses (IsExactly (value_vars_bits range w)) (values_part-law a first range w n size c.requires.from_1 c.requires.within enough less is)
+    extends-clauses_from_lists a (value_lits_part first range n).part.vars (value_lits_part first range n).part.clauses (AreExactValues (one_hot_var_bits range w))
+    (value_lits_part-law a first range w n size c.requires.from_1 c.requires.within enough less is)
 
 pub returns-clause-exact : goal.returns-clause-exact
 returns-clause-exact c =
@@ -22,4 +23,4 @@ returns-clause-exact c =
     let range = c.args.n.range in
     let n = c.args.used.now in
     let enough : range ≤ 2 ^ bit_count range = subst (λ (b : ℕ). range ≤ 2 ^ b) c.bit_count.ensures.count c.bit_count.ensures.enough in
-    values_part-say a d first range w n size c.requires.within enough less is
+    value_lits_part-say a d first range w n size c.requires.within enough less is

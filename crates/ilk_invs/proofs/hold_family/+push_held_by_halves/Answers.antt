@@ -1,7 +1,7 @@
 use Rattle.std.proofs.Common.{◌≡◌, suc, ◌-◌, ◌++◌, ◌∷◌, [], ◌∙◌, ap, arith, map, sym}
 use Rattle.std.proofs.lemmas.List.{map-append}
 use Rattle.ilk_ir.specs.Form.{tree_of}
-use Rattle.ilk_invs.specs.HoldFamilies.{held_by_halves}
+use Rattle.ilk_invs.specs.HoldFamilies.{at_most_one_by_halves}
 use Rattle.ilk_invs.proofs.Halves.{halves_pushed}
 use Rattle.ilk_invs.proofs.hold_family.+push_held_by_halves.Goals as goal
 
@@ -17,4 +17,4 @@ returns t c =
     (map tree_of c.push_held_by_halves-2.new.forms.items)
     (omega (arith, c.if-routes-le-MAX_ORDERED_HOLDERS.false)) c.split_at.ensures.front c.split_at.ensures.back
     both c.in_ok-push_held_by_halves.ensures c.in_ok-push_held_by_halves-2.ensures
-    ∙ ap (λ n. start ++ held_by_halves n c.args.plant.now c.args.x c.args.routes.now) (sym less)
+    ∙ ap (λ n. start ++ at_most_one_by_halves n c.args.plant.now c.args.x c.args.routes.now) (sym less)

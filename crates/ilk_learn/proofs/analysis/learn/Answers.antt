@@ -1,6 +1,6 @@
 use Rattle.std.proofs.Common.{◌≡◌, ℕ, true, ap, ◌∙◌, sym, ◌&&◌}
 use Rattle.std.proofs.lemmas.Bool.{and_parts}
-use Rattle.ilk_cnf.specs.Literal.{vars_differ}
+use Rattle.ilk_cnf.specs.Literal.{has_distinct_vars}
 use Rattle.ilk_cnf.specs.Formula.{is_clause_over}
 use Rattle.ilk_log.specs.declared.step.Step.{Step}
 use Rattle.ilk_log.specs.Propagation.{is_saturated}
@@ -20,8 +20,8 @@ level_below-level-requires-clause-within c =
     let derived : is_derived f.vars f.clauses s ≡ true = ap (is_derived f.vars f.clauses) c.in_ok-step.ensures
     ∙ learned_step-derived f c.args.trail.now c.args.conflict c.count-count.ensures.formula
     c.level-level.ensures.is_trail c.requires.reasons c.requires.conflict (λ _. c.requires.below) in
-    let p = and_parts (is_clause_over f.vars s.clause && vars_differ s.clause) (hints_end_in_conflict f.clauses (negated_clause s.clause) s.hints) derived in
-    ap (λ (n : ℕ). is_clause_over n s.clause) (sym c.requires.vars) ∙ (and_parts (is_clause_over f.vars s.clause) (vars_differ s.clause) p.0).0
+    let p = and_parts (is_clause_over f.vars s.clause && has_distinct_vars s.clause) (hints_end_in_conflict f.clauses (negated_clause s.clause) s.hints) derived in
+    ap (λ (n : ℕ). is_clause_over n s.clause) (sym c.requires.vars) ∙ (and_parts (is_clause_over f.vars s.clause) (has_distinct_vars s.clause) p.0).0
 
 pub level_below-level-requires-clause-asserting : goal.level_below-level-requires-clause-asserting
 level_below-level-requires-clause-asserting c =

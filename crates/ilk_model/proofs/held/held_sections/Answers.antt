@@ -2,7 +2,7 @@ use Rattle.std.proofs.Common.{◌≡◌, ◌+◌, ◌||◌, ◌∙◌, true, ap,
 use Rattle.ilk_plant.specs.Network.{has_section}
 use Rattle.ilk_plant.specs.TableRules.{protecting_points_of}
 use Rattle.ilk_plant.specs.declared.table.Listed.{Listed}
-use Rattle.ilk_model.specs.Holding.{holds_sections}
+use Rattle.ilk_model.specs.Holding.{is_holding_state}
 use Rattle.ilk_model.proofs.HeldTwice.{held_parts}
 use Rattle.ilk_model.proofs.SharedSections.{bit, bit_either}
 use Rattle.ilk_model.proofs.held.held_sections.Goals as goal
@@ -15,7 +15,7 @@ returns c x below =
     let overlap = c.sections_of-overlap.ensures x below ∙ ap (λ sections. bit (has_section y sections)) c.as_slice.ensures in
     let protecting = c.sections_of_points-protecting.ensures x below ∙ ap (λ points. bit (has_section y (map (λ (listed : Listed). listed.point) points))) c.as_slice-2.ensures in
     let kept = c.sections_of-kept.ensures x below ∙ ap (λ sections. bit (has_section y sections)) c.kept_sections.ensures in
-    let holds : holds_sections now ≡ true = grind (arith, c.if-not-holds_sections.false, c.if-not-holds_sections.ensures, c.holds_sections.ensures) in
+    let holds : is_holding_state now ≡ true = grind (arith, c.if-not-is_holding_state.false, c.if-not-is_holding_state.ensures, c.is_holding_state.ensures) in
     let beside = bit_either c.sections_of-overlap.result c.sections_of_points-protecting.result x (has_section y route.overlap) (has_section y (protecting_points_of route)) overlap protecting in
     bit_either _ c.sections_of-kept.result x (has_section y route.overlap || has_section y (protecting_points_of route)) (has_section y (drop now.rel route.path)) beside kept
     ∙ ap bit (sym (held_parts route now y holds))

@@ -5,4 +5,4 @@ use Rattle.ilk_motion.proofs.steps.step_tail.Goals as goal
 
 pub returns-clause-shape : goal.returns-clause-shape
 returns-clause-shape c =
-    after_turn (HasShape c.args.plant.now) _ c.args.s.now c.move_tail.new.s c.requires (λ t e. after_tail-shape c.args.plant.now c.args.s.now t c.args.x c.is_sound.ensures c.requires e) c.move_tail.ensures.next
+    after_turn (HasShape c.args.plant.now) _ c.args.s.now c.move_tail.new.s c.requires (λ t e. after_tail-shape c.args.plant.now c.args.s.now t c.args.x c.prove_is_plant.ensures c.requires e) c.move_tail.ensures.next

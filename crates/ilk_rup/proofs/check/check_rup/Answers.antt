@@ -1,7 +1,7 @@
 use Rattle.std.proofs.Common.{◌≡◌, true, ap, subst, arith, length}
 use Rattle.ilk_log.specs.Derived.{is_refutation}
 use Rattle.ilk_cnf.specs.Formula.{Formula}
-use Rattle.ilk_rup.specs.Stepped.{IsStepped}
+use Rattle.ilk_rup.specs.Stepped.{IsItemCheckResult}
 use Rattle.ilk_rup.specs.declared.next.Next.{Next}
 use Rattle.ilk_rup.proofs.Bounds.{words-few}
 use Rattle.ilk_rup.proofs.Judging.{going-bad, going-end, going-start, going-step}
@@ -15,26 +15,26 @@ items-init c =
 
 pub returns-in-Bad : goal.returns-in-Bad
 returns-in-Bad c =
-    let N : Next → Type 0 = λ x. IsStepped c.items.checker c.items.words c.step.new.words x in
+    let N : Next → Type 0 = λ x. IsItemCheckResult c.items.checker c.items.words c.step.new.words x in
     going-bad c.args.cnf.now c.args.text.now c.items.checker c.items.words c.items.item c.items.invariant.going (subst N c.in-Bad.is c.in_ok-log.ensures)
 
 pub returns-in-Refuted : goal.returns-in-Refuted
 returns-in-Refuted c =
     let g = c.items.invariant.going in
-    let N : Next → Type 0 = λ x. IsStepped c.items.checker c.items.words c.step.new.words x in
+    let N : Next → Type 0 = λ x. IsItemCheckResult c.items.checker c.items.words c.step.new.words x in
     let F : Formula → Type 0 = λ f. is_refutation f c.in-Refuted.log ≡ true in
     let r = subst N c.in-Refuted.is c.in_ok-log.ensures in
     (going-end c.args.cnf.now c.args.text.now c.items.checker c.items.words c.items.item g r.0 r.1, subst F g.formula r.2)
 
 pub overflow_add-item : goal.overflow_add-item
 overflow_add-item c =
-    let N : Next → Type 0 = λ x. IsStepped c.items.checker c.items.words c.step.new.words x in
+    let N : Next → Type 0 = λ x. IsItemCheckResult c.items.checker c.items.words c.step.new.words x in
     let few = words-few c.args.text.now in
     omega (arith, c.items.invariant.numbered, (subst N c.in-Right.is c.in_ok-log.ensures).shorter, few, c.type_inv.text)
 
 pub items-preserved : goal.items-preserved
 items-preserved c =
-    let N : Next → Type 0 = λ x. IsStepped c.items.checker c.items.words c.step.new.words x in
+    let N : Next → Type 0 = λ x. IsItemCheckResult c.items.checker c.items.words c.step.new.words x in
     let r = subst N c.in-Right.is c.in_ok-log.ensures in
     record {
       numbered = omega (arith, c.items.invariant.numbered, r.shorter);
@@ -42,4 +42,4 @@ items-preserved c =
     }
 
 pub items-smaller : goal.items-smaller
-items-smaller c = (let N : Next → Type 0 = λ x. IsStepped c.items.checker c.items.words c.step.new.words x in (subst N c.in-Right.is c.in_ok-log.ensures).shorter)
+items-smaller c = (let N : Next → Type 0 = λ x. IsItemCheckResult c.items.checker c.items.words c.step.new.words x in (subst N c.in-Right.is c.in_ok-log.ensures).shorter)

@@ -6,7 +6,7 @@ use Rattle.ilk_cnf.specs.Formula.{is_lit_over}
 use Rattle.ilk_watches.specs.Chained.{formula_of}
 use Rattle.ilk_trail.specs.declared.entry.Entry.{Entry}
 use Rattle.ilk_trail.proofs.Entries.{entry-within}
-use Rattle.ilk_rup.specs.Needs.{IsPassed}
+use Rattle.ilk_rup.specs.Needs.{HintsWorkWithoutEntry}
 use Rattle.ilk_rup.proofs.Passing.{passed-skip, passed-step}
 use Rattle.ilk_rup.proofs.explain.pass.Goals as goal
 
@@ -33,7 +33,7 @@ returns-clause-passed c =
     let set = c.args.set.now.lits in
     let next = c.need.new.needed.lits in
     let r = c.reason_of-reason.result in
-    let P : List ℕ → Type 0 = λ items. IsPassed c.args.clauses.now.clauses t.entries set c.args.i needed (reverse c.args.reasons.now.items) next (reverse items) in
+    let P : List ℕ → Type 0 = λ items. HintsWorkWithoutEntry c.args.clauses.now.clauses t.entries set c.args.i needed (reverse c.args.reasons.now.items) next (reverse items) in
     subst P (sym c.in_ok-push.ensures.items)
     (passed-step (formula_of c.args.clauses.now) t.entries set needed next c.args.i r x.0
     c.args.reasons.now.items c.count-clauses.ensures.formula x.1 c.count-trail.ensures.is_trail.once

@@ -1,7 +1,7 @@
 use Rattle.std.proofs.Common.{◌++◌, ◌∷◌, [], ◌∙◌, ap, sym, List, ℕ, take, append_assoc}
 use Rattle.std.specs.List.{filter}
 use Rattle.std.specs.Prelude.{not, ◌==◌}
-use Rattle.ilk_rup.specs.Needs.{unit_hints}
+use Rattle.ilk_rup.specs.Needs.{unit_hints_of_needed}
 use Rattle.ilk_rup.proofs.Passing.{units-more}
 use Rattle.ilk_rup.proofs.explain.push_units.Goals as goal
 
@@ -11,7 +11,7 @@ loop-i-preserved c =
     let units = c.args.units.now in
     let i = c.loop-i.i in
     let start = c.args.hints.now in
-    let some : List ℕ = unit_hints units (take i ls) in
+    let some : List ℕ = unit_hints_of_needed units (take i ls) in
     let one : ℕ → List ℕ = λ u. filter (λ x. not (x == 0)) (u ∷ []) in
     c.in_ok-push_unit.ensures
     ∙ ap (λ (hs : List ℕ). hs ++ one c.unit_of.result) c.loop-i.invariant

@@ -1,8 +1,8 @@
 use Rattle.std.proofs.Common.{◌∷◌, [], List, sym, ◌∙◌, subst}
 use Rattle.ilk_lines.specs.Lines.{Bytes}
-use Rattle.ilk_rup.specs.declared.item.Item.{Item}
-use Rattle.ilk_rup.specs.declared.item.Item.TheVariants.{Malformed}
-use Rattle.ilk_rup.specs.Items.{IsItemRead, IsFirstItemRead}
+use Rattle.ilk_rup.specs.declared.item.ItemKind.{ItemKind}
+use Rattle.ilk_rup.specs.declared.item.ItemKind.TheVariants.{Malformed}
+use Rattle.ilk_rup.specs.Items.{IsItemRead, AreFirstItemLiteralsRead}
 use Rattle.ilk_rup.proofs.Items.{kept-alone, kept-read, plain-read}
 use Rattle.ilk_rup.proofs.item.read_after.Goals as goal
 
@@ -11,7 +11,7 @@ returns-then-not-is_keep-clause-read c =
     let word = c.args.word.now in
     let set = c.read_literals.new.set.lits in
     let left = c.read_literals.new.words in
-    let P : Item → Type 0 = λ i. IsItemRead c.args.vars (word ∷ c.args.words.now) set left i in
+    let P : ItemKind → Type 0 = λ i. IsItemRead c.args.vars (word ∷ c.args.words.now) set left i in
     subst P (sym c.plain_item.ensures) (plain-read c.args.vars word c.args.words.now set left c.read_literals.result (sym c.is_keep.ensures ∙ c.if-not-is_keep.true) c.read_literals.ensures.read)
 
 pub returns-in-None-clause-read : goal.returns-in-None-clause-read
@@ -26,6 +26,6 @@ returns-in-Some-clause-read c =
     let word = c.args.word.now in
     let set = c.read_literals-in-Some.new.set.lits in
     let left = c.read_literals-in-Some.new.words in
-    let P : Item → Type 0 = λ i. IsItemRead c.args.vars (word ∷ c.args.words.now) set left i in
-    let R : List Bytes → Type 0 = λ ws. IsFirstItemRead c.args.vars ws set left c.read_literals-in-Some.result in
+    let P : ItemKind → Type 0 = λ i. IsItemRead c.args.vars (word ∷ c.args.words.now) set left i in
+    let R : List Bytes → Type 0 = λ ws. AreFirstItemLiteralsRead c.args.vars ws set left c.read_literals-in-Some.result in
     subst P (sym c.kept_item.ensures) (kept-read c.args.vars word c.args.words.now set left c.read_literals-in-Some.result (sym c.is_keep.ensures ∙ c.if-not-is_keep.false) (subst R (sym c.in-Some.ensures.word) c.read_literals-in-Some.ensures.read))

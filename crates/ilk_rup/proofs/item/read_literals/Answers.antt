@@ -1,7 +1,7 @@
 use Rattle.std.proofs.Common.{◌++◌, ◌∷◌, [], ℕ, Bool, List, false, refl, sym, ap, ◌∙◌, subst, arith, length, length-append}
 use Rattle.ilk_cnf.specs.Literal.{Literal}
 use Rattle.ilk_lines.specs.Lines.{Bytes}
-use Rattle.ilk_rup.specs.Items.{AreLiteralsRead}
+use Rattle.ilk_rup.specs.Items.{IsSetUnlessTautology}
 use Rattle.ilk_rup.proofs.FirstItem.{Before, before-next, before-start, read-bad, read-cut, read-end}
 use Rattle.ilk_rup.proofs.Items.{are-more, are-none}
 use Rattle.ilk_cnf.specs.Formula.{is_lit_over}
@@ -13,7 +13,7 @@ put-requires c = ap (λ (n : ℕ). is_lit_over n c.in-Some.l) (c.words.invariant
 
 pub words-init : goal.words-init
 words-init c =
-    let P : List Literal → Type 0 = λ s. AreLiteralsRead [] s false in
+    let P : List Literal → Type 0 = λ s. IsSetUnlessTautology [] s false in
     record { vars = refl; read = ([], before-start c.args.vars (c.args.first.now ∷ c.args.words.now), subst P (sym c.requires.empty) are-none) }
 
 pub returns-then-is_end-clause-read : goal.returns-then-is_end-clause-read
@@ -44,7 +44,7 @@ words-preserved c =
     let whole = c.args.first.now ∷ c.args.words.now in
     let l = c.in-Some.l in
     let W : List Bytes → Type 0 = λ rest. Before n whole rest (v.0 ++ l ∷ []) in
-    let B : Bool → Type 0 = λ b. AreLiteralsRead (v.0 ++ l ∷ []) c.put.new.set.lits b in
+    let B : Bool → Type 0 = λ b. IsSetUnlessTautology (v.0 ++ l ∷ []) c.put.new.set.lits b in
     record {
       vars = c.put.ensures.vars ∙ c.words.invariant.vars;
       read = (

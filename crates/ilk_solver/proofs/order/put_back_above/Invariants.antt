@@ -1,13 +1,13 @@
 use Rattle.std.proofs.Common.{◌≡◌, ◌≤◌, ℕ, Some, length, slice_get}
 use Rattle.ilk_trail.specs.declared.entry.Entry.{Entry}
-use Rattle.ilk_solver.specs.Tree.{IsTree, KeepsLeaves, IsAtLeaf}
+use Rattle.ilk_solver.specs.Tree.{IsTree, LosesNoVariable, IsAtLeaf}
 use Rattle.ilk_solver.proofs.order.put_back_above.Given as goal
 
 abbrev pub invariant-entries : goal.invariant-entries
 invariant-entries l = record {
   within : l.i ≤ length l.trail.entries;
   tree : IsTree l.weights l.tree;
-  kept : KeepsLeaves l.weights l.initial.tree l.tree;
+  kept : LosesNoVariable l.weights l.initial.tree l.tree;
   done : (j : ℕ) (e : Entry) → l.i ≤ j → slice_get l.trail.entries j ≡ Some e → IsAtLeaf l.weights l.tree e.lit.var;
 }
 

@@ -3,7 +3,7 @@ use Rattle.std.specs.List.{slice_get}
 use Rattle.std.proofs.lemmas.Option.{slice_get-get_or}
 use Rattle.ilk_base.proofs.Lists.{drop_at}
 use Rattle.ilk_base.proofs.Tested.{list_all-slice_get}
-use Rattle.ilk_cnf.specs.Literal.{Literal, has_var, vars_differ}
+use Rattle.ilk_cnf.specs.Literal.{Literal, has_var, has_distinct_vars}
 use Rattle.ilk_cnf.specs.Formula.{is_lit_over}
 use Rattle.ilk_cnf.proofs.Literals.{is_lit_over-parts}
 use Rattle.ilk_solver.proofs.Trees.{keeps-on}
@@ -20,7 +20,7 @@ loop-lit-preserved c = record {
       let within : i < length clause = omega (arith, c.loop-lit-test.true) in
       let rest = drop (i + 1) clause in
       let next : drop i clause ≡ l ∷ rest = drop_at clause i l within c.lit-item.is in
-      let differ : vars_differ (l ∷ rest) ≡ true = ap vars_differ (sym next) ∙ differ-drop clause i c.requires.differ in
+      let differ : has_distinct_vars (l ∷ rest) ≡ true = ap has_distinct_vars (sym next) ∙ differ-drop clause i c.requires.differ in
       let stands : slice_get clause i ≡ Some l = slice_get-get_or clause i l within ∙ ap Some (sym c.lit-item.is) in
       let var = is_lit_over-parts (length c.args.weights.now) l (list_all-slice_get (is_lit_over (length c.args.weights.now)) clause i l c.requires.within stands) in
       let room : l.var - 1 < length w = omega (arith, var.0, var.1, c.loop-lit.auto.weights) in

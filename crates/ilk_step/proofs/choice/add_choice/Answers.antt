@@ -1,6 +1,6 @@
 use Rattle.std.proofs.Common.{◌+◌, arith}
-use Rattle.ilk_step.specs.Choice.{choice_part, IsChoice}
-use Rattle.ilk_cnf.proofs.Extending.{extends-as_clauses}
+use Rattle.ilk_step.specs.Choice.{choice_part, AreChoiceBits}
+use Rattle.ilk_cnf.proofs.Extending.{extends-clauses_from_lists}
 use Rattle.ilk_step.proofs.ChoiceLaw.{chosen_lits-in, choice-law}
 use Rattle.ilk_step.proofs.choice.add_choice.Goals as goal
 
@@ -17,4 +17,4 @@ returns-clause-law c =
     λ a size.
     let n = c.args.cnf.now.vars in
     let m = c.args.rules in
-    extends-as_clauses a (choice_part m n).vars (choice_part m n).clauses (IsChoice m) (choice-law a m n size)
+    extends-clauses_from_lists a (choice_part m n).vars (choice_part m n).clauses (AreChoiceBits m) (choice-law a m n size)

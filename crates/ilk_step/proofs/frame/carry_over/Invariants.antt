@@ -1,6 +1,6 @@
 use Rattle.std.proofs.Common.{◌≡◌, ◌++◌, true, drop}
 use Rattle.ilk_cnf.specs.Formula.{is_clause_over}
-use Rattle.ilk_cnf.specs.Part.{as_clauses}
+use Rattle.ilk_cnf.specs.Part.{clauses_from_lists}
 use Rattle.ilk_step.specs.Frame.{carry_over}
 use Rattle.ilk_step.proofs.frame.carry_over.Given as goal
 
@@ -10,5 +10,5 @@ invariant-loop-i l =
       vars : l.cnf.vars ≡ l.fn.cnf.vars;
       now : is_clause_over l.cnf.vars (drop l.i l.now) ≡ true;
       next : is_clause_over l.cnf.vars (drop l.i l.next) ≡ true;
-      rest : l.cnf.clauses ++ as_clauses (carry_over l.first (drop l.i l.now) (drop l.i l.next)) ≡ l.fn.cnf.clauses ++ as_clauses (carry_over l.first l.now l.next);
+      rest : l.cnf.clauses ++ clauses_from_lists (carry_over l.first (drop l.i l.now) (drop l.i l.next)) ≡ l.fn.cnf.clauses ++ clauses_from_lists (carry_over l.first l.now l.next);
     }

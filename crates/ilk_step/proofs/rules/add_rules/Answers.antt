@@ -5,10 +5,10 @@ use Rattle.ilk_base.proofs.Lists.{drop_at}
 use Rattle.ilk_cnf.specs.Literal.{Literal, positive_lit}
 use Rattle.ilk_cnf.specs.Formula.{Formula}
 use Rattle.ilk_cnf.specs.Part.{with_part}
-use Rattle.ilk_ir.specs.System.{RuleTree, rule_tree, rule_valid}
+use Rattle.ilk_ir.specs.System.{PlainRule, plain_rule, rule_valid}
 use Rattle.ilk_ir.specs.declared.system.Rule.{Rule}
-use Rattle.ilk_forms.specs.Leaf.{columns_in, ranges_of}
-use Rattle.ilk_forms.proofs.Reading.{columns_in-more}
+use Rattle.ilk_forms.specs.Leaf.{has_lits_within_vars, ranges_of}
+use Rattle.ilk_forms.proofs.Reading.{has_lits_within_vars-more}
 use Rattle.ilk_step.specs.Rules.{rule_part}
 use Rattle.ilk_step.proofs.RulesLaw.{rule-fits, skip-in}
 use Rattle.ilk_step.proofs.RulesSteps.{rules_step}
@@ -25,11 +25,11 @@ loop-rule-preserved c =
     let now = c.args.now.now in
     let next = c.args.next.now in
     let ranges = ranges_of now in
-    let r : RuleTree = rule_tree c.rule-item.result in
+    let r : PlainRule = plain_rule c.rule-item.result in
     let before = c.loop-rule.invariant in
     let split : drop i all ≡ c.rule-item.result ∷ drop (i + 1) all = drop_at all i c.rule-item.result c.loop-rule-test.true c.rule-item.is in
     let rest = drop (i + 1) all in
-    let valid = and_parts (rule_valid ranges r) (list_all (rule_valid ranges) (map rule_tree rest)) (sym (ap (λ (rs : List Rule). list_all (rule_valid ranges) (map rule_tree rs)) split) ∙ before.valid) in
+    let valid = and_parts (rule_valid ranges r) (list_all (rule_valid ranges) (map plain_rule rest)) (sym (ap (λ (rs : List Rule). list_all (rule_valid ranges) (map plain_rule rs)) split) ∙ before.valid) in
     let made : g ≡ with_part f (rule_part now next (positive_lit k) r n) = c.in_ok-add_rule.ensures ∙ ap (λ (l : Literal). with_part f (rule_part now next l r n)) c.new.ensures in
     let p = rule_part now next (positive_lit k) r n in
     let long : length (drop i all) ≡ length rest + 1 = ap length split ∙ omega arith in
@@ -40,10 +40,10 @@ loop-rule-preserved c =
     let grows = fits.low in
     let vars : g.vars ≡ p.vars = ap (λ (u : Formula). u.vars) made in
     record {
-      now = ap (λ (u : ℕ). columns_in u now) vars ∙ columns_in-more n p.vars now grows before.now;
-      next = ap (λ (u : ℕ). columns_in u next) vars ∙ columns_in-more n p.vars next grows before.next;
+      now = ap (λ (u : ℕ). has_lits_within_vars u now) vars ∙ has_lits_within_vars-more n p.vars now grows before.now;
+      next = ap (λ (u : ℕ). has_lits_within_vars u next) vars ∙ has_lits_within_vars-more n p.vars next grows before.next;
       low = omega arith;
       fits = omega (arith, vars, grows, long, room);
       valid = valid.1;
-      made = rules_step f g now next k r (map rule_tree (drop i all)) (map rule_tree rest) (ap (λ (rs : List Rule). map rule_tree rs) split) made ∙ before.made;
+      made = rules_step f g now next k r (map plain_rule (drop i all)) (map plain_rule rest) (ap (λ (rs : List Rule). map plain_rule rs) split) made ∙ before.made;
     }

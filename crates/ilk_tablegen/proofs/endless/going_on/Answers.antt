@@ -8,4 +8,4 @@ loop-i-init c =
 
 pub loop-i-preserved : goal.loop-i-preserved
 loop-i-preserved c =
-    round-more c.args.plant.now c.is_sound.ensures c.args.d c.loop-i._i c.loop-i.flags c.in_ok-flags-2.flags c.loop-i.invariant c.in_ok-flags-2.ensures
+    round-more c.args.plant.now c.prove_is_plant.ensures c.args.d c.loop-i._i c.loop-i.flags c.in_ok-flags-2.flags c.loop-i.invariant c.in_ok-flags-2.ensures

@@ -1,4 +1,4 @@
-use Rattle.ilk_tablegen.proofs.AllListed.{exactly-continues_without_end, exactly-ways, in-order}
+use Rattle.ilk_tablegen.proofs.AllListed.{exactly-has_unended_path_from, exactly-ways, in-order}
 use Rattle.ilk_tablegen.proofs.laws.ways_are_complete.Goals as goal
 
 pub returns-clause-each : goal.returns-clause-each
@@ -8,4 +8,4 @@ pub returns-clause-order : goal.returns-clause-order
 returns-clause-order c = in-order c.args._plant.now
 
 pub returns-clause-on : goal.returns-clause-on
-returns-clause-on c = exactly-continues_without_end c.args._plant.now
+returns-clause-on c = exactly-has_unended_path_from c.args._plant.now

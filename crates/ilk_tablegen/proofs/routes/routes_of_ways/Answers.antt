@@ -17,7 +17,7 @@ loop-n-preserved c =
 
 pub returns-clause-exact : goal.returns-clause-exact
 returns-clause-exact c =
-    routes-told c.args.plant.now c.is_sound.ensures c.sections.result c.args.ways.now
+    routes-told c.args.plant.now c.prove_is_plant.ensures c.sections.result c.args.ways.now
     c.as_slice-way-items.result.now c.in_ok-flags.flags c.loop-n.routes c.sections.ensures c.requires.all
     c.as_slice-way-items.ensures c.in_ok-flags.ensures
     (taken-all (λ numbered. route_by_flags c.args.plant.now c.in_ok-flags.flags numbered.0 numbered.1)

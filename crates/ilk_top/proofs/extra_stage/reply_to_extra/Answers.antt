@@ -1,5 +1,5 @@
 use Rattle.std.proofs.Common.{◌<◌, ◌^◌, Err, [], length, ap, ◌∙◌, arith}
-use Rattle.ilk_answers.specs.Reader.{ReaderHasRead}
+use Rattle.ilk_answers.specs.Reader.{ExtraReaderHasRead}
 use Rattle.ilk_answers.proofs.Besides.{some-too_long, some-within}
 use Rattle.ilk_top.proofs.Fed.{kept-longer, kept-whole}
 use Rattle.ilk_top.proofs.extra_stage.reply_to_extra.Goals as goal
@@ -13,7 +13,7 @@ pub returns-in_ok-answer-in-Ok-clause-reply : goal.returns-in_ok-answer-in-Ok-cl
 returns-in_ok-answer-in-Ok-clause-reply g c =
     let left = g.D.Source.left c.args.extra.now in
     let whole = kept-whole left c.args.limit c.in_ok-reader.reader _ c.in-Ok.reader tt _ _ c.in-Ok.is c.unless_failed.ensures.kept c.read_pieces-read.ensures.whole in
-    let read : ReaderHasRead c.args.command.now c.args.plant.now c.in-Ok.reader whole.bytes = whole.fed c.args.command.now c.args.plant.now [] c.in_ok-reader.ensures in
+    let read : ExtraReaderHasRead c.args.command.now c.args.plant.now c.in-Ok.reader whole.bytes = whole.fed c.args.command.now c.args.plant.now [] c.in_ok-reader.ensures in
     let short : length whole.bytes < 2 ^ 40 = omega (arith, whole.within, c.requires.small) in
     some-within c.args.command.now c.args.plant.now c.args.limit c.in_ok-answer-in-Ok.field-0 c.requires.limit left
     whole.bytes whole.whole whole.within (c.in_ok-answer-in-Ok.ensures.reply whole.bytes read short)

@@ -1,7 +1,7 @@
 use Rattle.std.proofs.Common.{◌≡◌, Option, Some, map, refl, subst, sym, ◌∙◌}
 use Rattle.std.specs.Prelude.{string_bytes}
 use Rattle.ilk_answers.specs.Answer.{IsAnswerTo}
-use Rattle.ilk_answers.specs.Strict.{HasStrictGuarantees}
+use Rattle.ilk_answers.specs.Strict.{ReplyHasStrictGuarantees}
 use Rattle.ilk_answers.specs.declared.status.Status.TheVariants.{Usage}
 use Rattle.ilk_words.specs.Words.{parsed_command}
 use Rattle.ilk_words.specs.declared.command.Command.{Command}
@@ -27,7 +27,7 @@ returns-in-Ok-Some-clause-strict_check g c =
     let same : Some c.in-Ok-Some.command ≡ parsed_command (map string_bytes c.args.words.now.items) = sym c.in-Ok-Some.field-0-is ∙ c.in-Ok-Some.ensures.command in
     let Told : Option Command → Type 0 =
     λ asked. WritesAnswer
-    (HasStrictGuarantees asked (g.C.Source.left c.args.conf.now) (g.D.Source.left c.args.extra.now))
+    (ReplyHasStrictGuarantees asked (g.C.Source.left c.args.conf.now) (g.D.Source.left c.args.extra.now))
     g.L.Sink.written g.L.Sink.faults g.O.Sink.written g.O.Sink.faults c.perform.result c.args.cert.now
     c.perform.new.cert c.args.out.now c.perform.new.out in
     check-told g.L.Sink.written g.L.Sink.faults g.O.Sink.written g.O.Sink.faults c.perform.result
@@ -40,7 +40,7 @@ returns-in-Ok-Some-clause-strict_deviations g c =
     let same : Some c.in-Ok-Some.command ≡ parsed_command (map string_bytes c.args.words.now.items) = sym c.in-Ok-Some.field-0-is ∙ c.in-Ok-Some.ensures.command in
     let Told : Option Command → Type 0 =
     λ asked. WritesAnswer
-    (HasStrictGuarantees asked (g.C.Source.left c.args.conf.now) (g.D.Source.left c.args.extra.now))
+    (ReplyHasStrictGuarantees asked (g.C.Source.left c.args.conf.now) (g.D.Source.left c.args.extra.now))
     g.L.Sink.written g.L.Sink.faults g.O.Sink.written g.O.Sink.faults c.perform.result c.args.cert.now
     c.perform.new.cert c.args.out.now c.perform.new.out in
     deviations-told g.L.Sink.written g.L.Sink.faults g.O.Sink.written g.O.Sink.faults c.perform.result
@@ -53,7 +53,7 @@ returns-in-Ok-Some-clause-strict_verify g c =
     let same : Some c.in-Ok-Some.command ≡ parsed_command (map string_bytes c.args.words.now.items) = sym c.in-Ok-Some.field-0-is ∙ c.in-Ok-Some.ensures.command in
     let Told : Option Command → Type 0 =
     λ asked. WritesAnswer
-    (HasStrictGuarantees asked (g.C.Source.left c.args.conf.now) (g.D.Source.left c.args.extra.now))
+    (ReplyHasStrictGuarantees asked (g.C.Source.left c.args.conf.now) (g.D.Source.left c.args.extra.now))
     g.L.Sink.written g.L.Sink.faults g.O.Sink.written g.O.Sink.faults c.perform.result c.args.cert.now
     c.perform.new.cert c.args.out.now c.perform.new.out in
     verify-told g.L.Sink.written g.L.Sink.faults g.O.Sink.written g.O.Sink.faults c.perform.result
@@ -66,7 +66,7 @@ returns-in-Ok-Some-clause-table g c =
     let same : Some c.in-Ok-Some.command ≡ parsed_command (map string_bytes c.args.words.now.items) = sym c.in-Ok-Some.field-0-is ∙ c.in-Ok-Some.ensures.command in
     let Told : Option Command → Type 0 =
     λ asked. WritesAnswer
-    (HasStrictGuarantees asked (g.C.Source.left c.args.conf.now) (g.D.Source.left c.args.extra.now))
+    (ReplyHasStrictGuarantees asked (g.C.Source.left c.args.conf.now) (g.D.Source.left c.args.extra.now))
     g.L.Sink.written g.L.Sink.faults g.O.Sink.written g.O.Sink.faults c.perform.result c.args.cert.now
     c.perform.new.cert c.args.out.now c.perform.new.out in
     table-told g.L.Sink.written g.L.Sink.faults g.O.Sink.written g.O.Sink.faults c.perform.result
@@ -79,7 +79,7 @@ returns-in-Ok-Some-clause-strict_drive g c =
     let same : Some c.in-Ok-Some.command ≡ parsed_command (map string_bytes c.args.words.now.items) = sym c.in-Ok-Some.field-0-is ∙ c.in-Ok-Some.ensures.command in
     let Told : Option Command → Type 0 =
     λ asked. WritesAnswer
-    (HasStrictGuarantees asked (g.C.Source.left c.args.conf.now) (g.D.Source.left c.args.extra.now))
+    (ReplyHasStrictGuarantees asked (g.C.Source.left c.args.conf.now) (g.D.Source.left c.args.extra.now))
     g.L.Sink.written g.L.Sink.faults g.O.Sink.written g.O.Sink.faults c.perform.result c.args.cert.now
     c.perform.new.cert c.args.out.now c.perform.new.out in
     drive-told g.L.Sink.written g.L.Sink.faults g.O.Sink.written g.O.Sink.faults c.perform.result

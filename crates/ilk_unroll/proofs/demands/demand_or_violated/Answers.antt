@@ -4,7 +4,7 @@ use Rattle.ilk_cnf.specs.Part.{with_part}
 use Rattle.ilk_ir.specs.Form.{tree_of, trees_of}
 use Rattle.ilk_ir.specs.Tree.{all_of, more, negation, tree_valid, each_valid}
 use Rattle.ilk_ir.specs.declared.form.Form.{Form}
-use Rattle.ilk_forms.specs.declared.copy.Column.{Column}
+use Rattle.ilk_forms.specs.declared.copy.VarLits.{VarLits}
 use Rattle.ilk_forms.specs.Leaf.{ranges_of}
 use Rattle.ilk_forms.specs.Violated.{violated_part}
 use Rattle.ilk_unroll.specs.Goal.{must_fail_in}
@@ -12,19 +12,19 @@ use Rattle.ilk_unroll.proofs.CopiesLaw.{within-at, valid-at}
 use Rattle.ilk_unroll.proofs.DemandsLaw.{one-made, table-is}
 use Rattle.ilk_unroll.proofs.demands.demand_or_violated.Goals as goal
 
-pub demand_holds_or_fails-requires-clause-within : goal.demand_holds_or_fails-requires-clause-within
-demand_holds_or_fails-requires-clause-within c = within-at c.args.tables.now c.args.cnf.now.vars c.from.result c.at-table.result.now c.requires.within c.at-table.ensures
+pub demand_form_or_some_fail-requires-clause-within : goal.demand_form_or_some_fail-requires-clause-within
+demand_form_or_some_fail-requires-clause-within c = within-at c.args.tables.now c.args.cnf.now.vars c.from.result c.at-table.result.now c.requires.within c.at-table.ensures
 
-pub demand_holds_or_fails-requires-clause-form : goal.demand_holds_or_fails-requires-clause-form
-demand_holds_or_fails-requires-clause-form c =
+pub demand_form_or_some_fail-requires-clause-form : goal.demand_form_or_some_fail-requires-clause-form
+demand_form_or_some_fail-requires-clause-form c =
     let table = c.at-table.result.now in
     let ranges = ranges_of table in
     let t = tree_of c.args.form.now in
     let ts = trees_of c.args.forms.now in
     (and_parts (tree_valid ranges t) (each_valid ranges ts) (valid-at c.args.tables.now (all_of (more (negation t) ts)) c.from.result table c.requires.valid c.at-table.ensures)).0
 
-pub demand_holds_or_fails-requires-clause-valid : goal.demand_holds_or_fails-requires-clause-valid
-demand_holds_or_fails-requires-clause-valid c =
+pub demand_form_or_some_fail-requires-clause-valid : goal.demand_form_or_some_fail-requires-clause-valid
+demand_form_or_some_fail-requires-clause-valid c =
     let table = c.at-table.result.now in
     let ranges = ranges_of table in
     let t = tree_of c.args.form.now in
@@ -39,12 +39,12 @@ returns c =
     let t = all_of (more (negation first) (trees_of c.args.forms.now)) in
     let f = c.args.cnf.now in
     let at : slice_get tables c.args.copy ≡ Some c.at-table.result.now = ap (λ (i : ℕ). slice_get tables i) (sym c.from.ensures) ∙ c.at-table.ensures in
-    one-made tables (must_fail_in c.args.copy t) f c.demand_holds_or_fails.new.cnf
-    (c.in_ok-demand_holds_or_fails.ensures.made
+    one-made tables (must_fail_in c.args.copy t) f c.demand_form_or_some_fail.new.cnf
+    (c.in_ok-demand_form_or_some_fail.ensures.made
     ∙ ap
     (λ (fs : List Form). with_part f
     (violated_part c.at-table.result.now (all_of (more (negation first) (trees_of fs)))
     f.vars))
     c.as_slice.ensures
-    ∙ ap (λ (table : List Column). with_part f (violated_part table t f.vars))
+    ∙ ap (λ (table : List VarLits). with_part f (violated_part table t f.vars))
     (sym (table-is tables c.args.copy c.at-table.result.now at)))

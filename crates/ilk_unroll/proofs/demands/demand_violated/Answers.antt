@@ -3,7 +3,7 @@ use Rattle.ilk_cnf.specs.Part.{with_part}
 use Rattle.ilk_ir.specs.Form.{trees_of}
 use Rattle.ilk_ir.specs.Tree.{all_of, each_valid}
 use Rattle.ilk_ir.specs.declared.form.Form.{Form}
-use Rattle.ilk_forms.specs.declared.copy.Column.{Column}
+use Rattle.ilk_forms.specs.declared.copy.VarLits.{VarLits}
 use Rattle.ilk_forms.specs.Leaf.{ranges_of}
 use Rattle.ilk_forms.specs.Violated.{violated_part}
 use Rattle.ilk_unroll.specs.Goal.{must_fail_in}
@@ -32,5 +32,5 @@ returns c =
     (λ (fs : List Form). with_part f
     (violated_part c.at.result.now (all_of (trees_of fs)) f.vars))
     c.as_slice.ensures
-    ∙ ap (λ (table : List Column). with_part f (violated_part table t f.vars))
+    ∙ ap (λ (table : List VarLits). with_part f (violated_part table t f.vars))
     (sym (table-is tables c.args.copy c.at.result.now at)))

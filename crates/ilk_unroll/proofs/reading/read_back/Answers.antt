@@ -1,7 +1,7 @@
 use Rattle.std.proofs.Common.{arith}
-use Rattle.ilk_ir.specs.System.{system_tree}
+use Rattle.ilk_ir.specs.System.{plain_system}
 use Rattle.ilk_forms.proofs.CopyLaw.{ranges_fit-small}
-use Rattle.ilk_unroll.specs.Goal.{goal_tree}
+use Rattle.ilk_unroll.specs.Goal.{plain_goal}
 use Rattle.ilk_unroll.proofs.QueryMade.{few-wanted, reads_as}
 use Rattle.ilk_unroll.proofs.reading.read_back.Goals as goal
 
@@ -10,8 +10,8 @@ unroll-requires-clause-steps c = let few = few-wanted c.args.q c.requires.wanted
 
 pub read_values-requires-clause-reached : goal.read_values-requires-clause-reached
 read_values-requires-clause-reached c =
-    let s = system_tree c.args.system.now in
-    (reads_as s (goal_tree c.args.goal.now) c.args.q c.args.a.now c.steps.result
+    let s = plain_system c.args.system.now in
+    (reads_as s (plain_goal c.args.goal.now) c.args.q c.args.a.now c.steps.result
     c.in_ok-unrolled.unrolled.first c.in_ok-unrolled.unrolled.choices c.requires.system
     (ranges_fit-small s.ranges c.in_ok-unrolled.ensures.bytes) c.requires.goal c.requires.sized
     c.requires.satisfied c.steps.ensures c.in_ok-unrolled.ensures.first
@@ -19,8 +19,8 @@ read_values-requires-clause-reached c =
 
 pub read_values-requires-clause-told : goal.read_values-requires-clause-told
 read_values-requires-clause-told c =
-    let s = system_tree c.args.system.now in
-    let r = reads_as s (goal_tree c.args.goal.now) c.args.q c.args.a.now c.steps.result
+    let s = plain_system c.args.system.now in
+    let r = reads_as s (plain_goal c.args.goal.now) c.args.q c.args.a.now c.steps.result
     c.in_ok-unrolled.unrolled.first c.in_ok-unrolled.unrolled.choices c.requires.system
     (ranges_fit-small s.ranges c.in_ok-unrolled.ensures.bytes) c.requires.goal c.requires.sized
     c.requires.satisfied c.steps.ensures c.in_ok-unrolled.ensures.first c.in_ok-unrolled.ensures.choices
@@ -29,8 +29,8 @@ read_values-requires-clause-told c =
 
 pub read_rules-requires-clause-chosen : goal.read_rules-requires-clause-chosen
 read_rules-requires-clause-chosen c =
-    let s = system_tree c.args.system.now in
-    let r = reads_as s (goal_tree c.args.goal.now) c.args.q c.args.a.now c.steps.result
+    let s = plain_system c.args.system.now in
+    let r = reads_as s (plain_goal c.args.goal.now) c.args.q c.args.a.now c.steps.result
     c.in_ok-unrolled.unrolled.first c.in_ok-unrolled.unrolled.choices c.requires.system
     (ranges_fit-small s.ranges c.in_ok-unrolled.ensures.bytes) c.requires.goal c.requires.sized
     c.requires.satisfied c.steps.ensures c.in_ok-unrolled.ensures.first c.in_ok-unrolled.ensures.choices
@@ -39,8 +39,8 @@ read_rules-requires-clause-chosen c =
 
 pub returns-clause-run : goal.returns-clause-run
 returns-clause-run c =
-    let s = system_tree c.args.system.now in
-    let g = goal_tree c.args.goal.now in
+    let s = plain_system c.args.system.now in
+    let g = plain_goal c.args.goal.now in
     let r = reads_as s g c.args.q c.args.a.now c.steps.result c.in_ok-unrolled.unrolled.first
     c.in_ok-unrolled.unrolled.choices c.requires.system
     (ranges_fit-small s.ranges c.in_ok-unrolled.ensures.bytes) c.requires.goal c.requires.sized
@@ -52,8 +52,8 @@ returns-clause-run c =
 
 pub returns-clause-assignment : goal.returns-clause-assignment
 returns-clause-assignment c =
-    let s = system_tree c.args.system.now in
-    let g = goal_tree c.args.goal.now in
+    let s = plain_system c.args.system.now in
+    let g = plain_goal c.args.goal.now in
     let r = reads_as s g c.args.q c.args.a.now c.steps.result c.in_ok-unrolled.unrolled.first
     c.in_ok-unrolled.unrolled.choices c.requires.system
     (ranges_fit-small s.ranges c.in_ok-unrolled.ensures.bytes) c.requires.goal c.requires.sized

@@ -1,7 +1,7 @@
 use Rattle.std.proofs.Common.{ℕ, ◌+◌, ◌^◌, ◌++◌, List, drop, get_or, sym, ap, ◌∙◌, subst}
 use Rattle.std.proofs.lemmas.List.{drop_all, drop_more}
 use Rattle.ilk_step.specs.declared.choice.Choice.{Choice}
-use Rattle.ilk_unroll.specs.Tables.{AllChosen, choices_begin_by}
+use Rattle.ilk_unroll.specs.Tables.{ChoosesEach, choices_begin_by}
 use Rattle.ilk_unroll.proofs.ReadBack.{head, rules-next, no_rules-left, numbered-first}
 use Rattle.ilk_unroll.proofs.reading.read_rules.Goals as goal
 
@@ -14,7 +14,7 @@ loop-choice-init c =
     record {
       rest = rules;
       whole = ap (λ (us : List ℕ). us ++ rules) c.new-rules.ensures;
-      chosen = subst (λ (cs : List Choice). AllChosen c.args.a.now cs rules) (sym c.as_slice-choice-items.ensures) h;
+      chosen = subst (λ (cs : List Choice). ChoosesEach c.args.a.now cs rules) (sym c.as_slice-choice-items.ensures) h;
     }
 
 pub chosen_rule-requires-clause-numbered : goal.chosen_rule-requires-clause-numbered

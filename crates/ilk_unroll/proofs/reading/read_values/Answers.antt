@@ -2,7 +2,7 @@ use Rattle.std.proofs.Common.{◌≡◌, ℕ, ◌∙◌, ◌+◌, ◌∷◌, ◌
 use Rattle.std.proofs.lemmas.List.{drop_more, drop_all}
 use Rattle.ilk_ints.specs.Bits.{bit_count}
 use Rattle.ilk_ir.specs.System.{in_ranges}
-use Rattle.ilk_forms.specs.Copy.{total_bits, HaveBits}
+use Rattle.ilk_forms.specs.Copy.{copy_bit_count, BitsEncode}
 use Rattle.ilk_unroll.proofs.ReadBack.{told, told-passes, left-next, none-left, bits_reach}
 use Rattle.ilk_unroll.proofs.reading.read_values.Goals as goal
 
@@ -17,7 +17,7 @@ loop-range-init c =
         rest = values;
         whole = ap (λ (us : List ℕ). us ++ values) c.new-values.ensures;
         in_range = ap (in_ranges values) same ∙ h.0;
-        have = subst (λ (rs : List ℕ). HaveBits c.args.a.now c.args.from rs values) (sym same) h.1;
+        have = subst (λ (rs : List ℕ). BitsEncode c.args.a.now c.args.from rs values) (sym same) h.1;
       };
     }
 
@@ -30,7 +30,7 @@ value_of-requires-clause-reached c =
     let i = c.loop-range.range-index in
     let fits =
     (bits_reach c.loop-range.first (get_or all i 0) c.bit_count-count.result
-    (c.args.from + total_bits c.args.ranges.now) (drop i all) (drop (i + 1) all)
+    (c.args.from + copy_bit_count c.args.ranges.now) (drop i all) (drop (i + 1) all)
     (drop_more all i 0 c.loop-range-test.true) c.bit_count-count.ensures.count
     c.loop-range.invariant.reached).0 in
     omega (arith, fits, c.requires.reached)
@@ -41,7 +41,7 @@ overflow_add-first c =
     let i = c.loop-range.range-index in
     let fits =
     (bits_reach c.loop-range.first (get_or all i 0) c.bit_count-count.result
-    (c.args.from + total_bits c.args.ranges.now) (drop i all) (drop (i + 1) all)
+    (c.args.from + copy_bit_count c.args.ranges.now) (drop i all) (drop (i + 1) all)
     (drop_more all i 0 c.loop-range-test.true) c.bit_count-count.ensures.count
     c.loop-range.invariant.reached).1 in
     omega (arith, fits, c.requires.numbered)
@@ -66,7 +66,7 @@ loop-range-preserved c =
     let low = c.loop-range.invariant.from_1 in
     record {
       from_1 = omega arith;
-      reached = (bits_reach c.loop-range.first range c.bit_count-count.result (c.args.from + total_bits c.args.ranges.now) (drop i all) (drop (i + 1) all) split c.bit_count-count.ensures.count c.loop-range.invariant.reached).1;
+      reached = (bits_reach c.loop-range.first range c.bit_count-count.result (c.args.from + copy_bit_count c.args.ranges.now) (drop i all) (drop (i + 1) all) split c.bit_count-count.ensures.count c.loop-range.invariant.reached).1;
       left =
           λ values h. left-next c.args.a.now c.loop-range.first range c.bit_count-count.result c.value_of.result
           (drop i all) (drop (i + 1) all) c.loop-range.values c.push.new.self values split

@@ -1,7 +1,7 @@
 use Rattle.std.proofs.Common.{◌≡◌, ℕ, ◌∙◌, ◌+◌, ◌-◌, ◌*◌, ◌++◌, List, suc, ap, arith}
 use Rattle.std.proofs.Math.Nat.{suc-mul}
 use Rattle.ilk_cnf.specs.Formula.{Formula}
-use Rattle.ilk_forms.specs.declared.copy.Column.{Column}
+use Rattle.ilk_forms.specs.declared.copy.VarLits.{VarLits}
 use Rattle.ilk_forms.specs.Copy.{copy_var_count}
 use Rattle.ilk_unroll.specs.Query.{copies_part}
 use Rattle.ilk_unroll.proofs.CopiesLaw.{copies-step}
@@ -24,6 +24,6 @@ loop-preserved c =
       vars = ap (λ (f : Formula). f.vars) c.in_ok-add_copy.ensures.made ∙ c.loop.invariant.vars;
       before = now;
       within = omega (arith, c.loop.invariant.within);
-      tables = ap (λ (ts : List (List Column)). ts ++ (copies_part ranges i 0).tables) c.in_ok-push.ensures.ok ∙ step.0;
+      tables = ap (λ (ts : List (List VarLits)). ts ++ (copies_part ranges i 0).tables) c.in_ok-push.ensures.ok ∙ step.0;
       made = step.1 ∙ c.loop.invariant.made;
     }

@@ -2,13 +2,13 @@ use Rattle.std.proofs.Common.{◌≡◌, ℕ, ◌∙◌, ◌+◌, ◌*◌, ◌�
 use Rattle.std.specs.List.{list_all}
 use Rattle.ilk_cnf.specs.Formula.{Formula}
 use Rattle.ilk_cnf.specs.Part.{with_part}
-use Rattle.ilk_ir.specs.System.{rule_tree, system_tree}
-use Rattle.ilk_forms.specs.declared.copy.Column.{Column}
+use Rattle.ilk_ir.specs.System.{plain_rule, plain_system}
+use Rattle.ilk_forms.specs.declared.copy.VarLits.{VarLits}
 use Rattle.ilk_forms.specs.Copy.{copy_var_count}
 use Rattle.ilk_forms.proofs.ColumnLaw.{ranges_fit}
 use Rattle.ilk_unroll.proofs.ReadBack.{ranges_fit-bytes}
 use Rattle.ilk_unroll.specs.Query.{copies_part, steps_part}
-use Rattle.ilk_unroll.specs.Tables.{step_choices, choices_begin_by, tables_in, HaveRanges}
+use Rattle.ilk_unroll.specs.Tables.{step_choice_variables, choices_begin_by, are_copies_over, HaveRanges}
 use Rattle.ilk_unroll.proofs.StepsLaw.{choices-numbered}
 use Rattle.ilk_unroll.proofs.CopiesLaw.{one-more}
 use Rattle.ilk_unroll.proofs.QueryLaw.{rules-valid}
@@ -45,7 +45,7 @@ fit : (c : In_ok-tables) → ranges_fit c.args.system.now.ranges ≡ true
 fit c = ranges_fit-bytes c.args.system.now.ranges c.as_slice.result.now c.as_slice.ensures c.bytes_of-ranges.ensures.bytes
 
 inside : (c : In_ok-tables) →
-    (tables_in c.add_copies.new.cnf.vars c.in_ok-tables.tables ≡ true) × HaveRanges c.args.system.now.ranges c.in_ok-tables.tables
+    (are_copies_over c.add_copies.new.cnf.vars c.in_ok-tables.tables ≡ true) × HaveRanges c.args.system.now.ranges c.in_ok-tables.tables
 inside c = unrolled-inside c.args.system.now.ranges c.args.steps c.add_copies.new.cnf c.in_ok-tables.tables (fit c) (seen c) (made c)
 
 begins : (c : In_ok-tables) → c.vars-before.result ≡ (copies_part c.args.system.now.ranges c.args.steps 0).part.vars
@@ -65,22 +65,22 @@ returns-clause-first c = ap (λ (n : ℕ). n + 1) (begins (goal.at.returns-claus
 
 pub returns-clause-choices : goal.returns-clause-choices
 returns-clause-choices c =
-    let rules = map rule_tree c.args.system.now.rules in
+    let rules = map plain_rule c.args.system.now.rules in
     let p = copies_part c.args.system.now.ranges (suc c.args.steps) 0 in
     let here = (goal.at.returns-clause-choices c).In_ok-tables in
     c.in_ok-choices.ensures.choices
-    ∙ ap (λ (ts : List (List Column)). step_choices rules ts c.add_copies.new.cnf.vars) (seen here)
-    ∙ ap (λ (f : Formula). step_choices rules p.tables f.vars) (made here)
+    ∙ ap (λ (ts : List (List VarLits)). step_choice_variables rules ts c.add_copies.new.cnf.vars) (seen here)
+    ∙ ap (λ (f : Formula). step_choice_variables rules p.tables f.vars) (made here)
 
 pub returns-clause-made : goal.returns-clause-made
 returns-clause-made c =
-    let rules = map rule_tree c.args.system.now.rules in
+    let rules = map plain_rule c.args.system.now.rules in
     let here = (goal.at.returns-clause-made c).In_ok-tables in
     unrolled_made c.args.system.now.ranges rules c.args.steps c.add_copies.new.cnf c.add_steps.new.cnf c.in_ok-tables.tables (seen here) (made here) c.in_ok-choices.ensures.made
 
 pub returns-clause-within : goal.returns-clause-within
 returns-clause-within c =
-    let s = system_tree c.args.system.now in
+    let s = plain_system c.args.system.now in
     let are = inside (goal.at.returns-clause-within c).In_ok-tables in
     (unrolled-within s c.add_copies.new.cnf c.add_steps.new.cnf c.in_ok-tables.tables c.requires.valid are.0 are.1 c.in_ok-choices.ensures.made).0
 
@@ -89,7 +89,7 @@ returns-clause-ranges c = (inside (goal.at.returns-clause-ranges c).In_ok-tables
 
 pub returns-clause-numbered : goal.returns-clause-numbered
 returns-clause-numbered c =
-    let s = system_tree c.args.system.now in
+    let s = plain_system c.args.system.now in
     let tables = c.in_ok-tables.tables in
     let g = c.add_copies.new.cnf in
     let are = inside (goal.at.returns-clause-numbered c).In_ok-tables in
@@ -99,7 +99,7 @@ returns-clause-numbered c =
 
 pub returns-clause-reach : goal.returns-clause-reach
 returns-clause-reach c =
-    let s = system_tree c.args.system.now in
+    let s = plain_system c.args.system.now in
     let here = (goal.at.returns-clause-reach c).In_ok-tables in
     let reach = unrolled-reach s c.args.steps c.add_copies.new.cnf c.add_steps.new.cnf c.in_ok-tables.tables c.requires.valid (fit here) (seen here) (made here) c.in_ok-choices.ensures.made in
     omega (arith, reach, begins here, c.vars.ensures.count, c.vars.ensures.numbered)

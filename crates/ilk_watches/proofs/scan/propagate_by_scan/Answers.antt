@@ -1,7 +1,7 @@
 use Rattle.std.proofs.Common.{◌∷◌, [], List, Some, length, arith, ap, sym, ◌∙◌, subst, length-append}
 use Rattle.ilk_trail.specs.declared.entry.Entry.{Entry}
 use Rattle.ilk_trail.specs.Trail.{TrailList, with_assignment, level_of}
-use Rattle.ilk_watches.specs.Propagated.{IsPropagated}
+use Rattle.ilk_watches.specs.Propagated.{ExtendsByPropagation}
 use Rattle.ilk_watches.proofs.Entries.{entries-few}
 use Rattle.ilk_watches.proofs.Propagations.{propagated-push}
 use Rattle.ilk_watches.proofs.scan.propagate_by_scan.Goals as goal
@@ -22,7 +22,7 @@ rounds-preserved c =
     let es = with_assignment now.entries c.in-Forced.l c.in-Forced.c in
     let made = c.assign.ensures in
     let entries = ap (λ (t : TrailList). t.entries) made in
-    let P : List Entry → Type 0 = λ xs. IsPropagated c.args.clauses.now.clauses old.entries xs in
+    let P : List Entry → Type 0 = λ xs. ExtendsByPropagation c.args.clauses.now.clauses old.entries xs in
     record {
       vars = ap (λ (t : TrailList). t.vars) made ∙ c.rounds.invariant.vars;
       trail = made ∙ ap (λ (t : TrailList). record t { entries = es }) c.rounds.invariant.trail ∙ ap (λ (xs : List Entry). record old { entries = xs }) (sym entries);

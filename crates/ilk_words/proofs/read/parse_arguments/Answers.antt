@@ -3,7 +3,7 @@ use Rattle.std.specs.Prelude.{IsTrue}
 use Rattle.std.proofs.lemmas.Result.{IfOk-weaker}
 use Rattle.clap.specs.declared.error.kind.ErrorKind.TheVariants.{OutOfMemory}
 use Rattle.clap.specs.Words.{Text, app_of, first_value, found_of, kind_of}
-use Rattle.ilk_words.specs.Limits.{has_option_limits}
+use Rattle.ilk_words.specs.Limits.{within_option_limits}
 use Rattle.ilk_words.specs.Words.{parsed_command}
 use Rattle.ilk_words.specs.declared.command.Command.{Command}
 use Rattle.ilk_words.proofs.Numbers.{line_limits}
@@ -22,7 +22,7 @@ returns-in-Ok-clause-command c =
 
 pub returns-in-Ok-clause-options : goal.returns-in-Ok-clause-options
 returns-in-Ok-clause-options c =
-    let Limited : Option Command → Type 0 = λ o. IfSome o (λ command. IsTrue (has_option_limits command)) in
+    let Limited : Option Command → Type 0 = λ o. IfSome o (λ command. IsTrue (within_option_limits command)) in
     IfOk-weaker c.chosen.result _ Limited (λ o e. subst Limited (sym e) (line_limits (first_value (found_of c.in-Ok.matches)))) c.chosen.ensures
 
 pub returns-clause-command : goal.returns-clause-command

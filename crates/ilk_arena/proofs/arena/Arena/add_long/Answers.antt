@@ -57,11 +57,11 @@ overflow_add-self c =
 pub overflow_cast-clause : goal.overflow_cast-clause
 overflow_cast-clause c = omega (arith, room (goal.at.overflow_cast-clause c).After-self)
 
-pub append-requires-clause-room : goal.append-requires-clause-room
-append-requires-clause-room c = omega (arith, room (goal.at.append-requires-clause-room c).After-self)
+pub push_clause_words-requires-clause-room : goal.push_clause_words-requires-clause-room
+push_clause_words-requires-clause-room c = omega (arith, room (goal.at.push_clause_words-requires-clause-room c).After-self)
 
-pub append-requires-clause-within : goal.append-requires-clause-within
-append-requires-clause-within c =
+pub push_clause_words-requires-clause-within : goal.push_clause_words-requires-clause-within
+push_clause_words-requires-clause-within c =
     let s = c.self.inside in
     let ls = c.args.clause.now in
     let vars = vars-are s.vars _ s.words.items s.heads.items c.args.self.now c.self.view_is in
@@ -83,7 +83,7 @@ set_both_heads-requires-clause-fits c = omega (arith, room (goal.at.set_both_hea
 
 grown : (c : After-set_both_heads) →
     let s = c.self.inside in
-    let words = c.append.new.words in
+    let words = c.push_clause_words.new.words in
     let heads = with_items s.heads c.set_both_heads.new.heads in
     let spare = min words.cap WORD_LIMIT - words.len in
     Grown s.vars spare s.count words.items heads.items c.args.self.now c.args.clause.now c.len-reference.result
@@ -106,7 +106,7 @@ grown c =
       left_link_is = c.index-left_link.ensures;
       right_link_is = c.index-right_link.ensures;
       reference_is = omega (arith, c.len-reference.ensures, s.words.ok.0);
-      words_are = c.append.ensures.items;
+      words_are = c.push_clause_words.ensures.items;
       heads_are = all-written s.heads.len c.set_both_heads.new.heads s.heads.items size ∙ rw c.deref_mut.ensures.value at c.set_both_heads.ensures;
     })
 
@@ -131,8 +131,8 @@ returns-clause-room c =
     let g = grown (goal.at.returns-clause-room c).After-set_both_heads in
     let new = ap (λ (x : ArenaLists). x.spare) g.lists in
     let old = spare-are s.vars _ s.words.items s.heads.items c.args.self.now c.self.view_is in
-    let size = simp (length-append, length-map) at (ap length c.append.ensures.items) in
-    omega (arith, new, old, size, c.append.ensures.capacity, c.append.new.words.ok.0, s.words.ok.0)
+    let size = simp (length-append, length-map) at (ap length c.push_clause_words.ensures.items) in
+    omega (arith, new, old, size, c.push_clause_words.ensures.capacity, c.push_clause_words.new.words.ok.0, s.words.ok.0)
 
 pub returns-clause-arena : goal.returns-clause-arena
 returns-clause-arena c = arena-law _ _ _ _ _ (grown (goal.at.returns-clause-arena c).After-set_both_heads).holds.linked

@@ -1,6 +1,6 @@
 use Rattle.std.proofs.Common.{ℕ, Some, arith, ap, sym, ◌∙◌}
 use Rattle.ilk_cnf.specs.Literal.{Literal}
-use Rattle.ilk_arena.specs.Linked.{lit_at}
+use Rattle.ilk_arena.specs.Linked.{lit_from_place}
 use Rattle.ilk_arena.proofs.Readings.{within, watching, other_watch_place-seen}
 use Rattle.ilk_arena.proofs.arena.Arena.other_watch.Goals as goal
 
@@ -15,8 +15,8 @@ other_of-requires c = let s = c.self.inside in
     c.self.invariant.linked c.self.view_is c.requires.stands in
     rw c.deref.ensures.value (omega (arith, c.self.invariant.linked.whole c.args.c i.known))
 
-pub lit_at-requires : goal.lit_at-requires
-lit_at-requires c =
+pub lit_from_place-requires : goal.lit_from_place-requires
+lit_from_place-requires c =
     let s = c.self.inside in
     let o = other_watch_place-seen s.vars _ s.count s.words.items s.heads.items c.args.self.now c.args.l c.args.c c.self.invariant c.self.view_is c.requires.stands in
     let n = rw (c.deref.ensures.value, c.place.ensures) at c.other_of.ensures in
@@ -27,4 +27,4 @@ returns c =
     let s = c.self.inside in
     let o = other_watch_place-seen s.vars _ s.count s.words.items s.heads.items c.args.self.now c.args.l c.args.c c.self.invariant c.self.view_is c.requires.stands in
     let n = rw (c.deref.ensures.value, c.place.ensures) at c.other_of.ensures in
-    o.is ∙ sym (ap (λ (m : Literal). Some m) c.lit_at.ensures ∙ ap (λ (p : ℕ). Some (lit_at p)) n)
+    o.is ∙ sym (ap (λ (m : Literal). Some m) c.lit_from_place.ensures ∙ ap (λ (p : ℕ). Some (lit_from_place p)) n)

@@ -1,9 +1,9 @@
 use Rattle.std.proofs.Common.{◌++◌, ◌∷◌, [], sym, subst, Option, Some, None, IsTrue}
 use Rattle.std.specs.Prelude.{IfSome}
-use Rattle.ilk_ir.specs.System.{system_tree, SystemTree}
-use Rattle.ilk_unroll.specs.Goal.{goal_tree, GoalTree}
+use Rattle.ilk_ir.specs.System.{plain_system, PlainSystem}
+use Rattle.ilk_unroll.specs.Goal.{plain_goal, PlainGoal}
 use Rattle.ilk_cert_audit.specs.Fed.{IsStageAfter}
-use Rattle.ilk_cert_audit.specs.Stages.{is_valid_stage, IsNext}
+use Rattle.ilk_cert_audit.specs.Stages.{is_valid_stage, IsNextStage}
 use Rattle.ilk_cert_audit.specs.declared.stage.Stage.{Stage}
 use Rattle.ilk_cert_audit.proofs.Taking.{at-next, at-reached, bad-more, bad-next, reached-at, unrefused}
 use Rattle.ilk_cert_audit.proofs.lines.LineAudit.take.Goals as goal
@@ -26,10 +26,10 @@ returns-in-Some c = λ s g lines h.
     let ok = c.in_ok-next.ensures {u = tt} in
     let staged = unrefused old.stage old.staged c.in_default.not-Refused in
     let at = reached-at s g old.stage lines old.line staged h.reached in
-    let F : Stage → Type 0 = λ stage. IsNext (system_tree old.system) (goal_tree old.goal) stage line c.in_ok-next.next in
-    let N : Option Stage → Type 0 = λ next. IsNext (system_tree old.system) (goal_tree old.goal) old.stage line next in
-    let S : SystemTree → Type 0 = λ x. IsNext x (goal_tree old.goal) old.stage line (Some c.in-Some.next) in
-    let G : GoalTree → Type 0 = λ x. IsNext s x old.stage line (Some c.in-Some.next) in
+    let F : Stage → Type 0 = λ stage. IsNextStage (plain_system old.system) (plain_goal old.goal) stage line c.in_ok-next.next in
+    let N : Option Stage → Type 0 = λ next. IsNextStage (plain_system old.system) (plain_goal old.goal) old.stage line next in
+    let S : PlainSystem → Type 0 = λ x. IsNextStage x (plain_goal old.goal) old.stage line (Some c.in-Some.next) in
+    let G : PlainGoal → Type 0 = λ x. IsNextStage s x old.stage line (Some c.in-Some.next) in
     let goes = subst G h.goal (subst S h.system (subst N c.in-Some.is (subst F c.replace-stage.ensures.value ok.next))) in
     let I : Option Stage → Type 0 = λ next. IfSome next (λ stage. IsTrue (is_valid_stage stage)) in
     let next_staged = subst I c.in-Some.is ok.stage in
@@ -46,10 +46,10 @@ returns-in_default-next c = λ s g lines h.
     let ok = c.in_ok-next.ensures {u = tt} in
     let staged = unrefused old.stage old.staged c.in_default.not-Refused in
     let at = reached-at s g old.stage lines old.line staged h.reached in
-    let F : Stage → Type 0 = λ stage. IsNext (system_tree old.system) (goal_tree old.goal) stage line c.in_ok-next.next in
-    let N : Option Stage → Type 0 = λ next. IsNext (system_tree old.system) (goal_tree old.goal) old.stage line next in
-    let S : SystemTree → Type 0 = λ x. IsNext x (goal_tree old.goal) old.stage line None in
-    let G : GoalTree → Type 0 = λ x. IsNext s x old.stage line None in
+    let F : Stage → Type 0 = λ stage. IsNextStage (plain_system old.system) (plain_goal old.goal) stage line c.in_ok-next.next in
+    let N : Option Stage → Type 0 = λ next. IsNextStage (plain_system old.system) (plain_goal old.goal) old.stage line next in
+    let S : PlainSystem → Type 0 = λ x. IsNextStage x (plain_goal old.goal) old.stage line None in
+    let G : PlainGoal → Type 0 = λ x. IsNextStage s x old.stage line None in
     let goes = subst G h.goal (subst S h.system (subst N c.in_default-next.is (subst F c.replace-stage.ensures.value ok.next))) in
     let Q : Stage → Type 0 = λ stage. IsStageAfter s g stage (lines ++ line ∷ []) old.line in
     record {

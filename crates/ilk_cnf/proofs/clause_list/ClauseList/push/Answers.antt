@@ -1,5 +1,5 @@
 use Rattle.std.proofs.Common.{◌≡◌, ◌+◌, ◌++◌, ◌∷◌, [], length, List, ap, sym, ◌∙◌, rules, arith, length-append}
-use Rattle.ilk_cnf.proofs.Cuts.{are_ends-push, cut_at-push}
+use Rattle.ilk_cnf.proofs.Cuts.{ends_ascend_to-push, split_at_ends-push}
 use Rattle.ilk_cnf.proofs.clause_list.ClauseList.push.Goals as goal
 
 pub invariant_of-self-2 : goal.invariant_of-self-2
@@ -10,7 +10,7 @@ invariant_of-self-2 c =
     let long : c.len.result ≡ length c.extend_from_slice.new.self.items = search rules in
     let more = length-append s.lits.items c.args.clause.now in
     let both : c.len.result ≡ length s.lits.items + length c.args.clause.now = long ∙ ap length lits ∙ more in
-    rw (ends, sym long) (are_ends-push 0 s.ends.items (length s.lits.items) c.len.result c.self.invariant (omega (arith, both)))
+    rw (ends, sym long) (ends_ascend_to-push 0 s.ends.items (length s.lits.items) c.len.result c.self.invariant (omega (arith, both)))
 
 pub returns-clause-ok : goal.returns-clause-ok
 returns-clause-ok c =
@@ -20,4 +20,4 @@ returns-clause-ok c =
     let long : c.len.result ≡ length c.extend_from_slice.new.self.items = search rules in
     let more = length-append s.lits.items c.args.clause.now in
     let both : c.len.result ≡ length s.lits.items + length c.args.clause.now = long ∙ ap length lits ∙ more in
-    rw (ends, lits) (cut_at-push 0 s.ends.items s.lits.items c.args.clause.now c.len.result c.self.invariant both ∙ ap (λ (lists : List (List _)). lists ++ c.args.clause.now ∷ []) c.self.view_is)
+    rw (ends, lits) (split_at_ends-push 0 s.ends.items s.lits.items c.args.clause.now c.len.result c.self.invariant both ∙ ap (λ (lists : List (List _)). lists ++ c.args.clause.now ∷ []) c.self.view_is)

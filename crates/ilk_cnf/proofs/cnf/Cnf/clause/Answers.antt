@@ -1,7 +1,7 @@
 use Rattle.std.proofs.Common.{◌≡◌, ◌-◌, length, ap, sym}
 use Rattle.ilk_base.proofs.Tested.{list_all-slice_get}
 use Rattle.ilk_cnf.specs.Formula.{Formula, is_clause_over}
-use Rattle.ilk_cnf.specs.Literal.{vars_differ}
+use Rattle.ilk_cnf.specs.Literal.{has_distinct_vars}
 use Rattle.ilk_cnf.proofs.cnf.Cnf.clause.Goals as goal
 
 pub returns-clause-within : goal.returns-clause-within
@@ -11,4 +11,4 @@ returns-clause-within c =
 
 pub returns-clause-differ : goal.returns-clause-differ
 returns-clause-differ c =
-    list_all-slice_get vars_differ c.self.inside.clauses (c.args.n - 1) c.at.result.now c.self.invariant.differ c.at.ensures
+    list_all-slice_get has_distinct_vars c.self.inside.clauses (c.args.n - 1) c.at.result.now c.self.invariant.differ c.at.ensures

@@ -3,7 +3,7 @@ use Rattle.std.specs.Prelude.{codes}
 use Rattle.ilk_lines.specs.Lines.{Bytes}
 use Rattle.ilk_lines.specs.Written.{text_of}
 use Rattle.ilk_log.specs.StepText.{step_text}
-use Rattle.ilk_log.specs.TextLeft.{line_left, literals_left}
+use Rattle.ilk_log.specs.TextLeft.{remaining_line_text, text_from_lits_on}
 use Rattle.ilk_log.specs.declared.steps_left.Place.{Place}
 use Rattle.ilk_log.proofs.LogTexts.{line_next}
 use Rattle.ilk_log.proofs.steps_left.StepsLeft.next_piece.Goals as goal
@@ -14,6 +14,6 @@ returns-then-self-len-clause-bytes c =
     let step = c.begin_step.new.self in
     let token : c.prepend.new.self ≡ codes "step" = c.prepend.ensures ∙ ap (λ (t : Bytes). codes "step" ++ t) c.requires in
     sym c.self.view_is
-    ∙ ap (λ (p : Place). line_left p s.step ++ text_of (map step_text (drop s.next s.steps))) c.in-Between.is
+    ∙ ap (λ (p : Place). remaining_line_text p s.step ++ text_of (map step_text (drop s.next s.steps))) c.in-Between.is
     ∙ line_next s.steps s.next step c.begin_step.new.step (c.at_mut.ensures.value ∙ ap Some (sym c.begin_step.ensures))
-    ∙ ap (λ (t : Bytes). t ++ (literals_left step ++ text_of (map step_text (drop (s.next + 1) (set s.steps s.next c.begin_step.new.step))))) (sym token)
+    ∙ ap (λ (t : Bytes). t ++ (text_from_lits_on step ++ text_of (map step_text (drop (s.next + 1) (set s.steps s.next c.begin_step.new.step))))) (sym token)

@@ -6,12 +6,12 @@ use Rattle.ilk_trail.specs.declared.entry.Entry.{Entry}
 use Rattle.ilk_trail.specs.Trail.{TrailList, entries_up_to}
 use Rattle.ilk_trail.specs.Laws.{is_set, lits_of}
 use Rattle.ilk_watches.specs.declared.queue.Propagator.{Propagator}
-use Rattle.ilk_watches.specs.Propagated.{IsPropagated}
+use Rattle.ilk_watches.specs.Propagated.{ExtendsByPropagation}
 use Rattle.ilk_watches.specs.Watched.{IsQueue}
 use Rattle.ilk_watches.proofs.Back.{queue-back}
 use Rattle.ilk_watches.proofs.Entries.{length-kept}
 use Rattle.ilk_watches.proofs.Propagations.{propagated-start}
-use Rattle.ilk_rup.specs.Needs.{Explains, AreUnitHints}
+use Rattle.ilk_rup.specs.Needs.{IsFalseBySetAndEntries, AreUnitHintsByVar}
 use Rattle.ilk_rup.specs.Standing.{IsBaseInvariant}
 use Rattle.ilk_rup.specs.declared.explain.Explainer.{Explainer}
 use Rattle.ilk_rup.proofs.Deriving.{assumed-none, back-known, derive-explains, if-none, kept-join, queue-assumed, same-length, some-unset, trail-is}
@@ -60,12 +60,12 @@ explain-requires c =
     let n = sym (same.vars ∙ h.vars) in
     let known = known-propagated y.units.items k.clauses.clauses es gs k.formula.now.vars y.named (kept-join es fs gs p.kept q.kept) h.known in
     let base = derive-explains k.clauses.clauses es fs gs set i c.in-Some.ensures.conflict c.count-top.ensures.is_trail.once c.requires.untrue p q in
-    let U : List (List Literal) → Type 0 = λ cs. AreUnitHints y.units.items cs gs k.formula.now.vars y.named in
-    let N : ℕ → Type 0 = λ v. AreUnitHints y.units.items b.clauses gs v y.named in
-    let C : List (List Literal) → Type 0 = λ cs. Explains cs gs set i (length fs) (length gs) (length es) in
-    let F : ℕ → Type 0 = λ v. Explains b.clauses gs set i v (length gs) (length es) in
-    let T : ℕ → Type 0 = λ v. Explains b.clauses gs set i c.count-from.result v (length es) in
-    let K : ℕ → Type 0 = λ v. Explains b.clauses gs set i c.count-from.result c.count-top.result v in
+    let U : List (List Literal) → Type 0 = λ cs. AreUnitHintsByVar y.units.items cs gs k.formula.now.vars y.named in
+    let N : ℕ → Type 0 = λ v. AreUnitHintsByVar y.units.items b.clauses gs v y.named in
+    let C : List (List Literal) → Type 0 = λ cs. IsFalseBySetAndEntries cs gs set i (length fs) (length gs) (length es) in
+    let F : ℕ → Type 0 = λ v. IsFalseBySetAndEntries b.clauses gs set i v (length gs) (length es) in
+    let T : ℕ → Type 0 = λ v. IsFalseBySetAndEntries b.clauses gs set i c.count-from.result v (length es) in
+    let K : ℕ → Type 0 = λ v. IsFalseBySetAndEntries b.clauses gs set i c.count-from.result c.count-top.result v in
     record {
       vars = s.loose.needed_vars ∙ n;
       set_vars = s.loose.set_vars ∙ n;
@@ -97,7 +97,7 @@ returns-clause-derived c =
     let queue = queue-back b gs r.head r.settled 0 c.propagate.ensures.queue c.count-2.ensures.clauses c.count-top.ensures.is_trail.climbing (λ _. closed) in
     let E : List Entry → Type 0 = λ xs. IsQueue b xs (min r.head (length xs)) r.settled in
     let Q : Propagator → Type 0 = λ x. IsQueue b now.entries x.head x.settled in
-    let I : List Entry → Type 0 = λ xs. IsPropagated k.clauses.clauses es xs in
+    let I : List Entry → Type 0 = λ xs. ExtendsByPropagation k.clauses.clauses es xs in
     let X : Explainer → Type 0 = λ x. IsBaseInvariant k.formula.now b now c.back_to-2.new.self x.units.items x.named k.log in
     let at = entries ∙ back in
     let is = whole ∙ sym (ap (λ (xs : List Entry). let t : TrailList = record { vars = k.trail.vars; entries = xs } in t) at) in

@@ -1,11 +1,11 @@
 use Rattle.std.proofs.Common.{◌≡◌, ◌+◌, ◌++◌, ◌∷◌, [], ◌∙◌, ap, sym, subst, List, ℕ, true, reverse, take}
 use Rattle.ilk_cnf.specs.Literal.{Literal}
 use Rattle.ilk_watches.specs.Chained.{formula_of}
-use Rattle.ilk_watches.specs.Reasons.{clause_at}
+use Rattle.ilk_watches.specs.Reasons.{nth_clause_or_empty}
 use Rattle.ilk_log.specs.Derived.{hints_end_in_conflict, negated_clause}
 use Rattle.ilk_trail.specs.Laws.{lits_of}
 use Rattle.ilk_rup.specs.LitSet.{LitSetList}
-use Rattle.ilk_rup.specs.Needs.{IsNeeded, FalsifiesWithNeeded, unit_hints}
+use Rattle.ilk_rup.specs.Needs.{AddsNeededOfClause, FalsifiesWithNeeded, unit_hints_of_needed}
 use Rattle.ilk_rup.proofs.Explained.{explained, shown-first}
 use Rattle.ilk_rup.proofs.explain.Explainer.explain.Goals as goal
 
@@ -15,9 +15,9 @@ walk-requires-clause-shows c =
     let es = c.args.trail.now.entries in
     let set = c.args.set.now.lits in
     let needed = c.need.new.needed.lits in
-    let d = clause_at f.clauses c.args.at.clause in
+    let d = nth_clause_or_empty f.clauses c.args.at.clause in
     let P : List ℕ → Type 0 = λ items. FalsifiesWithNeeded f.clauses (lits_of (take c.args.at.top es)) (lits_of (take c.args.at.top es)) set needed (reverse items) in
-    let N : List Literal → Type 0 = λ old. IsNeeded set d old needed in
+    let N : List Literal → Type 0 = λ old. AddsNeededOfClause set d old needed in
     let items = c.in_ok-push.ensures.items ∙ ap (λ (xs : List ℕ). xs ++ (c.args.at.clause + 1) ∷ []) c.clear-2.ensures.items in
     subst P (sym items)
     (shown-first f es set needed c.args.at.clause c.args.at.from c.args.at.top c.args.self.now.named
@@ -30,8 +30,8 @@ returns-clause-hints c = λ d differ fewer more.
     let units = c.args.self.now.units.items in
     let needed = c.walk.new.needed.lits in
     let P : List ℕ → Type 0 = λ hs. hints_end_in_conflict cs (negated_clause d) hs ≡ true in
-    let named = ap (λ (us : List ℕ). unit_hints us needed ++ reverse c.as_slice-2.result.now) c.as_slice.ensures.value in
-    let is = c.in_ok-hints.ensures ∙ named ∙ ap (λ (xs : List ℕ). unit_hints units needed ++ reverse xs) c.as_slice-2.ensures.value in
+    let named = ap (λ (us : List ℕ). unit_hints_of_needed us needed ++ reverse c.as_slice-2.result.now) c.as_slice.ensures.value in
+    let is = c.in_ok-hints.ensures ∙ named ∙ ap (λ (xs : List ℕ). unit_hints_of_needed units needed ++ reverse xs) c.as_slice-2.ensures.value in
     let x = c.args.at in
     let r = c.requires in
     let hints = reverse c.walk.new.reasons.items in

@@ -5,7 +5,7 @@ use Rattle.ilk_log.specs.declared.step.Step.{Step}
 use Rattle.ilk_trail.specs.Trail.{TrailList}
 use Rattle.ilk_arena.specs.Arena.{ArenaLists}
 use Rattle.ilk_watches.specs.Chained.{formula_of, IsClauses}
-use Rattle.ilk_watches.specs.Watched.{IsAddable, IsQueue}
+use Rattle.ilk_watches.specs.Watched.{FirstTwoAreWatchable, IsQueue}
 use Rattle.ilk_watches.proofs.Added.{queue-with_clause_added}
 use Rattle.ilk_solver.specs.declared.word.TheConstants.{WEIGHT_LIMIT}
 use Rattle.ilk_solver.specs.Levels.{LevelsClosed}
@@ -40,8 +40,8 @@ invariant_of-result c =
     let clauses : formula_of b ≡ with_clauses f f.vars (step.clause ∷ []) = ap formula_of c.in_ok-add.ensures.ok.is ∙ ap (λ (ls : List Literal). with_clauses f f.vars (ls ∷ [])) c.as_slice.ensures in
     let L : List Step → Type 0 = λ log. HoldsSearch (with_clauses f f.vars (step.clause ∷ [])) s.given log new in
     let C : Formula → Type 0 = λ g. HoldsSearch g s.given c.push.new.self new in
-    let A : SearchLists → Type 0 = λ x. IsAddable x.view.trail.entries step.clause in
-    let B : List Literal → Type 0 = λ ls. IsAddable s.view.trail.entries ls in
+    let A : SearchLists → Type 0 = λ x. FirstTwoAreWatchable x.view.trail.entries step.clause in
+    let B : List Literal → Type 0 = λ ls. FirstTwoAreWatchable s.view.trail.entries ls in
     let may = subst B (sym c.as_slice.ensures) (subst A (sym c.self.view_is) c.requires.addable) in
     let K : ArenaLists → Type 0 = λ x. IsClauses x in
     let queue = queue-with_clause_added s.clauses b s.view.trail.entries s.queue.head s.queue.settled c.as_slice.result.now c.self.invariant.queue c.arena.ensures.clauses c.count.ensures.clauses c.in_ok-add.ensures.ok may in

@@ -7,7 +7,7 @@ use Rattle.ilk_trail.specs.Laws.{is_set, lits_of}
 use Rattle.ilk_watches.specs.Chained.{formula_of}
 use Rattle.ilk_solver.specs.View.{ViewLists}
 use Rattle.ilk_solver.specs.Search.{SearchLists, all_clauses, with_trail}
-use Rattle.ilk_solver.specs.Held.{HoldsSearch, search_of}
+use Rattle.ilk_solver.specs.Held.{HoldsSearch, search_from_clauses}
 use Rattle.ilk_solver.proofs.Searches.{formula-same, held-with_decision}
 use Rattle.ilk_solver.proofs.search.Search.decide.Goals as goal
 
@@ -53,6 +53,6 @@ returns c =
     let s = c.self.inside in
     let new = c.decide.new.self in
     let b = c.decide.new.clauses in
-    ap (λ (f : Formula). search_of f s.given s.log new) (formula-same s.clauses b c.decide.ensures.same)
-    ∙ ap (λ (v : ViewLists). search_of (formula_of s.clauses) s.given s.log v) c.decide.ensures.entries
+    ap (λ (f : Formula). search_from_clauses f s.given s.log new) (formula-same s.clauses b c.decide.ensures.same)
+    ∙ ap (λ (v : ViewLists). search_from_clauses (formula_of s.clauses) s.given s.log v) c.decide.ensures.entries
     ∙ ap (λ (x : SearchLists). with_trail x (with_decision x.view.trail.entries c.args.l)) c.self.view_is

@@ -1,7 +1,7 @@
 use Rattle.std.proofs.Common.{◌≡◌, ◌<◌, ◌-◌, true, false, arith, ap, sym, subst}
 use Rattle.std.proofs.lemmas.Result.{IfOk-at_ok}
 use Rattle.ilk_log.specs.Derived.{is_derived}
-use Rattle.ilk_log.specs.Fresh.{IsFresh}
+use Rattle.ilk_log.specs.Fresh.{IsEmpowering}
 use Rattle.ilk_log.specs.Propagation.{is_saturated}
 use Rattle.ilk_trail.specs.Trail.{TrailList, level_of, entries_up_to}
 use Rattle.ilk_trail.specs.Laws.{lits_of}
@@ -33,7 +33,7 @@ returns c =
     let a = subst A trail (IfOk-at_ok (λ (x : Learned). is_asserting c.trail.result.now.entries x.step.clause ≡ true) e c.learn.ensures.asserting) in
     let B : TrailList → Type 0 = λ t. l.level ≡ back_level t.entries l.step.clause in
     let b = subst B trail (IfOk-at_ok (λ (x : Learned). x.level ≡ back_level c.trail.result.now.entries x.step.clause) e c.learn.ensures.level) in
-    let F : TrailList → Type 0 = λ t. is_saturated s.clauses.clauses (lits_of (entries_up_to l.level t.entries)) ≡ true → IsFresh s.clauses.clauses l.step.clause in
-    let f = subst F trail (IfOk-at_ok (λ (x : Learned). is_saturated s.clauses.clauses (lits_of (entries_up_to x.level c.trail.result.now.entries)) ≡ true → IsFresh s.clauses.clauses x.step.clause) e c.learn.ensures.fresh) in
+    let F : TrailList → Type 0 = λ t. is_saturated s.clauses.clauses (lits_of (entries_up_to l.level t.entries)) ≡ true → IsEmpowering s.clauses.clauses l.step.clause in
+    let f = subst F trail (IfOk-at_ok (λ (x : Learned). is_saturated s.clauses.clauses (lits_of (entries_up_to x.level c.trail.result.now.entries)) ≡ true → IsEmpowering s.clauses.clauses x.step.clause) e c.learn.ensures.fresh) in
     let Q : SearchLists → Type 0 = λ x. IsLearned x l.step l.level in
     subst Q c.self.view_is (learned-here (formula_of s.clauses) s.given s.log s.view l.step l.level c.self.invariant.search d a b f)))

@@ -6,9 +6,9 @@ use Rattle.ilk_log.specs.Propagation.{is_saturated}
 use Rattle.ilk_trail.specs.Laws.{lits_of}
 use Rattle.ilk_watches.specs.Reasons.{is_conflict}
 use Rattle.ilk_watches.specs.Chained.{formula_of}
-use Rattle.ilk_watches.specs.Propagated.{IsPropagated}
+use Rattle.ilk_watches.specs.Propagated.{ExtendsByPropagation}
 use Rattle.ilk_solver.specs.View.{ViewLists}
-use Rattle.ilk_solver.specs.Held.{HoldsSearch, search_of}
+use Rattle.ilk_solver.specs.Held.{HoldsSearch, search_from_clauses}
 use Rattle.ilk_solver.specs.Search.{SearchLists, all_clauses, with_trail}
 use Rattle.ilk_solver.proofs.Searches.{formula-same, held-propagated}
 use Rattle.ilk_solver.proofs.search.Search.propagate.Goals as goal
@@ -47,8 +47,8 @@ returns-clause-same c =
     let s = c.self.inside in
     let new = c.propagate.new.self in
     let b = c.propagate.new.clauses in
-    ap (λ (f : Formula). search_of f s.given s.log new) (formula-same s.clauses b c.propagate.ensures.same)
-    ∙ ap (λ (v : ViewLists). search_of (formula_of s.clauses) s.given s.log v) c.propagate.ensures.entries
+    ap (λ (f : Formula). search_from_clauses f s.given s.log new) (formula-same s.clauses b c.propagate.ensures.same)
+    ∙ ap (λ (v : ViewLists). search_from_clauses (formula_of s.clauses) s.given s.log v) c.propagate.ensures.entries
     ∙ ap (λ (x : SearchLists). with_trail x new.trail.entries) c.self.view_is
 
 pub returns-clause-propagated : goal.returns-clause-propagated
@@ -56,8 +56,8 @@ returns-clause-propagated c =
     let s = c.self.inside in
     let es = c.propagate.new.self.trail.entries in
     let e : s.clauses.clauses ≡ all_clauses c.args.self.now = c.self.invariant.search.laid ∙ ap all_clauses c.self.view_is in
-    let P : List (List Literal) → Type 0 = λ cs. IsPropagated cs s.view.trail.entries es in
-    let Q : SearchLists → Type 0 = λ x. IsPropagated (all_clauses c.args.self.now) x.view.trail.entries es in
+    let P : List (List Literal) → Type 0 = λ cs. ExtendsByPropagation cs s.view.trail.entries es in
+    let Q : SearchLists → Type 0 = λ x. ExtendsByPropagation (all_clauses c.args.self.now) x.view.trail.entries es in
     subst Q c.self.view_is (subst P e c.propagate.ensures.propagated)
 
 pub propagate-requires-clause-vars : goal.propagate-requires-clause-vars

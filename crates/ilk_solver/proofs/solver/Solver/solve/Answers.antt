@@ -2,7 +2,7 @@ use Rattle.std.proofs.Common.{◌≡◌, ◌+◌, ◌<◌, ◌∷◌, ◌++◌, 
 use Rattle.ilk_cnf.specs.Formula.{Formula}
 use Rattle.ilk_log.specs.declared.step.Step.{Step}
 use Rattle.ilk_log.specs.Derived.{is_derived, is_refutation, step_clauses}
-use Rattle.ilk_log.specs.Fresh.{IsFresh, IsStuck}
+use Rattle.ilk_log.specs.Fresh.{IsEmpowering, CanLearnButNotRefute}
 use Rattle.ilk_trail.specs.Trail.{level_of}
 use Rattle.ilk_trail.proofs.Levels.{last_level-push}
 use Rattle.ilk_solver.specs.Answered.{IsSearchLog, IsSpentLog, has_no_empty_step}
@@ -79,7 +79,7 @@ returns-then-steps-budget-clause-answer g c =
     let log : now.log ≡ old.log = ap (λ (x : SearchLists). x.log) c.in-Some.ensures.same in
     let search = subst IsSearch c.search-in-Some.view_is c.search-in-Some.invariant.search.search in
     let high : 0 < level_of now.view.trail.entries = omega (arith, c.level.ensures.level, c.if-level-eq0.false) in
-    let none_left = moved IsStuck now f old.log formula log (stuck now learned.step learned.level search high c.in_ok-learned-in-Some.ensures) in
+    let none_left = moved CanLearnButNotRefute now f old.log formula log (stuck now learned.step learned.level search high c.in_ok-learned-in-Some.ensures) in
     let P : List Step → Type 0 = λ l. IsSpentLog f c.args.budget l in
     subst P (sym (c.into_log-then-steps-budget.ensures ∙ log)) (spent f c.args.budget old.log c.rounds.invariant.log c.rounds.invariant.unfinished (omega (arith, c.rounds.invariant.steps, c.if-steps-budget.true)) none_left)
 
@@ -94,7 +94,7 @@ rounds-preserved g c =
     let formula : now.formula ≡ f = ap (λ (x : SearchLists). x.formula) c.in-Some.ensures.same ∙ c.rounds.invariant.formula in
     let log : now.log ≡ old.log = ap (λ (x : SearchLists). x.log) c.in-Some.ensures.same in
     let derived = moved (λ (h : Formula) (l : List Step). is_derived h.vars (h.clauses ++ step_clauses l) step ≡ true) now f old.log formula log learned.derived in
-    let fresh = moved (λ (h : Formula) (l : List Step). IsFresh (h.clauses ++ step_clauses l) step.clause) now f old.log formula log learned.fresh in
+    let fresh = moved (λ (h : Formula) (l : List Step). IsEmpowering (h.clauses ++ step_clauses l) step.clause) now f old.log formula log learned.fresh in
     let longer : next.log ≡ old.log ++ step ∷ [] = c.in_ok-search-in-Some.ensures.log ∙ ap (λ (l : List Step). l ++ step ∷ []) log in
     let size = ap length longer in
     let more = length-append old.log (step ∷ []) in

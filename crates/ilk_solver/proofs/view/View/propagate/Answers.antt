@@ -1,9 +1,9 @@
 use Rattle.std.proofs.Common.{◌≡◌, ℕ, List, length, ap, sym, ◌∙◌, subst, arith}
 use Rattle.ilk_base.proofs.Lists.{all-written}
 use Rattle.ilk_trail.specs.Trail.{TrailList}
-use Rattle.ilk_solver.specs.Order.{HoldsView}
+use Rattle.ilk_solver.specs.Order.{TreeFitsView}
 use Rattle.ilk_solver.proofs.Orders.{holds-longer}
-use Rattle.ilk_watches.specs.Propagated.{IsPropagated}
+use Rattle.ilk_watches.specs.Propagated.{ExtendsByPropagation}
 use Rattle.ilk_watches.specs.Watched.{IsQueue}
 use Rattle.ilk_solver.specs.View.{ViewLists}
 use Rattle.ilk_solver.proofs.view.View.propagate.Goals as goal
@@ -18,7 +18,7 @@ propagate-found-requires-clause-queue c =
 
 pub returns-clause-propagated : goal.returns-clause-propagated
 returns-clause-propagated c =
-    let P : ViewLists → Type 0 = λ v. IsPropagated c.args.clauses.now.clauses v.trail.entries c.propagate-found.new.trail.entries in
+    let P : ViewLists → Type 0 = λ v. ExtendsByPropagation c.args.clauses.now.clauses v.trail.entries c.propagate-found.new.trail.entries in
     subst P c.self.view_is c.propagate-found.ensures.propagated
 
 pub invariant_of-self : goal.invariant_of-self
@@ -30,7 +30,7 @@ invariant_of-self c =
     let n : length t ≡ s.tree.len = omega (arith, c.drop_set_from_top.auto.tree, c.deref_mut.ensures.len) in
     let won = rw c.deref.ensures.value at c.drop_set_from_top.ensures.tree in
     let kept = rw (c.deref.ensures.value, c.deref_mut.ensures.value) at c.drop_set_from_top.ensures.kept in
-    let P : List ℕ → Type 0 = HoldsView (record { trail = now; weights = s.weights.items }) in
+    let P : List ℕ → Type 0 = TreeFitsView (record { trail = now; weights = s.weights.items }) in
     subst P (sym (all-written s.tree.len t s.tree.items n))
     (holds-longer view now s.tree.items t c.self.invariant c.level.ensures.is_trail
     (ap (λ (x : TrailList). x.vars) c.propagate-found.ensures.trail)

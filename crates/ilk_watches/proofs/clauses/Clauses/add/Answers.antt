@@ -2,7 +2,7 @@ use Rattle.std.proofs.Common.{◌≡◌, ◌++◌, ◌∷◌, [], List, ℕ, tru
 use Rattle.std.specs.Result.{is_ok}
 use Rattle.ilk_cnf.specs.Formula.{is_clause_over}
 use Rattle.ilk_arena.specs.Arena.{ArenaLists}
-use Rattle.ilk_watches.specs.Held.{HoldsClauses}
+use Rattle.ilk_watches.specs.Held.{AreClauseReferences}
 use Rattle.ilk_watches.proofs.Chained.{held-grown}
 use Rattle.ilk_watches.proofs.clauses.Clauses.add.Goals as goal
 
@@ -17,5 +17,5 @@ invariant_of-self-2 c =
     c.add-reference.ensures.added c.add-reference.ensures.arena in
     let ok : is_ok c.push.result ≡ true = rw c.unwrap.ensures refl in
     let items : c.push.new.self.items ≡ c.reserve.new.self.items ++ r ∷ [] = rw ok at c.push.ensures.items in
-    let P : List ℕ → Type 0 = λ rs. HoldsClauses n rs in
+    let P : List ℕ → Type 0 = λ rs. AreClauseReferences n rs in
     subst P (sym (items ∙ ap (λ (xs : List ℕ). xs ++ r ∷ []) c.in_ok-reserve.ensures.items)) grown

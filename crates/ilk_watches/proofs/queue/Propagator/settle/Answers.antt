@@ -6,7 +6,7 @@ use Rattle.ilk_trail.specs.declared.entry.Entry.{Entry}
 use Rattle.ilk_trail.specs.Trail.{TrailList, with_assignment}
 use Rattle.ilk_trail.specs.Laws.{is_set}
 use Rattle.ilk_watches.specs.Chained.{formula_of}
-use Rattle.ilk_watches.specs.Propagated.{IsPropagated}
+use Rattle.ilk_watches.specs.Propagated.{ExtendsByPropagation}
 use Rattle.ilk_watches.specs.Watched.{IsQueue}
 use Rattle.ilk_watches.proofs.Finding.{forced-is}
 use Rattle.ilk_watches.proofs.Looks.{queue-open, queue-unit}
@@ -52,7 +52,7 @@ looks-preserved c =
     let old = c.args.trail.now in
     let new = c.match-clause_state.trail in
     let Q : TrailList → Type 0 = λ t. IsQueue a t.entries h (s + 1) in
-    let P : TrailList → Type 0 = λ t. IsPropagated a.clauses old.entries t.entries in
+    let P : TrailList → Type 0 = λ t. ExtendsByPropagation a.clauses old.entries t.entries in
     elim c.match-clause_state.branch [
       | in-Unit w ↦ (let l = w.in-Unit.l in
           let f = forced-is (formula_of a) es s l c.count.ensures.clauses.formula c.clause_state.ensures.trail.once within (sym w.in-Unit.ensures.look) in

@@ -1,5 +1,5 @@
 use Rattle.std.proofs.Common.{◌≡◌, ◌-◌, length}
-use Rattle.ilk_watches.specs.Propagated.{IsPropagated}
+use Rattle.ilk_watches.specs.Propagated.{ExtendsByPropagation}
 use Rattle.ilk_watches.specs.Watched.{IsQueue}
 use Rattle.ilk_watches.proofs.queue.Propagator.settle.Given as goal
 
@@ -7,7 +7,7 @@ abbrev pub invariant-looks : goal.invariant-looks
 invariant-looks l = record {
   trail : l.trail ≡ record l.initial.trail { entries = l.trail.entries };
   queue : IsQueue l.clauses l.trail.entries l.self.head l.self.settled;
-  propagated : IsPropagated l.clauses.clauses l.initial.trail.entries l.trail.entries;
+  propagated : ExtendsByPropagation l.clauses.clauses l.initial.trail.entries l.trail.entries;
 }
 
 abbrev pub decreases-looks : goal.decreases-looks

@@ -1,8 +1,0 @@
-use Rattle.std.proofs.Common.{◌≡◌, map}
-use Rattle.std.specs.List.{range_with_len}
-use Rattle.ilk_ir.specs.Form.{tree_of}
-use Rattle.ilk_layout.specs.Conditions as conditions
-use Rattle.ilk_behave.proofs.passage_rules.seen_from.Given as goal
-
-abbrev pub invariant-loop-more : goal.invariant-loop-more
-invariant-loop-more l = map tree_of l.forms.items ≡ map (conditions.seen_is l.r) (range_with_len l.k l.more)

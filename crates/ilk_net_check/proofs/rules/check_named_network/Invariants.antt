@@ -1,8 +1,0 @@
-use Rattle.std.proofs.Common.{◌≡◌, take}
-use Rattle.ilk_plant.specs.Broken.{broken_rules_at}
-use Rattle.ilk_plant.specs.NetworkRules.{breaks_network, count_in_network, network_rules}
-use Rattle.ilk_net_check.proofs.rules.check_named_network.Given as goal
-
-abbrev pub invariant-loop-rule : goal.invariant-loop-rule
-invariant-loop-rule l =
-    l.broken ≡ broken_rules_at (take l.rule-index network_rules) (count_in_network l.net) (breaks_network l.net)

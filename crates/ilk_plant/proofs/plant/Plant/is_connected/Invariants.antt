@@ -1,6 +1,0 @@
-use Rattle.std.proofs.Common.{◌≡◌, drop}
-use Rattle.ilk_plant.specs.Shape.{is_connected}
-use Rattle.ilk_plant.proofs.plant.Plant.is_connected.Given as goal
-
-abbrev pub invariant-loop-y : goal.invariant-loop-y
-invariant-loop-y l = is_connected l.self l.d l.x (drop l.y-index l.rest) ≡ is_connected l.self l.d l.fn.first l.fn.rest

@@ -1,7 +1,0 @@
-use Rattle.std.proofs.Common.{◌∙◌}
-use Rattle.ilk_table_check.proofs.Flagged.{lists_conflict-flagged}
-use Rattle.ilk_table_check.proofs.conflicts.lists_conflict.Goals as goal
-
-pub returns : goal.returns
-returns c =
-    c.lists_by_flags.ensures ∙ lists_conflict-flagged c.args._plant.now c.args.listed.now c.args.i c.args.j c.requires.listed c.requires.first c.requires.second

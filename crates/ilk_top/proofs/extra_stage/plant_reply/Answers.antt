@@ -1,8 +1,0 @@
-use Rattle.std.proofs.Common.{rules}
-use Rattle.ilk_answers.proofs.Besides.{some-unread}
-use Rattle.ilk_top.proofs.extra_stage.plant_reply.Goals as goal
-
--- A command without extra input ignores the second source.
-pub returns-in_ok-answer_plant-in-None-clause-reply : goal.returns-in_ok-answer_plant-in-None-clause-reply
-returns-in_ok-answer_plant-in-None-clause-reply g c =
-    some-unread c.args.command.now c.args.plant.now (g.D.Source.left c.args.extra.now) c.in_ok-answer_plant-in-None.field-0 (search rules) c.in_ok-answer_plant-in-None.ensures.reply
