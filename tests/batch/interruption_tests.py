@@ -5,6 +5,7 @@ import contextlib
 import os
 import pty
 import re
+import shutil
 import signal
 import subprocess
 import time
@@ -17,6 +18,24 @@ from tests.batch.workspace import batch_case, differs, done_line, run, without_p
 REPORTS = 4             # calls interrupted while making a report
 LONG = 300              # seconds to wait for an event on a loaded machine
 SMALL_DISK, LARGE_DISK = "2m", "64m"    # less than the certificate of a terminus, and far more
+STOPPED = 3, "irv --batch: stopped; call again to go on\n"
+# a shell of jobs that ignore SIGTERM, like one that Snakemake starts just after the signal
+SHELL = """#!/bin/sh
+trap '' TERM
+exec '{shell}' "$@"
+"""
+# a Snakemake that does not end by itself, like one that waits for its own lock
+ENGINE = """#!/bin/sh
+trap '' INT TERM
+: > '{wish}.waits'
+while :; do sleep 0.2; done
+"""
+# sends SIGTERM to tools/batch in a callback of the fork, from which Python drops exceptions
+FORK = """import os, signal
+with open("/proc/self/cmdline", "rb") as words:
+    if b"tools/batch\\0" in words.read():
+        os.register_at_fork(after_in_parent=lambda: signal.raise_signal(signal.SIGTERM))
+"""
 
 
 def check_no_answer(room):
@@ -93,22 +112,58 @@ def check_interrupted(room):
         call = begun(room, words, stderr=subprocess.PIPE, text=True,
                      env={**os.environ, "TMPDIR": str(temporary)})
         call.send_signal(number)
-        said = call.communicate(timeout=LONG)[1]
-        yield from differs(number.name, (call.returncode, without_progress(said)),
-                           (3, "irv --batch: stopped; call again to go on\n"))
-        yield from differs(f"{number.name}: processes", processes_of(room), [])
-        left = [
-            *temporary.iterdir(), *(room.out / "making").iterdir(),
-            *(room.out / "groups").iterdir()
-        ]
-        yield from differs(f"{number.name}: temporary files", left, [])
-        yield from differs(f"{number.name}: a report", (room.out / "report.json").exists(), False)
+        yield from left_by(room, number.name, call, temporary)
     room.wish.write_text("go", encoding="ascii")
     done = room.call(*words)
     yield from differs("afterwards",
                        (done.returncode, room.answers()[("platforms.json", "verify")]),
                        (1, ("good", "safe k=1")))
     yield from differs("verified", room.verify()[0], 0)
+
+
+def left_by(room, name, call, *temporary):
+    """Yields how an interrupted call does not end as it should. `temporary` are directories that
+    have to be empty then."""
+    try:
+        said = call.communicate(timeout=LONG)[1]
+    except subprocess.TimeoutExpired:
+        yield f"{name}: the call does not end; its processes: {processes_of(room)}"
+        call.kill()
+        return
+    yield from differs(name, (call.returncode, without_progress(said)), STOPPED)
+    yield from differs(f"{name}: processes", processes_of(room), [])
+    left = [file for directory in (*temporary, room.out / "making", room.out / "groups")
+            for file in directory.iterdir()]
+    yield from differs(f"{name}: temporary files", left, [])
+    yield from differs(f"{name}: a report", (room.out / "report.json").exists(), False)
+
+
+def check_interrupted_hard(room):
+    """An interruption ends jobs that ignore SIGTERM, and a Snakemake that does not end by
+    itself."""
+    room.add("platforms.json")
+    room.fake("wait")
+    shell = SHELL.format(shell=shutil.which("bash"))
+    for name, text in ("bash", shell), ("snakemake", ENGINE.format(wish=room.wish)):
+        Path(f"{room.wish}.waits").unlink(missing_ok=True)
+        place = room.room / f"only-{name}"
+        place.mkdir()
+        (place / name).write_text(text, encoding="utf-8")
+        (place / name).chmod(0o755)
+        call = begun(room, ["--ask", "verify"], stderr=subprocess.PIPE, text=True,
+                     env={**os.environ, "PATH": f"{place}:{os.environ['PATH']}"})
+        call.send_signal(signal.SIGTERM)
+        yield from left_by(room, name, call)
+
+
+def check_interrupted_start(room):
+    """A signal while Snakemake is started is not lost."""
+    room.add("platforms.json")
+    (room.room / "sitecustomize.py").write_text(FORK, encoding="ascii")
+    call = subprocess.Popen(room.words("--ask", "check"), stdin=subprocess.DEVNULL,
+                            stdout=subprocess.DEVNULL, stderr=subprocess.PIPE, text=True,
+                            env={**os.environ, "PYTHONPATH": str(room.room)})
+    yield from left_by(room, "start", call)
 
 
 def check_interrupted_report(room):
@@ -226,5 +281,5 @@ def check_full_disk(room):
 
 
 InterruptionTests = batch_case("InterruptionTests", (
-    check_no_answer, check_killed, check_worker_killed, check_interrupted, check_interrupted_report,
-    check_terminal, check_full, check_full_disk))
+    check_no_answer, check_killed, check_worker_killed, check_interrupted, check_interrupted_hard,
+    check_interrupted_start, check_interrupted_report, check_terminal, check_full, check_full_disk))

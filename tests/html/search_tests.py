@@ -11,6 +11,7 @@ from pathlib import Path
 from irvtools.generators import configurations
 from irvtools.model import events
 from tests.support import fifteen_section_line
+from irvtools.calls.interruption import Interrupted, interruptible
 from irvtools.calls.program import Program
 from irvtools.search.parallel_search import Searchers
 from irvtools.search.random_search import RandomSearch
@@ -201,6 +202,23 @@ def check_processes_end(_, __):
         yield from (f"process {pid} is left after {number.name}" for pid in alive(pids))
 
 
+def check_interrupted_start(_, __):
+    """A signal while a process of a search starts is not lost. The process ends."""
+    signals, pids, interrupted = [signal.SIGTERM], [], False
+    os.register_at_fork(after_in_parent=lambda: signals and signal.raise_signal(signals.pop()))
+    try:
+        with interruptible(), Searchers(Plant(fifteen_section_line.right()), count=2) as searchers:
+            try:
+                searchers.start(600)
+            finally:
+                pids = [process.pid for process in searchers.processes.values()]
+    except Interrupted:
+        interrupted = True
+    if not interrupted or len(pids) != 1:
+        yield f"interrupted: {interrupted}, after the start of {len(pids)} processes"
+    yield from (f"process {pid} is left" for pid in alive(pids))
+
+
 def alive(pids):
     """Returns those processes that have not ended."""
     found = []
@@ -232,4 +250,4 @@ def check_search_alone(program, _):
 
 
 SearchTests = test_case("SearchTests", [check_search, check_search_cancel, check_search_far, check_search_right, check_shortening,
-          check_credible_trains, check_parallel_search, check_processes_end, check_search_alone])
+          check_credible_trains, check_parallel_search, check_processes_end, check_interrupted_start, check_search_alone])

@@ -137,6 +137,14 @@ def reports_a_signal(top):
     return (shell.returncode, printed, ended) == (137, (line, 137), 143)
 
 
+def keeps_an_early_signal(top):
+    """A signal to the launcher just before the program starts ends the program, too."""
+    script = ". tools/launcher/running.bash; note_signals; kill -s $0 $$; run_tied sleep 60 & await $!"
+    ended = [subprocess.run(["bash", "-c", script, name], cwd=top, env=environment(top)).returncode
+             for name in ("HUP", "INT", "QUIT", "TERM")]
+    return ended == [129, 130, 131, 143]
+
+
 def announces_a_terminal(top):
     """The launcher announces that it expects a configuration from a terminal, if the command reads
     one."""
@@ -152,5 +160,5 @@ def announces_a_terminal(top):
 
 
 CallTests = copy_tests("CallTests", (
-    keeps_what_is_read, shows_that_it_works, reports_a_signal, ends_with_the_launcher,
-    announces_a_terminal))
+    keeps_what_is_read, shows_that_it_works, reports_a_signal, keeps_an_early_signal,
+    ends_with_the_launcher, announces_a_terminal))

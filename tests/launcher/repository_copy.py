@@ -172,6 +172,7 @@ TOOLS = {"--html": "html", "--simulate": "simulate", "--csv": "csv", "--batch": 
          "--sumo": "sumo", "--search": "search", "--release": "release", "--explain": "explain"}
 # the launcher's own part of tools/, which is copied
 COPIED = ("launcher", "irvtools/launcher", "irvtools/__init__.py", "irvtools/paths.py",
+          "irvtools/calls/__init__.py", "irvtools/calls/interruption.py",
           "irvtools/mutants/__init__.py", "irvtools/mutants/crates.py", "progress.py",
           "prove_program.py", "crate_seconds.txt")
 

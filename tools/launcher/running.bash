@@ -34,23 +34,37 @@ run_tied() {
     exec ${tie[@]+"${tie[@]}"} "$@"
 }
 
-# Waits for this process, passes signals on to it, and returns its status.
+# Notes a signal in `early`, until there is a process to pass it on to.
+note_signals() {
+    local signal
+    early=
+    for signal in HUP INT QUIT TERM; do
+        # shellcheck disable=SC2064     # it is known now
+        trap "early=$signal" "$signal"
+    done
+}
+
+# Waits for this process, passes signals on to it, and returns its status. If a signal came before,
+# the process has just begun: it may still ignore INT and QUIT, and is ended by TERM.
 await() {
     local running=$1 signal status
     for signal in HUP INT QUIT TERM; do
         # shellcheck disable=SC2064     # both are known now
         trap "kill -s $signal $running 2>/dev/null" "$signal"
     done
+    [ -z "$early" ] || kill -s TERM "$running" 2>/dev/null
     while wait "$running" 2>/dev/null; status=$?
         [ "$status" -gt 128 ] && kill -0 "$running" 2>/dev/null; do
         :
     done
     trap - HUP INT QUIT TERM
+    [ -z "$early" ] || status=$((128 + $(kill -l "$early")))
     return "$status"
 }
 
 # Runs a command as a child of the launcher.
 run_alone() {
+    note_signals
     if is_open 0; then
         (run_tied "$@") <&0 &
     else
@@ -66,6 +80,7 @@ run_shown() {
     local line output=1 shown status
     exec {line}> >(show_work)
     shown=$!
+    note_signals
     [ ! /dev/stdout -ef /dev/stderr ] || output=$line
     if is_open 0; then
         (run_tied "$@" >&"$output" 2>&"$line" {line}>&-) <&0 &

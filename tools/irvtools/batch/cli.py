@@ -18,7 +18,7 @@ from irvtools.batch.planning import Planner, read_scenarios
 from irvtools.batch.progress import Progress
 from irvtools.batch.report_verification import texts_of, verify
 from irvtools.batch.store import MARK, PROVED_NOTE, Store, text_of
-from irvtools.calls.progress import Interrupted, interruptible
+from irvtools.calls.interruption import Interrupted, interruptible
 from irvtools.calls.proved_program import is_proved
 from irvtools.calls.refusal import Refused, reason
 

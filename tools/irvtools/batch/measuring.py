@@ -9,8 +9,10 @@ import signal
 import subprocess
 import threading
 import time
+from typing import Callable
 
 from irvtools.batch.program_answers import NoAnswer
+from irvtools.calls.interruption import ended, held, released
 
 PARENT_DIES = 1         # PR_SET_PDEATHSIG of prctl(2)
 TAIL = 4000             # bytes read of an error message
@@ -21,9 +23,16 @@ def machine() -> str:
     return f"{platform.node()} {platform.system()} {platform.release()} {platform.machine()}"
 
 
-def end_with_parent(number: int = signal.SIGKILL) -> None:
-    """Makes this process end with its parent. A child calls it before it becomes another program."""
-    ctypes.CDLL(None).prctl(PARENT_DIES, int(number))
+def tie(number: int = signal.SIGKILL) -> Callable[[], None]:
+    """Returns a function that makes a child of this process end with it, by a signal. The child
+    calls it before it becomes another program."""
+    parent = os.getpid()
+
+    def end_with_parent():
+        ctypes.CDLL(None).prctl(PARENT_DIES, int(number))
+        if os.getppid() != parent:      # it has already ended
+            signal.raise_signal(number)
+    return end_with_parent
 
 
 def last_line(data: bytes) -> str:
@@ -40,8 +49,8 @@ class Called:
         self.output = room / "output.txt"
         begin = time.monotonic()
         with open(self.output, "wb") as out, open(room / "complaint", "w+b") as errors:
-            child = self.start(words, given, room, out, errors)
-            is_late = self.wait(child, seconds)
+            with held(), ended(self.start(words, given, room, out, errors)) as child, released():
+                is_late = self.wait(child, seconds)
             errors.seek(max(0, errors.tell() - TAIL))
             self.complaint = last_line(errors.read())
         self.seconds = round(time.monotonic() - begin, 3)
@@ -57,7 +66,7 @@ class Called:
             with open(given or os.devnull, "rb") as source:
                 return subprocess.Popen(words, stdin=source, stdout=out, stderr=errors,
                                         env={**os.environ, "TMPDIR": str(room)},
-                                        preexec_fn=end_with_parent)
+                                        preexec_fn=tie())
         except OSError as fault:
             raise NoAnswer(f"{words[0]} cannot be called: {fault.strerror}") from fault
 
@@ -68,8 +77,10 @@ class Called:
         timer = threading.Timer(seconds or 0, lambda: (late.set(), child.kill()))
         if seconds is not None:
             timer.start()
-        _, status, used = os.wait4(child.pid, 0)
-        timer.cancel()
+        try:
+            _, status, used = os.wait4(child.pid, 0)
+        finally:
+            timer.cancel()
         self.status = child.returncode = os.waitstatus_to_exitcode(status)
         self.processor_seconds = round(used.ru_utime + used.ru_stime, 3)
         self.memory_kib = used.ru_maxrss

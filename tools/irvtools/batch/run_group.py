@@ -12,13 +12,14 @@ import sys
 from pathlib import Path
 
 
-from irvtools.batch.measuring import end_with_parent
+from irvtools.batch.measuring import tie
 from irvtools.batch.store import Store
 from irvtools.batch.worker import prepare, work
 
 
 def work_apart(store, key):
     """Does a job in its own process, which ends with this one. Waits for its end."""
+    end_with_parent = tie()
     worker = os.fork()
     if worker:
         os.waitpid(worker, 0)

@@ -12,12 +12,13 @@ import subprocess
 import sys
 import time
 from pathlib import Path
-from typing import Any, BinaryIO, Iterator
+from typing import Any, BinaryIO, Callable, Iterator
 
-from irvtools.batch.measuring import end_with_parent
+from irvtools.batch import process_group
+from irvtools.batch.measuring import tie
 from irvtools.batch.progress import Progress
 from irvtools.batch.store import Store
-from irvtools.calls.progress import Interrupted
+from irvtools.calls.interruption import held
 from irvtools.calls.refusal import Refused
 
 ENGINE = "snakemake"
@@ -85,12 +86,14 @@ def words_of(store, handed_on):
     ]
 
 
-def watch(child, store, missing, progress):
-    """Waits for Snakemake's end and reports progress meanwhile."""
-    while True:
-        progress.count(sum(store.answer_file(job).exists() for job in missing), len(missing))
-        with contextlib.suppress(subprocess.TimeoutExpired):
-            return child.wait(progress.seconds)
+def watch(child, store, missing, progress, signals):
+    """Waits for Snakemake's end or a signal, and reports progress meanwhile."""
+    next_count = time.monotonic()
+    while not signals.count and not process_group.has_ended(child):
+        if time.monotonic() >= next_count:
+            progress.count(sum(store.answer_file(job).exists() for job in missing), len(missing))
+            next_count = time.monotonic() + progress.seconds
+        time.sleep(process_group.TURN)
 
 
 def put_targets(store: Store, groups: list[list[dict[str, Any]]],
@@ -111,32 +114,30 @@ def see_groups(store):
         time.sleep(1)
 
 
-def stop(child, store):
-    """Ends Snakemake and its jobs on this machine, and removes their temporary files. A second
-    interrupt ends the wait."""
-    number = signal.SIGTERM
-    while child.poll() is None:
-        with contextlib.suppress(ProcessLookupError):
-            os.killpg(child.pid, number)
-        try:
-            child.wait()
-        except Interrupted:
-            number = signal.SIGKILL
-    remove_temporary(store)
+def prepare_engine(end_with_parent: Callable[[], None]) -> None:
+    """Prepares the child that becomes Snakemake: the signals that end it count, even if the caller
+    ignores them."""
+    for number in (signal.SIGINT, signal.SIGTERM):
+        signal.signal(number, signal.SIG_DFL)
+    end_with_parent()
 
 
 def do_all(store: Store, missing: list[dict[str, Any]], handed_on: list[str], lock: BinaryIO,
            progress: Progress) -> int:
     """Runs Snakemake on the targets to answer these jobs. Returns its exit status. Its output goes
-    to a file. It has its own process group, so all its processes can be ended."""
-    with open(store.top / "snakemake.log", "wb") as log:
+    to a file. It has its own process group, so all its processes can be ended. If this process is
+    killed, Snakemake starts no more jobs, and ends after those under way."""
+    end_with_parent = tie(signal.SIGINT)
+    with open(store.top / "snakemake.log", "wb") as log, held() as signals:
         child = subprocess.Popen(words_of(store, handed_on), stdin=subprocess.DEVNULL, stdout=log,
                                  stderr=log, pass_fds=[lock.fileno()], start_new_session=True,
-                                 preexec_fn=lambda: end_with_parent(signal.SIGTERM))
+                                 preexec_fn=lambda: prepare_engine(end_with_parent))
         try:
-            status = watch(child, store, missing, progress)
-            see_groups(store)
-            return status
-        except BaseException:
-            stop(child, store)
-            raise
+            watch(child, store, missing, progress, signals)
+        finally:
+            if signals.count or not process_group.has_ended(child):
+                process_group.stop(child, signals)
+                remove_temporary(store)
+            status = child.poll()
+    see_groups(store)
+    return status

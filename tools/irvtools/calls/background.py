@@ -4,9 +4,8 @@ import subprocess
 import time
 from pathlib import Path
 
+from irvtools.calls.interruption import kill
 from irvtools.calls.program import Answer
-
-END_SECONDS = 5         # time for an ended call to stop
 
 
 class Beside:
@@ -43,7 +42,6 @@ class Beside:
         """Ends the call if unanswered; returns its result."""
         if self.poll() is None:
             seconds = self.seconds
-            self.process.kill()
-            self.process.wait(END_SECONDS)
+            kill(self.process)
             self.answer = Answer(self.words, None, "", seconds, why)
         return self.answer

@@ -8,6 +8,7 @@ import tempfile
 import time
 from pathlib import Path
 
+from irvtools.calls.interruption import ended, held, released
 from irvtools.model.plant import Plant
 
 REPLAY_SECONDS = 60
@@ -43,16 +44,20 @@ class Program:
         """Calls the program for up to `seconds`."""
         begin = time.monotonic()
         try:
-            done = subprocess.run([self.file, *words], input=self.given, capture_output=True,
-                                  timeout=seconds, check=False)
+            with held(), self.start(words) as child, ended(child), released():
+                output, errors = child.communicate(self.given, timeout=seconds)
         except subprocess.TimeoutExpired:
             return Answer(words, None, "", time.monotonic() - begin,
                           f"no answer within {seconds:g} seconds")
         except OSError as fault:
             return Answer(words, None, "", 0.0, f"not called: {fault}")
-        errors = done.stderr.decode(errors="replace").strip()
-        return Answer(words, done.returncode, done.stdout.decode(errors="replace"),
-                      time.monotonic() - begin, errors)
+        return Answer(words, child.returncode, output.decode(errors="replace"),
+                      time.monotonic() - begin, errors.decode(errors="replace").strip())
+
+    def start(self, words):
+        """Starts a call, with pipes."""
+        return subprocess.Popen([self.file, *words], stdin=subprocess.PIPE, stdout=subprocess.PIPE,
+                                stderr=subprocess.PIPE)
 
     def replay(self, columns, run):
         """Returns the answer of `replay` to a run."""

@@ -4,8 +4,9 @@ import sys
 from pathlib import Path
 
 from irvtools.arguments import standard_input
+from irvtools.calls.interruption import Interrupted, interruptible
 from irvtools.calls.program import Program
-from irvtools.calls.progress import Interrupted, Progress, interruptible
+from irvtools.calls.progress import Progress
 from irvtools.html.import_notes import boards_by_rule
 from irvtools.html.options import Options, Refused, guard_files, guard_words, parser
 from irvtools.html.report import Report

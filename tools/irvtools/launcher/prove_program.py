@@ -15,13 +15,13 @@ import argparse
 import os
 import re
 import shutil
-import signal
 import subprocess
 import sys
 import tempfile
 from pathlib import Path
 from typing import BinaryIO, Dict, List, Set
 
+from irvtools.calls.interruption import Interrupted, ended, held, interruptible, released, removed
 from irvtools.launcher.progress import follow
 from irvtools.mutants.crates import Crates
 
@@ -56,13 +56,11 @@ class UnprovedCrates:
 def prove(room: Path, crates: Dict[str, Set[str]], options: List[str]) -> bool:
     """Proves a directory's crates; returns whether all are proved."""
     tie, printed = TIE if shutil.which(TIE[0]) else (), UnprovedCrates(sys.stdout.buffer)
-    with subprocess.Popen([*tie, "rt", "ci", *options], cwd=room, stdin=subprocess.DEVNULL,
-                          stdout=subprocess.PIPE, stderr=subprocess.STDOUT) as running:
-        try:
+    with held(), subprocess.Popen([*tie, "rt", "ci", *options], cwd=room, stdin=subprocess.DEVNULL,
+                                  stdout=subprocess.PIPE, stderr=subprocess.STDOUT) as running:
+        with ended(running, subprocess.Popen.terminate), released():
             follow(running.stdout, crates, room / "crates", printed.take)
-        except BaseException:
-            running.terminate()
-            raise
+            running.wait()
     if running.returncode:
         printed.print()
     return not running.returncode
@@ -85,18 +83,12 @@ def build(options: List[str]) -> int:
         print(f"prove_program: cannot read crates/{absent[0]}, which crates.txt names: no such "
               "directory", file=sys.stderr)
         return 1
-    with tempfile.TemporaryDirectory(prefix="irv-proving-") as name:
-        room = Path(name)
+    with held(), removed(tempfile.mkdtemp(prefix="irv-proving-")) as room, released():
         crates.lay_out(names, room)
         if not prove(room, {name: {*crates.below(name)} for name in names}, options):
             return 1
         put(room / "crates" / PROGRAM / "out" / PROGRAM, crates.folder(PROGRAM) / "out" / PROGRAM)
     return 0
-
-
-def end(*_: object) -> None:
-    """Ends as after Ctrl-C, to remove the temporary directory."""
-    raise KeyboardInterrupt
 
 
 def main() -> int:
@@ -106,8 +98,8 @@ def main() -> int:
     parser.add_argument("--anew", action="store_true",
                         help="proves everything again; default: what is cached is taken")
     options = ["--anew"] if parser.parse_args().anew else []
-    signal.signal(signal.SIGTERM, end)
     try:
-        return build(options)
-    except KeyboardInterrupt:
+        with interruptible():
+            return build(options)
+    except Interrupted:
         return INTERRUPTED

@@ -12,6 +12,7 @@ from dataclasses import asdict, dataclass
 from pathlib import Path
 
 from irvtools.batch.program_answers import why_no_answer
+from irvtools.calls.interruption import ended, held, kill, released
 
 PROGRAM = "program/irv"
 CONFIGURATION = "configuration.json"
@@ -111,19 +112,21 @@ def run(words: list[str], room: Path, **more: str) -> tuple[int, bytes, bytes]:
     """Runs a command in a directory, with its configuration as input. Returns status, output and
     errors. If interrupted, it also ends the command."""
     environment = {**os.environ, "PYTHONDONTWRITEBYTECODE": "1", **more}
-    with open(room / CONFIGURATION, "rb") as given, subprocess.Popen(
+    with open(room / CONFIGURATION, "rb") as given, held(), subprocess.Popen(
             words, cwd=room, stdin=given, env=environment, stdout=subprocess.PIPE,
             stderr=subprocess.PIPE) as process:
-        try:
+        with ended(process, end_tool), released():
             output, errors = process.communicate()
-        except BaseException:
-            process.terminate()
-            try:
-                process.communicate(timeout=SECONDS_TO_END)
-            except subprocess.TimeoutExpired:
-                process.kill()
-            raise
     return process.returncode, output, errors
+
+
+def end_tool(process: subprocess.Popen) -> None:
+    """Lets a called tool clean up and end, and kills it if that takes too long."""
+    process.terminate()
+    try:
+        process.communicate(timeout=SECONDS_TO_END)
+    except subprocess.TimeoutExpired:
+        kill(process)
 
 
 def write_record(room: Path, calls: list[Call], facts: dict) -> None:

@@ -3,6 +3,7 @@
 import sys
 
 from irvtools.arguments import Parser, standard_input, whole_number
+from irvtools.calls.interruption import Interrupted, interruptible
 from irvtools.calls.program import Program, replay_line
 from irvtools.model.events import hazard, replayed
 from irvtools.model.plant import Plant
@@ -86,7 +87,8 @@ def main(words):
               "./irv --build", file=sys.stderr)
         return NO_ANSWER
     try:
-        return search(options, standard_input("irv --search", NO_ANSWER))
-    except KeyboardInterrupt:
+        with interruptible():
+            return search(options, standard_input("irv --search", NO_ANSWER))
+    except Interrupted:
         print("irv --search: interrupted", file=sys.stderr)
         return NO_ANSWER

@@ -17,10 +17,10 @@ import signal
 import time
 from multiprocessing import connection
 
+from irvtools.calls.interruption import held
 from irvtools.search.random_search import RandomSearch
 
 SLICE = 0.5             # seconds between reports, which show if a process is still wanted
-TO_END = 2.0            # seconds in which an ended process has to stop
 
 
 def processors() -> int:
@@ -75,9 +75,10 @@ class Searchers:
             process = context.Process(
                 target=searching, daemon=True,
                 args=(self.plant, seed, self.suspects, seconds, tells, [*self.processes, listens]))
-            process.start()
-            tells.close()
-            self.processes[listens], self.seeds[listens] = process, seed
+            with held():
+                process.start()
+                tells.close()
+                self.processes[listens], self.seeds[listens] = process, seed
 
     @property
     def is_over(self):
@@ -114,20 +115,17 @@ class Searchers:
             self.stop()
 
     def end(self, pipe):
-        """Ends a process."""
+        """Ends a process. It has nothing to clean up, and loses other signals when it starts."""
         process = self.processes.pop(pipe)
-        process.terminate()
-        process.join(TO_END)
-        if process.is_alive():
-            process.kill()
-            process.join()
+        process.kill()
+        process.join()
         pipe.close()
         self.seconds = time.monotonic() - self.begin
 
     def stop(self):
         """Ends all remaining processes."""
         for process in self.processes.values():
-            process.terminate()
+            process.kill()
         for pipe in list(self.processes):
             self.end(pipe)
 

@@ -7,6 +7,7 @@ import time
 from typing import TYPE_CHECKING
 
 from irvtools.calls.background import Beside
+from irvtools.calls.interruption import held, released
 from irvtools.search.parallel_search import Searchers
 
 if TYPE_CHECKING:
@@ -32,13 +33,15 @@ def search(page: Report, words: list[str]) -> Found:
     found, options = Found(), page.options
     is_beside = page.is_endangered and options.search_seconds > 0
     with Searchers(page.plant, page.suspects) as found.searchers:
-        call = Beside(page.program, words)
-        if is_beside:
-            found.searchers.start(options.search_seconds)
-        try:
-            both(found, call, page)
-        finally:
-            found.answer = call.end("ended by the page")
+        with held():
+            call = Beside(page.program, words)
+            try:
+                with released():
+                    if is_beside:
+                        found.searchers.start(options.search_seconds)
+                    both(found, call, page)
+            finally:
+                found.answer = call.end("ended by the page")
         if options.search_seconds and not is_beside and found.answer.status in UNEXPECTED:
             found.searchers.start(options.search_seconds)
             found.run = found.searchers.wait(options.search_seconds + 1)
