@@ -24,6 +24,7 @@ PATH_EDIT = re.compile(r"\bsys\.path\s*(?:\[[^\]]*\]\s*)?(?:=|\+=|\.\s*(?:append
 IMPORTS_TESTS = re.compile(r"^\s*(?:from\s+tests\b|import\s+tests\b)", re.MULTILINE)
 IMPORTED = re.compile(r"^\s*(?:from\s+(tests[\w.]*)\s+import\s+([^\n(]+|\([^)]*\))|import\s+(tests[\w.]*))",
                       re.MULTILINE)
+LETTER_RANGE = re.compile(r"\[[^\[\]]*(?:a-z|A-Z)[^\[\]]*\]")     # means other letters in some locales
 TEST_CLASS = re.compile(r"^class \w+\((?:\w+\.)?\w*Test(?:Case)?\w*\):|\btest_case\(", re.MULTILINE)
 
 
@@ -47,6 +48,14 @@ def said_by(command: list[str], files: Iterable[Path]) -> list[str]:
                           text=True, check=False)
     lines = done.stdout.splitlines()
     return lines or ([f"{command[0]} ends with status {done.returncode}"] if done.returncode else [])
+
+
+def letter_ranges(files: Iterable[Path]) -> Iterable[str]:
+    """Yields the lines of the launcher whose patterns depend on the locale: in Turkish `[a-z]` leaves out `i`."""
+    for path in files:
+        for number, line in enumerate(path.read_text(encoding="utf-8").splitlines(), 1):
+            if LETTER_RANGE.search(line) and "LC_ALL=C" not in line:
+                yield f"{path}:{number}: a range of letters depends on the locale: {line.strip()}"
 
 
 def pyflakes() -> list[str]:
@@ -125,6 +134,11 @@ class LintTests(Test):
         files = shell_files(TOP)
         self.see(said_by(["shellcheck"], files), len(files))
 
+    def test_letter_ranges(self):
+        """No pattern of the launcher depends on the locale."""
+        files = shell_files(TOP)
+        self.see(letter_ranges(files), len(files))
+
     def test_import_rules(self):
         """No file silences a checker, changes the import path, or imports tests into tools."""
         self.see(rule_faults(TOP), len(python_files(TOP)))
@@ -162,6 +176,12 @@ class WrongFileTests(Test):
         found = said_by(pyflakes(), python_files(self.top))
         self.assertTrue(any("tools/a:" in line for line in found), found)
         self.assertTrue(any("support/f.py:" in line for line in found), found)
+
+    def test_letter_range(self):
+        """A range of letters is found, other brackets are not."""
+        script = self.top / "script.bash"
+        script.write_text("[[ $1 =~ ^[a-z] ]]\n[[ $1 = [[:upper:]]* && $2 = [0-9] ]]\n", encoding="utf-8")
+        self.assertEqual([fault.split(":")[1] for fault in letter_ranges([script])], ["1"])
 
     def test_shellcheck_remark(self):
         """shellcheck finds a variable without quotes."""

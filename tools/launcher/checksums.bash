@@ -12,7 +12,7 @@ lines_of_program() {
     local -A lower_of=() seen=()
     local name rest lower left=(irv)
     while IFS=: read -r name rest; do
-        [[ $name =~ ^[a-z] ]] && lower_of[$name]=$rest
+        [[ -z $name || $name = "#"* ]] || lower_of[$name]=$rest
     done <"$top/crates.txt"
     while [ "${#left[@]}" -gt 0 ]; do
         name=${left[0]} left=("${left[@]:1}")

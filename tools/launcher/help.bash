@@ -184,7 +184,7 @@ help() {
 get_takes_value() {
     takes_value=
     ! is_listed option "$1" || takes_value=1
-    [[ "${fields["launcher $2 option"]-}" != *" $1 "[A-Z]* ]] || takes_value=1
+    [[ "${fields["launcher $2 option"]-}" != *" $1 "[[:upper:]]* ]] || takes_value=1
 }
 
 # Returns whether the arguments ask for help: `-h` or `--help` before `--`, not as an option's
