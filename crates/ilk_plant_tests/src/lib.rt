@@ -20,8 +20,6 @@ mod form_tests;
 #[cfg(test)]
 mod forms;
 #[cfg(test)]
-mod formula_tests;
-#[cfg(test)]
 mod image_tests;
 #[cfg(test)]
 mod name_tests;
