@@ -140,8 +140,14 @@ def reports_a_signal(top):
 def keeps_an_early_signal(top):
     """A signal to the launcher just before the program starts ends the program, too."""
     script = ". tools/launcher/running.bash; note_signals; kill -s $0 $$; run_tied sleep 60 & await $!"
-    ended = [subprocess.run(["bash", "-c", script, name], cwd=top, env=environment(top)).returncode
-             for name in ("HUP", "INT", "QUIT", "TERM")]
+    names = "HUP", "INT", "QUIT", "TERM"
+
+    def heed_signals():
+        for name in names:              # a call in the background ignores some of them
+            signal.signal(signal.Signals[f"SIG{name}"], signal.SIG_DFL)
+
+    ended = [subprocess.run(["bash", "-c", script, name], cwd=top, env=environment(top),
+                            preexec_fn=heed_signals).returncode for name in names]
     return ended == [129, 130, 131, 143]
 
 
