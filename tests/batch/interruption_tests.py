@@ -28,7 +28,7 @@ exec '{shell}' "$@"
 ENGINE = """#!/bin/sh
 trap '' INT TERM
 : > '{wish}.waits'
-while :; do sleep 0.2; done
+while [ -e '{wish}.waits' ]; do sleep 0.2; done
 """
 # sends SIGTERM to tools/batch in a callback of the fork, from which Python drops exceptions
 FORK = """import os, signal
