@@ -242,7 +242,7 @@ def same_bytes(top, room, *words):
 def check_ci(_, __):
     """A release reads the real .ci/run's log: its counted commands, and its lines about the tree."""
     text = (TOP / ".ci/run").read_text(encoding="utf-8")
-    wanted = ["tests/run --without-program", "rt ci", "tests/run --with-program", "tools/mutants"]
+    wanted = ["rt ci", "tests/run --without-program", "tests/run --with-program", "tools/mutants"]
     if checks_of(text) != wanted:
         yield f"{checks_of(text)}"
     printed = [line.strip() for line in text.splitlines() if "tree of git" in line and "echo" in line]

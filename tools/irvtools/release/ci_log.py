@@ -7,7 +7,7 @@ import re
 from dataclasses import dataclass, field
 
 COUNT = re.compile(r"^(\d+) passed, (\d+) failed(?:, (\d+) skipped)?$", re.M)
-CALL = re.compile(r"^(rt ci|(?:tests|tools)/\w+(?: [^|\n]*?)?)(?: \| .*?)?(?: \|\| .*)?$", re.M)
+CALL = re.compile(r"^ *(rt ci|(?:tests|tools)/\w+(?: [^|\n]*?)?)(?: \| .*?)?(?: \|\| .*)?$", re.M)
 TREE = re.compile(r"^CI (begun|passed), tree of git: (.+)$", re.M)
 # a test of tests/run: result, name, number of checks, and the reason for a skip
 TEST = re.compile(r"^(passed|skipped) ([\w.]+) \((?:(\d+) checks, )?[0-9.]+ s\)(?:: (.*))?$", re.M)
@@ -44,7 +44,7 @@ class Tests:
 
 
 def checks_of(script: str) -> list[str]:
-    """Returns CI's counting commands, in order."""
+    """Returns CI's counting commands in the script's order, which is that of their counts in the log."""
     return [match[1].strip() for match in CALL.finditer(script)]
 
 
