@@ -14,7 +14,7 @@ from dataclasses import dataclass
 TIMEOUT_SECONDS = 300
 BLOCK = re.compile(r"^```\w*\n(.*?)^```$", re.S | re.M)
 # the program that a tool also calls
-CALLS = {"tools/verify_with": "cadical"}
+CALLS = {"tools/verify_with": "cadical", "./irv --batch": "snakemake"}
 
 
 @dataclass
@@ -47,8 +47,8 @@ def sessions_of(text):
 def absent_program(commands):
     """Returns the first program that these commands call and that is missing, or `None`."""
     for command in commands:
-        for word in re.findall(r"(?:^|\||;|&&)\s*([\w./-]+)", command.text):
-            name = CALLS.get(word, word)
+        words = re.findall(r"(?:^|\||;|&&)\s*([\w./-]+)", command.text)
+        for name in words + [name for call, name in CALLS.items() if call in command.text]:
             is_own = "/" in name or subprocess.run(["bash", "-c", f"type {name}"], check=False,
                                                    stdout=subprocess.DEVNULL,
                                                    stderr=subprocess.DEVNULL).returncode == 0
