@@ -110,13 +110,13 @@ class ProseTests(Test):
 
     def test_pages(self):
         """Each page reads as it should."""
-        texts = [text for text in prose.texts_of(TOP) if text.kind == "documents"]
+        texts = prose.texts_of(TOP, ".md")
         self.see([fault for text in texts if text.file not in EXCEPTIONS
                   for fault in faults_of(text, (TOP / text.file).read_text(encoding="utf-8"))], len(texts))
 
     def test_all(self):
         """All documents together read as they should."""
-        found = prose.figures([text for text in prose.texts_of(TOP) if text.kind == "documents"])
+        found = prose.figures(prose.texts_of(TOP, ".md"))
         self.assertLessEqual(found.mean, MOST_OF_ALL["mean"])
         self.assertLessEqual(found.long, MOST_OF_ALL["long"] * found.sentences)
         self.assertLessEqual(found.fronted, MOST_OF_ALL["fronted"] * found.sentences)

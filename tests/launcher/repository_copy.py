@@ -68,7 +68,7 @@ CLANG = r"""#!/usr/bin/env bash
 while [ $# -gt 0 ]; do
     case $1 in
         -S) as_text=1 ;;
-        -O3) is_fast=1 ;;
+        -O1) is_fast=1 ;;
         -fsanitize=address) is_checked=1 ;;
         -Werror) is_strict=1 ;;
         -o) made=$2 ;;

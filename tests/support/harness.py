@@ -15,10 +15,11 @@ SHOWN = 12              # faults shown of a failed test
 
 @dataclass
 class Settings:
-    """The runner's arguments: the program, and whether long tests run."""
+    """The runner's arguments: the program, whether long tests run, and whether it is the program that CI proves."""
 
     program: Path = PROGRAM
     is_long: bool = False
+    is_proved: bool = True
 
 
 SETTINGS = Settings()

@@ -127,18 +127,25 @@ explain_unproved() {
 }
 
 # Runs the tests over the program if it is built of these sources, otherwise over the unproved
-# build.
+# build. If that has to be made, the tests that need no program run meanwhile.
 run_tests() {
-    local status
+    local status needed=yes maker='' made='' after=()
     need python3
     need_tool tests/run --test
     guard_program --test "$@"
     know_sums
     ! is_built_of_sources "$program" "$program_sum" \
         || exec "$top/tests/run" --program "$program" "$@"
+    [ $# -eq 0 ] || needed=$("$top/tests/run" --needs-program --program "$unproved" "$@") || exit
+    [ "$needed" = yes ] || exec "$top/tests/run" --program "$unproved" "$@"
     echo "irv: the program is not built of these sources: the tests run over the unproved build" >&2
-    ensure_unproved
-    run_alone "$top/tests/run" --program "$unproved" "$@"
+    is_built_of_sources "$unproved" "$unproved_sum" || {
+        need rt
+        trap end_maker EXIT
+        make_beside
+        after=(--after "/dev/fd/$made")
+    }
+    run_alone "$top/tests/run" --program "$unproved" ${after[@]+"${after[@]}"} "$@"
     status=$?
     echo "irv: nothing is proved by this: the tests ran over the unproved build" >&2
     exit "$status"

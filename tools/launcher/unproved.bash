@@ -29,18 +29,19 @@ make_with() {
 }
 
 # Sets `making` to a new directory, and `rt` to a toolchain's `rt` that keeps the faster build's
-# parts there. If the toolchain does not allow that, `rt` is the usual one.
+# parts there. With `watch` it also answers, with `stop` it does not.
 prepare_faster() {
     making=$(mktemp -d "${TMPDIR:-/tmp}/irv-making.XXXXXX") || return
     trap 'rm -rf "$making"' EXIT
-    rt=$(make_with watch "$making" 2>/dev/null) || rt=rt
+    rt=$(make_with "$1" "$making")
 }
 
-# Makes the faster build in the directory `making`, and caches it.
+# Makes the faster build in the directory `making`, and caches it. `${@:2}` are put before the
+# command.
 make_faster() {
     (
         trap 'rm -rf "$making"' EXIT
-        cd "$making" && nice -n 10 env PYTHONPATH="$top/tools" \
+        cd "$making" && "${@:2}" env PYTHONPATH="$top/tools" \
             python3 -m irvtools.launcher.unproved_build build "$making" \
             && mkdir -p "${unproved%/*}" && cp irv "$unproved.$$" && mv "$unproved.$$" "$unproved" \
             && note_built "$unproved" "$1"
@@ -53,7 +54,7 @@ make_behind() {
     trap - EXIT
     (
         trap '' HUP INT QUIT
-        make_faster "$1"
+        make_faster "$1" nice -n 10
     ) &
 }
 
@@ -87,7 +88,8 @@ answer_unproved() {
         need rt python3
         ! take_turn || {
             know_sums
-            is_built_of_sources "$unproved" "$unproved_sum" || prepare_faster
+            is_built_of_sources "$unproved" "$unproved_sum" || prepare_faster watch 2>/dev/null \
+                || rt=rt
         }
     }
     say_unproved
@@ -101,23 +103,57 @@ answer_unproved() {
     exit "$status"
 }
 
+# Has `rt` compile the sources until the parts of the faster build are in `making`. If it fails, prints
+# why.
+compile_parts() {
+    local printed status
+    printed=$(mktemp) || no_answer "cannot make a file in ${TMPDIR:-/tmp}"
+    # shellcheck disable=SC2016     # the inner shell expands them
+    run_shown env -C "$top/crates/irv" \
+        bash -c 'exec "${@:2}" >"$1" 2>&1' bash "$printed" "$rt" try --steps 1 -- make </dev/null
+    status=$?
+    [ -f "$making/module.bc" ] || [ "$status" -gt 128 ] || cat "$printed" >&2
+    rm -f "$printed"
+    [ "$status" -le 128 ] || exit "$status"
+    [ -f "$making/module.bc" ]
+}
+
 # Waits for the unproved build; makes it unless it is of these sources.
 ensure_unproved() {
-    local sources rt=rt turns making=
+    local sources rt turns making=
     need rt
     take_turn || no_answer "cannot write in $top/out, where the unproved build is cached"
     know_sums
     ! is_built_of_sources "$unproved" "$unproved_sum" || return 0
     echo "irv: making the unproved build: this takes a minute or two" >&2
-    prepare_faster
+    prepare_faster stop || no_answer "cannot make the unproved build with this toolchain"
     sources=$sources_sum
-    # an ended program was compiled, whatever its status
-    try_watched "$rt" make --stations 1 </dev/null >/dev/null
-    [ $? -ne "$none" ] || no_answer "cannot compile the sources"
-    { [ -f "$making/module.bc" ] && make_faster "$sources"; } \
-        || no_answer "cannot make the unproved build: $log has the cause"
+    compile_parts || no_answer "cannot compile the sources"
+    make_faster "$sources" || no_answer "cannot make the unproved build: $log has the cause"
     trap - EXIT
     [ "$(sum_of_sources)" = "$sources" ] \
         || no_answer "sources were edited during the build: call again to build the new ones"
     exec {turns}>&-
 }
+
+# Makes the unproved build in the background, in a process group of its own. Sets `maker` to its
+# number, and `made` to a descriptor whose text ends with the build: it is `0` if that is made.
+make_beside() {
+    local build_PID
+    set -m
+    coproc build {
+        set +m
+        TERM=dumb
+        ensure_unproved </dev/null >&2
+        echo 0
+    }
+    set +m
+    maker=$build_PID
+    exec {made}<&"${build[0]}"
+}
+
+# Ends the unproved build in the background, if it is not made yet.
+end_maker() {
+    trap '' HUP INT QUIT TERM
+    kill -- "-$maker" && wait "$maker"
+} 2>/dev/null

@@ -10,6 +10,7 @@ from __future__ import annotations
 
 import functools
 import re
+from collections import deque
 from pathlib import Path
 from typing import Iterator
 
@@ -22,7 +23,8 @@ def use(root):
     """Reads another copy of the repository from now on."""
     global CRATES
     CRATES = root / "crates"
-    declared_in.cache_clear()
+    for cached in (declared_in, place_of, mentioned):
+        cached.cache_clear()
 
 
 # the call for all of the program's work: file and name
@@ -166,6 +168,7 @@ def declared_in(crate):
     return found
 
 
+@functools.cache
 def place_of(module, name):
     """Returns the file and the name there; `None` outside this repository."""
     crate, *rest = module.split(".")
@@ -193,21 +196,28 @@ def file_at(path):
     return File(path) if path.suffix == ".antt" else Code(path)
 
 
+@functools.cache
+def mentioned(path: Path, name: str) -> list[tuple[str, str]]:
+    """Returns what a definition of a file mentions, each once, in order."""
+    file, here = file_at(path), ".".join(path.relative_to(CRATES).with_suffix("").parts)
+    words = dict.fromkeys(word for line in file.items[name] for word in names_in(line))
+    return list(dict.fromkeys(filter(None, (file.named(here, word) for word in words))))
+
+
 def needed(roots: list[tuple[str, str]],
            without: frozenset[str] = frozenset()) -> dict[tuple[Path, str], int]:
     """Returns the needed definitions in order of mention: file, name, and lines."""
-    found, queue = {}, list(roots)
+    found, queue, queued = {}, deque(roots), set(roots)
     while queue:
-        module, name = queue.pop(0)
+        module, name = queue.popleft()
         place = None if name in without else place_of(module, name)
         if place is None or place in found or place[1] not in file_at(place[0]).items:
             continue
-        path, name = place
-        file = file_at(path)
-        here = ".".join(path.relative_to(CRATES).with_suffix("").parts)
-        found[place] = len(file.items[name])
-        words = (word for line in file.items[name] for word in names_in(line))
-        queue.extend(filter(None, (file.named(here, word) for word in words)))
+        found[place] = len(file_at(place[0]).items[place[1]])
+        for it in mentioned(*place):
+            if it not in queued:
+                queued.add(it)
+                queue.append(it)
     return found
 
 

@@ -53,6 +53,7 @@ REPLACED = [
     (r"(?<!there )\bis no (fault|file|folder|answer|certificate|run|proof|plant)\b", "is not a .."),
     (r"\bgates?\b", "CI"),
 ]
+ANY_REPLACED = re.compile("|".join(f"(?:{pattern})" for pattern, _ in REPLACED), re.I)
 # a listed word in its own sense, and the files in which it does not count
 FIELD = [("gate", re.compile(r"^crates/ilk_(cnf|ints|copy|forms|step|unroll|behave|conditions|props|invs|queries)/")),
          ("premise", re.compile(r"^crates/.*\.(rt|antt)$"))]
@@ -172,13 +173,14 @@ def text_of(file: str, text: str) -> Text | None:
     return None
 
 
-def texts_of(root: Path) -> list[Text]:
-    """Returns the texts of a directory's git-tracked files."""
+def texts_of(root: Path, ending: str = "") -> list[Text]:
+    """Returns the texts of a directory's git-tracked files whose names have this ending."""
     listed = subprocess.run(["git", "-C", root, "ls-files"], capture_output=True, text=True).stdout
     found = []
     for file in filter(None, listed.split("\n")):
         path = root / file
-        if LEFT_OUT.search(file) or path.is_symlink() or not path.is_file():
+        if (not file.endswith(ending) or LEFT_OUT.search(file) or path.is_symlink()
+                or not path.is_file()):
             continue
         try:
             found.append(text_of(file, path.read_text(encoding="utf-8")))
@@ -205,6 +207,8 @@ def is_fronted(sentence: str) -> bool:
 
 def replaced_in(file: str, sentence: str) -> int:
     """Returns how many words of a sentence the glossary replaces."""
+    if not ANY_REPLACED.search(sentence):
+        return 0
     return sum(len(re.findall(pattern, sentence, flags=re.I)) for pattern, _ in REPLACED
                if not any(word in pattern and files.search(file) for word, files in FIELD))
 

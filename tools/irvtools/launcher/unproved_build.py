@@ -1,13 +1,15 @@
 """Makes an unproved build of the program that is nearly as fast as the proved one.
 
     python3 -m irvtools.launcher.unproved_build watch DIRECTORY
+    python3 -m irvtools.launcher.unproved_build stop DIRECTORY
     python3 -m irvtools.launcher.unproved_build build DIRECTORY
 
 `rt try` has clang compile the whole program without proof, as one module with checks of each
 operation, and keeps nothing. `watch` makes DIRECTORY/kit, a toolchain of links to the one on the
 path with a script in place of clang, and prints the `rt` to call. The script keeps clang's module
-and arguments, and then calls clang. `build` removes the checks from the module, optimises it like a
-proved program, and links it to DIRECTORY/irv.
+and arguments, and then calls clang. `stop` makes one whose `rt try` ends when the module is kept:
+it has no answer, and takes half the time. `build` removes the checks from the module, optimises it,
+and links it to DIRECTORY/irv.
 
 It removes the sanitizer and the calls of `rattle-llvm-checks`, which end the program before an
 undefined operation. A proved program needs neither. Here a fault may stay unseen, so the build's
@@ -24,20 +26,25 @@ import shutil
 import subprocess
 import sys
 from pathlib import Path
-from typing import Collection, Iterable, Iterator, List
+from typing import Collection, Dict, Iterable, Iterator, List
 
 SANITIZER = "-fsanitize=address"
 LIBRARIES = ("libos_c.a", "liblibc_c.a")
 CLANG = """#!/bin/sh
-# keeps the program's module and the arguments of clang, and calls clang with them
+# keeps the program's module and the arguments of clang, and calls clang with them if it shall
 case " $* " in *" {sanitizer} "*)
     for word in "$@"; do
         case $word in
             *.bc) cp "$word" {directory}/module.bc && printf '%s\\n' "$@" >{directory}/words ;;
         esac
-    done ;;
+    done
+    {after} ;;
 esac
 exec {clang} "$@"
+"""
+# `rt try` also asks the prover for a hint on names, which costs as much as the build
+NO_PROVER = """#!/bin/sh
+exit 0
 """
 CHECK = re.compile(rb'define internal void @"rattle-llvm-checks::\w+"\(')
 SANITIZED = re.compile(rb' sanitize_address| "frame-pointer"="all"')
@@ -67,22 +74,35 @@ def link_all(source: Path, target: Path, but: Collection[str]) -> None:
             (target / entry.name).symlink_to(entry)
 
 
-def watch(directory: Path) -> Path:
-    """Makes the toolchain that keeps the module; returns its `rt`."""
+def linked_kit(directory: Path, scripts: Dict[str, str]) -> Path:
+    """Makes DIRECTORY/kit, a toolchain of links with these scripts instead; returns its `rt`."""
     kit, ours = kit_on_path(), directory / "kit"
     # rt takes the parent of its directory for the toolchain, so its scripts are copied
-    scripts = [entry.name for entry in (kit / "bin").iterdir() if entry.name.startswith("rt")]
+    copied = [entry.name for entry in (kit / "bin").iterdir() if entry.name.startswith("rt")]
     link_all(kit, ours, ("bin", "toolchain"))
-    link_all(kit / "bin", ours / "bin", scripts)
+    link_all(kit / "bin", ours / "bin", [*copied, *(Path(name).name for name in scripts)])
     link_all(kit / "toolchain", ours / "toolchain", ("bin",))
-    link_all(kit / "toolchain/bin", ours / "toolchain/bin", ("clang",))
-    for name in scripts:
+    link_all(kit / "toolchain/bin", ours / "toolchain/bin", [Path(name).name for name in scripts])
+    for name in copied:
         shutil.copy(kit / "bin" / name, ours / "bin" / name)
-    clang = ours / "toolchain/bin/clang"
-    clang.write_text(CLANG.format(sanitizer=SANITIZER, directory=shlex.quote(str(directory)),
-                                  clang=shlex.quote(str(kit / "toolchain/bin/clang"))))
-    clang.chmod(0o755)
+    for name, text in scripts.items():
+        (ours / name).write_text(text)
+        (ours / name).chmod(0o755)
     return ours / "bin/rt"
+
+
+def without_prover(directory: Path) -> Path:
+    """Makes a toolchain whose `rt try` does not ask the prover for hints; returns its `rt`."""
+    return linked_kit(directory, {"bin/rattle": NO_PROVER})
+
+
+def watch(directory: Path, is_stopped: bool) -> Path:
+    """Makes the toolchain that keeps the module, and stops then if asked to; returns its `rt`."""
+    clang = shlex.quote(str(kit_on_path() / "toolchain/bin/clang"))
+    script = CLANG.format(sanitizer=SANITIZER, directory=shlex.quote(str(directory)), clang=clang,
+                          after="exit 1" if is_stopped else ":")
+    return linked_kit(directory, {"toolchain/bin/clang": script,
+                                  **({"bin/rattle": NO_PROVER} if is_stopped else {})})
 
 
 def unchecked(lines: Iterable[bytes]) -> Iterator[bytes]:
@@ -101,8 +121,10 @@ def unchecked(lines: Iterable[bytes]) -> Iterator[bytes]:
 
 
 def compile_words(words: List[str], source: Path, made: Path) -> List[str]:
-    """Returns clang's arguments for the optimised program, from those for the checked one."""
-    changed = {"module.bc": str(source), "module.o": str(made), "-O0": "-O3"}
+    """Returns clang's arguments for the optimised program, from those for the checked one.
+
+    A program by `-O3` is no faster, and takes clang half a minute more."""
+    changed = {"module.bc": str(source), "module.o": str(made), "-O0": "-O1"}
     return [changed.get(word, word) for word in words if word not in (SANITIZER, "-Werror")]
 
 
@@ -128,15 +150,15 @@ def main() -> int:
     """Runs the command line; returns the exit status."""
     parser = argparse.ArgumentParser(prog="unproved_build", description=__doc__,
                                      formatter_class=argparse.RawDescriptionHelpFormatter)
-    parser.add_argument("step", choices=("watch", "build"), help="which of the two is done")
+    parser.add_argument("step", choices=("watch", "stop", "build"), help="which of the three is done")
     parser.add_argument("directory", type=Path, help="an existing directory for what is made")
     asked = parser.parse_args()
     directory = asked.directory.absolute()
     try:
-        if asked.step == "watch":
-            print(watch(directory))
-        else:
+        if asked.step == "build":
             build(directory)
+        else:
+            print(watch(directory, asked.step == "stop"))
     except (UnexpectedToolchain, OSError, subprocess.CalledProcessError) as fault:
         print(f"unproved_build: {fault}", file=sys.stderr)
         return 1
