@@ -46,6 +46,11 @@ case $1 in
         cp "$top/program" crates/irv/out/irv ;;
     try)
         [ -e "$top/broken" ] && { echo "error: no such word" >&2; exit 1; }
+        [ ! -e "$top/endless" ] || { echo $$ > "$top/building"; exec sleep 300; }
+        for _ in $(seq 3000); do
+            [ ! -e "$top/waits" ] || grep -q begun "$top/calls" && break
+            sleep 0.1
+        done
         [ ! -e "$top/edit" ] || echo "// edited" >> src/main.rt
         clang=$(cd "$(dirname "$0")/.." && pwd)/toolchain/bin/clang
         if [ -x "$clang" ]; then
@@ -146,9 +151,30 @@ sleep 0.5
 PATH=/bin:/usr/bin exec cat "$@"
 """
 
-# a fake tool, and the fake test runner
+# a fake tool
 TOOL = r"""#!/usr/bin/env bash
 echo "$(basename "$0"): $*" >> "$(dirname "$0")/../calls"
+exit 3
+"""
+
+# the fake test runner: the tests `lint` need no program, and there is no test `none`
+RUN = r"""#!/usr/bin/env bash
+top=$(cd "$(dirname "$0")/.." && pwd)
+case " $* " in
+    *" none "*) echo "tests/run: no test is called none" >&2; exit 2 ;;
+    *" --needs-program "*" lint "*) echo no; exit ;;
+    *" --needs-program "*) echo yes; exit ;;
+esac
+words=()
+while [ $# -gt 0 ]; do
+    [ "$1" = --after ] && { after=$2; shift 2; } || { words+=("$1"); shift; }
+done
+[ -e "$top/out/unproved/irv-unproved.built" ] && built=" after the build"
+echo "begun${built-}" >> "$top/calls"
+[ ! -e "$top/endless" ] || { echo $$ > "$top/testing"; exec sleep 300; }
+[ -z "${after-}" ] || said=$(cat "$after")
+echo "run: ${words[*]}" >> "$top/calls"
+[ "${said-0}" = 0 ] || exit 125
 exit 3
 """
 
@@ -188,7 +214,7 @@ def lay_out(top):
     shutil.copy(TOP / "irv", top / "irv")
     for name in COPIED:
         copy(TOP / "tools" / name, top / "tools" / name)
-    write_scripts(top, {"bin/rt": RT, "program": PROGRAM, "slow-cat": SLOW_CAT, "tests/run": TOOL,
+    write_scripts(top, {"bin/rt": RT, "program": PROGRAM, "slow-cat": SLOW_CAT, "tests/run": RUN,
                         **{f"tools/{name}": TOOL for name in TOOLS.values()}})
 
 

@@ -1,4 +1,4 @@
-"""Tests of the launcher options that call a tool, and of `--test`."""
+"""Tests of the launcher options that call a tool."""
 
 import re
 import subprocess
@@ -7,8 +7,7 @@ from irvtools.launcher import command_table
 from irvtools.paths import TOP
 
 from tests.launcher.build_tests import has_built
-from tests.launcher.repository_copy import TOOLS, call, copy_tests, give_kit
-from tests.launcher.unproved_tests import is_cached
+from tests.launcher.repository_copy import TOOLS, call, copy_tests
 
 
 def calls_each_tool(top):
@@ -71,50 +70,6 @@ def passes_similar_options_on(top):
     return [line[0].split(" p.html ")[1] for line in calls] == ["--progress", "--p-x=y"]
 
 
-def tests_the_proved_program(top):
-    """`--test` tests the program if it is built of these sources, and builds nothing."""
-    call(top, "--build")
-    program = top.resolve() / "crates/irv/out/irv"
-    answers = [call(top, "--test", *words) for words in ([], ["html", "csv"])]
-    return answers == [(b"", b"", 3, [f"run: --program {program}{words}"])
-                       for words in ("", " html csv")]
-
-
-def tests_the_unproved_build(top):
-    """Otherwise `--test` makes the unproved build once, tests it, and says that this proves
-    nothing."""
-    give_kit(top)
-    (top / "crates/irv/out").mkdir()
-    (top / "crates/irv/out/irv").write_text("#!/bin/sh\n")
-    (top / "crates/irv/out/irv").chmod(0o755)
-    unproved = top.resolve() / "out/unproved/irv-unproved"
-    first = call(top, "--test", "html")
-    again = call(top, "--test")
-    last = "irv: nothing is proved by this: the tests ran over the unproved build"
-    return (is_cached(top) and first[::2] == again[::2] == (b"", 3)
-            and [line for line in first[3] if line.endswith(": try")] == ["irv: try"]
-            and not has_built(first[3]) and first[3][-1] == f"run: --program {unproved} html"
-            and again[3] == [f"run: --program {unproved}"]
-            and first[1].decode().splitlines()[-1] == again[1].decode().splitlines()[-1] == last)
-
-
-def tests_nothing_without_a_build(top):
-    """If the unproved build fails, or a source changes meanwhile, `--test` says so with status 125
-    and runs no test."""
-    give_kit(top)
-    lines = []
-    for name in ("broken", "unmade", "edit"):
-        (top / name).write_text("")
-        output, errors, status, calls = call(top, "--test")
-        (top / name).unlink()
-        lines.append(errors.decode().splitlines()[-1])
-        if (output, status) != (b"", 125) or any(line.startswith("run:") for line in calls):
-            return False
-    return (lines[0] == "irv: cannot compile the sources"
-            and lines[1].startswith("irv: cannot make the unproved build: ")
-            and lines[2].startswith("irv: sources were edited during the build: "))
-
-
 def options_of_tool(tool):
     """Returns the options of a tool's own help, with values and defaults or `None`."""
     text = subprocess.run(["python3", TOP / "tools" / tool, "--help"], stdin=subprocess.DEVNULL,
@@ -158,5 +113,4 @@ def lists_the_options_of_each_tool(_):
 
 ToolOptionTests = copy_tests("ToolOptionTests", (
     lists_the_options_of_each_tool, calls_each_tool, names_a_missing_tool,
-    builds_for_csv_if_asked, takes_no_other_program, passes_similar_options_on,
-    tests_the_proved_program, tests_the_unproved_build, tests_nothing_without_a_build))
+    builds_for_csv_if_asked, takes_no_other_program, passes_similar_options_on))

@@ -23,6 +23,7 @@ from tests.support.harness import SETTINGS, Test
 from tests.support.units import BUILD, FAILED, PASSED, SKIPPED, Build, Outcome, name_of, run_all
 
 TESTS = TOP / "tests"
+NOT_MADE = 125          # the exit status if the program that tests wait for is not made
 
 
 def test_modules() -> list[str]:
@@ -89,7 +90,7 @@ def parser() -> Parser:
     line.flag("--without-program", "run only tests that need no program")
     line.flag("--with-program", "run only tests that need the program")
     line.once("--after", "begin with the tests that need the program when FILE ends; its text is 0 if the program "
-              "is then made", metavar="FILE")
+              "is made by then, otherwise the exit status is 125", metavar="FILE")
     line.flag("--needs-program", "print yes if one of these tests needs the program, otherwise no, and run none")
     line.flag("--list", "print the tests' names, and run none")
     return line
@@ -151,4 +152,6 @@ def run_and_count(tests: list[unittest.TestCase], given, again: str) -> int:
             show(outcome, again)
             counts[outcome.result] += outcome.checks if outcome.result == PASSED else 1
     print(", ".join(f"{count} {result.lower()}" for result, count in counts.items()))
+    if build and build.is_made is False:
+        return NOT_MADE
     return 0 if counts[PASSED] and not counts[FAILED] else 1

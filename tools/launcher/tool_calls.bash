@@ -147,6 +147,8 @@ run_tests() {
     }
     run_alone "$top/tests/run" --program "$unproved" ${after[@]+"${after[@]}"} "$@"
     status=$?
+    [ "$status" -ne "$none" ] \
+        || no_answer "the unproved build is not made: its lines above have the cause"
     echo "irv: nothing is proved by this: the tests ran over the unproved build" >&2
     exit "$status"
 }

@@ -149,7 +149,8 @@ make_beside() {
     }
     set +m
     maker=$build_PID
-    exec {made}<&"${build[0]}"
+    # opened anew: the descriptor of a coprocess is closed for commands
+    exec {made}<"/dev/fd/${build[0]}"
 }
 
 # Ends the unproved build in the background, if it is not made yet.
