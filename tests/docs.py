@@ -219,10 +219,10 @@ class Names:
                 self.enter(path, kind[0])
         for path in (*(root / "tests/cases").iterdir(), *(root / "examples").glob("*.json")):
             if path.is_file():
-                self.enter_words(read(path))
+                self.words |= self.words_of(read(path))
         for path in (*(root / "tools").rglob("*"), *(root / "tests").rglob("*"), root / "irv"):
             if path.is_file() and path.suffix in ("", ".py", ".bash", ".js", ".txt") and path.name != "docs.py":
-                self.enter_script(read(path))
+                self.words |= self.words_of_script(read(path))
                 self.words.add(path.stem.removesuffix("_tests"))
             elif path.is_dir():
                 self.words.add(path.name)
@@ -238,32 +238,40 @@ class Names:
     def enter(self, path, kind):
         """Enters the declarations of a crate's file."""
         text = read(path)
-        if kind == "src":
-            names = {name for found in self.CODE.findall(text) for name in found if name}
-        elif kind == "specs":
-            names = set(self.HEAD.findall(text))
-            self.others.update(self.PART.findall(text))
-        else:
-            names = set(self.LEMMA.findall(text))
+        names, others = self.declared_by(kind, text)
         self.by_file[path] = names
+        self.others |= others
         crate = path.relative_to(self.root / "crates").parts[0]
         self.by_crate.setdefault((crate, kind), set()).update(names)
-        for listed in self.IMPORT.findall(text):
-            self.others.update(re.findall(r"[\w◌>=]+", listed))
         if kind != "proofs":
-            self.enter_words(text)
+            self.words |= self.words_of(text)
 
-    def enter_words(self, text):
-        """Enters the words of a file's strings; in a file of cases, also all keys."""
-        for found in self.STRING.findall(self.REMARK.sub("", text)):
-            self.words.update(re.findall(r"[\w-]+", found))
-        self.words.update(re.findall(r"^([a-z]+)(?: [\w.-]+)*:", text, re.M))
+    # the self-check reads each file often, mostly unchanged: what depends on the text alone is kept
 
-    def enter_script(self, text):
-        """Enters also a script's options and calls."""
-        self.enter_words(text)
-        self.words.update(re.findall(r"--([a-z][a-z-]*)", text))
-        self.words.update(re.findall(r"^(\w+)\(\) \{", text, re.M))
+    @classmethod
+    @functools.cache
+    def declared_by(cls, kind, text):
+        """Returns the names that a crate's file declares, and its fields and imported names."""
+        others = {word for listed in cls.IMPORT.findall(text) for word in re.findall(r"[\w◌>=]+", listed)}
+        if kind == "src":
+            return {name for found in cls.CODE.findall(text) for name in found if name}, others
+        if kind == "specs":
+            return set(cls.HEAD.findall(text)), others | set(cls.PART.findall(text))
+        return set(cls.LEMMA.findall(text)), others
+
+    @classmethod
+    @functools.cache
+    def words_of(cls, text):
+        """Returns the words of a file's strings; in a file of cases, also all keys."""
+        words = {word for found in cls.STRING.findall(cls.REMARK.sub("", text)) for word in re.findall(r"[\w-]+", found)}
+        return words.union(re.findall(r"^([a-z]+)(?: [\w.-]+)*:", text, re.M))
+
+    @classmethod
+    @functools.cache
+    def words_of_script(cls, text):
+        """Returns also a script's options and calls."""
+        return cls.words_of(text).union(re.findall(r"--([a-z][a-z-]*)", text),
+                                        re.findall(r"^(\w+)\(\) \{", text, re.M))
 
     @functools.cached_property
     def declared(self):
@@ -541,6 +549,13 @@ def tracked(root):
     return [name for name in listed if name and (root / name).is_file()]
 
 
+@functools.cache
+def old_names_in(text):
+    """Returns the first old name of each kind in a text, or `None`."""
+    found = {what: re.search(pattern, text) for what, pattern in OLD_NAMES.items()}
+    return {what: name and name[0] for what, name in found.items()}
+
+
 def see_old_names(repository, seen):
     """No text or file name has an old name."""
     for name in tracked(repository.root):
@@ -550,9 +565,8 @@ def see_old_names(repository, seen):
             text = f"{name}\n{read(repository.root / name)}"
         except UnicodeDecodeError:
             text = name
-        for what, pattern in OLD_NAMES.items():
-            found = re.search(pattern, text)
-            seen.ask(not found, f"{name}: {found and found[0]!r} is the old name of {what}")
+        for what, found in old_names_in(text).items():
+            seen.ask(not found, f"{name}: {found!r} is the old name of {what}")
 
 
 CHECKS = (see_map, see_search, see_definitions, see_left, see_links, see_spans, see_contracts, see_commands,
@@ -657,8 +671,9 @@ def self_check():
             path.write_text(text, encoding="utf-8")
             seen.ask(changed != text, f"{name}: there is nothing to change")
             seen.ask(any(reason in fault for fault in faults), f"{name} isn't refused: {faults}")
-            seen.ask(not any(reason in fault for fault in see_all(copy, [check]).faults),
-                     f"{name} is refused where there is none")
+        unchanged = {check: see_all(copy, [check]).faults for check in {check for check, *_ in CHANGES.values()}}
+        for name, (check, *_, reason) in CHANGES.items():
+            seen.ask(not any(reason in fault for fault in unchanged[check]), f"{name} is refused where there is none")
     return seen
 
 

@@ -2,6 +2,7 @@
 kind, and all files that name it. Adding such a thing touches just these files, so the list must
 have each, by name or directory."""
 
+import functools
 import re
 
 MAP = "CONTRIBUTING.md"
@@ -70,6 +71,12 @@ def named_in(text, places):
     return found
 
 
+@functools.cache
+def is_witness(words, pattern, source):
+    """Returns whether a text names a thing: it has one of the words, and the pattern."""
+    return any(word in source for word in words) and re.search(pattern, source) is not None
+
+
 def left_out(root, places):
     """Yields each witness's list, its name, how many files name it, and those missing from the
     list, or `None` without a list."""
@@ -77,8 +84,7 @@ def left_out(root, places):
     for heading, witness, words, pattern in WITNESSES:
         text = list_of(page, heading)
         listed = {str(path.relative_to(root)) for path in named_in(text or "", places)}
-        naming = [name for name, source in texts.items()
-                  if any(word in source for word in words) and re.search(pattern, source)]
+        naming = [name for name, source in texts.items() if is_witness(words, pattern, source)]
         missing = [name for name in naming
                    if name not in listed and not any(name.startswith(it + "/") for it in listed)]
         yield heading, witness, len(naming), missing if text else None

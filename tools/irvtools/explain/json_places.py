@@ -3,11 +3,13 @@
 from __future__ import annotations
 
 import re
+from json import JSONDecoder
 from json.decoder import scanstring
 
 SPACE = re.compile(r"[ \t\r\n]*")
 OTHER = re.compile(r"[^\s,\]}]+")       # a number, null, true or false
 DEEPEST = 3                             # steps to a member of an entry
+DECODER = JSONDecoder()
 
 
 class Places:
@@ -24,8 +26,9 @@ class Places:
 
     def value(self, at: int, steps: tuple) -> int:
         """Reads the value at `at`; returns its end."""
-        if len(steps) <= DEEPEST:
-            self.begins[steps] = at
+        if len(steps) > DEEPEST:
+            return DECODER.raw_decode(self.text, at)[1]
+        self.begins[steps] = at
         if self.text[at] == "{":
             return self.members(at, steps)
         if self.text[at] == "[":

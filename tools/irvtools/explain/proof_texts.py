@@ -57,6 +57,9 @@ def query_of(lines: list[bytes], number: int) -> str:
     return queries[-1]
 
 
+BLANK = re.compile(rb"[ \t\r]+")
+
+
 def wanted_after(lines: list[bytes]) -> str:
     """Returns the required next line of a certificate after these valid lines."""
     if not lines:
@@ -98,12 +101,11 @@ def items_with_lines(data: bytes) -> list[tuple[int, list[bytes]]]:
     """Returns a refutation's items, each with its first line."""
     items, is_open = [], False
     for number, line in enumerate(data.split(b"\n"), 1):
-        for word in [] if line.startswith(b"c") else re.split(rb"[ \t\r]", line):
-            if word and not is_open:
+        for word in [] if line.startswith(b"c") else filter(None, BLANK.split(line)):
+            if not is_open:
                 items.append((number, []))
-            if word:
-                items[-1][1].append(word)
-                is_open = word != b"0"
+            items[-1][1].append(word)
+            is_open = word != b"0"
     return items
 
 
