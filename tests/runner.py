@@ -4,8 +4,10 @@ from __future__ import annotations
 
 import re
 import shutil
+import signal
 import subprocess
 import tempfile
+import time
 from pathlib import Path
 
 from irvtools.paths import TOP
@@ -50,7 +52,32 @@ class SharedTests(Test):
     def test_b(self):
         pass
 '''
+AFTER = BEGIN + '''
+import pathlib, time
+from tests.support.harness import ProgramTest
+HERE = pathlib.Path(__file__).parent
+class AfterTests(Test):
+    def test_first(self):
+        HERE.joinpath("begun").touch()
+class LaterTests(ProgramTest):
+    def test_later(self):
+        self.assertEqual(self.program.read_text(), "made")
+'''
+ENDLESS = BEGIN + '''
+import pathlib, subprocess, tempfile
+HERE = pathlib.Path(__file__).parent
+class EndlessTests(Test):
+    def test_endless(self):
+        with tempfile.TemporaryDirectory(dir=HERE, prefix="left-"), subprocess.Popen(["sleep", "300"]) as process:
+            HERE.joinpath("begun").write_text(f"{process.pid}\\n")
+'''
 ORDER = BEGIN + "TAKES_LONG = {}\nclass OrderTests(Test):\n    def test_one(self):\n        pass\n"
+
+
+def heed_signals() -> None:
+    """Makes the signals end a process, even if the caller ignores them."""
+    for number in (signal.SIGINT, signal.SIGTERM, signal.SIGHUP):
+        signal.signal(number, signal.default_int_handler if number == signal.SIGINT else signal.SIG_DFL)
 
 
 class RunnerTests(Test):
@@ -140,6 +167,50 @@ class RunnerTests(Test):
         self.write("c.py", ORDER.format(False))
         printed = self.run_tests("--jobs", "1")[1]
         self.assertEqual([line.split()[1] for line in printed[:-1]], ["b.one", "a.one", "c.one"])
+
+    def begin(self, *words: str) -> subprocess.Popen:
+        """Starts the runner, and returns when the file `begun` is written."""
+        started = subprocess.Popen([self.top / "tests/run", *words], stdin=subprocess.PIPE, stdout=subprocess.PIPE,
+                                   stderr=subprocess.PIPE, text=True, preexec_fn=heed_signals)
+        self.addCleanup(started.kill)
+        for _ in range(3000):
+            if (self.top / "tests/begun").exists():
+                return started
+            time.sleep(0.1)
+        self.fail("the test does not begin")
+
+    def test_after(self):
+        """With --after the tests that need no program begin at once, the others when the program is made."""
+        self.write("a.py", AFTER)
+        for said, status, last in (("0\n", 0, "2 passed, 0 failed, 0 skipped"), ("", 125, "1 passed, 1 failed, 0 skipped")):
+            (self.top / "tests/begun").unlink(missing_ok=True)
+            (self.top / "irv").unlink(missing_ok=True)
+            running = self.begin("--program", str(self.top / "irv"), "--after", "/dev/stdin")
+            (self.top / "irv").write_text("made")
+            printed, errors = running.communicate(said)
+            self.assertEqual((running.returncode, printed.splitlines()[-1], errors), (status, last, ""), printed)
+            self.assertEqual("1 tests did not run: the program that they need is not made" in printed, status != 0)
+
+    def test_signals(self):
+        """A signal ends the runner, its tests and what they started, and their files are removed."""
+        self.write("a.py", ENDLESS)
+        for number in (signal.SIGINT, signal.SIGTERM, signal.SIGHUP):
+            (self.top / "tests/begun").unlink(missing_ok=True)
+            running = self.begin()
+            while not (child := (self.top / "tests/begun").read_text()).endswith("\n"):
+                time.sleep(0.1)
+            running.send_signal(number)
+            running.communicate()
+            self.assertEqual(running.returncode, 128 + number)
+            self.assertFalse(Path(f"/proc/{child.strip()}").exists())
+            self.assertEqual(list((self.top / "tests").glob("left-*")), [])
+
+    def test_needs_program(self):
+        """--needs-program says whether one of the tests needs the program."""
+        self.write("a.py", AFTER)
+        for word, said in (("a", "yes"), ("a.later", "yes"), ("a.first", "no")):
+            self.assertEqual(self.run_tests("--needs-program", word), (0, [said], ""))
+        self.assertEqual(self.run_tests("--needs-program", "b")[:2], (2, []))
 
     def test_program(self):
         """If a test needs a missing program, the status is 2 and no test runs."""

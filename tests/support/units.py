@@ -201,6 +201,7 @@ def run_all(tests: Iterable[unittest.TestCase], jobs: int, build: Build | None =
             if is_made is False and any(map(needs_program, waiting)):
                 yield not_run([unit for unit in waiting if needs_program(unit)])
                 waiting = [unit for unit in waiting if not needs_program(unit)]
+                continue
             ready = [unit for unit in waiting if is_made or not needs_program(unit)]
             most = max(1, jobs - (is_made is None))
             for unit in ready[:max(0, most - len(running))]:
