@@ -14,8 +14,9 @@ from irvtools.paths import TOP
 from tests.support.harness import Test
 
 COPIED = ("tests/run", "tests/entry.py", "tests/__init__.py", "tests/support/__init__.py",
-          "tests/support/harness.py", "tests/support/runner.py", "tests/support/units.py", "tools/irvtools/__init__.py",
-          "tools/irvtools/arguments.py", "tools/irvtools/paths.py")
+          "tests/support/bytecode.py", "tests/support/harness.py", "tests/support/runner.py",
+          "tests/support/units.py", "tools/irvtools/__init__.py", "tools/irvtools/arguments.py",
+          "tools/irvtools/paths.py")
 SECONDS = re.compile(r"[0-9.]+ s\)")
 BEGIN = "import os, signal, unittest\nfrom tests.support.harness import LongTest, Test\n"
 SMALL = BEGIN + '''

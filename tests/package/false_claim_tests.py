@@ -6,7 +6,7 @@ import os
 import shutil
 import subprocess
 
-from tests.support.package_calls import TOP, call, example, made, place, repeat, text_of_page
+from tests.support.package_calls import TOP, call, copied, example, place, repeat, text_of_page
 from tests.support.harness import test_case
 
 FAKE = """#!/bin/sh
@@ -104,7 +104,7 @@ def check_notes(program, _):
 
 def check_wrong_checksums(program, _):
     """An invalid checksum and a new symbolic link are found."""
-    with made(program, example("line-with-boards.json"), "--solver-seconds", "0") as (directory, _):
+    with copied(program, example("line-with-boards.json"), "--solver-seconds", "0") as (directory, _):
         sums = directory / "SHA256SUMS"
         lines = sums.read_text().splitlines()
         place = next(number for number, line in enumerate(lines) if line.endswith("  report.html"))

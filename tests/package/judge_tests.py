@@ -18,7 +18,9 @@ from irvtools.package.source_archive import archive_of
 from irvtools.package.source_checksums import files_of, tree_of
 from irvtools.package.verify_package import FAILED, Judge
 from tests.support.harness import test_case
-from tests.support.package_calls import TOP, call, changed, example, flip, judged, made, place, renew_sums
+from tests.support.package_calls import (
+    TOP, call, changed, copied, example, flip, judged, made, place, renew_sums,
+)
 
 # a part of each kind, and the file or answer that the judge names despite new checksums
 CHANGES = {
@@ -36,7 +38,7 @@ SHORT = ("--solver-seconds", "0")
 @contextmanager
 def package(program, name="line-with-boards.json"):
     """Yields a package of an example."""
-    with made(program, example(name), *SHORT) as (directory, said):
+    with copied(program, example(name), *SHORT) as (directory, said):
         assert said.startswith("safe k="), said
         yield directory
 

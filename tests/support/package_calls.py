@@ -1,10 +1,12 @@
 """Calls of tools/package and tools/verify_package, and changes to packages."""
 
+import fcntl
 import hashlib
 import html
 import json
 import os
 import re
+import shutil
 import subprocess
 import tempfile
 from contextlib import contextmanager
@@ -35,6 +37,23 @@ def made(program, given, *words):
         done = call(program, directory, given, *words)
         said = done.stdout.decode().partition("\n")[0].removeprefix(f"{directory}: ")
         yield directory, said if done.returncode == 0 else f"{done.returncode} {done.stderr.decode()}"
+
+
+@contextmanager
+def copied(program, given, *words):
+    """Yields a copy of a package that the first test that asks for it makes for all, and the first output line."""
+    key = hashlib.sha256(b"\0".join([given, *(os.fsencode(word) for word in words)])).hexdigest()
+    kept = program.parent / "packages" / key        # beside the program, in the directory of this run of the tests
+    kept.mkdir(parents=True, exist_ok=True)
+    with open(kept / "turn", "w") as turn:
+        fcntl.flock(turn, fcntl.LOCK_EX)
+        if not (kept / "said").exists():
+            with made(program, given, *words) as (directory, said):
+                shutil.copytree(directory, kept / "filed", symlinks=True)
+            (kept / "said").write_text(said)
+    with place() as directory:
+        shutil.copytree(kept / "filed", directory, symlinks=True)
+        yield directory, (kept / "said").read_text()
 
 
 def repeat(directory, *words):

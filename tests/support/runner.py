@@ -19,10 +19,12 @@ from typing import Iterator
 
 from irvtools.arguments import Parser, whole_number
 from irvtools.paths import PROGRAM, TOP
+from tests.support.bytecode import compile_tools
 from tests.support.harness import SETTINGS, Test
 from tests.support.units import BUILD, FAILED, PASSED, SKIPPED, Build, Outcome, name_of, run_all
 
 TESTS = TOP / "tests"
+MANY = 20               # tests for which the modules of the tools are compiled first
 NOT_MADE = 125          # the exit status if the program that tests wait for is not made
 
 
@@ -145,6 +147,8 @@ def run_and_count(tests: list[unittest.TestCase], given, again: str) -> int:
     with tempfile.TemporaryDirectory(prefix="irv-tests-") as room:
         # only the program, without its neighbours: tests make the notes that they need
         SETTINGS.program = Path(room, "irv")
+        if len(tests) > MANY:
+            compile_tools(Path(room, "modules"))
         build = Build(given.after, lambda: shutil.copy(program, SETTINGS.program)) if given.after else None
         if not build and program.is_file():
             shutil.copy(program, SETTINGS.program)
