@@ -15,6 +15,8 @@ from tests.support import audits, case_files, certificate_changes
 from tests.support.handwritten_certificates import TWO_VARIABLES, WHOLE
 from tests.support.harness import ProgramTest, Test
 
+TAKES_LONG = True
+
 # each configuration and its number of random changes
 PLANTS = (("line-with-boards", 300), ("platforms", 60), ("station", 60))
 AT_ONCE = 4

@@ -22,6 +22,8 @@ from irvtools.search.random_search import RandomSearch
 from tests.support import random_tables
 from tests.support.harness import ProgramTest
 
+TAKES_LONG = True
+
 RANDOM_TABLES, DRAWN, RUNS = 300, 2000, 12      # clean random tables, tables drawn for them, runs per search
 CLEAN, MOST_ROUTES = 60, 14     # verified tables, and the most routes of one
 PLANTS = ("station", "station-protected", "platforms", "terminus-throat", "line-with-boards")

@@ -16,6 +16,8 @@ from irvtools.checkers import lrat
 from irvtools.paths import TOP
 from tests.support.harness import ProgramTest, Test
 
+TAKES_LONG = True
+
 EXAMPLES = ("line-with-boards", "platforms", "station", "station-protected", "terminus-throat")
 STATIONS = (1, 2, 4)
 # few changes for refutations with many steps: each is checked whole

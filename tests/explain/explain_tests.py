@@ -22,6 +22,8 @@ from tests.explain.tool_calls import TOOL, run
 from tests.support import program as programs
 from tests.support.harness import test_case
 
+TAKES_LONG = True
+
 PLACE = re.compile(r"(sections|boards|routes)\[([0-9]+)\]")
 REFUSAL = re.compile(rb"refused |rejected |not a run at ")
 DOCUMENTED = re.compile(r"\b([FNRCG][1-8])\b")      # in the first two cells of a row

@@ -15,6 +15,8 @@ from irvtools.model.state import State, read_event, read_run, run_text
 from irvtools.search.route_uses import is_use, uses
 from tests.support.harness import Counted, test_case
 
+TAKES_LONG = True
+
 THREADS = 4
 MANY = 10               # times as much under --long
 AT_END = 60             # events that are tested at the end of a run

@@ -16,6 +16,8 @@ from tests.importing.layout_tests import LAYOUT, net
 from tests.importing.small_maps import LOOP_NODES, LOOP_WAYS, osm
 from tests.support.harness import test_case
 
+TAKES_LONG = True
+
 WATCHED = Path(__file__).with_name("watched_import.py")
 SECONDS, MEBIBYTES = 10, 500
 MUTANTS, LONG_MUTANTS = 60, 500

@@ -22,6 +22,8 @@ from tests.support.package_calls import (
     TOP, call, changed, copied, example, flip, judged, made, place, renew_sums,
 )
 
+TAKES_LONG = True
+
 # a part of each kind, and the file or answer that the judge names despite new checksums
 CHANGES = {
     "configuration.json": "answers/", "answers/verify.txt": "answers/verify.txt",

@@ -18,6 +18,8 @@ from tests.release.small_repository import LOG, called, git, release, repository
 from tests.support import runner
 from tests.support.harness import test_case
 
+TAKES_LONG = True
+
 MARK = "irv-reproducible-build"         # marks the directory of tests/reproducible_build
 RECORD = (
     "# Validation record of irv 1.2.3 (generated", "| toolchain | `kit 1` |", "| commit | `", "| tree | `",
