@@ -16,6 +16,8 @@ from dataclasses import dataclass
 from multiprocessing import connection
 from typing import Callable, Iterable, Iterator
 
+from tests.support.bytecode import use_compiled
+
 SECONDS_TO_END = 10     # for an interrupted unit to remove its files
 PASSED, FAILED, SKIPPED = "passed", "FAILED", "skipped"
 BUILD = "the build"     # what fails, in place of a test, if the program is not made
@@ -120,6 +122,7 @@ def without_result(unit: list[unittest.TestCase], outcomes: list[Outcome]) -> li
 def answer_unit(unit, answer) -> None:
     """Runs a unit in this process and a process group of its own, and sends its results."""
     os.setpgid(0, 0)
+    use_compiled(type(unit[0]).__module__)
     signal.signal(signal.SIGINT, signal.default_int_handler)
     for number in (signal.SIGHUP, signal.SIGTERM):      # the parent may have ignored them
         signal.signal(number, signal.SIG_DFL)
